@@ -6,5 +6,4 @@ ghost use Rattle.mctp_transport.specs.Frames.{Frame, Spelled};
 pub fn one_spelling()
     ensures value { (unit : ℕ) (f g : Frame) (bytes : List ℕ) → Spelled unit f bytes → Spelled unit g bytes → f ≡ g }
     ensures bytes { (unit : ℕ) (f : Frame) (bytes others : List ℕ) → Spelled unit f bytes → Spelled unit f others → bytes ≡ others }
-{
-}
+{}
