@@ -1,0 +1,16 @@
+pub mod CutLaws
+pub mod Cuts
+pub mod PacketLists
+pub mod Places
+pub mod Joining
+pub mod LastStarts
+pub mod Openness
+pub mod Verdicts
+pub mod Slots
+pub mod Clearing
+pub mod Faults
+pub mod Standing
+pub mod Parts
+pub mod AssemblyLaws
+pub mod Arrivals
+pub mod Answered

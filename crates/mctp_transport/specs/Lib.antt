@@ -3,3 +3,15 @@ pub mod Frames
 pub mod FrameLaws
 pub mod Packets
 pub mod Refusals
+pub mod Messages
+pub mod Cutting
+pub mod PacketsLeft
+pub mod Histories
+pub mod Causes
+pub mod Hearing
+pub mod Tables
+pub mod TableChanges
+pub mod Parts
+pub mod Assembly
+pub mod Steps
+pub mod Lending

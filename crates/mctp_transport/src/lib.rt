@@ -1,16 +1,23 @@
-//! MCTP packets: what they are made of, and their bytes (DSP0236).
+//! MCTP packets (DSP0236): what they are made of, their bytes, cutting messages into them and joining them to
+//! messages.
 #![tactic(auto)]
 
 mod address;
+mod assembler;
+mod cutting;
 mod laws;
 mod packet;
 mod packet_error;
+mod why;
 mod wire;
 
 pub use address::{Eid, Key, Reserved, Seq, Tag};
+pub use assembler::{Assembler, Fed, MAX_SLOTS};
+pub use cutting::{MAX_MESSAGE, Packets, cut_joins, one_cut};
 pub use laws::one_spelling;
 pub use packet::{HEADER_LENGTH, Header, Packet, PacketView, UNIT};
 pub use packet_error::PacketError;
+pub use why::Why;
 pub use wire::{Wire, round_trip};
 
 #[cfg(test)]

@@ -1,0 +1,20 @@
+use Rattle.std.proofs.Common.{◌≡◌, sym, ◌∙◌, Some}
+use Rattle.std.specs.Prelude.{position}
+use Rattle.mctp_transport.specs.Frames.{key_of}
+use Rattle.mctp_transport.specs.Packets.{frame_of}
+use Rattle.mctp_transport.specs.Tables.{is_at}
+use Rattle.mctp_transport.specs.Assembly.{table_of, assembler_limit}
+use Rattle.mctp_transport.proofs.AssemblyLaws.{carried_there}
+use Rattle.mctp_transport.proofs.assembler.Assembler.carry.Goals as goal
+
+pub returns-in-Some-clause-table : goal.returns-in-Some-clause-table
+returns-in-Some-clause-table c =
+    let found : position (is_at (key_of (frame_of c.args.packet.now))) (table_of c.args.self.now) ≡ Some c.in-Some.place = rw (← c.key.ensures) (sym c.in-Some.ensures.place) in
+    let h = carried_there (assembler_limit c.args.self.now) (table_of c.args.self.now) (frame_of c.args.packet.now) c.in-Some.place found in
+    c.go_on.ensures.table h.held h.there ∙ sym h.table
+
+pub returns-in-Some-clause-answer : goal.returns-in-Some-clause-answer
+returns-in-Some-clause-answer c =
+    let found : position (is_at (key_of (frame_of c.args.packet.now))) (table_of c.args.self.now) ≡ Some c.in-Some.place = rw (← c.key.ensures) (sym c.in-Some.ensures.place) in
+    let h = carried_there (assembler_limit c.args.self.now) (table_of c.args.self.now) (frame_of c.args.packet.now) c.in-Some.place found in
+    c.go_on.ensures.answer h.held h.there ∙ sym h.answer

@@ -1,0 +1,39 @@
+-- What an assembler answers to a packet, by what it was given before.
+use Rattle.std.specs.Prelude.{◌≡◌, ◌⊎◌, ℕ, ◌+◌, ◌<◌, ◌≤◌, List, length, true, false}
+use Rattle.mctp_transport.specs.Frames.{Frame, key_of}
+use Rattle.mctp_transport.specs.Messages.{payloads_of, NumberFollows, LengthFits}
+use Rattle.mctp_transport.specs.Histories.{History, Arrived, after, last_of, ArePackets, IsOpen, IsOtherOpen, AsManyAs, Comes}
+use Rattle.mctp_transport.specs.declared.why.Why.{Why}
+use Rattle.mctp_transport.specs.declared.why.Why.TheVariants as why
+
+-- what the assembler answers, without where it lies in memory
+pub data Answer : Type 0 where
+  Whole : List ℕ → Answer
+  Held : Answer
+  Dropped : Why → Answer
+
+-- a packet that starts nothing, of an open key, and what is said of the packets since the start
+abbrev pub GoesOn : ℕ → ℕ → History → Frame → (List Frame → Type 0) → Type 0
+GoesOn slots limit history p P = (p.som ≡ false) × IsOpen slots limit history (key_of p)
+    × ((ps : List Frame) × ArePackets (last_of history (key_of p)) ps × P ps)
+
+-- the packet is dropped after the history for this cause
+abbrev pub IsDropped : ℕ → ℕ → History → Frame → Why → Type 0
+IsDropped slots limit history p why.NotOpen = (p.som ≡ false) × ¬ IsOpen slots limit history (key_of p)
+IsDropped slots limit history p why.Number = GoesOn slots limit history p (λ ps. ¬ NumberFollows ps p)
+IsDropped slots limit history p why.Length = GoesOn slots limit history p (λ ps. NumberFollows ps p × ¬ LengthFits ps p)
+IsDropped slots limit history p why.Limit = ((p.som ≡ true) × (limit < length p.payload))
+    ⊎ GoesOn slots limit history p (λ ps. NumberFollows ps p × LengthFits ps p × (limit < length (payloads_of ps) + length p.payload))
+IsDropped slots limit history p why.Full = (p.som ≡ true) × (p.eom ≡ false) × (length p.payload ≤ limit)
+    × AsManyAs slots (IsOtherOpen slots limit history (key_of p))
+
+-- what is heard of a packet that comes after the history
+abbrev pub Hears : ℕ → ℕ → History → Frame → Answer → Type 0
+Hears slots limit history p (Whole message) = Comes slots limit (after history (Arrived p)) message
+Hears slots limit history p Held = IsOpen slots limit (after history (Arrived p)) (key_of p)
+Hears slots limit history p (Dropped cause) = IsDropped slots limit history p cause
+
+-- this is heard, and nothing else
+pub record HearsOnly (slots limit : ℕ) (history : History) (p : Frame) (answer : Answer) : Type 0 where
+  pub hears : Hears slots limit history p answer
+  pub only : (other : Answer) → Hears slots limit history p other → other ≡ answer

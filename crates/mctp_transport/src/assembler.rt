@@ -1,0 +1,310 @@
+//! Joining packets to messages (DSP0236, "Message assembly").
+ghost use Rattle.std.specs.Prelude.{◌≡◌, ◌<◌, ◌≤◌, ◌+◌, ◌*◌, length, All, IfSome, IfOk};
+ghost use Rattle.std.proofs.Props.{props};
+
+mod block;
+mod open_message;
+mod places;
+
+use crate::address::Key;
+use crate::cutting::MAX_MESSAGE;
+use crate::packet::PacketView;
+use crate::why::Why;
+use block::write;
+use open_message::OpenMessage;
+use places::{free_in, open_in, place_in};
+use std::alloc::{AllocError, Global};
+
+/// The most slots of an assembler.
+pub const MAX_SLOTS: usize = 64;
+
+/// What a packet led to.
+#[derive(Clone, Copy, Debug, PartialEq, Eq)]
+pub enum Fed<'a> {
+    /// The packet ended a message, and these are the message's bytes.
+    Whole(&'a [u8]),
+    /// The packet's message is open: more of its packets have to come.
+    Held,
+    /// The packet was dropped. No message of its key is open now.
+    Dropped(Why),
+}
+
+/// Joins packets to messages, under several keys at once.
+///
+/// A message of several packets is open, and takes a slot, from its first packet on until its last one comes, a
+/// packet of its key is dropped, another first packet of its key comes, or its time is up.
+///
+/// The contracts speak of histories, the lists of all packets and all expiries that an assembler may have been
+/// given: `StandsFor` says which histories fit what it holds, and each answer is told by what a history says.
+#[derive(Debug, Drop)]
+pub struct Assembler {
+    slots: Vec<Option<OpenMessage>>,
+    /// A part of `limit` bytes for each slot.
+    block: Vec<u8>,
+    limit: usize,
+    ghost few: { length slots.items ≤ 64 },
+    ghost short: { limit ≤ 4096 },
+    ghost sized: { length block.items ≡ length slots.items * limit },
+    ghost within: { All (λ slot. IfSome slot (λ message. message.len ≤ limit)) slots.items } by { Prim.hlevel props },
+}
+
+/// What a packet did, and where a whole message lies then.
+#[derive(Clone, Copy, Debug)]
+enum Step {
+    /// The packet is the whole message.
+    Alone,
+    /// The whole message lies between these places of the block.
+    At(usize, usize),
+    Held,
+    Dropped(Why),
+}
+
+impl Assembler {
+    ghost use Rattle.std.specs.Prelude.{◌↔◌, IsTrue, position, is_none, is_some, slice_set, slice_get, count_by, Some, None, [], take, ◌++◌};
+    ghost use Rattle.std.specs.Borrow.{sem};
+    ghost use Rattle.mctp_transport.specs.Frames.{key_of};
+    ghost use Rattle.mctp_transport.specs.Packets.{frame_of, key_value};
+    ghost use Rattle.mctp_transport.specs.Histories.{History, TimeUp, after, IsOpen, IsKeyCount};
+    ghost use Rattle.mctp_transport.specs.Tables.{Partial, is_at};
+    ghost use Rattle.mctp_transport.specs.TableChanges.{begun, started, carried, expired, next_partial, next_answer};
+    ghost use Rattle.mctp_transport.specs.Parts.{part};
+    ghost use Rattle.mctp_transport.specs.Assembly.{answer_of, Feeds, StandsFor, partial_of, table_of, assembler_slots, assembler_limit};
+    ghost use Rattle.mctp_transport.specs.Lending.{EndsAs};
+    ghost use Rattle.mctp_transport.specs.Steps.{IsPlace, Takes, step_answer};
+
+    /// An assembler of 1 to 64 slots for messages of at most `limit` bytes, 1 to 4096. All of its memory is taken
+    /// here: `slots * limit` bytes and the table of slots.
+    pub fn new(alloc: Global, slots: usize, limit: usize) -> Result<Self, AllocError>
+        requires slots { (1 ≤ slots) × (slots ≤ MAX_SLOTS) }
+        requires limit { (1 ≤ limit) × (limit ≤ MAX_MESSAGE) }
+        ensures slots { IfOk result (λ assembler. assembler_slots assembler ≡ slots) }
+        ensures limit { IfOk result (λ assembler. assembler_limit assembler ≡ limit) }
+        ensures stands { IfOk result (λ assembler. StandsFor assembler []) }
+    {
+        let mut table = Vec::with_capacity(alloc, slots)?;
+        for _ in 0..slots {
+            table.push(None)?;
+        }
+        let block = vec![in alloc; 0; slots * limit]?;
+        Ok(Assembler {
+            slots: table,
+            block,
+            limit,
+        })
+    }
+
+    /// Takes a packet in. Its destination isn't looked at, and no memory is taken.
+    ///
+    /// A whole message is lent until the next call. The bytes of a packet that is a message by itself are the
+    /// packet's own, and it needs no slot. A packet that starts a message ends an open one of its key first, also
+    /// where it is dropped itself.
+    pub fn feed<'a>(&'a mut self, packet: PacketView<'a>) -> Fed<'a>
+        ensures* { sem 𝓛 (EndsAs self.entry (Feeds self.old (frame_of packet.entry) (answer_of result))) }
+    {
+        match self.take(&packet) {
+            Step::Alone => Fed::Whole(packet.payload),
+            Step::At(start, end) => Fed::Whole(&self.block[start..end]),
+            Step::Held => Fed::Held,
+            Step::Dropped(why) => Fed::Dropped(why),
+        }
+    }
+
+    /// Ends the key's open message, since its time is up. True where there was one.
+    #[tactic(auto, using(crate::proofs::AssemblyLaws::found_is_open, crate::proofs::AssemblyLaws::expired_is))]
+    pub fn expire(&mut self, key: Key) -> bool
+        ensures slots { assembler_slots self.new ≡ assembler_slots self.old }
+        ensures limit { assembler_limit self.new ≡ assembler_limit self.old }
+        ensures was_open { (h : History) → StandsFor self.old h
+            → IsTrue result ↔ IsOpen (assembler_slots self.old) (assembler_limit self.old) h (key_value key) }
+        ensures stands { (h : History) → StandsFor self.old h → StandsFor self.new (after h (TimeUp (key_value key))) }
+    {
+        self.end(key)
+    }
+
+    /// Whether a message of the key is open.
+    #[tactic(auto, using(crate::proofs::AssemblyLaws::found_is_open))]
+    pub fn is_open(&self, key: Key) -> bool
+        ensures { (h : History) → StandsFor self.now h
+            → IsTrue result ↔ IsOpen (assembler_slots self.now) (assembler_limit self.now) h (key_value key) }
+    {
+        self.place_of(key).is_some()
+    }
+
+    /// How many messages are open, each of another key.
+    pub fn open_slots(&self) -> usize
+        ensures most { result ≤ assembler_slots self.now }
+        ensures open_keys { (h : History) → StandsFor self.now h
+            → IsKeyCount (IsOpen (assembler_slots self.now) (assembler_limit self.now) h) result }
+    {
+        self.open_count()
+    }
+
+    /// How many slots are taken.
+    fn open_count(&self) -> usize
+        ensures count { result ≡ count_by is_some (table_of self.now) }
+        ensures most { result ≤ assembler_slots self.now }
+    {
+        open_in(&self.slots)
+    }
+
+    /// The slot of the key's open message.
+    fn place_of(&self, key: Key) -> Option<usize>
+        ensures place { result ≡ position (is_at (key_value key)) (table_of self.now) }
+        ensures within { IfSome result (λ i. i < assembler_slots self.now) }
+    {
+        place_in(&self.slots, key)
+    }
+
+    /// A free slot.
+    fn free_place(&self) -> Option<usize>
+        ensures place { result ≡ position is_none (table_of self.now) }
+        ensures within { IfSome result (λ i. i < assembler_slots self.now) }
+    {
+        free_in(&self.slots)
+    }
+
+    /// Frees a slot.
+    fn close(&mut self, place: usize)
+        requires { place < assembler_slots self.old }
+        ensures table { table_of self.new ≡ slice_set (table_of self.old) place None }
+        ensures slots { assembler_slots self.new ≡ assembler_slots self.old }
+        ensures limit { assembler_limit self.new ≡ assembler_limit self.old }
+    {
+        self.slots[place] = None;
+    }
+
+    /// Writes bytes into a slot's part of the block, and says what is open there then.
+    fn put(&mut self, place: usize, at: usize, bytes: &[u8], message: Option<OpenMessage>)
+        requires place { place < assembler_slots self.old }
+        requires fits { at + length bytes.now ≤ assembler_limit self.old }
+        requires within { IfSome message (λ begun. begun.len ≤ assembler_limit self.old) }
+        ensures table { table_of self.new
+            ≡ slice_set (table_of self.old) place (partial_of message (part (assembler_limit self.old) self.new.block.items place)) }
+        ensures part { take (at + length bytes.now) (part (assembler_limit self.old) self.new.block.items place)
+            ≡ take at (part (assembler_limit self.old) self.old.block.items place) ++ bytes.now }
+        ensures slots { assembler_slots self.new ≡ assembler_slots self.old }
+        ensures limit { assembler_limit self.new ≡ assembler_limit self.old }
+    {
+        write(&mut self.block, place * self.limit + at, bytes);
+        self.slots[place] = message;
+    }
+
+    /// Opens a message in a slot.
+    fn begin(&mut self, place: usize, packet: &PacketView)
+        requires place { place < assembler_slots self.old }
+        requires fits { length packet.now.payload.now ≤ assembler_limit self.old }
+        ensures table { table_of self.new ≡ slice_set (table_of self.old) place (Some (begun (frame_of packet.now))) }
+        ensures slots { assembler_slots self.new ≡ assembler_slots self.old }
+        ensures limit { assembler_limit self.new ≡ assembler_limit self.old }
+    {
+        let message = OpenMessage {
+            key: packet.key(),
+            number: packet.header.number,
+            unit: packet.payload.len(),
+            len: packet.payload.len(),
+        };
+        self.put(place, 0, packet.payload, Some(message));
+    }
+
+    /// Ends the key's open message. True where there was one.
+    fn end(&mut self, key: Key) -> bool
+        ensures found { result ≡ is_some (position (is_at (key_value key)) (table_of self.old)) }
+        ensures table { table_of self.new ≡ expired (table_of self.old) (key_value key) }
+        ensures slots { assembler_slots self.new ≡ assembler_slots self.old }
+        ensures limit { assembler_limit self.new ≡ assembler_limit self.old }
+    {
+        match self.place_of(key) {
+            None => false,
+            Some(place) => {
+                self.close(place);
+                true
+            }
+        }
+    }
+
+    /// Takes a packet in. All changes are made here, since `feed` lends the block.
+    fn take(&mut self, packet: &PacketView) -> Step
+        ensures place { IsPlace self.new result }
+        ensures takes { Takes self.old (frame_of packet.now) (step_answer self.new (frame_of packet.now) result) self.new }
+    {
+        if packet.header.som {
+            self.end(packet.key());
+            self.start(packet)
+        } else {
+            self.carry(packet)
+        }
+    }
+
+    /// Takes a first packet, with no message of its key open.
+    fn start(&mut self, packet: &PacketView) -> Step
+        ensures place { IsPlace self.new result }
+        ensures table { table_of self.new ≡ (started (assembler_limit self.old) (table_of self.old) (frame_of packet.now)).0 }
+        ensures answer { step_answer self.new (frame_of packet.now) result
+            ≡ (started (assembler_limit self.old) (table_of self.old) (frame_of packet.now)).1 }
+        ensures slots { assembler_slots self.new ≡ assembler_slots self.old }
+        ensures limit { assembler_limit self.new ≡ assembler_limit self.old }
+    {
+        if packet.payload.len() > self.limit {
+            return Step::Dropped(Why::Limit);
+        }
+        if packet.header.eom {
+            return Step::Alone;
+        }
+        let Some(place) = self.free_place() else {
+            return Step::Dropped(Why::Full);
+        };
+        self.begin(place, packet);
+        Step::Held
+    }
+
+    /// Takes a middle packet or an end packet.
+    fn carry(&mut self, packet: &PacketView) -> Step
+        ensures place { IsPlace self.new result }
+        ensures table { let frame = frame_of packet.now in
+            table_of self.new ≡ (carried (assembler_limit self.old) (table_of self.old) frame (position (is_at (key_of frame)) (table_of self.old))).0 }
+        ensures answer { let frame = frame_of packet.now in
+            step_answer self.new frame result ≡ (carried (assembler_limit self.old) (table_of self.old) frame (position (is_at (key_of frame)) (table_of self.old))).1 }
+        ensures slots { assembler_slots self.new ≡ assembler_slots self.old }
+        ensures limit { assembler_limit self.new ≡ assembler_limit self.old }
+    {
+        match self.place_of(packet.key()) {
+            None => Step::Dropped(Why::NotOpen),
+            Some(place) => self.go_on(place, packet),
+        }
+    }
+
+    /// Takes a middle packet or an end packet of the message that is open in a slot.
+    fn go_on(&mut self, place: usize, packet: &PacketView) -> Step
+        requires { place < assembler_slots self.old }
+        ensures place { IsPlace self.new result }
+        ensures table { (q : Partial) → slice_get (table_of self.old) place ≡ Some (Some q)
+            → table_of self.new ≡ slice_set (table_of self.old) place (next_partial (assembler_limit self.old) q (frame_of packet.now)) }
+        ensures answer { (q : Partial) → slice_get (table_of self.old) place ≡ Some (Some q)
+            → step_answer self.new (frame_of packet.now) result ≡ next_answer (assembler_limit self.old) q (frame_of packet.now) }
+        ensures slots { assembler_slots self.new ≡ assembler_slots self.old }
+        ensures limit { assembler_limit self.new ≡ assembler_limit self.old }
+    {
+        let Some(open) = self.slots[place] else {
+            return Step::Dropped(Why::NotOpen);
+        };
+        match open.next(self.limit, packet) {
+            Err(why) => {
+                self.close(place);
+                Step::Dropped(why)
+            }
+            Ok(next) => {
+                if packet.header.eom {
+                    self.put(place, open.len, packet.payload, None);
+                    let start = place * self.limit;
+                    Step::At(start, start + next.len)
+                } else {
+                    self.put(place, open.len, packet.payload, Some(next));
+                    Step::Held
+                }
+            }
+        }
+    }
+}
+
+#[cfg(test)]
+mod tests;

@@ -1,0 +1,67 @@
+//! Messages that are cut, as the bytes of their packets.
+ghost use Rattle.std.specs.Prelude.{◌<◌, ◌≤◌, length};
+
+use super::*;
+use crate::address::Tag;
+use crate::packet::HEADER_LENGTH;
+use crate::wire::Wire;
+use std::test::Fail;
+
+/// Tag 1 of source 8, which owns it.
+fn key() -> Key {
+    Key {
+        source: Eid::new(8),
+        tag: Tag::new(1),
+        owner: true,
+    }
+}
+
+/// The packets of a message to 9, from number 0 on.
+fn cut(message: &[u8]) -> Packets<'_>
+    requires some { 0 < length message.now }
+    requires most { length message.now ≤ MAX_MESSAGE }
+{
+    Packets::of(message, Eid::new(9), key(), Seq::new(0))
+}
+
+/// The flag byte of the next packet, written, and how many payload bytes come after it.
+fn next_written(packets: &mut Packets) -> Option<(u8, usize)> {
+    let packet = packets.next()?;
+    let mut out = [0; HEADER_LENGTH + UNIT];
+    let len = packet.put(&mut out);
+    Some((out[3], len - HEADER_LENGTH))
+}
+
+#[test]
+fn cuts_by_the_unit(rt: HostRuntime) -> Result<(), Fail> {
+    let mut packets = cut(&[7; 130]);
+    assert_eq!(rt; next_written(&mut packets), Some((0x89, 64)));
+    assert_eq!(rt; next_written(&mut packets), Some((0x19, 64)));
+    assert_eq!(rt; next_written(&mut packets), Some((0x69, 2)));
+    assert_eq!(rt; next_written(&mut packets), None);
+    let mut packets = cut(&[7; 64]);
+    assert_eq!(rt; next_written(&mut packets), Some((0xC9, 64)));
+    assert_eq!(rt; next_written(&mut packets), None);
+    let mut packets = cut(&[7; 65]);
+    assert_eq!(rt; next_written(&mut packets), Some((0x89, 64)));
+    assert_eq!(rt; next_written(&mut packets), Some((0x59, 1)));
+    assert_eq!(rt; next_written(&mut packets), None);
+    Ok(())
+}
+
+#[test]
+fn writes_a_packet(rt: HostRuntime) -> Result<(), Fail> {
+    let message = [0x01, 0x80, 0x00, 0x02];
+    let key = Key {
+        tag: Tag::new(3),
+        ..key()
+    };
+    let mut packets = Packets::of(&message, Eid::new(10), key, Seq::new(0));
+    let packet = packets.next().ok_or("no packet")?;
+    let mut out = [0xEE; HEADER_LENGTH + UNIT];
+    let len = packet.put(&mut out);
+    let want = [0x01, 0x0A, 0x08, 0xCB, 0x01, 0x80, 0x00, 0x02];
+    assert_eq!(rt; &out[..len], want.as_slice());
+    assert_eq!(rt; out[8], 0xEE);
+    Ok(())
+}
