@@ -1,0 +1,21 @@
+-- How the runs of the program end.
+use Rattle.std.specs.Prelude.{ℕ, List, codes}
+use Rattle.mctpplan.specs.declared.status.Status.{Status}
+use Rattle.mctpplan.specs.declared.status.Status.TheVariants.{Yes, Fault, Unreadable, NoMemory}
+use Rattle.mctpplan.specs.declared.refused.Refused.{Refused}
+
+-- the exit status
+abbrev pub number_of : Status → ℕ
+number_of Yes = 0
+number_of Fault = 1
+number_of Unreadable = 2
+number_of NoMemory = 3
+
+-- how a run ends that gives no answer
+abbrev pub status_of : Refused → Status
+status_of Refused.NoMemory = NoMemory
+status_of _ = Unreadable
+
+-- the line that tells that a certificate fits its plan
+abbrev pub yes_line : List ℕ
+yes_line = codes "yes\n"

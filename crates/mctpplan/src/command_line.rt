@@ -1,0 +1,51 @@
+//! The program's command line.
+use crate::refused::Refused;
+use clap::{Arg, ArgAction, ArgMatches};
+use std::alloc::{AllocError, Global};
+
+/// A command with its arguments.
+#[derive(Clone, Copy, Debug, PartialEq, Eq)]
+pub enum Command<'a> {
+    /// Does the certificate in one file fit the plan in another?
+    Check { plan: &'a str, certificate: &'a str },
+}
+
+/// The command that a list of words stands for. The first word is the program's name.
+pub fn words<'a>(alloc: Global, list: &'a [String]) -> Result<Command<'a>, Refused> {
+    let matches = grammar(alloc)?.try_get_matches_from(list)?;
+    chosen(&matches).ok_or(Refused::Usage)
+}
+
+/// The words of each command.
+fn grammar<'a>(alloc: Global) -> Result<clap::Command<'a>, AllocError> {
+    clap::Command::new(alloc, "mctpplan")
+        .subcommand_required(true)
+        .subcommand(with_arguments(alloc, "check", &["plan", "certificate"])?)
+}
+
+/// A command whose arguments are all required and stand in this order.
+fn with_arguments<'a>(
+    alloc: Global,
+    name: &'a str,
+    arguments: &[&'a str],
+) -> Result<clap::Command<'a>, AllocError> {
+    let mut command = clap::Command::new(alloc, name);
+    for id in arguments {
+        command = command.arg(Arg::new(alloc, *id).required(true).action(ArgAction::Set))?;
+    }
+    Ok(command)
+}
+
+fn chosen<'a>(matches: &ArgMatches<'a>) -> Option<Command<'a>> {
+    let (name, arguments) = matches.subcommand()?;
+    match name {
+        "check" => Some(Command::Check {
+            plan: arguments.get_str("plan")?,
+            certificate: arguments.get_str("certificate")?,
+        }),
+        _ => None,
+    }
+}
+
+#[cfg(test)]
+mod tests;

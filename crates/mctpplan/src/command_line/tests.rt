@@ -1,0 +1,30 @@
+use super::*;
+use std::test::Fail;
+
+#[test]
+fn gives_the_command_or_usage(rt: HostRuntime) -> Result<(), Fail> {
+    let check = Command::Check {
+        plan: "a",
+        certificate: "b",
+    };
+    let rows: [(&[&str], Result<Command, Refused>); 10] = [
+        (&["mctpplan", "check", "a", "b"], Ok(check)),
+        (&[], Err(Refused::Usage)),
+        (&["mctpplan"], Err(Refused::Usage)),
+        (&["mctpplan", "check"], Err(Refused::Usage)),
+        (&["mctpplan", "check", "one"], Err(Refused::Usage)),
+        (&["mctpplan", "check", "a", "b", "c"], Err(Refused::Usage)),
+        (&["mctpplan", "check", "-h"], Err(Refused::Usage)),
+        (&["mctpplan", "--help"], Err(Refused::Usage)),
+        (&["mctpplan", "help"], Err(Refused::Usage)),
+        (&["mctpplan", "chequer", "a", "b"], Err(Refused::Usage)),
+    ];
+    for (given, wanted) in rows {
+        let mut list = Vec::new(rt.alloc());
+        for word in given {
+            list.push(String::from_str(rt.alloc(), word)?)?;
+        }
+        assert_eq!(rt; words(rt.alloc(), list.as_slice()), wanted, "at {given:?}");
+    }
+    Ok(())
+}

@@ -1,0 +1,49 @@
+//! The program `mctpplan`: it checks a planned MCTP network against its certificate.
+#![tactic(auto)]
+
+mod command_line;
+mod commands;
+mod files;
+mod refused;
+mod status;
+mod texts;
+
+use command_line::{Command, words};
+use commands::{refuse, run_check};
+use files::FileAtPath;
+use net_check::plan::Counted;
+use refused::Refused;
+use status::Status;
+use std::env;
+use std::process::ExitCode;
+
+fn main(rt: HostRuntime) -> ExitCode {
+    ExitCode::from(run(&rt).number())
+}
+
+/// Runs the command that the process was started with, over files and the standard streams.
+fn run(rt: &HostRuntime) -> Status {
+    let alloc = rt.alloc();
+    let mut output = Counted::new(rt.stdout());
+    let mut errors = Counted::new(rt.stderr());
+    let list = match given_words(rt) {
+        Ok(list) => list,
+        Err(refused) => return refuse(alloc, refused, &mut errors),
+    };
+    match words(alloc, list.as_slice()) {
+        Ok(Command::Check { plan, certificate }) => run_check(
+            alloc,
+            &mut Counted::new(FileAtPath::new(rt, plan)),
+            &mut Counted::new(FileAtPath::new(rt, certificate)),
+            &mut output,
+            &mut errors,
+        ),
+        Err(refused) => refuse(alloc, refused, &mut errors),
+    }
+}
+
+/// The words that the process was started with. A word that is not UTF-8 fits no command.
+fn given_words(rt: &HostRuntime) -> Result<Vec<String>, Refused> {
+    let given = env::args(rt)?;
+    Ok(given.collect::<Vec<String>>(rt.alloc())?)
+}

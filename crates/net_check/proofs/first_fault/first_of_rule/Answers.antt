@@ -1,0 +1,21 @@
+use Rattle.std.proofs.Common.{◌≡◌, ℕ, Option, None, length, arith, inl, inr}
+use Rattle.std.proofs.lemmas.Bool.{cases_lt}
+use borrow.Author.Count.{below_more}
+use Rattle.net_check.specs.Rules.{Demands}
+use Rattle.net_check.proofs.Beyond.{beyond}
+use Rattle.net_check.proofs.first_fault.first_of_rule.Goals as goal
+
+pub loop-node-preserved : goal.loop-node-preserved
+loop-node-preserved c =
+    let plan = c.args.trial.now.plan.now in
+    let cert = c.args.trial.now.certificate.now in
+    below_more (λ k. (entry eid : Option ℕ) → Demands plan cert c.args.rule k entry eid) c.loop-node.node c.loop-node.invariant
+    (let is : c.first_at.result ≡ None = cc in rw is at c.first_at.ensures)
+
+pub returns : goal.returns
+returns c = λ n entry eid.
+    let plan = c.args.trial.now.plan.now in
+    elim (cases_lt n (length plan.nodes.items)) [
+      | inl within ↦ c.loop-node.invariant n (omega arith) entry eid
+      | inr past ↦ beyond plan c.args.trial.now.certificate.now c.args.rule n entry eid past
+    ]

@@ -1,0 +1,23 @@
+-- The certified ranks, and that they fall along the rows.
+use Rattle.std.specs.Prelude.{ℕ, ◌+◌, ◌<◌, List, Bool, ◌&&◌, ◌==◌, option_map, unwrap_or, find, nat_lt, nat_le}
+use Rattle.net_check.specs.declared.plan.nodes.Plan.{Plan}
+use Rattle.net_check.specs.declared.plan.nodes.Row.{Row}
+use Rattle.net_check.specs.declared.plan.certificate.RankRange.{RankRange}
+use Rattle.net_check.specs.declared.plan.certificate.Certificate.{Certificate}
+use Rattle.net_check.specs.Routing.{Holds}
+
+-- e lies in the range
+abbrev pub is_in_range : RankRange → ℕ → Bool
+is_in_range range e = nat_le range.first.value e && nat_lt e (range.first.value + range.size)
+
+-- the rank that the ranges give e: that of the first that has it, 0 where none does
+abbrev pub rank_in : List RankRange → ℕ → ℕ
+rank_in ranges e = unwrap_or (option_map (λ range. range.rank) (find (λ range. is_in_range range e) ranges)) 0
+
+-- the rank of (n, e); 0 where the certificate gives none
+abbrev pub rank : Certificate → ℕ → ℕ → ℕ
+rank cert n e = unwrap_or (option_map (λ given. rank_in given.ranges.items e) (find (λ given. given.node == n) cert.ranks.items)) 0
+
+-- n holds e, or the rank is less at the row's next node
+unfoldable pub Falls : Plan → Certificate → ℕ → Row → ℕ → Type 0
+Falls plan cert n row e = ¬ Holds plan n e → rank cert row.next e < rank cert n e

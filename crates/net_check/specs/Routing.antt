@@ -1,0 +1,47 @@
+-- What a plan says of its nodes and their rows, as the rules and the network read it. A node is named by its place.
+use Rattle.std.specs.Prelude.{◌≡◌, ℕ, ◌+◌, ◌<◌, ◌≤◌, List, [], Option, Some, option_map, unwrap_or, slice_get}
+use Rattle.net_check.specs.declared.plan.nodes.Plan.{Plan}
+use Rattle.net_check.specs.declared.plan.nodes.Node.{Node}
+use Rattle.net_check.specs.declared.plan.nodes.Row.{Row}
+use Rattle.net_check.specs.declared.plan.nodes.Port.{Port}
+use Rattle.net_check.specs.declared.plan.nodes.Kind.TheVariants.{Bridge}
+
+abbrev pub node_at : Plan → ℕ → Option Node
+node_at plan n = slice_get plan.nodes.items n
+
+-- a node's EID; none beyond the plan
+abbrev pub eid_of : Plan → ℕ → Option ℕ
+eid_of plan n = option_map (λ node. node.eid.value) (node_at plan n)
+
+abbrev pub rows_of : Plan → ℕ → List Row
+rows_of plan n = unwrap_or (option_map (λ node. node.rows.items) (node_at plan n)) []
+
+abbrev pub ports_of : Plan → ℕ → List Port
+ports_of plan n = unwrap_or (option_map (λ node. node.ports.items) (node_at plan n)) []
+
+abbrev pub IsBridge : Plan → ℕ → Type 0
+IsBridge plan n = option_map (λ node. node.kind) (node_at plan n) ≡ Some Bridge
+
+-- the node's EID is e
+abbrev pub Holds : Plan → ℕ → ℕ → Type 0
+Holds plan n e = eid_of plan n ≡ Some e
+
+-- e is one of the row's EIDs; a row that reaches past 255 covers those up to 255
+abbrev pub Covers : Row → ℕ → Type 0
+Covers row e = (row.first.value ≤ e) × (e < row.first.value + row.size) × (e ≤ 255)
+
+-- some row of n covers e and names m
+abbrev pub Routes : Plan → ℕ → ℕ → ℕ → Type 0
+Routes plan n e m = (r : ℕ) × (row : Row) × (slice_get (rows_of plan n) r ≡ Some row) × Covers row e × (row.next ≡ m)
+
+-- n has a row for e
+abbrev pub HasRow : Plan → ℕ → ℕ → Type 0
+HasRow plan n e = (m : ℕ) × Routes plan n e m
+
+-- what is for e moves on from n to m: n doesn't hold e, and routes it to m
+abbrev pub MovesTo : Plan → ℕ → ℕ → ℕ → Type 0
+MovesTo plan e n m = ¬ Holds plan n e × Routes plan n e m
+
+-- what is said of the row at a place of the list, if there is one
+abbrev pub OfRow : List Row → ℕ → (Row → Type 0) → Type 0
+OfRow rows r P = (row : Row) → slice_get rows r ≡ Some row → P row

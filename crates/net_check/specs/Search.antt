@@ -1,0 +1,40 @@
+-- What the searches for a fault answer.
+use Rattle.std.specs.Prelude.{◌≡◌, ℕ, ◌<◌, List, [], ◌∷◌, Option, Some, None}
+use Rattle.net_check.specs.declared.rule.Rule.{Rule}
+use Rattle.net_check.specs.declared.fault.Fault.{Fault}
+use Rattle.net_check.specs.declared.spot.Spot.{Spot}
+use Rattle.net_check.specs.declared.plan.nodes.Plan.{Plan}
+use Rattle.net_check.specs.declared.plan.nodes.Row.{Row}
+use Rattle.net_check.specs.declared.plan.certificate.Certificate.{Certificate}
+use Rattle.net_check.specs.Routing.{OfRow, Covers}
+use Rattle.net_check.specs.Rules.{RuleHolds}
+use Rattle.net_check.specs.Faults.{Place, place_of, eid_number, order_of_number, LessByFirstDifference, ComesBefore, IsMet, IsBroken}
+
+-- the first row of the list of which the fact fails, if any
+abbrev pub IsFirstRow : List Row → (ℕ → Row → Type 0) → Option ℕ → Type 0
+IsFirstRow rows P None = (r : ℕ) → OfRow rows r (P r)
+IsFirstRow rows P (Some i) = ¬ OfRow rows i (P i) × ((r : ℕ) → r < i → OfRow rows r (P r))
+
+-- the row's first EID of which the fact fails, if any
+abbrev pub IsFirstEid : Row → (ℕ → Type 0) → Option ℕ → Type 0
+IsFirstEid row P None = (e : ℕ) → Covers row e → P e
+IsFirstEid row P (Some e) = ¬ (Covers row e → P e) × ((d : ℕ) → d < e → Covers row d → P d)
+
+-- an entry and an EID come before others
+abbrev pub SpotComesBefore : Option ℕ → Option ℕ → Option ℕ → Option ℕ → Type 0
+SpotComesBefore entry eid entry' eid' =
+    LessByFirstDifference (order_of_number entry ∷ order_of_number eid ∷ []) (order_of_number entry' ∷ order_of_number eid' ∷ [])
+
+-- the first entry and EID at which a demand isn't met, if any
+abbrev pub IsFirstSpot : (Option ℕ → Option ℕ → Type 0) → Option Spot → Type 0
+IsFirstSpot D None = (entry eid : Option ℕ) → D entry eid
+IsFirstSpot D (Some spot) =
+    ¬ D spot.entry (eid_number spot.eid)
+    × ((entry eid : Option ℕ) → SpotComesBefore entry eid spot.entry (eid_number spot.eid) → D entry eid)
+
+-- the rule's first fault, if any
+abbrev pub IsFirstOfRule : Plan → Certificate → Rule → Option Fault → Type 0
+IsFirstOfRule plan cert rule None = RuleHolds plan cert rule
+IsFirstOfRule plan cert rule (Some fault) =
+    (fault.rule ≡ rule) × IsBroken plan cert (place_of fault)
+    × ((other : Place) → other.rule ≡ rule → ComesBefore other (place_of fault) → IsMet plan cert other)

@@ -1,0 +1,71 @@
+//! `check`, and what it answers.
+ghost use Rattle.std.specs.Prelude.{◌≡◌, IfOk, OnOk, IfErr};
+ghost use Rattle.net_check.specs.Rules.{Accepts};
+ghost use Rattle.net_check.specs.Errors.{NamesFirstFault};
+ghost use Rattle.net_check.specs.Promises.{EndsWithinRank};
+
+use crate::check_error::CheckError;
+use crate::first_fault::first_of_rule;
+use crate::plan::{Certificate, Plan};
+use crate::rule::RULES;
+use crate::trial::Trial;
+use std::alloc::Global;
+use std::marker::Model;
+
+/// A plan and a certificate of which each rule holds.
+#[derive(Drop)]
+pub struct Checked<'a> {
+    plan: &'a Plan,
+    certificate: &'a Certificate,
+}
+
+impl<'a> Model for Checked<'a> {
+    ghost use Rattle.net_check.specs.declared.plan.nodes.Plan.{Plan};
+    ghost use Rattle.net_check.specs.declared.plan.certificate.Certificate.{Certificate};
+    ghost use Rattle.net_check.specs.Rules.{Accepts};
+
+    ghost Value = { Plan × Certificate };
+
+    ghost view = { λ c. (c.plan.now, c.certificate.now) };
+
+    ghost invariant = { λ c. Accepts c.plan.now c.certificate.now };
+}
+
+impl<'a> Checked<'a> {
+    /// The plan that was checked.
+    pub fn plan(&self) -> &'a Plan
+        ensures { result.now ≡ self.now.0 }
+    {
+        self.plan
+    }
+
+    /// The certificate that was checked.
+    pub fn certificate(&self) -> &'a Certificate
+        ensures { result.now ≡ self.now.1 }
+    {
+        self.certificate
+    }
+}
+
+/// Whether each rule holds of the plan and the certificate, or the first fault.
+#[tactic(auto, using(crate::proofs::Ends::ends_within_rank))]
+pub fn check<'a>(
+    alloc: Global,
+    plan: &'a Plan,
+    certificate: &'a Certificate,
+) -> Result<Checked<'a>, CheckError>
+    ensures checked { IfOk result (λ checked. checked ≡ (plan.now, certificate.now)) }
+    ensures accepted { OnOk result (Accepts plan.now certificate.now) }
+    ensures first_fault { IfErr result (λ error. NamesFirstFault plan.now certificate.now error) }
+
+    // Following rows ends, within the certified rank.
+    ensures ends { OnOk result (EndsWithinRank plan.now certificate.now) }
+{
+    let trial = Trial::new(alloc, plan, certificate)?;
+    for rule in RULES {
+        if let Some(fault) = first_of_rule(&trial, rule) {
+            return Err(CheckError::Fault(fault));
+        }
+    }
+    Ok(Checked { plan, certificate })
+}

@@ -1,0 +1,22 @@
+//! Whether a planned MCTP network routes its packets as it should.
+#![tactic(auto)]
+
+mod check_error;
+mod checked;
+mod fault;
+mod first_fault;
+pub mod plan;
+mod rank_tables;
+mod routing;
+mod rule;
+mod rules;
+mod spot;
+mod trial;
+
+pub use check_error::CheckError;
+pub use checked::{Checked, check};
+pub use fault::Fault;
+pub use rule::Rule;
+
+#[cfg(test)]
+mod tests;

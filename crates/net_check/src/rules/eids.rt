@@ -1,0 +1,58 @@
+//! C02 and C03: each node holds an endpoint ID of its own that can be held.
+ghost use Rattle.std.specs.Prelude.{◌≡◌, ◌<◌, ◌↔◌, IsTrue, length};
+ghost use Rattle.net_check.specs.Eids.{IsNewlyHeld};
+ghost use Rattle.net_check.specs.Rules.{PlanDemands};
+ghost use Rattle.net_check.specs.Search.{IsFirstSpot};
+
+use crate::plan::Plan;
+use crate::routing::holds;
+use crate::rule::Rule;
+use crate::spot::Spot;
+use mctp_transport::Eid;
+
+/// Where the node's endpoint ID cannot be held.
+pub fn unassignable_eid(plan: &Plan, node: usize) -> Option<Spot>
+    requires { node < length plan.now.nodes.items }
+    ensures { IsFirstSpot (PlanDemands plan.now Rule.C02 node) result }
+{
+    let eid = plan.nodes[node].eid;
+    if eid.is_assignable() {
+        return None;
+    }
+    Some(at_eid(eid))
+}
+
+/// Where an earlier node holds the node's endpoint ID.
+pub fn repeated_eid(plan: &Plan, node: usize) -> Option<Spot>
+    requires { node < length plan.now.nodes.items }
+    ensures { IsFirstSpot (PlanDemands plan.now Rule.C03 node) result }
+{
+    let eid = plan.nodes[node].eid;
+    if is_newly_held(plan, node, eid) {
+        return None;
+    }
+    Some(at_eid(eid))
+}
+
+fn at_eid(eid: Eid) -> Spot
+    ensures { result ≡ record { entry = None; eid = Some eid } }
+{
+    Spot {
+        entry: None,
+        eid: Some(eid),
+    }
+}
+
+/// Whether no earlier node holds the endpoint ID.
+#[tactic(auto, unfolding(crate::specs::Eids::IsNewlyHeld))]
+fn is_newly_held(plan: &Plan, node: usize, eid: Eid) -> bool
+    requires { node < length plan.now.nodes.items }
+    ensures { IsTrue result ↔ IsNewlyHeld plan.now node eid.value }
+{
+    for earlier in 0..node {
+        if holds(plan, earlier, eid) {
+            return false;
+        }
+    }
+    true
+}

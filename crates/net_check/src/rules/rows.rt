@@ -1,0 +1,143 @@
+//! C04 to C06: a node's rows are lawful, lie apart, and lead to neighbors.
+ghost use Rattle.std.specs.Prelude.{◌≡◌, ℕ, ◌<◌, ◌↔◌, ◌==◌, IsTrue, All, length, option_map};
+ghost use Rattle.std.specs.List.{list_any};
+ghost use Rattle.net_check.specs.Rows.{IsInRange, AreApart, IsApartFromEarlier, IsJoined, NamesNeighbor, bus_of};
+ghost use Rattle.net_check.specs.Rules.{PlanDemands};
+ghost use Rattle.net_check.specs.Search.{IsFirstRow, IsFirstSpot};
+
+use crate::plan::{Plan, Port, Row};
+use crate::routing::{is_bridge, ports_at, row_end, rows_at};
+use crate::rule::Rule;
+use crate::spot::Spot;
+
+/// Where a row is empty or reaches beyond the endpoint IDs that can be held.
+pub fn row_out_of_range(plan: &Plan, node: usize) -> Option<Spot>
+    ensures { IsFirstSpot (PlanDemands plan.now Rule.C04 node) result }
+{
+    at_row(first_out_of_range(rows_at(plan, node)))
+}
+
+/// Where a row overlaps an earlier one.
+pub fn overlapping_row(plan: &Plan, node: usize) -> Option<Spot>
+    ensures { IsFirstSpot (PlanDemands plan.now Rule.C05 node) result }
+{
+    at_row(first_overlapping(rows_at(plan, node)))
+}
+
+/// Where a row names no neighbor.
+pub fn row_without_neighbor(plan: &Plan, node: usize) -> Option<Spot>
+    ensures { IsFirstSpot (PlanDemands plan.now Rule.C06 node) result }
+{
+    at_row(first_without_neighbor(plan, node, rows_at(plan, node)))
+}
+
+/// The spot of a row alone.
+fn at_row(row: Option<usize>) -> Option<Spot>
+    ensures { result ≡ option_map (λ r. record { entry = Some r; eid = None }) row }
+{
+    row.map(|row| Spot {
+        entry: Some(row),
+        eid: None,
+    })
+}
+
+/// The first row that is empty or reaches beyond the endpoint IDs that can be held.
+fn first_out_of_range(rows: &[Row]) -> Option<usize>
+    ensures { IsFirstRow rows.now (λ _ row. IsInRange row) result }
+{
+    for (r, row) in rows.iter().enumerate() {
+        if !is_in_range(row) {
+            return Some(r);
+        }
+    }
+    None
+}
+
+/// Whether a row covers an endpoint ID, and only such as can be held.
+#[tactic(auto, unfolding(crate::specs::Rows::IsInRange))]
+fn is_in_range(row: &Row) -> bool
+    ensures { IsTrue result ↔ IsInRange row.now }
+{
+    1 <= row.size && 8 <= row.first.value && row_end(row) <= 255
+}
+
+/// The first row that overlaps an earlier one.
+#[tactic(auto, unfolding(crate::specs::Rows::IsApartFromEarlier))]
+fn first_overlapping(rows: &[Row]) -> Option<usize>
+    ensures { IsFirstRow rows.now (IsApartFromEarlier rows.now) result }
+{
+    for (r, row) in rows.iter().enumerate() {
+        if !is_apart_from_all(row, &rows[..r]) {
+            return Some(r);
+        }
+    }
+    None
+}
+
+/// Whether a row lies apart from each of the others.
+fn is_apart_from_all(row: &Row, others: &[Row]) -> bool
+    ensures { IsTrue result ↔ All (AreApart row.now) others.now }
+{
+    others.iter().all(|other| are_apart(row, other))
+}
+
+/// Whether no endpoint ID lies in both rows.
+#[tactic(auto, unfolding(crate::specs::Rows::AreApart))]
+fn are_apart(row: &Row, other: &Row) -> bool
+    ensures { IsTrue result ↔ AreApart row.now other.now }
+{
+    row.size == 0
+        || other.size == 0
+        || row_end(row) <= u16::from(other.first.value)
+        || row_end(other) <= u16::from(row.first.value)
+}
+
+/// The first of the node's rows that names no neighbor.
+fn first_without_neighbor(plan: &Plan, node: usize, rows: &[Row]) -> Option<usize>
+    ensures { IsFirstRow rows.now (λ _ row. NamesNeighbor plan.now node row) result }
+{
+    for (r, row) in rows.iter().enumerate() {
+        if !names_neighbor(plan, node, row) {
+            return Some(r);
+        }
+    }
+    None
+}
+
+/// Whether the row's port exists, and its next node is another one on that port's bus, a bridge for several endpoint
+/// IDs.
+#[tactic(auto, unfolding(crate::specs::Rows::NamesNeighbor))]
+fn names_neighbor(plan: &Plan, node: usize, row: &Row) -> bool
+    ensures { IsTrue result ↔ NamesNeighbor plan.now node row.now }
+{
+    row.next != node
+        && is_joined(plan, node, row.port, row.next)
+        && (row.size < 2 || is_bridge(plan, row.next))
+}
+
+/// Whether the node has the port, and the other node a port on its bus.
+#[tactic(auto, unfolding(crate::specs::Rows::IsJoined))]
+fn is_joined(plan: &Plan, node: usize, port: u8, other: usize) -> bool
+    ensures { IsTrue result ↔ IsJoined plan.now node port other }
+{
+    match bus_at(plan, node, port) {
+        Some(bus) => is_on_bus(ports_at(plan, other), bus),
+        None => false,
+    }
+}
+
+/// The bus of a node's port, where it has the port.
+fn bus_at(plan: &Plan, node: usize, port: u8) -> Option<usize>
+    ensures { result ≡ bus_of plan.now node port }
+{
+    ports_at(plan, node)
+        .get(usize::from(port))
+        .map(|port| port.bus)
+}
+
+/// Whether one of the ports is on the bus.
+fn is_on_bus(ports: &[Port], bus: usize) -> bool
+    ensures { result ≡ list_any (λ port. port.bus == bus) ports.now }
+{
+    ports.iter().any(|port| port.bus == bus)
+}
