@@ -4,11 +4,12 @@ ghost use Rattle.std.specs.Io.KnownBytes.{Appends};
 ghost use Rattle.mctpplan.specs.declared.refused.Refused.TheVariants.{Unwritten};
 ghost use Rattle.mctpplan.specs.declared.status.Status.TheVariants.{Yes, Fault, Unreadable, NoMemory};
 ghost use Rattle.mctpplan.specs.Statuses.{status_of, yes_line};
+ghost use Rattle.mctpplan.specs.Answers.{AreGiven, Tells};
 
 use crate::refused::{Input, Refused};
 use crate::status::Status;
 use crate::texts::{self, NO_MEMORY, YES};
-use net_check::plan::{Sink, Source, read_certificate, read_plan, write_whole};
+use net_check::plan::{Certificate, Plan, Sink, Source, read_certificate, read_plan, write_whole};
 use net_check::{CheckError, check};
 use std::alloc::{AllocError, Global};
 use std::borrow::CowStr;
@@ -26,6 +27,8 @@ pub fn run_check<P: Source, C: Source, O: Sink, E: Sink>(
     requires certificate { C.failures certificate.old < 2 ^ 64 - 1 }
     requires output { O.failures output.old < 2 ^ 64 - 1 }
     requires errors { E.failures errors.old < 2 ^ 64 - 1 }
+    ensures tells { Tells result (record { before = P.remaining plan.old; after = P.remaining plan.new })
+        (record { before = C.remaining certificate.old; after = C.remaining certificate.new }) }
     ensures yes { result ≡ Yes → Appends (O.contents output.old) (O.contents output.new) yes_line }
     ensures silent { (result ≡ Yes) ⊎ (result ≡ Fault) → errors.new ≡ errors.old }
     ensures no_memory { result ≡ NoMemory → output.new ≡ output.old }
@@ -62,12 +65,11 @@ fn answer_check<P: Source, C: Source, O: Sink>(
     requires output { O.failures output.old < 2 ^ 64 - 1 }
     ensures answers { IfOk result (λ status. (status ≡ Yes) ⊎ (status ≡ Fault)) }
     ensures untouched { IfErr result (λ refused. (refused ≡ Unwritten) ⊎ (output.new ≡ output.old)) }
+    ensures tells { IfOk result (λ status. Tells status (record { before = P.remaining plan.old; after = P.remaining plan.new })
+        (record { before = C.remaining certificate.old; after = C.remaining certificate.new })) }
     ensures yes { result ≡ Ok Yes → Appends (O.contents output.old) (O.contents output.new) yes_line }
 {
-    let read = read_plan(alloc, plan);
-    let plan = read.map_err(|error| Refused::at_input(Input::Plan, error))?;
-    let read = read_certificate(alloc, &plan, certificate);
-    let certificate = read.map_err(|error| Refused::at_input(Input::Certificate, error))?;
+    let (plan, certificate) = read_inputs(alloc, plan, certificate)?;
     match check(alloc, &plan, &certificate) {
         Ok(_) => {
             print(output, YES)?;
@@ -79,6 +81,24 @@ fn answer_check<P: Source, C: Source, O: Sink>(
         }
         Err(CheckError::OutOfMemory) => Err(Refused::NoMemory),
     }
+}
+
+/// The plan and its certificate. The certificate is read only where the plan reads.
+fn read_inputs<P: Source, C: Source>(
+    alloc: Global,
+    plan: &mut P,
+    certificate: &mut C,
+) -> Result<(Plan, Certificate), Refused>
+    requires plan { P.failures plan.old < 2 ^ 64 - 1 }
+    requires certificate { C.failures certificate.old < 2 ^ 64 - 1 }
+    ensures { IfOk result (λ read. AreGiven (record { before = P.remaining plan.old; after = P.remaining plan.new })
+        (record { before = C.remaining certificate.old; after = C.remaining certificate.new }) read.0 read.1) }
+{
+    let read = read_plan(alloc, plan);
+    let plan = read.map_err(|error| Refused::at_input(Input::Plan, error))?;
+    let read = read_certificate(alloc, &plan, certificate);
+    let certificate = read.map_err(|error| Refused::at_input(Input::Certificate, error))?;
+    Ok((plan, certificate))
 }
 
 /// Writes the answer.
