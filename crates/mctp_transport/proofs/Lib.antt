@@ -1,4 +1,4 @@
-pub mod CutLaws
+pub mod PacketsLeftLaws
 pub mod Cuts
 pub mod PacketLists
 pub mod Places

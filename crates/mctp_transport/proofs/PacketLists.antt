@@ -9,7 +9,7 @@ use Rattle.mctp_transport.specs.Frames.{Frame, KeyValue, key_of}
 use Rattle.mctp_transport.specs.Messages.{EachPacket, Joined, payloads_of}
 use Rattle.mctp_transport.specs.Cutting.{IsCut, ArePacketsOf}
 use Rattle.mctp_transport.specs.PacketsLeft.{cut}
-use Rattle.mctp_transport.proofs.CutLaws.{first_of, later_of}
+use Rattle.mctp_transport.proofs.PacketsLeftLaws.{first_of, later_of}
 use Rattle.mctp_transport.proofs.Cuts.{cut_nothing, cut_more, cut_some, some_payloads, same_cuts}
 
 abbrev payloads : List Frame → List (List ℕ)

@@ -45,7 +45,7 @@ pub struct Assembler {
     ghost few: { length slots.items ≤ 64 },
     ghost short: { limit ≤ 4096 },
     ghost sized: { length block.items ≡ length slots.items * limit },
-    ghost within: { All (λ slot. IfSome slot (λ message. message.len ≤ limit)) slots.items } by { Prim.hlevel props },
+    ghost within: { All (λ slot. IfSome slot (λ begun. begun.len ≤ limit)) slots.items } by { Prim.hlevel props },
 }
 
 /// What a packet did, and where a whole message lies then.
@@ -116,7 +116,8 @@ impl Assembler {
         ensures limit { assembler_limit self.new ≡ assembler_limit self.old }
         ensures was_open { (h : History) → StandsFor self.old h
             → IsTrue result ↔ IsOpen (assembler_slots self.old) (assembler_limit self.old) h (key_value key) }
-        ensures stands { (h : History) → StandsFor self.old h → StandsFor self.new (after h (TimeUp (key_value key))) }
+        ensures stands { (h : History) → StandsFor self.old h
+            → StandsFor self.new (after h (TimeUp (key_value key))) }
     {
         self.end(key)
     }
@@ -178,8 +179,8 @@ impl Assembler {
         requires place { place < assembler_slots self.old }
         requires fits { at + length bytes.now ≤ assembler_limit self.old }
         requires within { IfSome message (λ begun. begun.len ≤ assembler_limit self.old) }
-        ensures table { table_of self.new
-            ≡ slice_set (table_of self.old) place (partial_of message (part (assembler_limit self.old) self.new.block.items place)) }
+        ensures table { let bytes = part (assembler_limit self.old) self.new.block.items place in
+            table_of self.new ≡ slice_set (table_of self.old) place (partial_of message bytes) }
         ensures part { take (at + length bytes.now) (part (assembler_limit self.old) self.new.block.items place)
             ≡ take at (part (assembler_limit self.old) self.old.block.items place) ++ bytes.now }
         ensures slots { assembler_slots self.new ≡ assembler_slots self.old }
@@ -225,7 +226,8 @@ impl Assembler {
     /// Takes a packet in. All changes are made here, since `feed` lends the block.
     fn take(&mut self, packet: &PacketView) -> Step
         ensures place { IsPlace self.new result }
-        ensures takes { Takes self.old (frame_of packet.now) (step_answer self.new (frame_of packet.now) result) self.new }
+        ensures takes { let frame = frame_of packet.now in
+            Takes self.old frame (step_answer self.new frame result) self.new }
     {
         if packet.header.som {
             self.end(packet.key());
@@ -238,9 +240,10 @@ impl Assembler {
     /// Takes a first packet, with no message of its key open.
     fn start(&mut self, packet: &PacketView) -> Step
         ensures place { IsPlace self.new result }
-        ensures table { table_of self.new ≡ (started (assembler_limit self.old) (table_of self.old) (frame_of packet.now)).0 }
-        ensures answer { step_answer self.new (frame_of packet.now) result
-            ≡ (started (assembler_limit self.old) (table_of self.old) (frame_of packet.now)).1 }
+        ensures table { let frame = frame_of packet.now in
+            table_of self.new ≡ (started (assembler_limit self.old) (table_of self.old) frame).0 }
+        ensures answer { let frame = frame_of packet.now in
+            step_answer self.new frame result ≡ (started (assembler_limit self.old) (table_of self.old) frame).1 }
         ensures slots { assembler_slots self.new ≡ assembler_slots self.old }
         ensures limit { assembler_limit self.new ≡ assembler_limit self.old }
     {
@@ -261,9 +264,12 @@ impl Assembler {
     fn carry(&mut self, packet: &PacketView) -> Step
         ensures place { IsPlace self.new result }
         ensures table { let frame = frame_of packet.now in
-            table_of self.new ≡ (carried (assembler_limit self.old) (table_of self.old) frame (position (is_at (key_of frame)) (table_of self.old))).0 }
+            let place = position (is_at (key_of frame)) (table_of self.old) in
+            table_of self.new ≡ (carried (assembler_limit self.old) (table_of self.old) frame place).0 }
         ensures answer { let frame = frame_of packet.now in
-            step_answer self.new frame result ≡ (carried (assembler_limit self.old) (table_of self.old) frame (position (is_at (key_of frame)) (table_of self.old))).1 }
+            let place = position (is_at (key_of frame)) (table_of self.old) in
+            step_answer self.new frame result
+            ≡ (carried (assembler_limit self.old) (table_of self.old) frame place).1 }
         ensures slots { assembler_slots self.new ≡ assembler_slots self.old }
         ensures limit { assembler_limit self.new ≡ assembler_limit self.old }
     {
@@ -278,9 +284,11 @@ impl Assembler {
         requires { place < assembler_slots self.old }
         ensures place { IsPlace self.new result }
         ensures table { (q : Partial) → slice_get (table_of self.old) place ≡ Some (Some q)
-            → table_of self.new ≡ slice_set (table_of self.old) place (next_partial (assembler_limit self.old) q (frame_of packet.now)) }
+            → let next = next_partial (assembler_limit self.old) q (frame_of packet.now) in
+            table_of self.new ≡ slice_set (table_of self.old) place next }
         ensures answer { (q : Partial) → slice_get (table_of self.old) place ≡ Some (Some q)
-            → step_answer self.new (frame_of packet.now) result ≡ next_answer (assembler_limit self.old) q (frame_of packet.now) }
+            → let frame = frame_of packet.now in
+            step_answer self.new frame result ≡ next_answer (assembler_limit self.old) q frame }
         ensures slots { assembler_slots self.new ≡ assembler_slots self.old }
         ensures limit { assembler_limit self.new ≡ assembler_limit self.old }
     {

@@ -8,7 +8,7 @@ use Rattle.net_check.specs.declared.plan.certificate.Certificate.{Certificate}
 use Rattle.net_check.specs.CertificateText.{IsCertificateOf}
 use Rattle.net_check.specs.CertificateValues.{certificate_value}
 use Rattle.net_check.specs.Faults.{IsFirstFault, place_of}
-use Rattle.net_check.specs.JsonWords.{Gave, StandsFor}
+use Rattle.net_check.specs.Texts.{Gave, StandsFor}
 use Rattle.net_check.specs.PlanText.{IsPlanOf}
 use Rattle.net_check.specs.PlanValues.{plan_value}
 use Rattle.net_check.specs.Rules.{Accepts}

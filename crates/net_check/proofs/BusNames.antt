@@ -1,10 +1,9 @@
 -- The names of buses and nodes, and what finds their places.
-use Rattle.std.proofs.Common.{◌≡◌, ℕ, List, [], ◌∷◌, map, Option, Ok, Err, Result, refl, ap, ◌∙◌, sym}
+use Rattle.std.proofs.Common.{◌≡◌, ℕ, List, [], ◌∷◌, map, Option, Ok, refl, ap, ◌∙◌}
 use Rattle.serde_json.specs.Data.{Data}
 use Rattle.net_check.specs.Json.{list_within}
 use Rattle.net_check.specs.PlanReading.{node, node_name, nodes_among, place_of}
-use Rattle.net_check.specs.PlanValues.{NodeValue, name_bytes, bus_value, bus_names, node_value, node_names}
-use Rattle.net_check.specs.Reading.{then_with}
+use Rattle.net_check.specs.PlanValues.{name_bytes, bus_value, bus_names, node_value, node_names}
 use Rattle.net_check.specs.declared.plan.nodes.Bus.{Bus}
 use Rattle.net_check.specs.declared.plan.nodes.Node.{Node}
 

@@ -1,20 +1,19 @@
 -- What is read of a certificate is what the relation tells.
-use Rattle.std.proofs.Common.{◌≡◌, ◌≢◌, ℕ, suc, ◌+◌, ◌≤◌, List, [], ◌∷◌, Bool, true, false, nat_le, ◌&&◌, Some, Result, Ok, Err, refl, sym, ap, ◌∙◌, subst, true≢false, codes, arith, AllPairs}
+use Rattle.std.proofs.Common.{◌≡◌, ◌≢◌, ℕ, suc, ◌+◌, ◌≤◌, List, [], ◌∷◌, Bool, true, false, nat_le, ◌&&◌, Some, Ok, refl, sym, ap, ◌∙◌, subst, true≢false, codes, arith, AllPairs}
 use Rattle.std.proofs.lemmas.Bool.{leb-true, le-leb}
 use Rattle.std.proofs.lemmas.List.Elements.{All-from_recursion, recursion_from_All}
 use Rattle.std.proofs.lemmas.List.Kept.{AllPairs-cons}
-use Rattle.std.specs.List.{All, AllByRecursion}
+use Rattle.std.specs.List.{AllByRecursion}
 use Rattle.serde_json.specs.Data.{Data, array, no_items}
 use Rattle.serde_json.specs.Find.{get}
-use Rattle.net_check.specs.CertificateReading.{range, ranges, ascends, ranks_name, node_ranks, ranks_among, certificate, certificate_keys, ranks_keys, range_keys}
+use Rattle.net_check.specs.Keys.{certificate_keys, ranks_keys, range_keys}
+use Rattle.net_check.specs.CertificateReading.{range, ranges, ascends, ranks_name, node_ranks, ranks_among, certificate}
 use Rattle.net_check.specs.CertificateText.{IsRangeOf, IsAscending, AreRangesOf, AreRanksOf, IsRanksList, IsCertificateOf}
 use Rattle.net_check.specs.CertificateValues.{RangeValue, NodeRanksValue, CertificateValue}
-use Rattle.net_check.specs.Json.{keyed, at_key, all_of, demand, name_text, whole_number, no_entries}
-use Rattle.net_check.specs.JsonWords.{At, IsListOf, IsNumber, IsNumberWithin, IsName, IsPlace}
+use Rattle.net_check.specs.Json.{keyed, at_key, all_of, demand, whole_number, no_entries}
+use Rattle.net_check.specs.JsonWords.{At, IsListOf, IsNumberWithin, IsName}
 use Rattle.net_check.specs.PlanReading.{place_of, place_text, names_differ}
 use Rattle.net_check.specs.PlanValues.{PlanValue, node_names}
-use Rattle.net_check.specs.Reading.{then_with}
-use Rattle.net_check.specs.declared.plan.error.Fault.{Fault}
 use Rattle.net_check.proofs.KeysLaw.{keys_sound, keys_whole}
 use Rattle.net_check.proofs.PlanLaw.{name_at, place_at, differ_sound, differ_whole, format_sound, format_whole}
 use Rattle.net_check.proofs.Telling.{Tells, same_Ok, then_Ok, demanded, at_key_tells, all_tells, number_tells, no_entries_sound, key_sound}

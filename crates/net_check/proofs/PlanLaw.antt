@@ -1,5 +1,5 @@
 -- What is read of a plan is what the relation tells.
-use Rattle.std.proofs.Common.{◌≡◌, ◌≢◌, ℕ, zero, suc, ◌<◌, ◌≤◌, List, [], ◌∷◌, length, map, Bool, true, false, not, nat_le, ◌&&◌, ◌||◌, Option, Some, None, option_map, Result, Ok, Err, refl, sym, ap, ◌∙◌, subst, cond, true≢false, codes, slice_get, arith, AllPairs}
+use Rattle.std.proofs.Common.{◌≡◌, ◌≢◌, ℕ, zero, suc, ◌<◌, ◌≤◌, List, [], ◌∷◌, length, Bool, true, false, not, nat_le, ◌&&◌, ◌||◌, Option, Some, None, option_map, Result, Ok, Err, refl, sym, ap, ◌∙◌, subst, cond, true≢false, codes, slice_get, arith, AllPairs}
 use Rattle.std.proofs.lemmas.Bool.{leb-true, le-leb}
 use Rattle.std.proofs.lemmas.List.{length-map}
 use Rattle.std.proofs.lemmas.Slice.Eq.{bytes_eq-Decides}
@@ -11,18 +11,18 @@ use Rattle.hex.specs.declared.error.FromHexError.{FromHexError}
 use Rattle.serde_json.specs.Data.{Data, null, boolean, number, string, array, object, Items, no_items, item}
 use Rattle.serde_json.specs.Find.{get}
 use Rattle.net_check.specs.Json.{keyed, at_key, list_within, demand, found, name_text, whole_number, nothing, address_text, bytes_within}
-use Rattle.net_check.specs.JsonWords.{HasKeys, At, IsListOf, IsShortListOf, IsNumber, IsNumberWithin, IsName, IsAddress, IsPlace, IsFirstOf, AreItems}
+use Rattle.net_check.specs.JsonWords.{At, IsShortListOf, IsNumber, IsNumberWithin, IsName, IsAddress, IsPlace, IsFirstOf, AreItems}
 use Rattle.net_check.specs.NameText.{is_name}
-use Rattle.net_check.specs.PlanReading.{place_of, place_text, names_differ, bus, port, row, kind_of, kind_text, node_name, nothing_else, node, nodes_among, plan, plan_keys, bus_keys, port_keys, row_keys, node_keys}
+use Rattle.net_check.specs.Keys.{plan_keys, bus_keys, port_keys, row_keys, node_keys}
+use Rattle.net_check.specs.PlanReading.{place_of, place_text, names_differ, bus, port, row, kind_text, node_name, nothing_else, node, nodes_among, plan}
 use Rattle.net_check.specs.PlanText.{IsBusOf, IsPortOf, IsRowOf, IsKindOf, IsNodeOf, IsPlanOf}
 use Rattle.net_check.specs.PlanValues.{BusValue, PortValue, RowValue, NodeValue, PlanValue, bus_names, node_names}
 use Rattle.net_check.specs.Reading.{then_with}
-use Rattle.net_check.specs.declared.plan.error.Fault.{Fault}
 use Rattle.net_check.specs.declared.plan.error.Fault.TheVariants.{OutOfRange}
 use Rattle.net_check.specs.declared.plan.nodes.Kind.{Kind}
 use Rattle.net_check.specs.declared.plan.nodes.Kind.TheVariants.{Bridge, Endpoint}
 use Rattle.net_check.proofs.KeysLaw.{keys_sound, keys_whole}
-use Rattle.net_check.proofs.Telling.{Tells, no_value, same_Ok, then_Ok, demanded, at_key_tells, within_tells, number_tells, nothing_sound, key_sound, key_whole}
+use Rattle.net_check.proofs.Telling.{Tells, no_value, same_Ok, then_Ok, demanded, at_key_tells, within_tells, number_tells, nothing_sound, key_sound}
 
 -- ---- texts
 

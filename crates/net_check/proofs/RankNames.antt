@@ -1,5 +1,5 @@
 -- The names of the nodes that have ranks, and what finds their places.
-use Rattle.std.proofs.Common.{◌≡◌, ℕ, List, Option, Ok, true, refl, ◌∙◌}
+use Rattle.std.proofs.Common.{◌≡◌, ℕ, List, Option, Ok, refl, ◌∙◌}
 use Rattle.serde_json.specs.Data.{Data}
 use Rattle.net_check.specs.CertificateReading.{node_ranks, ranks_name, ranks_among}
 use Rattle.net_check.specs.Json.{all_of, demand}

@@ -6,7 +6,7 @@ use Rattle.serde_json.specs.Find.{get, as_u64}
 use Rattle.net_check.specs.declared.plan.error.Fault.{Fault}
 use Rattle.net_check.specs.declared.plan.error.Fault.TheVariants.{OutOfRange, OutOfMemory}
 use Rattle.net_check.specs.Json.{each, items_count, all_of, list_within, demand, found, at_key, whole_number, number_within, nothing, no_entries}
-use Rattle.net_check.specs.JsonWords.{At, AreItems, IsListOf, IsShortListOf, IsNumber, IsNumberWithin}
+use Rattle.net_check.specs.JsonWords.{At, AreItems, IsListOf, IsShortListOf, IsNumberWithin}
 use Rattle.net_check.specs.Reading.{then_with, error_of}
 use Rattle.net_check.specs.declared.plan.error.PlanError.TheVariants as errors
 

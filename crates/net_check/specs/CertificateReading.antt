@@ -1,20 +1,12 @@
 -- The certificate that a JSON value stands for, by functions.
-use Rattle.std.specs.Prelude.{ℕ, ◌+◌, ◌&&◌, codes, List, [], ◌∷◌, Bool, true, nat_le, Option, Result, Ok, Err}
+use Rattle.std.specs.Prelude.{ℕ, ◌+◌, ◌&&◌, codes, List, [], ◌∷◌, Bool, true, nat_le, Option, Result, Ok}
 use Rattle.serde_json.specs.Data.{Data}
 use Rattle.net_check.specs.CertificateValues.{RangeValue, NodeRanksValue, CertificateValue}
 use Rattle.net_check.specs.Json.{keyed, at_key, all_of, demand, name_text, whole_number, no_entries}
+use Rattle.net_check.specs.Keys.{certificate_keys, ranks_keys, range_keys}
 use Rattle.net_check.specs.PlanReading.{place_of, place_text, names_differ}
 use Rattle.net_check.specs.Reading.{then_with}
 use Rattle.net_check.specs.declared.plan.error.Fault.{Fault}
-
-abbrev pub certificate_keys : List (List ℕ)
-certificate_keys = codes "format" ∷ codes "levels" ∷ codes "places" ∷ codes "ranks" ∷ []
-
-abbrev pub ranks_keys : List (List ℕ)
-ranks_keys = codes "node" ∷ codes "ranges" ∷ []
-
-abbrev pub range_keys : List (List ℕ)
-range_keys = codes "first" ∷ codes "rank" ∷ codes "size" ∷ []
 
 abbrev pub range : Data → Result RangeValue Fault
 range d = then_with (keyed range_keys d) (λ _. then_with (at_key (codes "first") (whole_number 0 255) d) (λ f. then_with (at_key (codes "rank") (whole_number 1 255) d) (λ r.

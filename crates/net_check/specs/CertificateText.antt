@@ -1,8 +1,8 @@
 -- Which certificate a JSON value is.
-use Rattle.std.specs.Prelude.{ℕ, ◌≡◌, ◌≢◌, ◌+◌, ◌≤◌, codes, List, [], ◌∷◌, Some, AllPairs}
+use Rattle.std.specs.Prelude.{ℕ, ◌≡◌, ◌≢◌, ◌+◌, ◌≤◌, codes, List, Some, AllPairs}
 use Rattle.serde_json.specs.Data.{Data, array, no_items}
 use Rattle.serde_json.specs.Find.{get}
-use Rattle.net_check.specs.CertificateReading.{certificate_keys, ranks_keys, range_keys}
+use Rattle.net_check.specs.Keys.{certificate_keys, ranks_keys, range_keys}
 use Rattle.net_check.specs.CertificateValues.{RangeValue, NodeRanksValue, CertificateValue}
 use Rattle.net_check.specs.JsonWords.{HasKeys, At, IsListOf, IsNumber, IsNumberWithin, IsName, IsPlace}
 use Rattle.net_check.specs.PlanValues.{PlanValue, node_names}

@@ -1,10 +1,8 @@
 -- Sentences over JSON values.
-use Rattle.std.specs.Prelude.{ℕ, ◌≡◌, ◌≢◌, ◌↔◌, ◌<◌, ◌≤◌, ◌⊎◌, List, [], ◌∷◌, length, slice_get, Some, None, Ok, IsSome, IsTrue, IsUtf8, Contains, Option}
-use Rattle.std.specs.Io.KnownBytes.{Consumes, IsAtEnd}
+use Rattle.std.specs.Prelude.{ℕ, ◌≡◌, ◌≢◌, ◌↔◌, ◌<◌, ◌≤◌, List, [], ◌∷◌, length, slice_get, Some, Ok, IsSome, IsTrue, Contains}
 use Rattle.hex.specs.Hex.{decode_of}
-use Rattle.serde_json.specs.Data.{Data, null, number, unsigned, string, array, object, Items, no_items, item, Members}
+use Rattle.serde_json.specs.Data.{Data, number, unsigned, string, array, object, Items, no_items, item, Members}
 use Rattle.serde_json.specs.Find.{get, get_member}
-use Rattle.serde_json.specs.Read.{read}
 use Rattle.net_check.specs.NameText.{is_name}
 
 -- an object that has exactly these keys
@@ -52,19 +50,3 @@ pub record IsFirstOf (names : List (List ℕ)) (name : List ℕ) (place : ℕ) :
 -- the text of a name that stands in a list, at this place first
 abbrev pub IsPlace : List (List ℕ) → Data → ℕ → Type 0
 IsPlace names d place = (name : List ℕ) × (d ≡ string name) × IsFirstOf names name place
-
--- the bytes are JSON, and its value is R to x
-abbrev pub StandsFor : {A : Type 0} → (Data → A → Type 0) → List ℕ → A → Type 0
-StandsFor R text x = (d : Data) × (read text ≡ Some d) × R d x
-
--- the bytes are JSON, and its value is R to nothing
-abbrev pub StandsForNone : {A : Type 0} → (Data → A → Type 0) → List ℕ → Type 0
-StandsForNone {A} R text = (d : Data) × (read text ≡ Some d) × ((x : A) → ¬ R d x)
-
--- the bytes are no JSON
-abbrev pub IsNoJson : List ℕ → Type 0
-IsNoJson text = IsUtf8 text → read text ≡ None
-
--- a source gave bytes to its end, at most so many, of which P holds
-abbrev pub Gave : ℕ → Option (List ℕ) → Option (List ℕ) → (List ℕ → Type 0) → Type 0
-Gave most old new P = (bytes : List ℕ) × Consumes old new bytes × IsAtEnd new × (length bytes ≤ most) × P bytes

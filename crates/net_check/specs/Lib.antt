@@ -1,18 +1,20 @@
--- reading plans and certificates
+-- plans and certificates, and their texts
 pub mod NameText
 pub mod PlanValues
 pub mod CertificateValues
+pub mod Keys
 pub mod JsonWords
+pub mod Texts
 pub mod PlanText
 pub mod CertificateText
+pub mod Stream
+pub mod TextFaults
 pub mod Reading
 pub mod Json
 pub mod Places
 pub mod PlanReading
 pub mod CertificateReading
-pub mod Stream
-pub mod TextFaults
--- rules
+-- the rules
 pub mod Routing
 pub mod Names
 pub mod Eids
@@ -22,6 +24,10 @@ pub mod RankTables
 pub mod Rules
 pub mod Faults
 pub mod Search
-pub mod Moves
-pub mod Promises
 pub mod Errors
+-- the network
+pub mod Moves
+pub mod Decisions
+pub mod Networks
+pub mod Runs
+pub mod Promises

@@ -1,9 +1,10 @@
 -- The plan that a JSON value stands for, by functions.
-use Rattle.std.specs.Prelude.{ℕ, suc, ⊤, codes, ◌&&◌, List, [], ◌∷◌, Bool, true, false, not, if◌then◌else◌, Option, Some, None, option_map, Result, Ok, Err, map}
+use Rattle.std.specs.Prelude.{ℕ, suc, ⊤, codes, ◌&&◌, List, [], ◌∷◌, Bool, true, not, if◌then◌else◌, Option, Some, None, option_map, Result, Ok, Err}
 use Rattle.std.specs.List.{list_any}
 use Rattle.std.specs.Str.{bytes_eq}
-use Rattle.serde_json.specs.Data.{Data, null, boolean, number, string, array, object}
+use Rattle.serde_json.specs.Data.{Data, string}
 use Rattle.net_check.specs.Json.{keyed, at_key, list_within, demand, found, name_text, whole_number, nothing, address_text}
+use Rattle.net_check.specs.Keys.{bus_keys, node_keys, plan_keys, port_keys, row_keys}
 use Rattle.net_check.specs.PlanValues.{BusValue, PortValue, RowValue, NodeValue, PlanValue, bus_names}
 use Rattle.net_check.specs.Reading.{then_with}
 use Rattle.net_check.specs.declared.plan.error.Fault.{Fault}
@@ -20,21 +21,6 @@ place_of (n ∷ ns) s = if bytes_eq s n then Some 0 else option_map suc (place_o
 abbrev pub names_differ : List (List ℕ) → Bool
 names_differ [] = true
 names_differ (n ∷ ns) = not (list_any (bytes_eq n) ns) && names_differ ns
-
-abbrev pub plan_keys : List (List ℕ)
-plan_keys = codes "format" ∷ codes "buses" ∷ codes "nodes" ∷ []
-
-abbrev pub bus_keys : List (List ℕ)
-bus_keys = codes "name" ∷ codes "binding" ∷ codes "media" ∷ []
-
-abbrev pub port_keys : List (List ℕ)
-port_keys = codes "bus" ∷ codes "address" ∷ []
-
-abbrev pub row_keys : List (List ℕ)
-row_keys = codes "first" ∷ codes "size" ∷ codes "port" ∷ codes "next" ∷ []
-
-abbrev pub node_keys : List (List ℕ)
-node_keys = codes "name" ∷ codes "kind" ∷ codes "eid" ∷ codes "owner" ∷ codes "pool" ∷ codes "ports" ∷ codes "rows" ∷ codes "terminus" ∷ []
 
 abbrev pub bus : Data → Result BusValue Fault
 bus d = then_with (keyed bus_keys d) (λ _. then_with (at_key (codes "name") name_text d) (λ n. then_with (at_key (codes "binding") (whole_number 0 255) d) (λ b.

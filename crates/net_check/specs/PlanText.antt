@@ -1,9 +1,9 @@
 -- Which plan a JSON value is.
-use Rattle.std.specs.Prelude.{ℕ, ◌≡◌, ◌≢◌, codes, List, [], ◌∷◌, Some, AllPairs}
+use Rattle.std.specs.Prelude.{ℕ, ◌≡◌, ◌≢◌, codes, List, Some, AllPairs}
 use Rattle.serde_json.specs.Data.{Data, null, string}
 use Rattle.serde_json.specs.Find.{get}
 use Rattle.net_check.specs.JsonWords.{HasKeys, At, IsShortListOf, IsNumber, IsNumberWithin, IsName, IsAddress, IsPlace}
-use Rattle.net_check.specs.PlanReading.{plan_keys, bus_keys, port_keys, row_keys, node_keys}
+use Rattle.net_check.specs.Keys.{plan_keys, bus_keys, port_keys, row_keys, node_keys}
 use Rattle.net_check.specs.PlanValues.{BusValue, PortValue, RowValue, NodeValue, PlanValue, bus_names, node_names}
 use Rattle.net_check.specs.declared.plan.nodes.Kind.{Kind}
 use Rattle.net_check.specs.declared.plan.nodes.Kind.TheVariants.{Bridge, Endpoint}

@@ -16,7 +16,8 @@ rank_in ranges e = unwrap_or (option_map (λ range. range.rank) (find (λ range.
 
 -- the rank of (n, e); 0 where the certificate gives none
 abbrev pub rank : Certificate → ℕ → ℕ → ℕ
-rank cert n e = unwrap_or (option_map (λ given. rank_in given.ranges.items e) (find (λ given. given.node == n) cert.ranks.items)) 0
+rank cert n e =
+    unwrap_or (option_map (λ given. rank_in given.ranges.items e) (find (λ given. given.node == n) cert.ranks.items)) 0
 
 -- n holds e, or the rank is less at the row's next node
 unfoldable pub Falls : Plan → Certificate → ℕ → Row → ℕ → Type 0

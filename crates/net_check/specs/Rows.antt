@@ -29,6 +29,7 @@ bus_of plan n p = option_map (λ port. port.bus) (slice_get (ports_of plan n) p)
 unfoldable pub IsJoined : Plan → ℕ → ℕ → ℕ → Type 0
 IsJoined plan n p m = (bus : ℕ) × (bus_of plan n p ≡ Some bus) × IsOnBus plan m bus
 
--- The row's port exists; its next node is another node with a port on that port's bus; a row of several EIDs names a bridge.
+-- The row's port exists; its next node is another node with a port on that port's bus; a row of several EIDs names
+-- a bridge.
 unfoldable pub NamesNeighbor : Plan → ℕ → Row → Type 0
 NamesNeighbor plan n row = (row.next ≢ n) × IsJoined plan n row.port row.next × (2 ≤ row.size → IsBridge plan row.next)

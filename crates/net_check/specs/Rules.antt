@@ -22,7 +22,8 @@ code_of C05 = codes "C05"
 code_of C06 = codes "C06"
 code_of C10 = codes "C10"
 
--- Where a rule speaks: at the node alone, at the node's EID, at each row, at each EID of a row. Elsewhere it demands nothing.
+-- Where a rule speaks: at the node alone, at the node's EID, at each row, at each EID of a row. Elsewhere it demands
+-- nothing.
 abbrev pub AtNode : Type 0 → Option ℕ → Option ℕ → Type 0
 AtNode P None None = P
 AtNode P None (Some e) = ⊤

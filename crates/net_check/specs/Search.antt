@@ -23,7 +23,8 @@ IsFirstEid row P (Some e) = ¬ (Covers row e → P e) × ((d : ℕ) → d < e �
 -- an entry and an EID come before others
 abbrev pub SpotComesBefore : Option ℕ → Option ℕ → Option ℕ → Option ℕ → Type 0
 SpotComesBefore entry eid entry' eid' =
-    LessByFirstDifference (order_of_number entry ∷ order_of_number eid ∷ []) (order_of_number entry' ∷ order_of_number eid' ∷ [])
+    LessByFirstDifference (order_of_number entry ∷ order_of_number eid ∷ [])
+    (order_of_number entry' ∷ order_of_number eid' ∷ [])
 
 -- the first entry and EID at which a demand isn't met, if any
 abbrev pub IsFirstSpot : (Option ℕ → Option ℕ → Type 0) → Option Spot → Type 0

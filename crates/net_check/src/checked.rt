@@ -2,7 +2,7 @@
 ghost use Rattle.std.specs.Prelude.{◌≡◌, IfOk, OnOk, IfErr};
 ghost use Rattle.net_check.specs.Rules.{Accepts};
 ghost use Rattle.net_check.specs.Errors.{NamesFirstFault};
-ghost use Rattle.net_check.specs.Promises.{EndsWithinRank};
+ghost use Rattle.net_check.specs.Promises.{EndsWithinRank, KeepsPackets};
 
 use crate::check_error::CheckError;
 use crate::first_fault::first_of_rule;
@@ -12,7 +12,7 @@ use crate::trial::Trial;
 use std::alloc::Global;
 use std::marker::Model;
 
-/// A plan and a certificate of which each rule holds.
+/// A plan and a certificate of which each rule holds. Only `check` makes one.
 #[derive(Drop)]
 pub struct Checked<'a> {
     plan: &'a Plan,
@@ -47,8 +47,9 @@ impl<'a> Checked<'a> {
     }
 }
 
-/// Whether each rule holds of the plan and the certificate, or the first fault.
-#[tactic(auto, using(crate::proofs::Ends::ends_within_rank))]
+/// Whether each rule holds of the plan and the certificate. Otherwise the first fault is answered, or want of memory:
+/// it takes 256 bytes for each node.
+#[tactic(auto, using(crate::proofs::Ends::ends_within_rank, crate::proofs::Promised::accepted_keeps))]
 pub fn check<'a>(
     alloc: Global,
     plan: &'a Plan,
@@ -60,6 +61,10 @@ pub fn check<'a>(
 
     // Following rows ends, within the certified rank.
     ensures ends { OnOk result (EndsWithinRank plan.now certificate.now) }
+
+    // In every run a packet enters only the node that holds its destination, within its certified hops, and what comes
+    // joins packets that were put in.
+    ensures every_run { OnOk result (KeepsPackets plan.now certificate.now) }
 {
     let trial = Trial::new(alloc, plan, certificate)?;
     for rule in RULES {

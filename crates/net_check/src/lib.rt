@@ -5,6 +5,7 @@ mod check_error;
 mod checked;
 mod fault;
 mod first_fault;
+mod laws;
 pub mod plan;
 mod rank_tables;
 mod routing;
@@ -16,6 +17,7 @@ mod trial;
 pub use check_error::CheckError;
 pub use checked::{Checked, check};
 pub use fault::Fault;
+pub use laws::never_stuck;
 pub use rule::Rule;
 
 #[cfg(test)]

@@ -18,4 +18,4 @@ pub use error::PlanError;
 pub use name::Name;
 pub use nodes::{Bus, Kind, Node, Plan, Port, Row};
 pub use reading::{TEXT_LIMIT, certificate_of_text, plan_of_text, read_certificate, read_plan};
-pub use stream::{Counted, Failed, Sink, Source, write_whole};
+pub use stream::{Counted, Failed, Sink, Source, TextFault, read_within, write_whole};

@@ -1,5 +1,5 @@
 //! The two-node network, and what is found wrong with others like it.
-ghost use Rattle.std.specs.Prelude.{◌≤◌, IsTrue, vec_len};
+ghost use Rattle.std.specs.Prelude.{◌+◌, ◌<◌, ◌≤◌, IsTrue, vec_len};
 ghost use Rattle.net_check.specs.NameText.{is_name};
 
 use crate::plan::{Bus, Certificate, Kind, Name, Node, NodeRanks, Plan, Port, RankRange, Row};
@@ -16,15 +16,28 @@ fn name(alloc: Global, text: &str) -> Result<Name, AllocError>
     })
 }
 
+/// A row through the node's first port.
 fn row(first: u8, size: u8, next: usize) -> Row {
+    row_through(0, first, size, next)
+}
+
+fn row_through(port: u8, first: u8, size: u8, next: usize) -> Row {
     Row {
         first: Eid::new(first),
         size,
-        port: 0,
+        port,
         next,
     }
 }
 
+fn port(alloc: Global, bus: usize) -> Port {
+    Port {
+        bus,
+        address: Vec::new(alloc),
+    }
+}
+
+/// An endpoint on the first bus.
 fn endpoint(alloc: Global, text: &str, eid: u8, rows: Vec<Row>) -> Result<Node, AllocError>
     requires named { IsTrue (is_name text.now) }
     requires few { vec_len rows ≤ 256 }
@@ -33,19 +46,14 @@ fn endpoint(alloc: Global, text: &str, eid: u8, rows: Vec<Row>) -> Result<Node, 
         name: name(alloc, text)?,
         kind: Kind::Endpoint,
         eid: Eid::new(eid),
-        ports: vec![in alloc;
-            Port {
-                bus: 0,
-                address: Vec::new(alloc)
-            },
-        ]?,
+        ports: vec![in alloc; port(alloc, 0)]?,
         rows,
     })
 }
 
-/// Endpoint a of endpoint ID 8 with these rows and endpoint z with a row back, on one bus.
-fn two_nodes(alloc: Global, rows: Vec<Row>, z: u8) -> Result<Plan, AllocError>
-    requires { vec_len rows ≤ 256 }
+/// A plan of these nodes and one bus.
+fn network(alloc: Global, nodes: Vec<Node>) -> Result<Plan, AllocError>
+    requires { vec_len nodes ≤ 64 }
 {
     let bus = Bus {
         name: name(alloc, "b")?,
@@ -54,22 +62,36 @@ fn two_nodes(alloc: Global, rows: Vec<Row>, z: u8) -> Result<Plan, AllocError>
     };
     Ok(Plan {
         buses: vec![in alloc; bus]?,
-        nodes: vec![in alloc;
-            endpoint(alloc, "a", 8, rows)?,
-            endpoint(alloc, "z", z, vec![in alloc; row(8, 1, 0)]?)?,
-        ]?,
+        nodes,
     })
 }
 
+/// Endpoint a of endpoint ID 8 with these rows, and endpoint z with a row back.
+fn two_nodes(alloc: Global, rows: Vec<Row>, z: u8) -> Result<Plan, AllocError>
+    requires { vec_len rows ≤ 256 }
+{
+    let a = endpoint(alloc, "a", 8, rows)?;
+    let z = endpoint(alloc, "z", z, vec![in alloc; row(8, 1, 0)]?)?;
+    network(alloc, vec![in alloc; a, z]?)
+}
+
+fn range(first: u8, size: u8, rank: u8) -> RankRange
+    requires some { 0 < size }
+    requires ranked { 0 < rank }
+    requires within { first + size ≤ 256 }
+{
+    RankRange {
+        first: Eid::new(first),
+        rank,
+        size,
+    }
+}
+
+/// One rank for one endpoint ID.
 fn ranked(alloc: Global, node: usize, eid: u8) -> Result<NodeRanks, AllocError> {
-    let range = RankRange {
-        first: Eid::new(eid),
-        rank: 1,
-        size: 1,
-    };
     Ok(NodeRanks {
         node,
-        ranges: vec![in alloc; range]?,
+        ranges: vec![in alloc; range(eid, 1, 1)]?,
     })
 }
 
@@ -107,9 +129,9 @@ fn two_nodes_need_their_ranks(rt: HostRuntime) -> Result<(), Fail> {
     let alloc = rt.alloc();
     let plan = two_nodes(alloc, vec![in alloc; row(254, 1, 1)]?, 254)?;
     let certificate = one_move_each(alloc)?;
-    let checked = check(alloc, &plan, &certificate);
-    assert!(rt; checked.is_ok());
-    assert_eq!(rt; found(alloc, &plan, &certificate)?, None);
+    let checked = check(alloc, &plan, &certificate).expect(&rt, "it is accepted");
+    assert_eq!(rt; checked.plan().nodes.len(), 2);
+    assert_eq!(rt; checked.certificate().ranks.len(), 2);
     let none = Certificate {
         ranks: Vec::new(alloc),
     };
@@ -175,13 +197,66 @@ fn rows_are_lawful_and_apart(rt: HostRuntime) -> Result<(), Fail> {
 #[test]
 fn the_later_node_of_a_name_is_at_fault(rt: HostRuntime) -> Result<(), Fail> {
     let alloc = rt.alloc();
+    let first = endpoint(alloc, "a", 8, Vec::new(alloc))?;
+    let second = endpoint(alloc, "z", 9, Vec::new(alloc))?;
+    let third = endpoint(alloc, "a", 10, Vec::new(alloc))?;
+    let plan = network(alloc, vec![in alloc; first, second, third]?)?;
     let certificate = one_move_each(alloc)?;
-    let mut plan = two_nodes(alloc, vec![in alloc; row(254, 1, 1)]?, 254)?;
-    plan.nodes.push(endpoint(alloc, "a", 9, Vec::new(alloc))?)?;
     assert_eq!(rt;
         found(alloc, &plan, &certificate)?,
         fault(Rule::C01, 2, None, None)
     );
     assert_eq!(rt; Rule::C01.code(), "C01");
+    Ok(())
+}
+
+/// Endpoint a (8), bridge r (16) and endpoint z (18) in a line, where a has one row for 16 to 18.
+fn line(alloc: Global) -> Result<Plan, AllocError> {
+    let a = endpoint(alloc, "a", 8, vec![in alloc; row(16, 3, 1)]?)?;
+    let r = Node {
+        name: name(alloc, "r")?,
+        kind: Kind::Bridge,
+        eid: Eid::new(16),
+        ports: vec![in alloc; port(alloc, 0), port(alloc, 1)]?,
+        rows: vec![in alloc; row(8, 1, 0), row_through(1, 18, 1, 2)]?,
+    };
+    let z = Node {
+        name: name(alloc, "z")?,
+        kind: Kind::Endpoint,
+        eid: Eid::new(18),
+        ports: vec![in alloc; port(alloc, 1)]?,
+        rows: vec![in alloc; row(8, 9, 1)]?,
+    };
+    network(alloc, vec![in alloc; a, r, z]?)
+}
+
+/// The ranks of the line: for 18 at a this one, and 1 or 2 for the others, by their moves.
+fn ranks_of_the_line(alloc: Global, far: u8) -> Result<Certificate, AllocError>
+    requires { 0 < far }
+{
+    let a = NodeRanks {
+        node: 0,
+        ranges: vec![in alloc; range(16, 2, 1), range(18, 1, far)]?,
+    };
+    let r = NodeRanks {
+        node: 1,
+        ranges: vec![in alloc; range(8, 1, 1), range(18, 1, 1)]?,
+    };
+    let z = NodeRanks {
+        node: 2,
+        ranges: vec![in alloc; range(8, 1, 2), range(9, 8, 1)]?,
+    };
+    Ok(Certificate {
+        ranks: vec![in alloc; a, r, z]?,
+    })
+}
+
+#[test]
+fn ranks_fall_along_a_line(rt: HostRuntime) -> Result<(), Fail> {
+    let alloc = rt.alloc();
+    let plan = line(alloc)?;
+    assert_eq!(rt; found(alloc, &plan, &ranks_of_the_line(alloc, 2)?)?, None);
+    let level = fault(Rule::C10, 0, Some(0), Some(18));
+    assert_eq!(rt; found(alloc, &plan, &ranks_of_the_line(alloc, 1)?)?, level);
     Ok(())
 }

@@ -44,6 +44,7 @@ impl<'a> Trial<'a> {
         {
             return rank;
         }
+        // A row may name a node beyond the plan's.
         rank_of(self.certificate, node, eid)
     }
 }

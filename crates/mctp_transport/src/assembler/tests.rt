@@ -1,4 +1,4 @@
-//! Packets fed in rows.
+//! Packets fed one after another.
 use super::*;
 use crate::address::{Eid, Seq, Tag};
 use crate::cutting::Packets;
@@ -57,7 +57,7 @@ fn a_packet_alone(rt: HostRuntime) -> Result<(), Fail> {
 }
 
 #[test]
-fn rows(rt: HostRuntime) -> Result<(), Fail> {
+fn lost_repeated_and_mixed_packets(rt: HostRuntime) -> Result<(), Fail> {
     let mut assembler = Assembler::new(rt.alloc(), 16, 4096)?;
     for (source, flags, told) in [
         // Six packets, of which the second to the fifth are lost.

@@ -6,9 +6,11 @@ ghost use Rattle.mctp_transport.specs.Cutting.{IsCut, ArePacketsOf};
 
 /// There is one way to cut a message, and one list of packets for it.
 pub fn one_cut()
-    ensures payloads { (unit : ℕ) (message : List ℕ) (ps qs : List (List ℕ)) → IsCut unit message ps → IsCut unit message qs → ps ≡ qs }
+    ensures payloads { (unit : ℕ) (message : List ℕ) (ps qs : List (List ℕ))
+        → IsCut unit message ps → IsCut unit message qs → ps ≡ qs }
     ensures packets { (unit : ℕ) (message : List ℕ) (destination : ℕ) (key : KeyValue) (start : ℕ) (fs gs : List Frame)
-        → ArePacketsOf unit message destination key start fs → ArePacketsOf unit message destination key start gs → fs ≡ gs }
+        → ArePacketsOf unit message destination key start fs
+        → ArePacketsOf unit message destination key start gs → fs ≡ gs }
 {}
 
 /// The packets of a message join to it.

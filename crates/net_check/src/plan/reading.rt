@@ -2,7 +2,7 @@
 ghost use Rattle.std.specs.Prelude.{◌≡◌, ◌≢◌, ◌↔◌, ◌<◌, ◌≤◌, ◌+◌, ◌-◌, ◌^◌, IfOk, IfErr, IsErrOf, Err, length, Some};
 ghost use Rattle.serde_json.specs.Read.{read};
 ghost use Rattle.serde_json.specs.View.{view};
-ghost use Rattle.net_check.specs.JsonWords.{StandsFor, StandsForNone, IsNoJson, Gave};
+ghost use Rattle.net_check.specs.Texts.{StandsFor, StandsForNone, IsNoJson, Gave};
 ghost use Rattle.net_check.specs.Stream.{TakesMoreThan};
 ghost use Rattle.net_check.specs.TextFaults.{failed_count};
 ghost use Rattle.net_check.specs.PlanText.{IsPlanOf};

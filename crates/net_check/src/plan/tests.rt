@@ -99,6 +99,7 @@ fn check_two_nodes(rt: &impl Abort, plan: &Plan) {
     let z = &plan.nodes[1];
     assert_eq!(rt; z.name.text.as_str(), "z");
     assert_eq!(rt; z.eid.value, 254);
+    assert_eq!(rt; z.ports.len(), 1);
     assert_eq!(rt; z.ports[0].address.as_slice(), [254].as_slice());
     assert_eq!(rt; z.rows.len(), 1);
     assert_eq!(rt; z.rows[0].first.value, 8);
@@ -114,6 +115,7 @@ fn check_two_ranks(rt: &impl Abort, certificate: &Certificate) {
     assert_eq!(rt; certificate.ranks[0].ranges[0].rank, 1);
     assert_eq!(rt; certificate.ranks[0].ranges[0].size, 1);
     assert_eq!(rt; certificate.ranks[1].node, 1);
+    assert_eq!(rt; certificate.ranks[1].ranges.len(), 1);
     assert_eq!(rt; certificate.ranks[1].ranges[0].first.value, 8);
 }
 
@@ -291,12 +293,15 @@ fn takes_the_first_of_a_name(rt: HostRuntime) -> Result<(), Fail> {
     let plan = read_nodes(rt.alloc(), &[("x", "", row), ("y", "", ""), ("y", "", row)])??;
     assert_eq!(rt; plan.nodes.len(), 3);
     assert_eq!(rt; plan.nodes[0].kind, Kind::Bridge);
+    assert_eq!(rt; plan.nodes[0].rows.len(), 1);
     assert_eq!(rt; plan.nodes[0].rows[0].next, 1);
     assert_eq!(rt; plan.nodes[0].rows[0].port, 31);
+    assert_eq!(rt; plan.nodes[2].rows.len(), 1);
     assert_eq!(rt; plan.nodes[2].rows[0].next, 1);
     let text =
         b"{\"format\":1,\"levels\":[],\"places\":[],\"ranks\":[{\"node\":\"y\",\"ranges\":[]}]}";
     let certificate = certificate_of_text(rt.alloc(), &plan, text)?;
+    assert_eq!(rt; certificate.ranks.len(), 1);
     assert_eq!(rt; certificate.ranks[0].node, 1);
     Ok(())
 }
@@ -321,6 +326,8 @@ fn bounds_nodes(rt: HostRuntime) -> Result<(), Fail> {
         rt.alloc(),
         &[("x", "{\"bus\":\"b\",\"address\":\"01020304050607aB\"}", "")],
     )??;
+    assert_eq!(rt; plan.nodes.len(), 1);
+    assert_eq!(rt; plan.nodes[0].ports.len(), 1);
     assert_eq!(rt;
         plan.nodes[0].ports[0].address.as_slice(),
         [1, 2, 3, 4, 5, 6, 7, 171].as_slice()
@@ -347,6 +354,7 @@ fn bounds_lists(rt: HostRuntime) -> Result<(), Fail> {
     let ports = repeated(rt.alloc(), port, 32)?;
     let rows = repeated(rt.alloc(), row, 256)?;
     let plan = read_nodes(rt.alloc(), &[("x", ports.as_str(), rows.as_str())])??;
+    assert_eq!(rt; plan.nodes.len(), 1);
     assert_eq!(rt; plan.nodes[0].ports.len(), 32);
     assert_eq!(rt; plan.nodes[0].rows.len(), 256);
     let ports = repeated(rt.alloc(), port, 33)?;

@@ -34,6 +34,7 @@ pub fn repeated_eid(plan: &Plan, node: usize) -> Option<Spot>
     Some(at_eid(eid))
 }
 
+/// The spot of an endpoint ID alone.
 fn at_eid(eid: Eid) -> Spot
     ensures { result ≡ record { entry = None; eid = Some eid } }
 {

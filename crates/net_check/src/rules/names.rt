@@ -9,7 +9,6 @@ use crate::rule::Rule;
 use crate::spot::Spot;
 
 /// Where an earlier node has the node's name.
-#[tactic(auto, using(crate::proofs::Spots::node_meets, crate::proofs::Spots::node_fails))]
 pub fn repeated_name(plan: &Plan, node: usize) -> Option<Spot>
     requires { node < length plan.now.nodes.items }
     ensures { IsFirstSpot (PlanDemands plan.now Rule.C01 node) result }

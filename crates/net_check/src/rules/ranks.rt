@@ -1,7 +1,8 @@
 //! C10: along a row the rank falls, for each endpoint ID that the node does not hold.
-ghost use Rattle.std.specs.Prelude.{ℕ, ◌<◌, ◌↔◌, IsTrue, length, option_map};
+ghost use Rattle.std.specs.Prelude.{ℕ, ◌<◌, ◌↔◌, IsTrue, length};
 ghost use Rattle.net_check.specs.Ranks.{Falls};
 ghost use Rattle.net_check.specs.Rules.{CertificateDemands};
+ghost use Rattle.net_check.specs.Faults.{eid_number};
 ghost use Rattle.net_check.specs.Search.{IsFirstSpot, IsFirstEid};
 
 use crate::plan::Row;
@@ -29,7 +30,7 @@ pub fn row_without_fall(trial: &Trial, node: usize) -> Option<Spot>
 
 /// The first of the row's endpoint IDs along which the rank does not fall.
 fn first_without_fall(trial: &Trial, node: usize, row: &Row) -> Option<Eid>
-    ensures { IsFirstEid row.now (Falls trial.now.plan.now trial.now.certificate.now node row.now) (option_map (λ eid. eid.value) result) }
+    ensures { IsFirstEid row.now (Falls trial.now.plan.now trial.now.certificate.now node row.now) (eid_number result) }
 {
     for value in u16::from(row.first.value)..row_end(row).min(256) {
         let eid = Eid::new(value as u8);

@@ -1,5 +1,5 @@
 -- The ranges that are left decide, from the end of the last.
-use Rattle.std.proofs.Common.{◌≡◌, ◌≤◌, map, drop}
+use Rattle.std.proofs.Common.{◌≡◌, map, drop}
 use Rattle.net_check.specs.CertificateReading.{ascends}
 use Rattle.net_check.specs.CertificateValues.{range_value}
 use Rattle.net_check.proofs.plan.certificate_text.ascends.Given as goal

@@ -3,7 +3,7 @@ use Rattle.std.specs.List.{list_any}
 use Rattle.serde_json.specs.Data.{object}
 use Rattle.serde_json.specs.Find.{get}
 use Rattle.serde_json.specs.View.{view, members_view}
-use Rattle.net_check.specs.Json.{keyed, lacks_key, has_unknown_key}
+use Rattle.net_check.specs.Json.{lacks_key, has_unknown_key}
 use Rattle.net_check.proofs.Keys.{unknown_members, lacked_members, object_view}
 use Rattle.net_check.proofs.plan.json.check_keys.Goals as goal
 

@@ -1,4 +1,4 @@
-use Rattle.std.proofs.Common.{rules, ◌≡◌, length, map, nat_le, true, refl, sym, ap, ◌∙◌, subst, ◌≤◌}
+use Rattle.std.proofs.Common.{rules, ◌≡◌, map, sym, ap, ◌∙◌, subst}
 use Rattle.serde_json.specs.Data.{array}
 use Rattle.serde_json.specs.View.{view, items_view}
 use Rattle.serde_json.proofs.Views.{view-Array}

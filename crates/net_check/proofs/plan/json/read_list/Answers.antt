@@ -4,7 +4,7 @@ use Rattle.serde_json.specs.View.{view, items_view}
 use Rattle.serde_json.proofs.Views.{view-Array}
 use Rattle.net_check.specs.Json.{each}
 use Rattle.net_check.specs.Reading.{then_with}
-use Rattle.net_check.proofs.Items.{items_count_of_view, each_more, each_fault}
+use Rattle.net_check.proofs.Items.{items_count_of_view, each_fault}
 use Rattle.net_check.proofs.plan.json.read_list.Goals as goal
 
 pub returns-then-len-most-clause-read : goal.returns-then-len-most-clause-read

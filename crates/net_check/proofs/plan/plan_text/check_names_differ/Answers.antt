@@ -1,4 +1,4 @@
-use Rattle.std.proofs.Common.{rules, ◌≡◌, Ok, Err, refl, sym, ap, ◌∙◌}
+use Rattle.std.proofs.Common.{sym, ap, ◌∙◌}
 use Rattle.net_check.specs.Json.{demand}
 use Rattle.net_check.specs.PlanReading.{names_differ}
 use Rattle.net_check.proofs.BusNames.{bus_names_of}

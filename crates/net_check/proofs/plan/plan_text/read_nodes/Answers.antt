@@ -1,4 +1,4 @@
-use Rattle.std.proofs.Common.{rules, ◌≡◌, ℕ, List, map, Ok, refl, sym, ap, ◌∙◌, subst, Vec, Global}
+use Rattle.std.proofs.Common.{◌≡◌, map, ap, ◌∙◌, subst}
 use Rattle.serde_json.specs.View.{view}
 use Rattle.net_check.specs.Places.{find_in}
 use Rattle.net_check.specs.PlanReading.{place_of}

@@ -1,11 +1,8 @@
-use Rattle.std.proofs.Common.{◌≡◌, Ok, Err, refl, sym, ap, ◌∙◌}
+use Rattle.std.proofs.Common.{sym, ◌∙◌}
 use Rattle.serde_json.specs.View.{view}
 use Rattle.net_check.specs.PlanValues.{plan_value}
 use Rattle.net_check.proofs.PlanLaw.{plan_tells}
 use Rattle.net_check.proofs.Telling.{none_told, told}
-use Rattle.net_check.specs.Reading.{error_of}
-use Rattle.net_check.specs.declared.plan.error.Fault.TheVariants as faults
-use Rattle.net_check.specs.declared.plan.error.PlanError.TheVariants as errors
 use Rattle.net_check.proofs.plan.reading.plan_of_text.Goals as goal
 
 pub returns-in-Ok-clause-ok : goal.returns-in-Ok-clause-ok

@@ -1,4 +1,4 @@
-use Rattle.std.proofs.Common.{rules, ◌++◌, length, take, arith}
+use Rattle.std.proofs.Common.{rules, ◌++◌, take}
 use Rattle.std.proofs.lemmas.List.{length-append}
 use Rattle.std.proofs.KnownBytes.{Consumes-trans}
 use Rattle.net_check.proofs.plan.stream.read_within.Goals as goal

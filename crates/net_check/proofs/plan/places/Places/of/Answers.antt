@@ -1,8 +1,7 @@
-use Rattle.std.proofs.Common.{rules, ◌≡◌, ℕ, ◌+◌, ◌<◌, List, length, Some, None, if◌then◌else◌, refl, sym, ap, ◌∙◌}
+use Rattle.std.proofs.Common.{rules, Some, None, if◌then◌else◌, sym, ap, ◌∙◌}
 use Rattle.std.specs.Option.{option_or}
 use Rattle.std.specs.Str.{bytes_eq}
 use Rattle.net_check.specs.Places.{find_in}
-use Rattle.net_check.specs.PlanReading.{place_of}
 use Rattle.net_check.proofs.Names.{place_of-take}
 use Rattle.net_check.proofs.plan.places.Places.of.Goals as goal
 

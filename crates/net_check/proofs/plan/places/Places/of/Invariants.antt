@@ -1,5 +1,5 @@
 -- The names that were passed have their places.
-use Rattle.std.proofs.Common.{◌≡◌, ℕ, ◌≤◌, List, map, length, take}
+use Rattle.std.proofs.Common.{◌≡◌, ℕ, List, map, take}
 use Rattle.net_check.specs.Places.{find_in}
 use Rattle.net_check.specs.PlanReading.{place_of}
 use Rattle.net_check.proofs.plan.places.Places.of.Given as goal

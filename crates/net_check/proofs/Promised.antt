@@ -1,0 +1,155 @@
+-- What an accepted plan and certificate promise of every run.
+use Rattle.std.proofs.Common.{◌≡◌, ℕ, suc, ◌+◌, true, false, List, [], ◌∷◌, ◌++◌, Some, None, sym, refl, ap, ◌∙◌, subst, inl, inr}
+use Rattle.std.specs.List.{AllByRecursion}
+use Rattle.std.proofs.lemmas.List.Elements.{All-from_recursion}
+use Rattle.std.proofs.lemmas.Bool.{cases_order}
+use Rattle.mctp_transport.specs.Frames.{Frame, KeyValue, key_of}
+use Rattle.mctp_transport.specs.Messages.{EachPacket}
+use Rattle.mctp_transport.specs.Histories.{Input, Arrived, History, EachArrival, after, last_of, Comes}
+use Rattle.mctp_transport.specs.Hearing.{Whole}
+use Rattle.mctp_transport.proofs.Arrivals.{EachArrival-append, EachArrival-weaker, EachArrival-last_of, packets_arrived}
+use Rattle.mctp_transport.proofs.LastStarts.{packets_key}
+use Rattle.mctp_transport.proofs.Places.{snoc_same}
+use Rattle.net_check.specs.declared.rule.Rule.TheVariants.{C03}
+use Rattle.net_check.specs.declared.plan.nodes.Plan.{Plan}
+use Rattle.net_check.specs.declared.plan.certificate.Certificate.{Certificate}
+use Rattle.net_check.specs.Routing.{Holds}
+use Rattle.net_check.specs.Eids.{IsNewlyHeld}
+use Rattle.net_check.specs.Rules.{Accepts}
+use Rattle.net_check.specs.Decisions.{Here, Drop, Forward}
+use Rattle.net_check.specs.Networks.{NetworkState, Flight, EventValue, Put, Move, Lose, Expire, OutcomeValue, PutIn, Entered, Lost, Expired, Refused, Step, Happens, Moves, at_start, without_flight, with_made, slots, limit}
+use Rattle.net_check.specs.Runs.{Turn, Run, RunFrom, after_all, WasPutIn}
+use Rattle.net_check.specs.Promises.{AloneHolds, JoinsPackets, KeepsPackets}
+use Rattle.net_check.proofs.Kept.{Kept, run_keeps}
+
+-- what is said of each packet by its place holds of all
+each_all : (P : Frame → Type 0) (ps : List Frame) → EachPacket ps (λ _ p. P p) → AllByRecursion P ps
+each_all P [] h = tt
+each_all P (p ∷ ps) h = (h 0 p refl, each_all P ps (λ i q is. h (suc i) q is))
+
+both : (P Q : Frame → Type 0) (ps : List Frame) → AllByRecursion P ps → AllByRecursion Q ps → AllByRecursion (λ p. P p × Q p) ps
+both P Q [] a b = tt
+both P Q (p ∷ ps) a b = ((a.0, b.0), both P Q ps a.1 b.1)
+
+weaker : (P Q : Frame → Type 0) → ((p : Frame) → P p → Q p) → (ps : List Frame) → AllByRecursion P ps → AllByRecursion Q ps
+weaker P Q f [] a = tt
+weaker P Q f (p ∷ ps) a = (f p a.0, weaker P Q f ps a.1)
+
+-- what is known of each packet that arrived is known of those that a message joins
+came_known : (P : Frame → Type 0) (history : History) (message : List ℕ) (comes : Comes slots limit history message) → EachArrival P history
+    → AllByRecursion (λ p. P p × (key_of p ≡ key_of comes.packet)) comes.packets
+came_known P history message comes arrived =
+    let key = key_of comes.packet in
+    both P (λ p. key_of p ≡ key) comes.packets
+    (packets_arrived P (last_of history key) comes.packets comes.since_start (EachArrival-last_of P history key arrived))
+    (each_all (λ p. key_of p ≡ key) comes.packets (packets_key history key comes.packets comes.since_start))
+
+came_joins : (plan : Plan) (turns : List Turn) (n : ℕ) (history : History) (message : List ℕ) (comes : Comes slots limit history message)
+    → EachArrival (λ p. Holds plan n p.destination × WasPutIn turns p) history → JoinsPackets plan turns n (key_of comes.packet) message
+came_joins plan turns n history message comes arrived =
+    let P : Frame → Type 0 = λ p. Holds plan n p.destination × WasPutIn turns p in
+    let Q : Frame → Type 0 = λ p. WasPutIn turns p × Holds plan n p.destination × (key_of p ≡ key_of comes.packet) in (
+      comes.packets,
+      comes.joined,
+      All-from_recursion Q comes.packets
+          (weaker (λ p. P p × (key_of p ≡ key_of comes.packet)) Q (λ p h. (h.0.1, h.0.0, h.1)) comes.packets (came_known P history message comes arrived)),
+    )
+
+-- a run is a run up to its last turn, and that turn
+run_parts : (plan : Plan) (w : NetworkState) (earlier : List Turn) (turn : Turn) → RunFrom plan w (earlier ++ turn ∷ [])
+    → RunFrom plan w earlier × Step plan (after_all w earlier) turn.event turn.outcome turn.after
+run_parts plan w [] turn (step, none) = (tt, step)
+run_parts plan w (first ∷ earlier) turn (step, rest) = let later = run_parts plan first.after earlier turn rest in ((step, later.0), later.1)
+
+-- what a step tells of a message came with a flight's packet at a node that holds its destination
+pub record TellsMessage (plan : Plan) (w : NetworkState) (n : ℕ) (key : KeyValue) (message : List ℕ) : Type 0 where
+  pub flight : Flight
+  pub number : ℕ
+  pub stands : w.flight number ≡ Some flight
+  pub holds : Holds plan n flight.packet.destination
+  pub mine : key ≡ key_of flight.packet
+  pub comes : Comes slots limit (after (w.history n) (Arrived flight.packet)) message
+
+moves_tell : (plan : Plan) (w v : NetworkState) (stood k j : ℕ) (f : Flight) (n : ℕ) (key : KeyValue) (message : List ℕ) (new : NetworkState) → w.flight stood ≡ Some f
+    → v.history ≡ w.history → Moves plan v k f (Entered j n key (Whole message)) new → TellsMessage plan w n key message
+moves_tell plan w v stood k j f n key message new stands same (Here, holds, (number, at, whose, hears, is)) =
+    let P : ℕ → Type 0 = λ m. Holds plan m f.packet.destination in
+    let Q : (ℕ → History) → Type 0 = λ history. Comes slots limit (after (history f.node) (Arrived f.packet)) message in
+    let R : ℕ → Type 0 = λ m. Comes slots limit (after (w.history m) (Arrived f.packet)) message in
+    record {
+      flight = f;
+      number = stood;
+      stands = stands;
+      holds = subst P (sym at) holds;
+      mine = whose;
+      comes = subst R (sym at) (subst Q same hears);
+    }
+moves_tell plan w v stood k j f n key message new stands same (Drop why, holds, done) = absurd done
+moves_tell plan w v stood k j f n key message new stands same (Forward next, holds, done) = absurd done
+
+happens_tells : (plan : Plan) (w : NetworkState) (event : EventValue) (outcome : OutcomeValue) (j n : ℕ) (key : KeyValue) (message : List ℕ) (new : NetworkState)
+    → Happens plan w event outcome new → outcome ≡ Entered j n key (Whole message) → TellsMessage plan w n key message
+happens_tells plan w (Put node bytes) (PutIn k at) j n key message new h is = absurd (cc)
+happens_tells plan w (Move number false) outcome j n key message new (f, stands, moves) is =
+    let P : OutcomeValue → Type 0 = λ o. Moves plan (without_flight w number) number f o new in
+    moves_tell plan w (without_flight w number) number number j f n key message new stands refl (subst P is moves)
+happens_tells plan w (Move number true) outcome j n key message new (f, stands, moves) is =
+    let P : OutcomeValue → Type 0 = λ o. Moves plan (with_made w (w.made + 1)) (w.made + 1) f o new in
+    moves_tell plan w (with_made w (w.made + 1)) number (w.made + 1) j f n key message new stands refl (subst P is moves)
+happens_tells plan w (Lose number) (Lost k) j n key message new h is = absurd (cc)
+happens_tells plan w (Expire node word) (Expired at was_open) j n key message new h is = absurd (cc)
+happens_tells plan w _ _ j n key message new h is = absurd h
+
+step_tells : (plan : Plan) (w : NetworkState) (event : EventValue) (outcome : OutcomeValue) (j n : ℕ) (key : KeyValue) (message : List ℕ) (new : NetworkState)
+    → Step plan w event outcome new → outcome ≡ Entered j n key (Whole message) → TellsMessage plan w n key message
+step_tells plan w event (Refused why) j n key message new step is = absurd (cc)
+step_tells plan w event outcome j n key message new step is = happens_tells plan w event outcome j n key message new step.1 is
+
+-- the packet of the message that ends a history is its last
+last_packet : (history : History) (p : Frame) (message : List ℕ) (comes : Comes slots limit (after history (Arrived p)) message) → p ≡ comes.packet
+last_packet history p message comes = same_packet (snoc_same history comes.earlier (Arrived p) (Arrived comes.packet) comes.ends).1
+  where
+    same_packet : {a b : Frame} → ◌≡◌ {A = Input} (Arrived a) (Arrived b) → a ≡ b
+    same_packet e = cc
+
+module _ (plan : Plan) (cert : Certificate) (accepted : Accepts plan cert) where
+  kept : (turns : List Turn) → Run plan turns → Kept plan cert (WasPutIn turns) (after_all at_start turns)
+  kept turns run = run_keeps plan cert (WasPutIn turns) accepted turns (λ p put. put) run
+
+  -- by C03 one node at most holds an EID
+  alone : (n m e : ℕ) → Holds plan n e → Holds plan m e → m ≡ n
+  unfolding IsNewlyHeld
+  alone n m e here there = elim (cases_order m n) [
+    | inl same ↦ same
+    | inr different ↦ elim different [
+      | inl earlier ↦ absurd ((accepted C03 n None (Some e)).0 here m earlier there)
+      | inr later ↦ absurd ((accepted C03 m None (Some e)).0 there n later here)
+    ]
+  ]
+
+  joins_told : (earlier : List Turn) (n : ℕ) (key : KeyValue) (message : List ℕ) → Run plan earlier
+      → TellsMessage plan (after_all at_start earlier) n key message → JoinsPackets plan earlier n key message
+  joins_told earlier n key message run told =
+      let known = kept earlier run in
+      let P : Frame → Type 0 = λ p. Holds plan n p.destination × WasPutIn earlier p in
+      let p = told.flight.packet in
+      let history = (after_all at_start earlier).history n in
+      let arrived : EachArrival P (after history (Arrived p)) =
+      EachArrival-append P history (Arrived p ∷ []) (known.arrivals n) ((told.holds, (known.flights told.number told.flight told.stands).1), tt) in
+      let R : KeyValue → Type 0 = λ k. JoinsPackets plan earlier n k message in
+      subst R (sym (told.mine ∙ ap key_of (last_packet history p message told.comes)))
+      (came_joins plan earlier n (after history (Arrived p)) message told.comes arrived)
+
+  pub accepted_keeps : KeepsPackets plan cert
+  accepted_keeps = record {
+    enters = λ turns run n.
+        EachArrival-weaker (λ p. Holds plan n p.destination × WasPutIn turns p) (λ p. AloneHolds plan n p.destination)
+        (λ p h. (h.0, λ m there. alone n m p.destination h.0 there)) ((after_all at_start turns).history n) ((kept turns run).arrivals n);
+    hops = λ turns run number f is. ((kept turns run).flights number f is).0;
+    joins = λ turns run n message comes.
+        (key_of comes.packet, came_joins plan turns n ((after_all at_start turns).history n) message comes ((kept turns run).arrivals n));
+    tells = λ earlier turn run number n key message is.
+        let parts = run_parts plan at_start earlier turn run in
+        joins_told earlier n key message parts.0
+        (step_tells plan (after_all at_start earlier) turn.event turn.outcome number n key message turn.after parts.1 is);
+  }
