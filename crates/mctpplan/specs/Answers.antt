@@ -22,7 +22,7 @@ pub record Given : Type 0 where
 pub record AreGiven (plans certificates : Given) (plan : Plan) (certificate : Certificate) : Type 0 where
   pub plan_text : Gave 16777216 plans.before plans.after (λ text. StandsFor IsPlanOf text (plan_value plan))
   pub certificate_text : Gave 16777216 certificates.before certificates.after
-    (λ text. StandsFor (IsCertificateOf (plan_value plan)) text (certificate_value certificate))
+      (λ text. StandsFor (IsCertificateOf (plan_value plan)) text (certificate_value certificate))
 
 -- every rule holds of the plan and the certificate that were given
 abbrev pub GaveAccepted : Given → Given → Type 0
