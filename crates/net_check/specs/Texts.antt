@@ -4,13 +4,17 @@ use Rattle.std.specs.Io.KnownBytes.{Consumes, IsAtEnd}
 use Rattle.serde_json.specs.Data.{Data}
 use Rattle.serde_json.specs.Read.{read}
 
+-- the bytes are JSON of this value
+abbrev pub IsJson : List ℕ → Data → Type 0
+IsJson text d = IsUtf8 text × (read text ≡ Some d)
+
 -- the bytes are JSON, and its value is R to x
 abbrev pub StandsFor : {A : Type 0} → (Data → A → Type 0) → List ℕ → A → Type 0
-StandsFor R text x = (d : Data) × (read text ≡ Some d) × R d x
+StandsFor R text x = (d : Data) × IsJson text d × R d x
 
 -- the bytes are JSON, and its value is R to nothing
 abbrev pub StandsForNone : {A : Type 0} → (Data → A → Type 0) → List ℕ → Type 0
-StandsForNone {A} R text = (d : Data) × (read text ≡ Some d) × ((x : A) → ¬ R d x)
+StandsForNone {A} R text = (d : Data) × IsJson text d × ((x : A) → ¬ R d x)
 
 -- the bytes are no JSON
 abbrev pub IsNoJson : List ℕ → Type 0

@@ -1,8 +1,7 @@
 //! Plans and certificates from texts.
 ghost use Rattle.std.specs.Prelude.{◌≡◌, ◌≢◌, ◌↔◌, ◌<◌, ◌≤◌, ◌+◌, ◌-◌, ◌^◌, IfOk, IfErr, IsErrOf, Err, length, Some};
-ghost use Rattle.serde_json.specs.Read.{read};
 ghost use Rattle.serde_json.specs.View.{view};
-ghost use Rattle.net_check.specs.Texts.{StandsFor, StandsForNone, IsNoJson, Gave};
+ghost use Rattle.net_check.specs.Texts.{IsJson, IsNoJson, StandsFor, StandsForNone, Gave};
 ghost use Rattle.net_check.specs.Stream.{TakesMoreThan};
 ghost use Rattle.net_check.specs.TextFaults.{failed_count};
 ghost use Rattle.net_check.specs.PlanText.{IsPlanOf};
@@ -91,7 +90,7 @@ pub fn read_certificate<S: Source>(
 
 /// The JSON value of a text.
 fn json_of(alloc: Global, text: &[u8]) -> Result<Value, PlanError>
-    ensures ok { IfOk result (λ value. read text.now ≡ Some (view value)) }
+    ensures ok { IfOk result (λ value. IsJson text.now (view value)) }
     ensures no_json { IfErr result (λ e. e ≡ PlanError.NotJson → IsNoJson text.now) }
     ensures over_limit { IsErrOf result PlanError.OverLimit ↔ (16777216 < length text.now) }
     ensures no_range { result ≢ Err PlanError.OutOfRange }
