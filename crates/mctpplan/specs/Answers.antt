@@ -1,5 +1,8 @@
 -- What the answers of the program say of the bytes that it read.
 use Rattle.std.specs.Prelude.{ℕ, List, Option, ⊤}
+use Rattle.std.specs.Io.KnownBytes.{Appends}
+use Rattle.mctpplan.specs.Lines.{fault_text}
+use Rattle.mctpplan.specs.Statuses.{yes_line}
 use Rattle.mctpplan.specs.declared.status.Status.{Status}
 use Rattle.mctpplan.specs.declared.status.Status.TheVariants as status
 use Rattle.net_check.specs.declared.fault.Fault.{Fault}
@@ -13,7 +16,7 @@ use Rattle.net_check.specs.PlanText.{IsPlanOf}
 use Rattle.net_check.specs.PlanValues.{plan_value}
 use Rattle.net_check.specs.Rules.{Accepts}
 
--- what a source gives from here on, before a call and after it
+-- what a source has yet to give, or a sink was given, before a call and after it
 pub record Given : Type 0 where
   pub before : Option (List ℕ)
   pub after : Option (List ℕ)
@@ -24,18 +27,20 @@ pub record AreGiven (plans certificates : Given) (plan : Plan) (certificate : Ce
   pub certificate_text : Gave 16777216 certificates.before certificates.after
       (λ text. StandsFor (IsCertificateOf (plan_value plan)) text (certificate_value certificate))
 
--- every rule holds of the plan and the certificate that were given
-abbrev pub GaveAccepted : Given → Given → Type 0
-GaveAccepted plans certificates = (plan : Plan) × (certificate : Certificate) × AreGiven plans certificates plan certificate × Accepts plan certificate
+-- every rule holds of the plan and the certificate that were given, and the output was given `yes`
+abbrev pub TellsYes : Given → Given → Given → Type 0
+TellsYes plans certificates output = Appends output.before output.after yes_line
+    × ((plan : Plan) × (certificate : Certificate) × AreGiven plans certificates plan certificate × Accepts plan certificate)
 
--- the plan and the certificate that were given have a first fault
-abbrev pub GaveFaulty : Given → Given → Type 0
-GaveFaulty plans certificates = (plan : Plan) × (certificate : Certificate) × (fault : Fault)
+-- the output was given the line of the first fault of the plan and the certificate that were given
+abbrev pub TellsFault : Given → Given → Given → Type 0
+TellsFault plans certificates output = (plan : Plan) × (certificate : Certificate) × (fault : Fault)
     × AreGiven plans certificates plan certificate × IsFirstFault plan certificate (place_of fault)
+    × Appends output.before output.after (fault_text plan fault)
 
--- what the end of a run says of what the sources gave
-abbrev pub Tells : Status → Given → Given → Type 0
-Tells status.Yes plans certificates = GaveAccepted plans certificates
-Tells status.Fault plans certificates = GaveFaulty plans certificates
-Tells status.Unreadable plans certificates = ⊤
-Tells status.NoMemory plans certificates = ⊤
+-- what the end of a run says of what the sources gave and what was written
+abbrev pub Tells : Status → Given → Given → Given → Type 0
+Tells status.Yes plans certificates output = TellsYes plans certificates output
+Tells status.Fault plans certificates output = TellsFault plans certificates output
+Tells status.Unreadable plans certificates output = ⊤
+Tells status.NoMemory plans certificates output = ⊤

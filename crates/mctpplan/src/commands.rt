@@ -3,7 +3,7 @@ ghost use Rattle.std.specs.Prelude.{◌≡◌, ◌⊎◌, ◌<◌, ◌^◌, ◌-
 ghost use Rattle.std.specs.Io.KnownBytes.{Appends};
 ghost use Rattle.mctpplan.specs.declared.refused.Refused.TheVariants.{Unwritten};
 ghost use Rattle.mctpplan.specs.declared.status.Status.TheVariants.{Yes, Fault, Unreadable, NoMemory};
-ghost use Rattle.mctpplan.specs.Statuses.{status_of, yes_line};
+ghost use Rattle.mctpplan.specs.Statuses.{status_of};
 ghost use Rattle.mctpplan.specs.Answers.{AreGiven, Tells};
 
 use crate::refused::{Input, Refused};
@@ -28,8 +28,8 @@ pub fn run_check<P: Source, C: Source, O: Sink, E: Sink>(
     requires output { O.failures output.old < 2 ^ 64 - 1 }
     requires errors { E.failures errors.old < 2 ^ 64 - 1 }
     ensures tells { Tells result (record { before = P.remaining plan.old; after = P.remaining plan.new })
-        (record { before = C.remaining certificate.old; after = C.remaining certificate.new }) }
-    ensures yes { result ≡ Yes → Appends (O.contents output.old) (O.contents output.new) yes_line }
+        (record { before = C.remaining certificate.old; after = C.remaining certificate.new })
+        (record { before = O.contents output.old; after = O.contents output.new }) }
     ensures silent { (result ≡ Yes) ⊎ (result ≡ Fault) → errors.new ≡ errors.old }
     ensures no_memory { result ≡ NoMemory → output.new ≡ output.old }
 {
@@ -66,8 +66,8 @@ fn answer_check<P: Source, C: Source, O: Sink>(
     ensures answers { IfOk result (λ status. (status ≡ Yes) ⊎ (status ≡ Fault)) }
     ensures untouched { IfErr result (λ refused. (refused ≡ Unwritten) ⊎ (output.new ≡ output.old)) }
     ensures tells { IfOk result (λ status. Tells status (record { before = P.remaining plan.old; after = P.remaining plan.new })
-        (record { before = C.remaining certificate.old; after = C.remaining certificate.new })) }
-    ensures yes { result ≡ Ok Yes → Appends (O.contents output.old) (O.contents output.new) yes_line }
+        (record { before = C.remaining certificate.old; after = C.remaining certificate.new })
+        (record { before = O.contents output.old; after = O.contents output.new })) }
 {
     let (plan, certificate) = read_inputs(alloc, plan, certificate)?;
     match check(alloc, &plan, &certificate) {

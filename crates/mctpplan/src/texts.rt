@@ -1,6 +1,7 @@
 //! Every text that a user of the program sees.
-ghost use Rattle.std.specs.Prelude.{◌≡◌, IsOk};
+ghost use Rattle.std.specs.Prelude.{◌≡◌, IfOk, IsOk, string_bytes};
 ghost use Rattle.mctpplan.specs.declared.refused.Refused.TheVariants.{Unwritten};
+ghost use Rattle.mctpplan.specs.Lines.{fault_text};
 
 use crate::refused::{Input, Refused};
 use net_check::Fault;
@@ -16,7 +17,9 @@ pub const YES: &str = "yes\n";
 pub const NO_MEMORY: &str = "no memory\n";
 
 /// The answer where a plan has a fault.
-pub fn fault_line(alloc: Global, plan: &Plan, fault: &Fault) -> Result<String, AllocError> {
+pub fn fault_line(alloc: Global, plan: &Plan, fault: &Fault) -> Result<String, AllocError>
+    ensures { IfOk result (λ line. string_bytes line ≡ fault_text plan.now fault.now) }
+{
     let rule = fault.rule.code();
     let name = plan
         .nodes
@@ -56,9 +59,13 @@ impl fmt::Display for Input {
 struct OrDash<T>(Option<T>);
 
 impl<T: fmt::Display> fmt::Display for OrDash<T> {
+    ghost use Rattle.mctpplan.specs.Lines.{or_dash};
+
+    ghost output = { λ shown. or_dash T.output shown.0 };
+
     fn fmt<W: fmt::Write>(&self, f: &mut fmt::Formatter<W>) -> fmt::Result {
         match &self.0 {
-            Some(value) => write!(f, "{value}"),
+            Some(value) => fmt::Display::fmt(value, f),
             None => f.write_str("-"),
         }
     }
