@@ -1,46 +1,97 @@
--- What the answers of the program say of the bytes that it read.
-use Rattle.std.specs.Prelude.{ℕ, List, Option, ⊤}
+-- What the end of a run of the program says of the bytes that it read and wrote.
+use Rattle.std.specs.Prelude.{◌≡◌, ℕ, ◌+◌, List, Option, ⊤}
 use Rattle.std.specs.Io.KnownBytes.{Appends}
-use Rattle.mctpplan.specs.Lines.{fault_text}
-use Rattle.mctpplan.specs.Statuses.{yes_line}
-use Rattle.mctpplan.specs.declared.status.Status.{Status}
-use Rattle.mctpplan.specs.declared.status.Status.TheVariants as status
 use Rattle.net_check.specs.declared.fault.Fault.{Fault}
 use Rattle.net_check.specs.declared.plan.nodes.Plan.{Plan}
 use Rattle.net_check.specs.declared.plan.certificate.Certificate.{Certificate}
+use Rattle.net_check.specs.declared.plan.error.PlanError.{PlanError}
+use Rattle.net_check.specs.declared.plan.error.PlanError.TheVariants as error
 use Rattle.net_check.specs.CertificateText.{IsCertificateOf}
 use Rattle.net_check.specs.CertificateValues.{certificate_value}
 use Rattle.net_check.specs.Faults.{IsFirstFault, place_of}
-use Rattle.net_check.specs.Texts.{Gave, StandsFor}
 use Rattle.net_check.specs.PlanText.{IsPlanOf}
 use Rattle.net_check.specs.PlanValues.{plan_value}
 use Rattle.net_check.specs.Rules.{Accepts}
+use Rattle.net_check.specs.Stream.{TakesMoreThan}
+use Rattle.net_check.specs.Texts.{Gave, StandsFor, StandsForNone, IsNoJson}
+use Rattle.mctpplan.specs.declared.refused.Input.{Input}
+use Rattle.mctpplan.specs.declared.refused.Input.TheVariants as input
+use Rattle.mctpplan.specs.declared.refused.Refused.{Refused}
+use Rattle.mctpplan.specs.declared.refused.Refused.TheVariants as refused
+use Rattle.mctpplan.specs.declared.status.Status.{Status}
+use Rattle.mctpplan.specs.declared.status.Status.TheVariants as status
+use Rattle.mctpplan.specs.Lines.{fault_text}
+use Rattle.mctpplan.specs.Statuses.{status_of, yes_line}
 
--- what a source has yet to give, or a sink was given, before a call and after it
-pub record Given : Type 0 where
+-- a stream before a call and after it: the bytes that a source has yet to give or a sink was given, and how often it failed
+pub record Stream : Type 0 where
   pub before : Option (List ℕ)
   pub after : Option (List ℕ)
+  pub failures_before : ℕ
+  pub failures_after : ℕ
 
--- one source gave the text of the plan to its end, the other that of the certificate
-pub record AreGiven (plans certificates : Given) (plan : Plan) (certificate : Certificate) : Type 0 where
-  pub plan_text : Gave 16777216 plans.before plans.after (λ text. StandsFor IsPlanOf text (plan_value plan))
-  pub certificate_text : Gave 16777216 certificates.before certificates.after
-      (λ text. StandsFor (IsCertificateOf (plan_value plan)) text (certificate_value certificate))
+abbrev pub stream : Option (List ℕ) → ℕ → Option (List ℕ) → ℕ → Stream
+stream before failures_before after failures_after = record { before = before; after = after; failures_before = failures_before; failures_after = failures_after }
+
+-- the stream failed once
+abbrev pub Fails : Stream → Type 0
+Fails stream = stream.failures_after ≡ stream.failures_before + 1
+
+-- the source gave the text of the plan
+abbrev pub GavePlan : Stream → Plan → Type 0
+GavePlan stream plan = Gave 16777216 stream.before stream.after (λ text. StandsFor IsPlanOf text (plan_value plan))
+
+-- the source gave the text of the plan's certificate
+abbrev pub GaveCertificate : Plan → Stream → Certificate → Type 0
+GaveCertificate plan stream certificate = Gave 16777216 stream.before stream.after (λ text. StandsFor (IsCertificateOf (plan_value plan)) text (certificate_value certificate))
+
+-- Why a source gave nothing, by the error: it failed, it gave too many bytes, it gave no JSON, or JSON of no such value.
+abbrev pub GaveNothing : (List ℕ → Type 0) → Stream → PlanError → Type 0
+GaveNothing StandsForNothing stream error.Device = Fails stream
+GaveNothing StandsForNothing stream error.OverLimit = TakesMoreThan 16777216 stream.before stream.after
+GaveNothing StandsForNothing stream error.NotJson = Gave 16777216 stream.before stream.after IsNoJson
+GaveNothing StandsForNothing stream error.OutOfRange = Gave 16777216 stream.before stream.after StandsForNothing
+GaveNothing StandsForNothing stream error.OutOfMemory = ⊤
+
+-- one source gave the plan, the other the certificate
+pub record AreGiven (plans certificates : Stream) (plan : Plan) (certificate : Certificate) : Type 0 where
+  pub plan_text : GavePlan plans plan
+  pub certificate_text : GaveCertificate plan certificates certificate
 
 -- every rule holds of the plan and the certificate that were given, and the output was given `yes`
-abbrev pub TellsYes : Given → Given → Given → Type 0
+abbrev pub TellsYes : Stream → Stream → Stream → Type 0
 TellsYes plans certificates output = Appends output.before output.after yes_line
     × ((plan : Plan) × (certificate : Certificate) × AreGiven plans certificates plan certificate × Accepts plan certificate)
 
 -- the output was given the line of the first fault of the plan and the certificate that were given
-abbrev pub TellsFault : Given → Given → Given → Type 0
+abbrev pub TellsFault : Stream → Stream → Stream → Type 0
 TellsFault plans certificates output = (plan : Plan) × (certificate : Certificate) × (fault : Fault)
     × AreGiven plans certificates plan certificate × IsFirstFault plan certificate (place_of fault)
     × Appends output.before output.after (fault_text plan fault)
 
+-- why an input can't be read; a certificate is read only where the plan was given
+abbrev pub IsUnread : Input → PlanError → Stream → Stream → Type 0
+IsUnread input.Plan cause plans certificates = GaveNothing (λ text. StandsForNone IsPlanOf text) plans cause
+IsUnread input.Certificate cause plans certificates = (plan : Plan) × GavePlan plans plan
+    × GaveNothing (λ text. StandsForNone (IsCertificateOf (plan_value plan)) text) certificates cause
+
+-- why the inputs were not read
+abbrev pub AreUnread : Refused → Stream → Stream → Type 0
+AreUnread refused.Usage plans certificates = ⊥
+AreUnread (refused.Unreadable unread cause) plans certificates = IsUnread unread cause plans certificates
+AreUnread refused.Unwritten plans certificates = ⊥
+AreUnread refused.NoMemory plans certificates = ⊤
+
+-- why there is no answer: the inputs were not read, or the output failed
+abbrev pub IsRefusedFor : Refused → Stream → Stream → Stream → Type 0
+IsRefusedFor refused.Usage plans certificates output = ⊥
+IsRefusedFor (refused.Unreadable unread cause) plans certificates output = IsUnread unread cause plans certificates
+IsRefusedFor refused.Unwritten plans certificates output = Fails output
+IsRefusedFor refused.NoMemory plans certificates output = ⊤
+
 -- what the end of a run says of what the sources gave and what was written
-abbrev pub Tells : Status → Given → Given → Given → Type 0
+abbrev pub Tells : Status → Stream → Stream → Stream → Type 0
 Tells status.Yes plans certificates output = TellsYes plans certificates output
 Tells status.Fault plans certificates output = TellsFault plans certificates output
-Tells status.Unreadable plans certificates output = ⊤
+Tells status.Unreadable plans certificates output = (why : Refused) × (status_of why ≡ status.Unreadable) × IsRefusedFor why plans certificates output
 Tells status.NoMemory plans certificates output = ⊤

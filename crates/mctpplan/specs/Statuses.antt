@@ -3,6 +3,9 @@ use Rattle.std.specs.Prelude.{ℕ, List, codes}
 use Rattle.mctpplan.specs.declared.status.Status.{Status}
 use Rattle.mctpplan.specs.declared.status.Status.TheVariants.{Yes, Fault, Unreadable, NoMemory}
 use Rattle.mctpplan.specs.declared.refused.Refused.{Refused}
+use Rattle.mctpplan.specs.declared.refused.Input.{Input}
+use Rattle.net_check.specs.declared.plan.error.PlanError.{PlanError}
+use Rattle.net_check.specs.declared.plan.error.PlanError.TheVariants as error
 
 -- the exit status
 abbrev pub number_of : Status → ℕ
@@ -15,6 +18,14 @@ number_of NoMemory = 3
 abbrev pub status_of : Refused → Status
 status_of Refused.NoMemory = NoMemory
 status_of _ = Unreadable
+
+-- why there is no answer, where reading an input ended in an error
+abbrev pub refused_at : Input → PlanError → Refused
+refused_at unread error.OutOfMemory = Refused.NoMemory
+refused_at unread error.NotJson = Refused.Unreadable unread error.NotJson
+refused_at unread error.OutOfRange = Refused.Unreadable unread error.OutOfRange
+refused_at unread error.OverLimit = Refused.Unreadable unread error.OverLimit
+refused_at unread error.Device = Refused.Unreadable unread error.Device
 
 -- the line that tells that a certificate fits its plan
 abbrev pub yes_line : List ℕ

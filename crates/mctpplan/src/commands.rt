@@ -1,10 +1,10 @@
 //! The program's commands, over the files that they read and the streams that they write.
-ghost use Rattle.std.specs.Prelude.{◌≡◌, ◌⊎◌, ◌<◌, ◌^◌, ◌-◌, Ok, OnOk, IfOk, IfErr};
+ghost use Rattle.std.specs.Prelude.{◌+◌, OnErr, ◌≡◌, ◌⊎◌, ◌<◌, ◌^◌, ◌-◌, Ok, OnOk, IfOk, IfErr};
 ghost use Rattle.std.specs.Io.KnownBytes.{Appends};
 ghost use Rattle.mctpplan.specs.declared.refused.Refused.TheVariants.{Unwritten};
 ghost use Rattle.mctpplan.specs.declared.status.Status.TheVariants.{Yes, Fault, Unreadable, NoMemory};
 ghost use Rattle.mctpplan.specs.Statuses.{status_of};
-ghost use Rattle.mctpplan.specs.Answers.{AreGiven, Tells};
+ghost use Rattle.mctpplan.specs.Answers.{stream, AreGiven, AreUnread, IsRefusedFor, Tells};
 
 use crate::refused::{Input, Refused};
 use crate::status::Status;
@@ -27,9 +27,11 @@ pub fn run_check<P: Source, C: Source, O: Sink, E: Sink>(
     requires certificate { C.failures certificate.old < 2 ^ 64 - 1 }
     requires output { O.failures output.old < 2 ^ 64 - 1 }
     requires errors { E.failures errors.old < 2 ^ 64 - 1 }
-    ensures tells { Tells result (record { before = P.remaining plan.old; after = P.remaining plan.new })
-        (record { before = C.remaining certificate.old; after = C.remaining certificate.new })
-        (record { before = O.contents output.old; after = O.contents output.new }) }
+    ensures tells { let plans = stream (P.remaining plan.old) (P.failures plan.old) (P.remaining plan.new) (P.failures plan.new) in
+        let certificates = stream (C.remaining certificate.old) (C.failures certificate.old)
+        (C.remaining certificate.new) (C.failures certificate.new) in
+        let outputs = stream (O.contents output.old) (O.failures output.old) (O.contents output.new) (O.failures output.new) in
+        Tells result plans certificates outputs }
     ensures silent { (result ≡ Yes) ⊎ (result ≡ Fault) → errors.new ≡ errors.old }
     ensures no_memory { result ≡ NoMemory → output.new ≡ output.old }
 {
@@ -65,9 +67,16 @@ fn answer_check<P: Source, C: Source, O: Sink>(
     requires output { O.failures output.old < 2 ^ 64 - 1 }
     ensures answers { IfOk result (λ status. (status ≡ Yes) ⊎ (status ≡ Fault)) }
     ensures untouched { IfErr result (λ refused. (refused ≡ Unwritten) ⊎ (output.new ≡ output.old)) }
-    ensures tells { IfOk result (λ status. Tells status (record { before = P.remaining plan.old; after = P.remaining plan.new })
-        (record { before = C.remaining certificate.old; after = C.remaining certificate.new })
-        (record { before = O.contents output.old; after = O.contents output.new })) }
+    ensures tells { let plans = stream (P.remaining plan.old) (P.failures plan.old) (P.remaining plan.new) (P.failures plan.new) in
+        let certificates = stream (C.remaining certificate.old) (C.failures certificate.old)
+        (C.remaining certificate.new) (C.failures certificate.new) in
+        let outputs = stream (O.contents output.old) (O.failures output.old) (O.contents output.new) (O.failures output.new) in
+        IfOk result (λ status. Tells status plans certificates outputs) }
+    ensures refused { let plans = stream (P.remaining plan.old) (P.failures plan.old) (P.remaining plan.new) (P.failures plan.new) in
+        let certificates = stream (C.remaining certificate.old) (C.failures certificate.old)
+        (C.remaining certificate.new) (C.failures certificate.new) in
+        let outputs = stream (O.contents output.old) (O.failures output.old) (O.contents output.new) (O.failures output.new) in
+        IfErr result (λ refused. IsRefusedFor refused plans certificates outputs) }
 {
     let (plan, certificate) = read_inputs(alloc, plan, certificate)?;
     match check(alloc, &plan, &certificate) {
@@ -91,14 +100,23 @@ fn read_inputs<P: Source, C: Source>(
 ) -> Result<(Plan, Certificate), Refused>
     requires plan { P.failures plan.old < 2 ^ 64 - 1 }
     requires certificate { C.failures certificate.old < 2 ^ 64 - 1 }
-    ensures { IfOk result (λ read. AreGiven (record { before = P.remaining plan.old; after = P.remaining plan.new })
-        (record { before = C.remaining certificate.old; after = C.remaining certificate.new }) read.0 read.1) }
+    ensures given { let plans = stream (P.remaining plan.old) (P.failures plan.old) (P.remaining plan.new) (P.failures plan.new) in
+        let certificates = stream (C.remaining certificate.old) (C.failures certificate.old)
+        (C.remaining certificate.new) (C.failures certificate.new) in
+        IfOk result (λ read. AreGiven plans certificates read.0 read.1) }
+    ensures unread { let plans = stream (P.remaining plan.old) (P.failures plan.old) (P.remaining plan.new) (P.failures plan.new) in
+        let certificates = stream (C.remaining certificate.old) (C.failures certificate.old)
+        (C.remaining certificate.new) (C.failures certificate.new) in
+        IfErr result (λ refused. AreUnread refused plans certificates) }
 {
-    let read = read_plan(alloc, plan);
-    let plan = read.map_err(|error| Refused::at_input(Input::Plan, error))?;
-    let read = read_certificate(alloc, &plan, certificate);
-    let certificate = read.map_err(|error| Refused::at_input(Input::Certificate, error))?;
-    Ok((plan, certificate))
+    let plan = match read_plan(alloc, plan) {
+        Ok(plan) => plan,
+        Err(error) => return Err(Refused::at_input(Input::Plan, error)),
+    };
+    match read_certificate(alloc, &plan, certificate) {
+        Ok(certificate) => Ok((plan, certificate)),
+        Err(error) => Err(Refused::at_input(Input::Certificate, error)),
+    }
 }
 
 /// Writes the answer.
@@ -106,6 +124,7 @@ fn print<O: Sink>(output: &mut O, line: &str) -> Result<(), Refused>
     requires { O.failures output.old < 2 ^ 64 - 1 }
     ensures written { OnOk result (Appends (O.contents output.old) (O.contents output.new) line.now) }
     ensures unwritten { IfErr result (λ refused. refused ≡ Unwritten) }
+    ensures fails { OnErr result (O.failures output.new ≡ O.failures output.old + 1) }
 {
     write_whole(output, line.as_bytes()).map_err(|_| Refused::Unwritten)
 }

@@ -28,13 +28,19 @@ pub enum Refused {
 }
 
 impl Refused {
-    ghost use Rattle.mctpplan.specs.Statuses.{status_of};
+    ghost use Rattle.mctpplan.specs.Statuses.{refused_at, status_of};
 
     /// Why there is no answer, where reading an input ended in an error.
-    pub fn at_input(input: Input, error: PlanError) -> Refused {
+    pub fn at_input(input: Input, error: PlanError) -> Refused
+        ensures { result ≡ refused_at input error }
+    {
         match error {
             PlanError::OutOfMemory => Refused::NoMemory,
-            cause => Refused::Unreadable { input, cause },
+            PlanError::NotJson | PlanError::OutOfRange | PlanError::OverLimit | PlanError::Device =>
+                Refused::Unreadable {
+                    input,
+                    cause: error,
+                },
         }
     }
 
@@ -50,6 +56,10 @@ impl Refused {
 }
 
 impl From<AllocError> for Refused {
+    ghost use Rattle.mctpplan.specs.declared.refused.Refused.TheVariants.{NoMemory};
+
+    ghost from_gives = { λ _ refused. refused ≡ NoMemory };
+
     fn from(_error: AllocError) -> Refused {
         Refused::NoMemory
     }

@@ -3,4 +3,4 @@ use Rattle.mctpplan.proofs.commands.answer_check.Goals as goal
 
 pub returns-in-Err-Fault-clause-tells : goal.returns-in-Err-Fault-clause-tells
 returns-in-Err-Fault-clause-tells g c =
-    (c.in_ok-plan.plan, c.in_ok-plan.certificate, c.in-Err-Fault.fault, c.in_ok-plan.ensures, search rules, search rules)
+    (c.in_ok-plan.plan, c.in_ok-plan.certificate, c.in-Err-Fault.fault, c.in_ok-plan.ensures.given, search rules, search rules)
