@@ -6,7 +6,6 @@ mod checked;
 mod fault;
 mod first_fault;
 mod laws;
-pub mod plan;
 mod rank_tables;
 mod routing;
 mod rule;

@@ -2,7 +2,7 @@
 ghost use Rattle.std.specs.Prelude.{◌≡◌, ℕ, ◌+◌, ◌<◌, ◌↔◌, IsTrue, Any};
 ghost use Rattle.net_check.specs.Routing.{Holds, Covers, IsBridge, rows_of, ports_of};
 
-use crate::plan::{Kind, Plan, Port, Row};
+use net_plan::{Kind, Plan, Port, Row};
 use mctp_transport::Eid;
 
 /// The ports of a node, none where there is no such node.

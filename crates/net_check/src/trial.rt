@@ -3,7 +3,7 @@ ghost use Rattle.std.specs.Prelude.{◌≡◌, length};
 ghost use Rattle.net_check.specs.Ranks.{rank};
 ghost use Rattle.net_check.specs.RankTables.{AreRanks};
 
-use crate::plan::{Certificate, Plan};
+use net_plan::{Certificate, Plan};
 use crate::rank_tables::{RankTable, rank_at, rank_of, rank_tables};
 use std::alloc::{AllocError, Global};
 

@@ -4,7 +4,7 @@ ghost use Rattle.net_check.specs.Names.{HasNewName, HaveOneName};
 ghost use Rattle.net_check.specs.Rules.{PlanDemands};
 ghost use Rattle.net_check.specs.Search.{IsFirstSpot};
 
-use crate::plan::Plan;
+use net_plan::Plan;
 use crate::rule::Rule;
 use crate::spot::Spot;
 

@@ -5,7 +5,7 @@ ghost use Rattle.net_check.specs.Rules.{CertificateDemands};
 ghost use Rattle.net_check.specs.Faults.{eid_number};
 ghost use Rattle.net_check.specs.Search.{IsFirstSpot, IsFirstEid};
 
-use crate::plan::Row;
+use net_plan::Row;
 use crate::routing::{holds, row_end, rows_at};
 use crate::rule::Rule;
 use crate::spot::Spot;

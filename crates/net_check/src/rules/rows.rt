@@ -5,7 +5,7 @@ ghost use Rattle.net_check.specs.Rows.{IsInRange, AreApart, IsApartFromEarlier, 
 ghost use Rattle.net_check.specs.Rules.{PlanDemands};
 ghost use Rattle.net_check.specs.Search.{IsFirstRow, IsFirstSpot};
 
-use crate::plan::{Plan, Port, Row};
+use net_plan::{Plan, Port, Row};
 use crate::routing::{is_bridge, ports_at, row_end, rows_at};
 use crate::rule::Rule;
 use crate::spot::Spot;
