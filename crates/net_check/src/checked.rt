@@ -6,9 +6,9 @@ ghost use Rattle.net_check.specs.Promises.{EndsWithinRank, KeepsPackets};
 
 use crate::check_error::CheckError;
 use crate::first_fault::first_of_rule;
-use net_plan::{Certificate, Plan};
 use crate::rule::RULES;
 use crate::trial::Trial;
+use net_plan::{Certificate, Plan};
 use std::alloc::Global;
 use std::marker::Model;
 

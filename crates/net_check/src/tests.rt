@@ -2,9 +2,9 @@
 ghost use Rattle.std.specs.Prelude.{◌+◌, ◌<◌, ◌≤◌, IsTrue, vec_len};
 ghost use Rattle.net_plan.specs.NameText.{is_name};
 
-use net_plan::{Bus, Certificate, Kind, Name, Node, NodeRanks, Plan, Port, RankRange, Row};
 use crate::{CheckError, Fault, Rule, check};
 use mctp_transport::Eid;
+use net_plan::{Bus, Certificate, Kind, Name, Node, NodeRanks, Plan, Port, RankRange, Row};
 use std::alloc::{AllocError, Global};
 use std::test::Fail;
 

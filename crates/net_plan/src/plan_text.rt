@@ -11,9 +11,7 @@ ghost use Rattle.net_plan.specs.PlanReading.{place_text, bus, port, row, kind_te
 ghost use Rattle.net_plan.specs.PlanValues.{BusValue, PortValue, RowValue, NodeValue, name_bytes, bus_value, bus_names, port_value, row_value, node_value, plan_value};
 
 use crate::error::Fault;
-use crate::json::{
-    ReadItem, check_keys, member, read_byte, read_list, read_nothing, read_number,
-};
+use crate::json::{ReadItem, check_keys, member, read_byte, read_list, read_nothing, read_number};
 use crate::name::Name;
 use crate::nodes::{Bus, Kind, Node, Plan, Port, Row};
 use crate::places::{Named, Places, names_differ};
