@@ -14,3 +14,5 @@ pub mod Parts
 pub mod AssemblyLaws
 pub mod Arrivals
 pub mod Answered
+pub mod Heard
+pub mod Spellings

@@ -34,7 +34,7 @@ same_or_not m n = elim (cases_order m n) [
   | inr different ↦ inr (λ same. elim different [ inl less ↦ omega arith | inr more ↦ omega arith ])
 ]
 
-is_or_not : (o : Option ℕ) (e : ℕ) → (o ≡ Some e) ⊎ ¬ (o ≡ Some e)
+pub is_or_not : (o : Option ℕ) (e : ℕ) → (o ≡ Some e) ⊎ ¬ (o ≡ Some e)
 is_or_not None e = inr (λ is. cc)
 is_or_not (Some d) e = elim (same_or_not d e) [ inl same ↦ inl (ap Some same) | inr not ↦ inr (λ is. not (same_Some d e is)) ]
 
@@ -52,7 +52,7 @@ covers_or_not row e = elim (cases_lt e row.first.value) [
 ]
 
 -- one of the rows covers e, or none does
-one_or_none : (rows : List Row) (e : ℕ)
+pub one_or_none : (rows : List Row) (e : ℕ)
     → ((r : ℕ) × (row : Row) × (slice_get rows r ≡ Some row) × Covers row e) ⊎ ((r : ℕ) (row : Row) → slice_get rows r ≡ Some row → ¬ Covers row e)
 one_or_none [] e = inr (λ r row is. cc)
 one_or_none (row ∷ rows) e = elim (covers_or_not row e) [

@@ -168,6 +168,6 @@ abbrev pub Step : Plan → NetworkState → EventValue → OutcomeValue → Netw
 Step plan w event (Refused why) new = IsFirstRefusal plan w event why × (new ≡ w)
 Step plan w event outcome new = ((why : Refusal) → ¬ IsRefused plan w event why) × Happens plan w event outcome new
 
--- no outcome and no next state are there for the event
-abbrev pub IsStuck : Plan → NetworkState → EventValue → Type 0
-IsStuck plan w event = (outcome : OutcomeValue) (new : NetworkState) → ¬ Step plan w event outcome new
+-- some outcome and some next state are there for the event
+abbrev pub GoesOn : Plan → NetworkState → EventValue → Type 0
+GoesOn plan w event = (outcome : OutcomeValue) × (new : NetworkState) × Step plan w event outcome new
