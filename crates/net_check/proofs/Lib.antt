@@ -3,6 +3,8 @@ pub mod Spots
 pub mod Beyond
 -- the network
 pub mod Ends
+pub mod Nexts
 pub mod Kept
 pub mod Promised
+pub mod Answering
 pub mod Steps

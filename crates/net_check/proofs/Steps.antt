@@ -1,9 +1,13 @@
 -- Whatever the event, some step is there: the network is never stuck.
-use Rattle.std.proofs.Common.{◌≡◌, ℕ, ◌+◌, ◌<◌, ◌≤◌, true, false, Option, Some, None, refl, arith, inl, inr, length}
+use Rattle.std.proofs.Common.{List, ◌≡◌, ℕ, zero, suc, ◌+◌, ◌-◌, ◌<◌, ◌≤◌, [], ◌∷◌, sym, ap, ◌∙◌, subst, true, false, Option, Some, None, refl, arith, inl, inr, length}
 use Rattle.std.specs.Prelude.{◌⊎◌, IsSomeAnd}
 use Rattle.std.proofs.lemmas.Bool.{cases_lt}
-use Rattle.mctp_transport.specs.Frames.{key_of, IsAssignable}
+use Rattle.std.proofs.lemmas.Option.{slice_get_cases}
+use Rattle.mctp_transport.specs.Frames.{Frame, KeyValue, key_of, IsAssignable, Spelled}
 use Rattle.mctp_transport.specs.Histories.{Arrived, TimeUp}
+use Rattle.mctp_transport.specs.Cutting.{ArePacketsOf}
+use Rattle.mctp_transport.specs.PacketsLeft.{cut}
+use Rattle.mctp_transport.proofs.PacketLists.{all_packets}
 use Rattle.mctp_transport.proofs.Heard.{some_answer, open_or_not}
 use Rattle.mctp_transport.proofs.Spellings.{spelled_or_not}
 use Rattle.net_plan.specs.declared.nodes.Plan.{Plan}
@@ -11,57 +15,70 @@ use Rattle.net_plan.specs.declared.nodes.Node.{Node}
 use Rattle.net_plan.specs.declared.nodes.Kind.TheVariants.{Bridge, Endpoint}
 use Rattle.net_check.specs.Routing.{Holds, HasRow, IsBridge, node_at, eid_of, rows_of}
 use Rattle.net_check.specs.Decisions.{Decision, Here, Drop, Forward, B10, B11, B12}
-use Rattle.net_check.specs.Networks.{NetworkState, Flight, EventValue, Put, Move, Lose, Expire, Refusal, N01, N02, N03, N06, OutcomeValue, PutIn, Moved, Entered, Stopped, Lost, Expired, Refused, IsDecided, Moves, Happens, IsRefused, PutsNoPacket, MakesFlight, named_node, named_flight, refusal_number, destination, with_flight, without_flight, with_made, with_input, most_flights, unit, slots, limit, GoesOn}
+use Rattle.net_check.specs.Termini.{TerminusState, WaitingMessage, Answers}
+use Rattle.net_check.specs.States.{NetworkState, Flight, destination, with_flight, without_flight, with_made, with_input, with_terminus, with_packet, with_packets, with_received, unit, slots, limit}
+use Rattle.net_check.specs.Events.{EventValue, Put, Move, Lose, Expire, AnswerAt, Refusal, N01, N02, N03, N04, N05, N06, OutcomeValue, PutIn, Moved, Entered, Stopped, Lost, Expired, Answered, Silent, Refused, IsRefused, IsFirstRefusal, named_node, named_flight, asked_node, bytes_put, numbers_needed, refusal_number, most_flights}
+use Rattle.net_check.specs.Networks.{IsDecided, Moves, IsAnswered, answer_key, Happens, Step, GoesOn}
+use Rattle.net_check.proofs.Answering.{SomeAnswer, some_answering}
 use Rattle.net_check.proofs.Ends.{is_or_not, one_or_none}
 
 -- a fact holds, or doesn't
 abbrev OrNot : Type 0 → Type 0
 OrNot P = P ⊎ ¬ P
 
--- no refusal has a number below the first that applies
-below_first : (P : Refusal → Type 0) (other : Refusal) → refusal_number other < 1 → ¬ P other
-below_first P N01 lt = absurd (omega arith)
-below_first P N02 lt = absurd (omega arith)
-below_first P N03 lt = absurd (omega arith)
-below_first P N06 lt = absurd (omega arith)
+-- the refusals are known by their numbers
+abbrev numbered : ℕ → Refusal
+numbered zero = N01
+numbered (suc zero) = N01
+numbered (suc (suc zero)) = N02
+numbered (suc (suc (suc zero))) = N03
+numbered (suc (suc (suc (suc zero)))) = N04
+numbered (suc (suc (suc (suc (suc zero))))) = N05
+numbered (suc (suc (suc (suc (suc (suc n)))))) = N06
 
-below_second : (P : Refusal → Type 0) → ¬ P N01 → (other : Refusal) → refusal_number other < 2 → ¬ P other
-below_second P a N01 lt = a
-below_second P a N02 lt = absurd (omega arith)
-below_second P a N03 lt = absurd (omega arith)
-below_second P a N06 lt = absurd (omega arith)
+numbered_is : (why : Refusal) → numbered (refusal_number why) ≡ why
+numbered_is N01 = refl
+numbered_is N02 = refl
+numbered_is N03 = refl
+numbered_is N04 = refl
+numbered_is N05 = refl
+numbered_is N06 = refl
 
-below_third : (P : Refusal → Type 0) → ¬ P N01 → ¬ P N02 → (other : Refusal) → refusal_number other < 3 → ¬ P other
-below_third P a b N01 lt = a
-below_third P a b N02 lt = b
-below_third P a b N03 lt = absurd (omega arith)
-below_third P a b N06 lt = absurd (omega arith)
+number_range : (why : Refusal) → (1 ≤ refusal_number why) × (refusal_number why ≤ 6)
+number_range N01 = (omega arith, omega arith)
+number_range N02 = (omega arith, omega arith)
+number_range N03 = (omega arith, omega arith)
+number_range N04 = (omega arith, omega arith)
+number_range N05 = (omega arith, omega arith)
+number_range N06 = (omega arith, omega arith)
 
-below_last : (P : Refusal → Type 0) → ¬ P N01 → ¬ P N02 → ¬ P N03 → (other : Refusal) → refusal_number other < 6 → ¬ P other
-below_last P a b c N01 lt = a
-below_last P a b c N02 lt = b
-below_last P a b c N03 lt = c
-below_last P a b c N06 lt = absurd (omega arith)
+abbrev NoneBelow : (Refusal → Type 0) → ℕ → Type 0
+NoneBelow P n = (other : Refusal) → refusal_number other < n → ¬ P other
 
-none_of : (P : Refusal → Type 0) → ¬ P N01 → ¬ P N02 → ¬ P N03 → ¬ P N06 → (why : Refusal) → ¬ P why
-none_of P a b c d N01 = a
-none_of P a b c d N02 = b
-none_of P a b c d N03 = c
-none_of P a b c d N06 = d
+one_more_below : (P : Refusal → Type 0) (why : Refusal) → NoneBelow P (refusal_number why) → ¬ P why → NoneBelow P (refusal_number why + 1)
+one_more_below P why below not other lt = elim (cases_lt (refusal_number other) (refusal_number why)) [
+  | inl earlier ↦ below other earlier
+  | inr from ↦
+      let N : Refusal → Type 0 = λ r. ¬ P r in
+      let number : refusal_number why ≡ refusal_number other = omega arith in
+      subst N (sym (numbered_is why) ∙ ap numbered number ∙ numbered_is other) not
+]
 
 -- where each refusal applies or not, one is the least that applies, or none applies
-least_or_none : (P : Refusal → Type 0) → ((why : Refusal) → OrNot (P why))
-    → ((why : Refusal) × P why × ((other : Refusal) → refusal_number other < refusal_number why → ¬ P other)) ⊎ ((why : Refusal) → ¬ P why)
-least_or_none P test = elim (test N01) [
-  | inl is ↦ inl (N01, is, below_first P)
-  | inr a ↦ elim (test N02) [
-    | inl is ↦ inl (N02, is, below_second P a)
-    | inr b ↦ elim (test N03) [
-      | inl is ↦ inl (N03, is, below_third P a b)
-      | inr c ↦ elim (test N06) [ inl is ↦ inl (N06, is, below_last P a b c) | inr d ↦ inr (none_of P a b c d) ]
-    ]
-  ]
-]
+least_or_none : (P : Refusal → Type 0) → ((why : Refusal) → OrNot (P why)) → ((why : Refusal) × P why × NoneBelow P (refusal_number why)) ⊎ ((why : Refusal) → ¬ P why)
+least_or_none P test =
+    test_at N01 (λ other lt. let h = number_range other in absurd (omega arith))
+    (λ a. test_at N02 a
+    (λ b. test_at N03 b
+    (λ c. test_at N04 c
+    (λ d. test_at N05 d
+    (λ e. test_at N06 e
+    (λ f. inr (λ why. let h = number_range why in f why (omega arith))))))))
+  where
+    test_at : (why : Refusal) → NoneBelow P (refusal_number why)
+        → (NoneBelow P (refusal_number why + 1) → ((other : Refusal) × P other × NoneBelow P (refusal_number other)) ⊎ ((other : Refusal) → ¬ P other))
+        → ((other : Refusal) × P other × NoneBelow P (refusal_number other)) ⊎ ((other : Refusal) → ¬ P other)
+    test_at why below rest = elim (test why) [ inl is ↦ inl (why, is, below) | inr not ↦ rest (one_more_below P why below not) ]
 
 both_or_not : (P Q : Type 0) → OrNot P → OrNot Q → OrNot (P × Q)
 both_or_not P Q (inl p) (inl q) = inl (p, q)
@@ -84,24 +101,24 @@ flight_or_none : (o : Option Flight) → OrNot (o ≡ None)
 flight_or_none None = inl refl
 flight_or_none (Some f) = inr (λ e. cc)
 
-puts_or_not : (event : EventValue) → OrNot (PutsNoPacket event)
-puts_or_not (Put node bytes) = elim (spelled_or_not unit bytes) [ inl (p, is) ↦ inr (λ none. none p is) | inr none ↦ inl none ]
-puts_or_not (Move number keep) = inr (λ h. h)
-puts_or_not (Lose number) = inr (λ h. h)
-puts_or_not (Expire node key) = inr (λ h. h)
+no_packet_or_not : (bytes : List ℕ) → OrNot ((p : Frame) → ¬ Spelled unit p bytes)
+no_packet_or_not bytes = elim (spelled_or_not unit bytes) [ inl (p, is) ↦ inr (λ none. none p is) | inr none ↦ inl none ]
 
-makes_or_not : (event : EventValue) → OrNot (MakesFlight event)
-makes_or_not (Put node bytes) = inl tt
-makes_or_not (Move number true) = inl refl
-makes_or_not (Move number false) = inr (λ e. cc)
-makes_or_not (Lose number) = inr (λ h. h)
-makes_or_not (Expire node key) = inr (λ h. h)
+no_terminus_or_not : (o : Option TerminusState) → OrNot (o ≡ None)
+no_terminus_or_not None = inl refl
+no_terminus_or_not (Some t) = inr (λ e. cc)
+
+nothing_or_not : (messages : List WaitingMessage) → OrNot (messages ≡ [])
+nothing_or_not [] = inl refl
+nothing_or_not (m ∷ ms) = inr (λ e. cc)
 
 refused_or_not : (plan : Plan) (w : NetworkState) (event : EventValue) (why : Refusal) → OrNot (IsRefused plan w event why)
 refused_or_not plan w event N01 = some_and_or_not (named_node event) _ (λ node. at_most_or_not (length plan.nodes.items) node)
-refused_or_not plan w event N02 = puts_or_not event
+refused_or_not plan w event N02 = some_and_or_not (bytes_put event) _ no_packet_or_not
 refused_or_not plan w event N03 = some_and_or_not (named_flight event) _ (λ number. flight_or_none (w.flight number))
-refused_or_not plan w event N06 = both_or_not _ _ (makes_or_not event) (at_most_or_not most_flights w.made)
+refused_or_not plan w event N04 = some_and_or_not (asked_node event) _ (λ node. no_terminus_or_not (w.terminus node))
+refused_or_not plan w event N05 = some_and_or_not (asked_node event) _ (λ node. some_and_or_not (w.terminus node) _ (λ t. nothing_or_not t.waiting))
+refused_or_not plan w event N06 = elim (cases_lt (most_flights - w.made) (numbers_needed event)) [ inl few ↦ inl few | inr enough ↦ inr (λ few. omega arith) ]
 
 holds_or_not : (plan : Plan) (n e : ℕ) → OrNot (Holds plan n e)
 holds_or_not plan n e = is_or_not (eid_of plan n) e
@@ -159,7 +176,7 @@ some_move plan w number f = by (some_decision plan f)
         let heard = some_answer slots limit (w.history f.node) f.packet in
         record {
           outcome = Entered number f.node (key_of f.packet) heard.0;
-          new = with_input w f.node (Arrived f.packet);
+          new = with_received (with_input w f.node (Arrived f.packet)) f.node (key_of f.packet) heard.0;
           moves = (Here, holds, (refl, refl, refl, heard.1.hears, refl));
         }
     by (Drop why, decided) = record { outcome = Stopped number why; new = w; moves = (Drop why, decided, (refl, refl, refl)) }
@@ -180,7 +197,55 @@ happens_so plan w event (Refused why) new may happens = absurd (no_refusal event
     no_refusal (Move number true) (f, stands, moves) = moves.2
     no_refusal (Lose number) h = h
     no_refusal (Expire node key) h = h
+    no_refusal (AnswerAt node) (t, oldest, rest, None, tid, stands, waits, answers, done) = done
+    no_refusal (AnswerAt node) (t, oldest, rest, Some answer, tid, stands, waits, answers, done) = done
 happens_so plan w event outcome new may happens = (outcome, new, (may, happens))
+
+-- a node of the plan holds an EID
+holds_some : (plan : Plan) (n : ℕ) → ¬ (length plan.nodes.items ≤ n) → (e : ℕ) × Holds plan n e
+holds_some plan n within = elim (slice_get_cases plan.nodes.items n).1 [
+  | inl h ↦ (h.0.eid.value, rw h.2 refl)
+  | inr h ↦ absurd (within (omega (arith, h.0)))
+]
+
+-- the packets of an answer
+some_packets : (answer : List ℕ) (destination : ℕ) (key : KeyValue) → (ps : List Frame) × ArePacketsOf unit answer destination key 0 ps
+some_packets answer destination key =
+    let f : Frame = record {
+      reserved = 0;
+      destination = destination;
+      source = key.source;
+      som = true;
+      eom = false;
+      number = 0;
+      owner = key.owner;
+      tag = key.tag;
+      payload = answer;
+    } in
+    (cut unit (length answer) f, all_packets unit f (omega arith) (omega arith) refl refl)
+
+-- the oldest message that waits at a terminus is answered, or gets no answer
+replies : (plan : Plan) (w : NetworkState) (node : ℕ) (t : TerminusState) (oldest : WaitingMessage) (rest : List WaitingMessage) → w.terminus node ≡ Some t
+    → t.waiting ≡ oldest ∷ rest → ((why : Refusal) → ¬ IsRefused plan w (AnswerAt node) why) → GoesOn plan w (AnswerAt node)
+replies plan w node t oldest rest is waits may = by (some_answering t.tid t.records oldest.bytes)
+  where
+    by : SomeAnswer t.tid t.records oldest.bytes → GoesOn plan w (AnswerAt node)
+    by s = told s.answer s.answers
+      where
+        told : (answer : Option (List ℕ)) → Answers t.tid t.records oldest.bytes answer s.tid_after → GoesOn plan w (AnswerAt node)
+        told None answers = (
+          Silent node,
+          with_terminus w node (Some (record t { tid = s.tid_after; waiting = rest })),
+          (may, (t, oldest, rest, None, s.tid_after, is, waits, answers, (refl, refl))),
+        )
+        told (Some answer) answers =
+            let v : NetworkState = with_terminus w node (Some (record t { tid = s.tid_after; waiting = rest })) in
+            let eid = holds_some plan node (may N01) in
+            let packets = some_packets answer oldest.key.source (answer_key eid.0 oldest.key) in (
+              Answered node (v.made + 1) (v.made + length packets.0),
+              with_packets v node packets.0,
+              (may, (t, oldest, rest, Some answer, s.tid_after, is, waits, answers, (eid.0, packets.0, eid.1, packets.1, refl, refl, refl, refl))),
+            )
 
 -- some step is there
 pub some_step : (plan : Plan) (w : NetworkState) (event : EventValue) → GoesOn plan w event
@@ -194,7 +259,7 @@ some_step plan w event = elim (least_or_none (IsRefused plan w event) (refused_o
       | inr none ↦ absurd (may N02 none)
       | inl (p, is) ↦ (
         PutIn (w.made + 1) node,
-        with_made (with_flight w (w.made + 1) (record { packet = p; origin = node; node = node; hops = 0 })) (w.made + 1),
+        with_packet w node p,
         (may, (p, is, refl, refl, refl)),
       )
     ]
@@ -216,3 +281,12 @@ some_step plan w event = elim (least_or_none (IsRefused plan w event) (refused_o
     happens (Expire node key) may =
         let opened = open_or_not slots limit (w.history node) key in
         (Expired node opened.0, with_input w node (TimeUp key), (may, (refl, opened.1, refl)))
+    happens (AnswerAt node) may = there (w.terminus node) refl
+      where
+        there : (o : Option TerminusState) → w.terminus node ≡ o → GoesOn plan w (AnswerAt node)
+        there None is = absurd (may N04 is)
+        there (Some t) is = first t.waiting refl
+          where
+            first : (messages : List WaitingMessage) → t.waiting ≡ messages → GoesOn plan w (AnswerAt node)
+            first [] none = absurd (may N05 (rw is none))
+            first (oldest ∷ rest) waits = replies plan w node t oldest rest is waits may

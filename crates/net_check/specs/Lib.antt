@@ -12,6 +12,10 @@ pub mod Errors
 -- the network
 pub mod Moves
 pub mod Decisions
+pub mod Termini
+pub mod States
+pub mod Events
 pub mod Networks
 pub mod Runs
 pub mod Promises
+pub mod Headline

@@ -2,7 +2,8 @@
 ghost use Rattle.std.specs.Prelude.{◌≡◌, IfOk, OnOk, IfErr};
 ghost use Rattle.net_check.specs.Rules.{Accepts};
 ghost use Rattle.net_check.specs.Errors.{NamesFirstFault};
-ghost use Rattle.net_check.specs.Promises.{EndsWithinRank, KeepsPackets};
+ghost use Rattle.net_check.specs.Promises.{EndsWithinRank};
+ghost use Rattle.net_check.specs.Headline.{KeepsPackets};
 
 use crate::check_error::CheckError;
 use crate::first_fault::first_of_rule;

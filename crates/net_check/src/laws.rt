@@ -1,6 +1,8 @@
 //! Laws of the network of any plan. The functions do nothing: their contracts are the laws.
 ghost use Rattle.net_plan.specs.declared.nodes.Plan.{Plan};
-ghost use Rattle.net_check.specs.Networks.{NetworkState, EventValue, GoesOn};
+ghost use Rattle.net_check.specs.States.{NetworkState};
+ghost use Rattle.net_check.specs.Events.{EventValue};
+ghost use Rattle.net_check.specs.Networks.{GoesOn};
 
 /// Whatever the event, the network has an outcome and a next state for it.
 #[tactic(auto, using(crate::proofs::Steps::some_step))]
