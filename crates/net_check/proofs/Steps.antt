@@ -10,7 +10,7 @@ use Rattle.mctp_transport.specs.PacketsLeft.{cut}
 use Rattle.mctp_transport.proofs.PacketLists.{all_packets}
 use Rattle.mctp_transport.proofs.Heard.{some_answer, open_or_not}
 use Rattle.mctp_transport.proofs.Spellings.{spelled_or_not}
-use Rattle.net_plan.specs.declared.nodes.Plan.{Plan}
+use Rattle.net_plan.specs.declared.plan.Plan.{Plan}
 use Rattle.net_plan.specs.declared.nodes.Node.{Node}
 use Rattle.net_plan.specs.declared.nodes.Kind.TheVariants.{Bridge, Endpoint}
 use Rattle.net_check.specs.Routing.{Holds, HasRow, IsBridge, node_at, eid_of, rows_of}

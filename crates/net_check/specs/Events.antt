@@ -2,7 +2,7 @@
 use Rattle.std.specs.Prelude.{ℕ, ◌≡◌, ◌≢◌, ◌-◌, ◌<◌, ◌≤◌, List, [], length, Bool, true, false, Option, Some, None, ⊤, IsSomeAnd}
 use Rattle.mctp_transport.specs.Frames.{Frame, KeyValue, Spelled}
 use Rattle.mctp_transport.specs.Hearing.{Answer}
-use Rattle.net_plan.specs.declared.nodes.Plan.{Plan}
+use Rattle.net_plan.specs.declared.plan.Plan.{Plan}
 use Rattle.net_check.specs.Decisions.{Obstacle}
 use Rattle.net_check.specs.States.{NetworkState, unit}
 

@@ -4,7 +4,7 @@ use Rattle.mctp_transport.specs.Frames.{Frame, KeyValue, key_of, Spelled}
 use Rattle.mctp_transport.specs.Cutting.{ArePacketsOf}
 use Rattle.mctp_transport.specs.Histories.{Arrived, TimeUp, IsOpen}
 use Rattle.mctp_transport.specs.Hearing.{Hears}
-use Rattle.net_plan.specs.declared.nodes.Plan.{Plan}
+use Rattle.net_plan.specs.declared.plan.Plan.{Plan}
 use Rattle.net_check.specs.Routing.{Holds, Routes, IsBridge}
 use Rattle.net_check.specs.Decisions.{Decision, Here, Drop, Forward, Decides}
 use Rattle.net_check.specs.Termini.{TerminusState, WaitingMessage, Answers}

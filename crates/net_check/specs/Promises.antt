@@ -1,6 +1,6 @@
 -- What accepted ranks promise of following rows.
 use Rattle.std.specs.Prelude.{◌⊎◌, ℕ, ◌+◌, ◌≤◌}
-use Rattle.net_plan.specs.declared.nodes.Plan.{Plan}
+use Rattle.net_plan.specs.declared.plan.Plan.{Plan}
 use Rattle.net_plan.specs.declared.certificate.Certificate.{Certificate}
 use Rattle.net_check.specs.Routing.{Holds, HasRow, MovesTo}
 use Rattle.net_check.specs.Ranks.{rank}

@@ -1,7 +1,7 @@
 -- Runs of the network: one event after another, of any number.
 use Rattle.std.specs.Prelude.{◌≡◌, ◌⊎◌, ◌≤◌, ℕ, List, [], ◌∷◌, Some}
 use Rattle.mctp_transport.specs.Frames.{Frame, Spelled}
-use Rattle.net_plan.specs.declared.nodes.Plan.{Plan}
+use Rattle.net_plan.specs.declared.plan.Plan.{Plan}
 use Rattle.net_plan.specs.declared.certificate.Certificate.{Certificate}
 use Rattle.net_check.specs.States.{NetworkState, Flight, at_start, unit}
 use Rattle.net_check.specs.Events.{EventValue, OutcomeValue, Put, PutIn, AnswerAt, Answered}

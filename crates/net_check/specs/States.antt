@@ -3,7 +3,7 @@ use Rattle.std.specs.Prelude.{ℕ, ◌+◌, List, [], ◌∷◌, ◌++◌, Optio
 use Rattle.mctp_transport.specs.Frames.{Frame, KeyValue}
 use Rattle.mctp_transport.specs.Histories.{Input, History, after}
 use Rattle.mctp_transport.specs.Hearing.{Answer, Whole, Held, Dropped}
-use Rattle.net_plan.specs.declared.nodes.Plan.{Plan}
+use Rattle.net_plan.specs.declared.plan.Plan.{Plan}
 use Rattle.net_plan.specs.declared.certificate.Certificate.{Certificate}
 use Rattle.net_check.specs.Termini.{TerminusState, WaitingMessage, terminus_at_start, with_waiting}
 

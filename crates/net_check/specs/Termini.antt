@@ -1,7 +1,7 @@
 -- A terminus of the network at one moment: its repository, and the messages that wait for an answer.
 use Rattle.std.specs.Prelude.{◌≡◌, ℕ, List, [], ◌∷◌, ◌++◌, Option, None}
 use Rattle.mctp_transport.specs.Frames.{KeyValue}
-use Rattle.net_plan.specs.declared.nodes.Plan.{Plan}
+use Rattle.net_plan.specs.declared.plan.Plan.{Plan}
 use Rattle.net_plan.specs.declared.certificate.Certificate.{Certificate}
 
 pub record Entry : Type 0 where
