@@ -1,0 +1,9 @@
+//! Record repositories (DSP0248, GetPDR): the check byte of a record, termini that answer requests for their records
+//! part by part, and the walk that reads all records of a terminus.
+#![tactic(auto)]
+
+mod crc;
+mod laws;
+
+pub use crc::crc8;
+pub use laws::one_check_byte;
