@@ -1,1 +1,2 @@
 pub mod Crcs
+pub mod Collecting

@@ -1,1 +1,5 @@
+pub mod Order
 pub mod Crc
+pub mod Records
+pub mod Parts
+pub mod Walks
