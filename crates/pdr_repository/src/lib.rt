@@ -6,4 +6,4 @@ mod crc;
 mod laws;
 
 pub use crc::crc8;
-pub use laws::{collects_once, one_check_byte};
+pub use laws::{collects_once, one_check_byte, walks_collect_all};
