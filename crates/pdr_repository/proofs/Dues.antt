@@ -1,12 +1,12 @@
 -- The request that is due within a record, and what its answer is.
-use Rattle.std.proofs.Common.{◌≡◌, ◌≢◌, ℕ, suc, ◌+◌, ◌-◌, ◌*◌, ◌<◌, ◌≤◌, min, nat_eq, cond, List, [], length, take, drop, get_or, slice_get, Option, Some, None, refl, sym, ap, ◌∙◌, subst, arith, inl, inr, ◌⊎◌, zero-add}
+use Rattle.std.proofs.Common.{◌≡◌, ◌≢◌, ℕ, suc, ◌+◌, ◌-◌, ◌*◌, ◌<◌, ◌≤◌, min, nat_eq, cond, List, [], length, take, drop, get_or, slice_get, Option, Some, None, Ok, Err, refl, sym, ap, ◌∙◌, subst, arith, inl, inr, ◌⊎◌, zero-add}
 use Rattle.std.proofs.lemmas.Option.{same_Some, slice_get_cases}
 use Rattle.std.proofs.lemmas.Bool.{cases_lt}
 use Rattle.std.proofs.lemmas.Bool.Decides.{eqb_tells}
 use Rattle.std.proofs.lemmas.List.{get_or-take, length-take, length-drop, take_all}
 use Rattle.std.proofs.Common.{add-one}
 use Rattle.pdr_repository.specs.Records.{Entry, IsLawful, HasHeader, Means, change_in, handle_at}
-use Rattle.pdr_repository.specs.Parts.{PartRequest, Part, PartAnswer, Refused, Given, AnswersPart, AnswersFrom, IsPartOf, HasChange, IsWithin, offset_of}
+use Rattle.pdr_repository.specs.Parts.{PartRequest, Part, PartAnswer, AnswersPart, AnswersFrom, IsPartOf, HasChange, IsWithin, offset_of}
 use Rattle.pdr_repository.specs.Walks.{first_part, follows}
 
 -- a handle means one record at most
@@ -56,7 +56,7 @@ at_offset e offset r (inr (o, op, t, c)) = rw op t
 -- the part that answers the request
 pub record DueAnswer (next : ℕ) (e : Entry) (r : PartRequest) (a : PartAnswer) : Type 0 where
   pub part : Part
-  pub is : a ≡ Given part
+  pub is : a ≡ Ok part
   pub of_record : IsPartOf next e r part
 
 from_record : (next : ℕ) (e : Entry) (r : PartRequest) (a : PartAnswer) → HasChange r e → IsWithin r e → AnswersFrom next e r a → DueAnswer next e r a
@@ -78,13 +78,13 @@ due_answer records place e count offset r a lawful least here within due (inr (_
     (subst Q (means_entry records lawful r.handle q place f e other means) (subst P (means_place records lawful r.handle q place f e other means) from))
 
 -- what follows by the flag
-follows_start : (r : PartRequest) (p : Part) → p.flag ≡ 0 → follows r (Given p) ≡ Some (record { handle = r.handle; transfer = p.transfer; operation = 0; count = r.count; change = change_in p.bytes })
+follows_start : (r : PartRequest) (p : Part) → p.flag ≡ 0 → follows r (Ok p) ≡ Some (record { handle = r.handle; transfer = p.transfer; operation = 0; count = r.count; change = change_in p.bytes })
 follows_start r p is = rw is refl
 
-follows_middle : (r : PartRequest) (p : Part) → p.flag ≡ 1 → follows r (Given p) ≡ Some (record { handle = r.handle; transfer = p.transfer; operation = 0; count = r.count; change = r.change })
+follows_middle : (r : PartRequest) (p : Part) → p.flag ≡ 1 → follows r (Ok p) ≡ Some (record { handle = r.handle; transfer = p.transfer; operation = 0; count = r.count; change = r.change })
 follows_middle r p is = rw is refl
 
-follows_end : (r : PartRequest) (p : Part) → (p.flag ≡ 4) ⊎ (p.flag ≡ 5) → follows r (Given p) ≡ cond (nat_eq p.next 0) None (Some (first_part r.count p.next))
+follows_end : (r : PartRequest) (p : Part) → (p.flag ≡ 4) ⊎ (p.flag ≡ 5) → follows r (Ok p) ≡ cond (nat_eq p.next 0) None (Some (first_part r.count p.next))
 follows_end r p (inl is) = rw is refl
 follows_end r p (inr is) = rw is refl
 
@@ -95,7 +95,7 @@ FlagBy offset r p first next = ((offset ≡ 0) × (r.operation ≡ 1) × (p.flag
 -- the record goes on
 pub record More (place : ℕ) (e : Entry) (count offset : ℕ) (r : PartRequest) (p : Part) : Type 0 where
   pub after : PartRequest
-  pub asked : follows r (Given p) ≡ Some after
+  pub asked : follows r (Ok p) ≡ Some after
   pub due : IsDue place e count (offset + count) after
   pub flag : FlagBy offset r p 0 1
   pub transfer : 0 < p.transfer
@@ -104,7 +104,7 @@ pub record More (place : ℕ) (e : Entry) (count offset : ℕ) (r : PartRequest)
 
 -- the record is complete
 pub record Complete (e : Entry) (count offset : ℕ) (r : PartRequest) (p : Part) : Type 0 where
-  pub asked : follows r (Given p) ≡ cond (nat_eq p.next 0) None (Some (first_part count p.next))
+  pub asked : follows r (Ok p) ≡ cond (nat_eq p.next 0) None (Some (first_part count p.next))
   pub flag : FlagBy offset r p 5 4
   pub some : 0 < length p.bytes
   pub most : length p.bytes ≤ count

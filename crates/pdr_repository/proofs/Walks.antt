@@ -1,5 +1,5 @@
 -- Where a walk stands, and what every walk over a lawful list has collected.
-use Rattle.std.proofs.Common.{◌≡◌, ◌≢◌, ℕ, zero, suc, ◌+◌, ◌-◌, ◌*◌, ◌<◌, ◌≤◌, min, nat_eq, cond, List, [], ◌∷◌, ◌++◌, length, map, take, drop, get_or, slice_get, Option, Some, None, refl, sym, ap, ◌∙◌, subst, arith, inl, inr, ◌⊎◌, add-one, zero-add}
+use Rattle.std.proofs.Common.{◌≡◌, ◌≢◌, ℕ, zero, suc, ◌+◌, ◌-◌, ◌*◌, ◌<◌, ◌≤◌, min, nat_eq, cond, List, [], ◌∷◌, ◌++◌, length, map, take, drop, get_or, slice_get, Option, Some, None, Ok, Err, refl, sym, ap, ◌∙◌, subst, arith, inl, inr, ◌⊎◌, add-one, zero-add}
 use Rattle.std.specs.Prelude.{All, AllPairs, ◌↔◌, sum_by}
 use Rattle.std.specs.List.{flat_map, last_or}
 use Rattle.std.specs.Int.{div_ceil}
@@ -12,7 +12,7 @@ use Rattle.std.proofs.lemmas.Grind.{div_ceil_times}
 use Rattle.std.proofs.Math.Seq.{take-add}
 use Rattle.std.proofs.lemmas.Nat.{mul-le}
 use Rattle.pdr_repository.specs.Records.{Entry, IsLawful, Means, bytes_by_place, handle_in, handle_at}
-use Rattle.pdr_repository.specs.Parts.{PartRequest, Part, PartAnswer, Refused, Given, AnswersPart}
+use Rattle.pdr_repository.specs.Parts.{PartRequest, Part, PartAnswer, AnswersPart}
 use Rattle.pdr_repository.specs.Walks.{Exchange, first_part, follows, due_by, due_after, Walk, IsFinished, data_of, flag_of, HasFlag, Collects, exchanges, IsBeginning, NamesTheNext, WalkPromises, EveryWalkCollects}
 use Rattle.pdr_repository.proofs.Collecting.{Collected, start_more, middle_more, whole_more, end_more}
 use Rattle.pdr_repository.proofs.Dues.{IsDue, DueAnswer, More, Complete, due_answer, due_means, goes_on, completes, next_is, asks_next, first_due}
@@ -102,15 +102,15 @@ parts_are n count k least low high =
       ]
     ]
 
-has_flag : (flag : ℕ) (x : Exchange) (p : Part) → x.answer ≡ Given p → p.flag ≡ flag → HasFlag flag x
+has_flag : (flag : ℕ) (x : Exchange) (p : Part) → x.answer ≡ Ok p → p.flag ≡ flag → HasFlag flag x
 has_flag flag x p is flagged = ap flag_of is ∙ ap Some flagged
 
-data_is : (x : Exchange) (p : Part) → x.answer ≡ Given p → data_of x.answer ≡ p.bytes
+data_is : (x : Exchange) (p : Part) → x.answer ≡ Ok p → data_of x.answer ≡ p.bytes
 data_is x p is = ap data_of is
 
 -- one exchange, where the record goes on
 on_more : (records : List Entry) (count : ℕ) (xs : List Exchange) (w : Within records count xs) (x : Exchange) (p : Part) → 8 ≤ count → w.offset + count < length w.e.bytes
-    → x.request ≡ w.r → x.answer ≡ Given p → More w.place w.e count w.offset w.r p → Within records count (xs ++ x ∷ [])
+    → x.request ≡ w.r → x.answer ≡ Ok p → More w.place w.e count w.offset w.r p → Within records count (xs ++ x ∷ [])
 on_more records count xs w x p least long request is more =
     let asked : due_after count (xs ++ x ∷ []) ≡ Some more.after = due_push count xs x ∙ ap (λ r. follows r x.answer) request ∙ ap (follows w.r) is ∙ more.asked in
     let counted : length (xs ++ x ∷ []) ≡ exchanges count (take w.place records) + suc w.k = length_push xs x ∙ omega (arith, w.counted) in
@@ -148,7 +148,7 @@ on_more records count xs w x p least long request is more =
 
 -- one exchange, where the record is complete
 on_complete : (records : List Entry) (count : ℕ) (xs : List Exchange) (w : Within records count xs) (x : Exchange) (p : Part)
-    → x.answer ≡ Given p → Complete w.e count w.offset w.r p → Collected (xs ++ x ∷ []) (bytes_by_place (take (suc w.place) records)) [] []
+    → x.answer ≡ Ok p → Complete w.e count w.offset w.r p → Collected (xs ++ x ∷ []) (bytes_by_place (take (suc w.place) records)) [] []
 on_complete records count xs w x p is complete =
     let P : List (List ℕ) → Type 0 = λ rs. Collected (xs ++ x ∷ []) rs [] [] in
     let before = bytes_by_place (take w.place records) in
@@ -172,7 +172,7 @@ complete_counted records count xs w x least short =
 
 -- and another record follows
 on_next : (records : List Entry) (count : ℕ) (xs : List Exchange) (w : Within records count xs) (x : Exchange) (p : Part) (f : Entry) → IsLawful records → 8 ≤ count → length w.e.bytes ≤ w.offset + count
-    → x.request ≡ w.r → x.answer ≡ Given p → Complete w.e count w.offset w.r p → slice_get records (suc w.place) ≡ Some f → p.next ≡ f.handle → Within records count (xs ++ x ∷ [])
+    → x.request ≡ w.r → x.answer ≡ Ok p → Complete w.e count w.offset w.r p → slice_get records (suc w.place) ≡ Some f → p.next ≡ f.handle → Within records count (xs ++ x ∷ [])
 on_next records count xs w x p f lawful least short request is complete there named =
     let some : f.handle ≢ 0 = lawful.handles (suc w.place) f there in
     let header = lawful.headers (suc w.place) f there in
@@ -196,7 +196,7 @@ on_next records count xs w x p f lawful least short request is complete there na
 
 -- or that was the last
 on_last : (records : List Entry) (count : ℕ) (xs : List Exchange) (w : Within records count xs) (x : Exchange) (p : Part) → 8 ≤ count → length w.e.bytes ≤ w.offset + count
-    → x.request ≡ w.r → x.answer ≡ Given p → Complete w.e count w.offset w.r p → length records ≤ suc w.place → p.next ≡ 0 → Past records count (xs ++ x ∷ [])
+    → x.request ≡ w.r → x.answer ≡ Ok p → Complete w.e count w.offset w.r p → length records ≤ suc w.place → p.next ≡ 0 → Past records count (xs ++ x ∷ [])
 on_last records count xs w x p least short request is complete past none =
     let all : take (suc w.place) records ≡ records = take_all (suc w.place) records past in
     let now = on_complete records count xs w x p is complete in
@@ -210,7 +210,7 @@ on_last records count xs w x p least short request is complete past none =
 -- a walk goes on by one exchange
 pub record Step (records : List Entry) (count : ℕ) (xs : List Exchange) (w : Within records count xs) (x : Exchange) : Type 0 where
   pub part : Part
-  pub is : x.answer ≡ Given part
+  pub is : x.answer ≡ Ok part
   pub kind : More w.place w.e count w.offset w.r part ⊎ Complete w.e count w.offset w.r part
   pub position : Position records count (xs ++ x ∷ [])
   pub names : NamesTheNext records x

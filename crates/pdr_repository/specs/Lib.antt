@@ -3,3 +3,4 @@ pub mod Crc
 pub mod Records
 pub mod Parts
 pub mod Walks
+pub mod Faults

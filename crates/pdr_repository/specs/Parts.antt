@@ -1,5 +1,5 @@
 -- Reading a record in parts (DSP0248, GetPDR): requests, and what a terminus answers.
-use Rattle.std.specs.Prelude.{◌≡◌, ◌≢◌, ℕ, ◌+◌, ◌<◌, ◌≤◌, min, List, length, take, drop, Option, MatchOption, ◌==◌, if◌then◌else◌}
+use Rattle.std.specs.Prelude.{◌≡◌, ◌≢◌, ℕ, ◌+◌, ◌<◌, ◌≤◌, min, List, length, take, drop, Option, Result, Ok, Err, MatchOption, ◌==◌, if◌then◌else◌}
 use Rattle.pdr_repository.specs.Crc.{IsCrc}
 use Rattle.pdr_repository.specs.Order.{First}
 use Rattle.pdr_repository.specs.Records.{Entry, IsMeant, Means, change_in, handle_at}
@@ -20,10 +20,9 @@ pub record Part : Type 0 where
   pub bytes : List ℕ
   pub crc : Option ℕ
 
--- an answer is a completion code other than 0, or a part
-pub data PartAnswer : Type 0 where
-  Refused : ℕ → PartAnswer
-  Given : Part → PartAnswer
+-- an answer is a part, or a completion code other than 0
+abbrev pub PartAnswer : Type 0
+PartAnswer = Result Part ℕ
 
 -- where the part that is asked for begins
 abbrev pub offset_of : PartRequest → ℕ
@@ -49,14 +48,14 @@ pub record IsPartOf (next : ℕ) (e : Entry) (r : PartRequest) (p : Part) : Type
 -- the answer about the record that is meant: a next part has to be asked for with the record's change number, and begins within the record
 abbrev pub AnswersFrom : ℕ → Entry → PartRequest → PartAnswer → Type 0
 AnswersFrom next e r a =
-    First (¬ HasChange r e) (a ≡ Refused 0x83)
-    (First (¬ IsWithin r e) (a ≡ Refused 0x80)
-    ((p : Part) × (a ≡ Given p) × IsPartOf next e r p))
+    First (¬ HasChange r e) (a ≡ Err 0x83)
+    (First (¬ IsWithin r e) (a ≡ Err 0x80)
+    ((p : Part) × (a ≡ Ok p) × IsPartOf next e r p))
 
 -- what a terminus answers to a request for a part: an unknown operation, no bytes asked for, a handle that means no record, else from that record
 abbrev pub AnswersPart : List Entry → PartRequest → PartAnswer → Type 0
 AnswersPart records r a =
-    First (1 < r.operation) (a ≡ Refused 0x81)
-    (First (r.count ≡ 0) (a ≡ Refused 0x02)
-    (First (¬ IsMeant records r.handle) (a ≡ Refused 0x82)
+    First (1 < r.operation) (a ≡ Err 0x81)
+    (First (r.count ≡ 0) (a ≡ Err 0x02)
+    (First (¬ IsMeant records r.handle) (a ≡ Err 0x82)
     ((place : ℕ) × (e : Entry) × Means records r.handle place e × AnswersFrom (handle_at records (place + 1)) e r a)))

@@ -1,9 +1,9 @@
 -- A walk through the records of a terminus: each record read part by part, then the one that its last answer names.
-use Rattle.std.specs.Prelude.{◌≡◌, ◌≢◌, ◌⊎◌, ◌↔◌, ℕ, ◌+◌, ◌≤◌, List, [], ◌∷◌, ◌++◌, length, map, take, slice_get, Option, Some, None, ◌==◌, if◌then◌else◌, All, AllPairs, sum_by}
+use Rattle.std.specs.Prelude.{◌≡◌, ◌≢◌, ◌⊎◌, ◌↔◌, ℕ, ◌+◌, ◌≤◌, List, [], ◌∷◌, ◌++◌, length, map, take, slice_get, Option, Some, None, Ok, Err, ◌==◌, if◌then◌else◌, All, AllPairs, sum_by}
 use Rattle.std.specs.List.{flat_map, last_or}
 use Rattle.std.specs.Int.{div_ceil}
 use Rattle.pdr_repository.specs.Records.{Entry, IsLawful, Means, bytes_by_place, change_in, handle_in, handle_at}
-use Rattle.pdr_repository.specs.Parts.{PartRequest, Part, PartAnswer, Refused, Given, AnswersPart}
+use Rattle.pdr_repository.specs.Parts.{PartRequest, Part, PartAnswer, AnswersPart}
 
 -- a request and its answer
 pub record Exchange : Type 0 where
@@ -17,8 +17,8 @@ first_part count handle = record { handle = handle; transfer = 0; operation = 1;
 -- The request that follows an exchange: after a start or a middle the record's next part, with the change number of its first part;
 -- else the first part of the next record, if there is one.
 abbrev pub follows : PartRequest → PartAnswer → Option PartRequest
-follows r (Refused code) = None
-follows r (Given p) =
+follows r (Err code) = None
+follows r (Ok p) =
     if p.flag == 0 then Some (record { handle = r.handle; transfer = p.transfer; operation = 0; count = r.count; change = change_in p.bytes })
     else (if p.flag == 1 then Some (record { handle = r.handle; transfer = p.transfer; operation = 0; count = r.count; change = r.change })
     else (if p.next == 0 then None else Some (first_part r.count p.next)))
@@ -42,13 +42,13 @@ IsFinished count xs = due_after count xs ≡ None
 
 -- the bytes of an answer, none in a refusal
 abbrev pub data_of : PartAnswer → List ℕ
-data_of (Refused code) = []
-data_of (Given p) = p.bytes
+data_of (Err code) = []
+data_of (Ok p) = p.bytes
 
 -- the transfer flag of an answer, if it has one
 abbrev pub flag_of : PartAnswer → Option ℕ
-flag_of (Refused code) = None
-flag_of (Given p) = Some p.flag
+flag_of (Err code) = None
+flag_of (Ok p) = Some p.flag
 
 abbrev pub HasFlag : ℕ → Exchange → Type 0
 HasFlag flag x = flag_of x.answer ≡ Some flag
@@ -87,7 +87,7 @@ IsBeginning {X} xs ys = (zs : List X) × (xs ++ zs ≡ ys)
 -- the answer is a part of the record that was asked for, and the next handle is that of the following place
 abbrev pub NamesTheNext : List Entry → Exchange → Type 0
 NamesTheNext records x =
-    (place : ℕ) × (e : Entry) × (p : Part) × Means records x.request.handle place e × (x.answer ≡ Given p) × (p.next ≡ handle_at records (place + 1))
+    (place : ℕ) × (e : Entry) × (p : Part) × Means records x.request.handle place e × (x.answer ≡ Ok p) × (p.next ≡ handle_at records (place + 1))
 
 -- What is promised of a walk: it has collected a beginning of the records by place, and all of them once it is finished, which it is after exactly so many exchanges.
 pub record WalkPromises (records : List Entry) (count : ℕ) (xs : List Exchange) : Type 0 where

@@ -4,6 +4,8 @@
 
 mod crc;
 mod laws;
+mod walk_fault;
 
 pub use crc::crc8;
 pub use laws::{collects_once, one_check_byte, walks_collect_all};
+pub use walk_fault::{Step, WalkFault};
