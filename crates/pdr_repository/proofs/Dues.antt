@@ -6,7 +6,8 @@ use Rattle.std.proofs.lemmas.Bool.Decides.{eqb_tells}
 use Rattle.std.proofs.lemmas.List.{get_or-take, length-take, length-drop, take_all}
 use Rattle.std.proofs.Common.{add-one}
 use Rattle.pdr_repository.specs.Records.{Entry, IsLawful, HasHeader, Means, change_in, handle_at}
-use Rattle.pdr_repository.specs.Parts.{PartRequest, Part, PartAnswer, AnswersPart, AnswersFrom, IsPartOf, HasChange, IsWithin, offset_of}
+use Rattle.pldm_message.specs.Pdrs.{PartRequest, Part}
+use Rattle.pdr_repository.specs.Parts.{PartAnswer, AnswersPart, AnswersFrom, IsPartOf, HasChange, IsWithin, offset_of}
 use Rattle.pdr_repository.specs.Walks.{first_part, follows}
 
 -- a handle means one record at most
@@ -41,11 +42,11 @@ known : (e : Entry) (offset : ℕ) (r : PartRequest) → IsAt e offset r → r.o
 known e offset r (inl (o, op)) = omega arith
 known e offset r (inr (o, op, t, c)) = omega arith
 
-same_change : (e : Entry) (offset : ℕ) (r : PartRequest) → IsAt e offset r → HasChange r e
+same_change : (e : Entry) (offset : ℕ) (r : PartRequest) → IsAt e offset r → HasChange r e.bytes
 same_change e offset r (inl (o, op)) = λ h. absurd (omega arith)
 same_change e offset r (inr (o, op, t, c)) = λ h. c
 
-is_within : (e : Entry) (offset : ℕ) (r : PartRequest) → offset < length e.bytes → IsAt e offset r → IsWithin r e
+is_within : (e : Entry) (offset : ℕ) (r : PartRequest) → offset < length e.bytes → IsAt e offset r → IsWithin r e.bytes
 is_within e offset r within (inl (o, op)) = λ h. absurd (omega arith)
 is_within e offset r within (inr (o, op, t, c)) = λ h. (omega arith, omega arith)
 
@@ -57,9 +58,9 @@ at_offset e offset r (inr (o, op, t, c)) = rw op t
 pub record DueAnswer (next : ℕ) (e : Entry) (r : PartRequest) (a : PartAnswer) : Type 0 where
   pub part : Part
   pub is : a ≡ Ok part
-  pub of_record : IsPartOf next e r part
+  pub of_record : IsPartOf next e.bytes r part
 
-from_record : (next : ℕ) (e : Entry) (r : PartRequest) (a : PartAnswer) → HasChange r e → IsWithin r e → AnswersFrom next e r a → DueAnswer next e r a
+from_record : (next : ℕ) (e : Entry) (r : PartRequest) (a : PartAnswer) → HasChange r e.bytes → IsWithin r e.bytes → AnswersFrom next e.bytes r a → DueAnswer next e r a
 from_record next e r a change within (inl (other, _)) = absurd (other change)
 from_record next e r a change within (inr (_, inl (outside, _))) = absurd (outside within)
 from_record next e r a change within (inr (_, inr (_, (p, is, part)))) = record { part = p; is = is; of_record = part }
@@ -72,8 +73,8 @@ due_answer records place e count offset r a lawful least here within due (inr (_
 due_answer records place e count offset r a lawful least here within due (inr (_, inr (_, inl (unmeant, _)))) = absurd (unmeant (place, e, due_means records place e count offset r here due))
 due_answer records place e count offset r a lawful least here within due (inr (_, inr (_, inr (_, (q, f, other, from))))) =
     let means = due_means records place e count offset r here due in
-    let P : ℕ → Type 0 = λ i. AnswersFrom (handle_at records (i + 1)) f r a in
-    let Q : Entry → Type 0 = λ g. AnswersFrom (handle_at records (place + 1)) g r a in
+    let P : ℕ → Type 0 = λ i. AnswersFrom (handle_at records (i + 1)) f.bytes r a in
+    let Q : Entry → Type 0 = λ g. AnswersFrom (handle_at records (place + 1)) g.bytes r a in
     from_record (handle_at records (place + 1)) e r a (same_change e offset r due.operation) (is_within e offset r within due.operation)
     (subst Q (means_entry records lawful r.handle q place f e other means) (subst P (means_place records lawful r.handle q place f e other means) from))
 
@@ -113,10 +114,10 @@ pub record Complete (e : Entry) (count offset : ℕ) (r : PartRequest) (p : Part
 part_length : (e : Entry) (count offset : ℕ) → length (take count (drop offset e.bytes)) ≡ min count (length e.bytes - offset)
 part_length e count offset = length-take count (drop offset e.bytes) ∙ ap (min count) (length-drop offset e.bytes)
 
-part_bytes : (next : ℕ) (e : Entry) (count offset : ℕ) (r : PartRequest) (p : Part) → count ≤ 4079 → r.count ≡ count → IsAt e offset r → IsPartOf next e r p → p.bytes ≡ take count (drop offset e.bytes)
+part_bytes : (next : ℕ) (e : Entry) (count offset : ℕ) (r : PartRequest) (p : Part) → count ≤ 4079 → r.count ≡ count → IsAt e offset r → IsPartOf next e.bytes r p → p.bytes ≡ take count (drop offset e.bytes)
 part_bytes next e count offset r p most counted at part =
     let same : min r.count 4079 ≡ count = omega arith in
-    part.bytes ∙ rw (same, at_offset e offset r at) refl
+    part.taken ∙ rw (same, at_offset e offset r at) refl
 
 change_taken : (count : ℕ) (bytes : List ℕ) → 8 ≤ count → change_in (take count bytes) ≡ change_in bytes
 change_taken count bytes least =
@@ -125,7 +126,7 @@ change_taken count bytes least =
     rw (get_or-take count bytes 6 0, get_or-take count bytes 7 0) refl
 
 pub goes_on : (next place : ℕ) (e : Entry) (count offset : ℕ) (r : PartRequest) (p : Part)
-    → 8 ≤ count → count ≤ 4079 → offset + count < length e.bytes → IsDue place e count offset r → IsPartOf next e r p → More place e count offset r p
+    → 8 ≤ count → count ≤ 4079 → offset + count < length e.bytes → IsDue place e count offset r → IsPartOf next e.bytes r p → More place e count offset r p
 goes_on next place e count offset r p least most within due part =
     let bytes = part_bytes next e count offset r p most due.counted due.operation part in
     let long : length p.bytes ≡ count = ap length bytes ∙ part_length e count offset ∙ (omega arith) in
@@ -159,7 +160,7 @@ goes_on next place e count offset r p least most within due part =
     ]
 
 pub completes : (next place : ℕ) (e : Entry) (count offset : ℕ) (r : PartRequest) (p : Part)
-    → count ≤ 4079 → offset < length e.bytes → length e.bytes ≤ offset + count → IsDue place e count offset r → IsPartOf next e r p → Complete e count offset r p
+    → count ≤ 4079 → offset < length e.bytes → length e.bytes ≤ offset + count → IsDue place e count offset r → IsPartOf next e.bytes r p → Complete e count offset r p
 completes next place e count offset r p most within short due part =
     let bytes = part_bytes next e count offset r p most due.counted due.operation part in
     let long : length p.bytes ≡ length e.bytes - offset = ap length bytes ∙ part_length e count offset ∙ (omega arith) in

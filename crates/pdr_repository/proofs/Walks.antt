@@ -12,7 +12,8 @@ use Rattle.std.proofs.lemmas.Grind.{div_ceil_times}
 use Rattle.std.proofs.Math.Seq.{take-add}
 use Rattle.std.proofs.lemmas.Nat.{mul-le}
 use Rattle.pdr_repository.specs.Records.{Entry, IsLawful, Means, bytes_by_place, handle_in, handle_at}
-use Rattle.pdr_repository.specs.Parts.{PartRequest, Part, PartAnswer, AnswersPart}
+use Rattle.pldm_message.specs.Pdrs.{PartRequest, Part}
+use Rattle.pdr_repository.specs.Parts.{PartAnswer, AnswersPart}
 use Rattle.pdr_repository.specs.Walks.{Exchange, first_part, follows, due_by, due_after, Walk, IsFinished, data_of, flag_of, HasFlag, Collects, exchanges, IsBeginning, NamesTheNext, WalkPromises, EveryWalkCollects}
 use Rattle.pdr_repository.proofs.Collecting.{Collected, start_more, middle_more, whole_more, end_more}
 use Rattle.pdr_repository.proofs.Dues.{IsDue, DueAnswer, More, Complete, due_answer, due_means, goes_on, completes, next_is, asks_next, first_due}

@@ -1,5 +1,5 @@
 -- The records of a terminus, by place.
-use Rattle.std.specs.Prelude.{◌≡◌, ◌≢◌, ℕ, ◌+◌, ◌<◌, ◌≤◌, List, length, map, slice_get, slice_index, Option, Some, None}
+use Rattle.std.specs.Prelude.{◌≡◌, ◌≢◌, ℕ, ◌+◌, ◌<◌, ◌≤◌, List, length, map, slice_get, slice_index, Option, Some, None, Vec}
 use Rattle.byteorder.specs.Endian.{little_from}
 
 -- a record with its handle
@@ -31,6 +31,13 @@ pub record IsLawful (records : List Entry) : Type 0 where
   pub distinct : (i j : ℕ) (e f : Entry) → slice_get records i ≡ Some e → slice_get records j ≡ Some f → e.handle ≡ f.handle → i ≡ j
   pub handles : (i : ℕ) (e : Entry) → slice_get records i ≡ Some e → e.handle ≢ 0
   pub headers : (i : ℕ) (e : Entry) → slice_get records i ≡ Some e → HasHeader e.handle e.bytes
+
+-- the records that a list of handles and bytes holds
+abbrev pub entry_of : {Z : Type 0} → (ℕ × Vec ℕ Z) → Entry
+entry_of r = record { handle = r.0; bytes = r.1.items }
+
+abbrev pub entries : {Z : Type 0} → List (ℕ × Vec ℕ Z) → List Entry
+entries records = map entry_of records
 
 -- the bytes of the records, by place
 abbrev pub bytes_by_place : List Entry → List (List ℕ)

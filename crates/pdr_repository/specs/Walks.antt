@@ -3,7 +3,8 @@ use Rattle.std.specs.Prelude.{◌≡◌, ◌≢◌, ◌⊎◌, ◌↔◌, ℕ, �
 use Rattle.std.specs.List.{flat_map, last_or}
 use Rattle.std.specs.Int.{div_ceil}
 use Rattle.pdr_repository.specs.Records.{Entry, IsLawful, Means, bytes_by_place, change_in, handle_in, handle_at}
-use Rattle.pdr_repository.specs.Parts.{PartRequest, Part, PartAnswer, AnswersPart}
+use Rattle.pldm_message.specs.Pdrs.{PartRequest, Part}
+use Rattle.pdr_repository.specs.Parts.{PartAnswer, AnswersPart}
 
 -- a request and its answer
 pub record Exchange : Type 0 where

@@ -4,8 +4,10 @@
 
 mod crc;
 mod laws;
+mod parts;
 mod walk_fault;
 
 pub use crc::crc8;
 pub use laws::{collects_once, one_check_byte, walks_collect_all};
+pub use parts::MAX_PART;
 pub use walk_fault::{Step, WalkFault};
