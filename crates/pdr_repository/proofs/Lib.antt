@@ -1,0 +1,4 @@
+pub mod Crcs
+pub mod Collecting
+pub mod Dues
+pub mod Walks
