@@ -1,5 +1,5 @@
 -- Along a run each flight stays within its hops, and each packet that arrives is for the node and was put in.
-use Rattle.std.proofs.Common.{◌≡◌, ◌⊎◌, ℕ, ◌+◌, ◌<◌, ◌≤◌, List, [], ◌∷◌, Some, sym, subst, inl, inr, arith}
+use Rattle.std.proofs.Common.{◌≡◌, ℕ, ◌+◌, ◌≤◌, List, [], ◌∷◌, Some, sym, subst, inl, inr, arith}
 use Rattle.mctp_transport.specs.Frames.{Frame}
 use Rattle.mctp_transport.specs.Histories.{Input, Arrived, TimeUp, History, EachArrival}
 use Rattle.mctp_transport.proofs.Arrivals.{EachArrival-append}
@@ -11,7 +11,7 @@ use Rattle.net_check.specs.Rules.{Accepts}
 use Rattle.net_check.specs.States.{NetworkState, Flight, at_start, destination}
 use Rattle.net_check.specs.Runs.{Turn, RunFrom, after_all, PutsIn, WasPutIn}
 use Rattle.net_check.proofs.Ends.{move_falls}
-use Rattle.net_check.proofs.Nexts.{IsNumbered, IsThere, HasMoved, IsNew, IsNext, MayBeGiven, step_is_next}
+use Rattle.net_check.proofs.Nexts.{IsNumbered, HasMoved, IsNew, IsNext, MayBeGiven, step_is_next}
 
 abbrev pub IsWithinHops : Certificate → Flight → Type 0
 IsWithinHops cert f = f.hops + rank cert f.node (destination f) ≤ rank cert f.origin (destination f)

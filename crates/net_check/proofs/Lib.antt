@@ -2,6 +2,7 @@
 pub mod Spots
 pub mod Beyond
 -- the network
+pub mod Deciding
 pub mod Ends
 pub mod Nexts
 pub mod Kept

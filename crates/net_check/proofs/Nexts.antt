@@ -1,19 +1,19 @@
 -- What each step does to the flights and to what the nodes are given, whatever the event.
-use Rattle.std.proofs.Common.{◌≡◌, ◌⊎◌, ℕ, ◌+◌, ◌<◌, ◌≤◌, Bool, true, false, cond, eqb, List, [], ◌∷◌, length, Option, Some, None, sym, refl, ap, ◌∙◌, subst, inl, inr, arith}
+use Rattle.std.proofs.Common.{◌≡◌, ◌⊎◌, ℕ, ◌+◌, ◌≤◌, Bool, true, false, cond, eqb, List, [], ◌∷◌, length, Option, Some, None, sym, refl, ap, ◌∙◌, subst, inl, inr, arith}
 use Rattle.std.specs.Prelude.{option_map}
 use Rattle.std.specs.List.{AllByRecursion}
 use Rattle.std.proofs.lemmas.Bool.Decides.{eqb_tells}
-use Rattle.mctp_transport.specs.Frames.{Frame, KeyValue, key_of}
+use Rattle.mctp_transport.specs.Frames.{Frame, KeyValue}
 use Rattle.mctp_transport.specs.Histories.{Input, Arrived, TimeUp, after}
 use Rattle.mctp_transport.specs.Hearing.{Answer, Whole, Held, Dropped}
 use Rattle.net_plan.specs.declared.plan.Plan.{Plan}
 use Rattle.net_check.specs.Routing.{Holds}
 use Rattle.net_check.specs.Decisions.{Here, Drop, Forward}
-use Rattle.net_check.specs.Termini.{TerminusState, WaitingMessage, with_waiting}
-use Rattle.net_check.specs.States.{NetworkState, Flight, destination, with_flight, without_flight, with_made, with_input, with_terminus, with_packet, with_packets, with_received}
+use Rattle.net_check.specs.Termini.{WaitingMessage, with_waiting}
+use Rattle.net_check.specs.States.{NetworkState, Flight, with_flight, without_flight, with_made, with_input, with_terminus, with_packet, with_packets, with_received}
 use Rattle.net_check.specs.Events.{EventValue, Put, Move, Lose, Expire, AnswerAt, OutcomeValue, PutIn, Moved, Entered, Stopped, Lost, Expired, Answered, Silent, Refused}
-use Rattle.net_check.specs.Networks.{Step, Happens, Moves, IsDecided, IsAnswered}
-use Rattle.net_check.specs.Runs.{Turn, RunFrom, after_all, IsPutOf, PutsIn, IsAmongFlights}
+use Rattle.net_check.specs.Networks.{Step, Happens, Moves, IsDecided}
+use Rattle.net_check.specs.Runs.{IsPutOf, IsAmongFlights}
 
 -- no flight has a number that is still to be given
 abbrev pub IsNumbered : NetworkState → Type 0

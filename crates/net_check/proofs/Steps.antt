@@ -1,6 +1,7 @@
 -- Whatever the event, some step is there: the network is never stuck.
 use Rattle.std.proofs.Common.{List, ◌≡◌, ℕ, zero, suc, ◌+◌, ◌-◌, ◌<◌, ◌≤◌, [], ◌∷◌, sym, ap, ◌∙◌, subst, true, false, Option, Some, None, refl, arith, inl, inr, length}
-use Rattle.std.specs.Prelude.{◌⊎◌, IsSomeAnd}
+use Rattle.std.specs.Prelude.{◌⊎◌, All}
+use Rattle.std.proofs.lemmas.List.Elements.{All-head}
 use Rattle.std.proofs.lemmas.Bool.{cases_lt}
 use Rattle.std.proofs.lemmas.Option.{slice_get_cases}
 use Rattle.mctp_transport.specs.Frames.{Frame, KeyValue, key_of, IsAssignable, Spelled}
@@ -15,16 +16,14 @@ use Rattle.net_plan.specs.declared.nodes.Node.{Node}
 use Rattle.net_plan.specs.declared.nodes.Kind.TheVariants.{Bridge, Endpoint}
 use Rattle.net_check.specs.Routing.{Holds, HasRow, IsBridge, node_at, eid_of, rows_of}
 use Rattle.net_check.specs.Decisions.{Decision, Here, Drop, Forward, B10, B11, B12}
-use Rattle.net_check.specs.Termini.{TerminusState, WaitingMessage, Answers}
+use Rattle.net_check.specs.Termini.{TerminusState, WaitingMessage, AreBytes, HoldsBytes}
 use Rattle.net_check.specs.States.{NetworkState, Flight, destination, with_flight, without_flight, with_made, with_input, with_terminus, with_packet, with_packets, with_received, unit, slots, limit}
-use Rattle.net_check.specs.Events.{EventValue, Put, Move, Lose, Expire, AnswerAt, Refusal, N01, N02, N03, N04, N05, N06, OutcomeValue, PutIn, Moved, Entered, Stopped, Lost, Expired, Answered, Silent, Refused, IsRefused, IsFirstRefusal, named_node, named_flight, asked_node, bytes_put, numbers_needed, refusal_number, most_flights}
-use Rattle.net_check.specs.Networks.{IsDecided, Moves, IsAnswered, answer_key, Happens, Step, GoesOn}
+use Rattle.net_check.specs.Events.{EventValue, Put, Move, Lose, Expire, AnswerAt, Refusal, N01, N02, N03, N04, N05, N06, OutcomeValue, PutIn, Moved, Entered, Stopped, Lost, Expired, Answered, Silent, Refused, IsRefused, named_node, named_flight, asked_node, bytes_put, numbers_needed, refusal_number, most_flights}
+use Rattle.net_check.specs.Networks.{IsDecided, Moves, answer_key, Happens, GoesOn}
+use Rattle.pdr_repository.specs.Answers.{Answers}
 use Rattle.net_check.proofs.Answering.{SomeAnswer, some_answering}
+use Rattle.net_check.proofs.Deciding.{OrNot, both_or_not, either_or_not, less_or_not, at_most_or_not, some_and_or_not, none_or_not, empty_or_not, same_or_not}
 use Rattle.net_check.proofs.Ends.{is_or_not, one_or_none}
-
--- a fact holds, or doesn't
-abbrev OrNot : Type 0 → Type 0
-OrNot P = P ⊎ ¬ P
 
 -- the refusals are known by their numbers
 abbrev numbered : ℕ → Refusal
@@ -80,45 +79,16 @@ least_or_none P test =
         → ((other : Refusal) × P other × NoneBelow P (refusal_number other)) ⊎ ((other : Refusal) → ¬ P other)
     test_at why below rest = elim (test why) [ inl is ↦ inl (why, is, below) | inr not ↦ rest (one_more_below P why below not) ]
 
-both_or_not : (P Q : Type 0) → OrNot P → OrNot Q → OrNot (P × Q)
-both_or_not P Q (inl p) (inl q) = inl (p, q)
-both_or_not P Q (inl p) (inr q) = inr (λ h. q h.1)
-both_or_not P Q (inr p) q = inr (λ h. p h.0)
-
-either_or_not : (P Q : Type 0) → OrNot P → OrNot Q → OrNot (P ⊎ Q)
-either_or_not P Q (inl p) q = inl (inl p)
-either_or_not P Q (inr p) (inl q) = inl (inr q)
-either_or_not P Q (inr p) (inr q) = inr (λ h. elim h [ inl x ↦ p x | inr y ↦ q y ])
-
-at_most_or_not : (m n : ℕ) → OrNot (m ≤ n)
-at_most_or_not m n = elim (cases_lt n m) [ inl more ↦ inr (λ h. omega arith) | inr less ↦ inl (omega arith) ]
-
-some_and_or_not : {A : Type 0} (o : Option A) (P : A → Type 0) → ((a : A) → OrNot (P a)) → OrNot (IsSomeAnd o P)
-some_and_or_not None P test = inr (λ h. absurd h)
-some_and_or_not (Some a) P test = test a
-
-flight_or_none : (o : Option Flight) → OrNot (o ≡ None)
-flight_or_none None = inl refl
-flight_or_none (Some f) = inr (λ e. cc)
-
 no_packet_or_not : (bytes : List ℕ) → OrNot ((p : Frame) → ¬ Spelled unit p bytes)
 no_packet_or_not bytes = elim (spelled_or_not unit bytes) [ inl (p, is) ↦ inr (λ none. none p is) | inr none ↦ inl none ]
-
-no_terminus_or_not : (o : Option TerminusState) → OrNot (o ≡ None)
-no_terminus_or_not None = inl refl
-no_terminus_or_not (Some t) = inr (λ e. cc)
-
-nothing_or_not : (messages : List WaitingMessage) → OrNot (messages ≡ [])
-nothing_or_not [] = inl refl
-nothing_or_not (m ∷ ms) = inr (λ e. cc)
 
 refused_or_not : (plan : Plan) (w : NetworkState) (event : EventValue) (why : Refusal) → OrNot (IsRefused plan w event why)
 refused_or_not plan w event N01 = some_and_or_not (named_node event) _ (λ node. at_most_or_not (length plan.nodes.items) node)
 refused_or_not plan w event N02 = some_and_or_not (bytes_put event) _ no_packet_or_not
-refused_or_not plan w event N03 = some_and_or_not (named_flight event) _ (λ number. flight_or_none (w.flight number))
-refused_or_not plan w event N04 = some_and_or_not (asked_node event) _ (λ node. no_terminus_or_not (w.terminus node))
-refused_or_not plan w event N05 = some_and_or_not (asked_node event) _ (λ node. some_and_or_not (w.terminus node) _ (λ t. nothing_or_not t.waiting))
-refused_or_not plan w event N06 = elim (cases_lt (most_flights - w.made) (numbers_needed event)) [ inl few ↦ inl few | inr enough ↦ inr (λ few. omega arith) ]
+refused_or_not plan w event N03 = some_and_or_not (named_flight event) _ (λ number. none_or_not (w.flight number))
+refused_or_not plan w event N04 = some_and_or_not (asked_node event) _ (λ node. none_or_not (w.terminus node))
+refused_or_not plan w event N05 = some_and_or_not (asked_node event) _ (λ node. some_and_or_not (w.terminus node) _ (λ t. empty_or_not t.waiting))
+refused_or_not plan w event N06 = less_or_not (most_flights - w.made) (numbers_needed event)
 
 holds_or_not : (plan : Plan) (n e : ℕ) → OrNot (Holds plan n e)
 holds_or_not plan n e = is_or_not (eid_of plan n) e
@@ -149,7 +119,7 @@ some_decision plan f = elim (holds_or_not plan f.node (destination f)) [
   | inl here ↦ (Here, here)
   | inr away ↦ elim (assignable_or_not (destination f)) [
     | inr not ↦ (Drop B10, (away, not))
-    | inl may ↦ elim (either_or_not _ _ (bridge_or_not plan f.node) (at_start_or_not f)) [
+    | inl may ↦ elim (either_or_not _ _ (bridge_or_not plan f.node) (same_or_not f.hops 0)) [
       | inr no_bridge ↦ (Drop B12, (away, may, no_bridge))
       | inl goes ↦ elim (has_row_or_not plan f.node (destination f)) [
         | inl (next, routed) ↦ (Forward next, (away, may, goes, routed))
@@ -158,9 +128,6 @@ some_decision plan f = elim (holds_or_not plan f.node (destination f)) [
     ]
   ]
 ]
-  where
-    at_start_or_not : (f : Flight) → OrNot (f.hops ≡ 0)
-    at_start_or_not f = elim (cases_lt 0 f.hops) [ inl more ↦ inr (λ none. omega arith) | inr none ↦ inl (omega arith) ]
 
 -- what comes of a move, and the network then; no move is told as refused
 pub record SomeMove (plan : Plan) (w : NetworkState) (number : ℕ) (f : Flight) : Type 0 where
@@ -226,8 +193,10 @@ some_packets answer destination key =
 
 -- the oldest message that waits at a terminus is answered, or gets no answer
 replies : (plan : Plan) (w : NetworkState) (node : ℕ) (t : TerminusState) (oldest : WaitingMessage) (rest : List WaitingMessage) → w.terminus node ≡ Some t
-    → t.waiting ≡ oldest ∷ rest → ((why : Refusal) → ¬ IsRefused plan w (AnswerAt node) why) → GoesOn plan w (AnswerAt node)
-replies plan w node t oldest rest is waits may = by (some_answering t.tid t.records oldest.bytes)
+    → t.waiting ≡ oldest ∷ rest → HoldsBytes t → ((why : Refusal) → ¬ IsRefused plan w (AnswerAt node) why) → GoesOn plan w (AnswerAt node)
+replies plan w node t oldest rest is waits bytes may =
+    let W : List WaitingMessage → Type 0 = λ ms. All (λ m. AreBytes m.bytes) ms in
+    by (some_answering t.tid t.records oldest.bytes bytes.0 (All-head (λ m. AreBytes m.bytes) oldest rest (subst W waits bytes.1)))
   where
     by : SomeAnswer t.tid t.records oldest.bytes → GoesOn plan w (AnswerAt node)
     by s = told s.answer s.answers
@@ -248,8 +217,8 @@ replies plan w node t oldest rest is waits may = by (some_answering t.tid t.reco
             )
 
 -- some step is there
-pub some_step : (plan : Plan) (w : NetworkState) (event : EventValue) → GoesOn plan w event
-some_step plan w event = elim (least_or_none (IsRefused plan w event) (refused_or_not plan w event)) [
+pub some_step : (plan : Plan) (w : NetworkState) (event : EventValue) → ((n : ℕ) (t : TerminusState) → w.terminus n ≡ Some t → HoldsBytes t) → GoesOn plan w event
+some_step plan w event bytes = elim (least_or_none (IsRefused plan w event) (refused_or_not plan w event)) [
   | inl (why, is, least) ↦ (Refused why, w, ((is, least), refl))
   | inr may ↦ happens event may
 ]
@@ -289,4 +258,4 @@ some_step plan w event = elim (least_or_none (IsRefused plan w event) (refused_o
           where
             first : (messages : List WaitingMessage) → t.waiting ≡ messages → GoesOn plan w (AnswerAt node)
             first [] none = absurd (may N05 (rw is none))
-            first (oldest ∷ rest) waits = replies plan w node t oldest rest is waits may
+            first (oldest ∷ rest) waits = replies plan w node t oldest rest is waits (bytes node t is) may

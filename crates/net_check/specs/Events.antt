@@ -1,5 +1,5 @@
 -- What may happen to the network, what comes of that, and why an event is refused.
-use Rattle.std.specs.Prelude.{ℕ, ◌≡◌, ◌≢◌, ◌-◌, ◌<◌, ◌≤◌, List, [], length, Bool, true, false, Option, Some, None, ⊤, IsSomeAnd}
+use Rattle.std.specs.Prelude.{ℕ, ◌≡◌, ◌-◌, ◌<◌, ◌≤◌, List, [], length, Bool, true, false, Option, Some, None, IsSomeAnd}
 use Rattle.mctp_transport.specs.Frames.{Frame, KeyValue, Spelled}
 use Rattle.mctp_transport.specs.Hearing.{Answer}
 use Rattle.net_plan.specs.declared.plan.Plan.{Plan}

@@ -12,6 +12,7 @@ pub mod Errors
 -- the network
 pub mod Moves
 pub mod Decisions
+pub mod Repositories
 pub mod Termini
 pub mod States
 pub mod Events

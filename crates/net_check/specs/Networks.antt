@@ -1,13 +1,14 @@
 -- One step of the network of a plan: an event, what comes of it, and the network after it.
-use Rattle.std.specs.Prelude.{◌≡◌, ◌⊎◌, ◌↔◌, ℕ, ◌+◌, List, ◌∷◌, length, Bool, true, false, Option, Some, None}
+use Rattle.std.specs.Prelude.{◌≡◌, ◌⊎◌, ◌↔◌, ℕ, ◌+◌, List, ◌∷◌, length, true, false, Option, Some, None}
 use Rattle.mctp_transport.specs.Frames.{Frame, KeyValue, key_of, Spelled}
 use Rattle.mctp_transport.specs.Cutting.{ArePacketsOf}
 use Rattle.mctp_transport.specs.Histories.{Arrived, TimeUp, IsOpen}
 use Rattle.mctp_transport.specs.Hearing.{Hears}
 use Rattle.net_plan.specs.declared.plan.Plan.{Plan}
+use Rattle.pdr_repository.specs.Answers.{Answers}
 use Rattle.net_check.specs.Routing.{Holds, Routes, IsBridge}
 use Rattle.net_check.specs.Decisions.{Decision, Here, Drop, Forward, Decides}
-use Rattle.net_check.specs.Termini.{TerminusState, WaitingMessage, Answers}
+use Rattle.net_check.specs.Termini.{TerminusState, WaitingMessage}
 use Rattle.net_check.specs.States.{NetworkState, Flight, destination, with_flight, without_flight, with_made, with_input, with_terminus, with_packet, with_packets, with_received, unit, slots, limit}
 use Rattle.net_check.specs.Events.{EventValue, Put, Move, Lose, Expire, AnswerAt, OutcomeValue, PutIn, Moved, Entered, Stopped, Lost, Expired, Answered, Silent, Refused, Refusal, IsRefused, IsFirstRefusal}
 

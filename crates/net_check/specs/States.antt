@@ -1,11 +1,11 @@
 -- The network of a plan at one moment.
-use Rattle.std.specs.Prelude.{ℕ, ◌+◌, List, [], ◌∷◌, ◌++◌, Option, Some, None, option_map, if◌then◌else◌, ◌==◌}
+use Rattle.std.specs.Prelude.{ℕ, ◌+◌, List, [], ◌∷◌, Option, Some, None, option_map, if◌then◌else◌, ◌==◌}
 use Rattle.mctp_transport.specs.Frames.{Frame, KeyValue}
 use Rattle.mctp_transport.specs.Histories.{Input, History, after}
 use Rattle.mctp_transport.specs.Hearing.{Answer, Whole, Held, Dropped}
 use Rattle.net_plan.specs.declared.plan.Plan.{Plan}
 use Rattle.net_plan.specs.declared.certificate.Certificate.{Certificate}
-use Rattle.net_check.specs.Termini.{TerminusState, WaitingMessage, terminus_at_start, with_waiting}
+use Rattle.net_check.specs.Termini.{TerminusState, terminus_at_start, with_waiting}
 
 -- the most payload bytes of a packet
 abbrev pub unit : ℕ
