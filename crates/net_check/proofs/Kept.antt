@@ -44,7 +44,7 @@ module _ (plan : Plan) (cert : Certificate) (Known : Frame → Type 0) (accepted
   arrived w n (Arrived p) kept (holds, (f, (number, there), same)) = ((holds, subst Known same (kept.flights number f there).1), tt)
   arrived w n (TimeUp key) kept may = tt
 
-  next_keeps : (w : NetworkState) (puts : Frame → Type 0) (new : NetworkState) → Kept plan cert Known w → ((p : Frame) → puts p → Known p)
+  pub next_keeps : (w : NetworkState) (puts : Frame → Type 0) (new : NetworkState) → Kept plan cert Known w → ((p : Frame) → puts p → Known p)
       → IsNext plan w puts new → Kept plan cert Known new
   next_keeps w puts new kept knows next = record {
     flights = λ number g is. elim (next.flights number g is) [

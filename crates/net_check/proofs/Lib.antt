@@ -5,7 +5,9 @@ pub mod Beyond
 pub mod Deciding
 pub mod Ends
 pub mod Nexts
+pub mod Fates
 pub mod Kept
 pub mod Promised
+pub mod Delivered
 pub mod Answering
 pub mod Steps

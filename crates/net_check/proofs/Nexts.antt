@@ -50,6 +50,7 @@ pub record IsNext (plan : Plan) (w : NetworkState) (puts : Frame → Type 0) (ne
   pub flights : (number : ℕ) (g : Flight) → new.flight number ≡ Some g → IsThere w g ⊎ (HasMoved plan w g ⊎ IsNew puts g)
   pub given : (n : ℕ) → (new.history n ≡ w.history n) ⊎ ((i : Input) × (new.history n ≡ after (w.history n) i) × MayBeGiven plan w n i)
   pub numbers : IsNumbered w → IsNumbered new
+  pub made : w.made ≤ new.made
 
 -- a flight of the changed network is the changed one or an older one
 pub changed_or_older : (k number : ℕ) (f g : Flight) (old : Option Flight) → cond (eqb number k) (Some f) old ≡ Some g → ((f ≡ g) × (number ≡ k)) ⊎ (old ≡ Some g)
@@ -113,6 +114,7 @@ module _ (plan : Plan) (w : NetworkState) (puts : Frame → Type 0) where
         numbers = λ numbered number f is.
             let h = next.numbers numbered number f (ap (λ flight. flight number) (sym same.flight) ∙ is) in
             omega (arith, same.made);
+        made = let h = next.made in omega (arith, same.made);
       }
 
   within_is_next : (v : NetworkState) → IsWithin w v → IsNext plan w puts v
@@ -120,6 +122,7 @@ module _ (plan : Plan) (w : NetworkState) (puts : Frame → Type 0) where
     flights = λ number f is. inl (number, within.flights number f is);
     given = λ n. inl (within.histories n);
     numbers = within_numbers w v within;
+    made = within.made;
   }
 
   input_is_next : (v : NetworkState) (n : ℕ) (i : Input) → IsWithin w v → MayBeGiven plan w n i → IsNext plan w puts (with_input v n i)
@@ -132,6 +135,7 @@ module _ (plan : Plan) (w : NetworkState) (puts : Frame → Type 0) where
           | inr other ↦ inl (rw other.0 (within.histories m))
         ];
     numbers = within_numbers w v within;
+    made = within.made;
   }
 
   flight_is_next : (v : NetworkState) (k : ℕ) (f : Flight) → IsWithin w v → HasMoved plan w f → (IsNumbered w → k ≤ v.made) → IsNext plan w puts (with_flight v k f)
@@ -145,6 +149,7 @@ module _ (plan : Plan) (w : NetworkState) (puts : Frame → Type 0) where
       | inl (_, here) ↦ let h = small numbered in omega arith
       | inr older ↦ within_numbers w v within numbered number g older
     ];
+    made = within.made;
   }
 
   -- moving a flight
@@ -173,6 +178,7 @@ module _ (plan : Plan) (w : NetworkState) (puts : Frame → Type 0) where
     pub flights : (number : ℕ) (f : Flight) → v.flight number ≡ Some f → IsThere w f ⊎ IsNew puts f
     pub histories : (n : ℕ) → v.history n ≡ w.history n
     pub numbers : IsNumbered w → IsNumbered v
+    pub made : w.made ≤ v.made
 
   none_is_put : (v : NetworkState) → SameFlights w v → IsPutInto v
   none_is_put v same = record {
@@ -180,6 +186,7 @@ module _ (plan : Plan) (w : NetworkState) (puts : Frame → Type 0) where
     histories = λ n. ap (λ history. history n) same.history;
     numbers = λ numbered number f is.
         let h = numbered number f (ap (λ flight. flight number) (sym same.flight) ∙ is) in omega (arith, same.made);
+    made = omega (arith, same.made);
   }
 
   one_is_put : (v : NetworkState) (node : ℕ) (p : Frame) → IsPutInto v → puts p → IsPutInto (with_packet v node p)
@@ -193,6 +200,7 @@ module _ (plan : Plan) (w : NetworkState) (puts : Frame → Type 0) where
       | inl (_, here) ↦ omega arith
       | inr older ↦ let h = into.numbers numbered number g older in omega arith
     ];
+    made = let h = into.made in omega arith;
   }
 
   all_are_put : (v : NetworkState) (node : ℕ) (ps : List Frame) → IsPutInto v → AllByRecursion puts ps → IsPutInto (with_packets v node ps)
@@ -204,6 +212,7 @@ module _ (plan : Plan) (w : NetworkState) (puts : Frame → Type 0) where
     flights = λ number f is. elim (into.flights number f is) [ inl there ↦ inl there | inr new ↦ inr (inr new) ];
     given = λ n. inl (into.histories n);
     numbers = into.numbers;
+    made = into.made;
   }
 
 -- a flight that was made before stays where packets are put in

@@ -58,7 +58,7 @@ came_joins plan turns n history message comes arrived =
     )
 
 -- a run is a run up to its last turn, and that turn
-run_parts : (plan : Plan) (w : NetworkState) (earlier : List Turn) (turn : Turn) → RunFrom plan w (earlier ++ turn ∷ [])
+pub run_parts : (plan : Plan) (w : NetworkState) (earlier : List Turn) (turn : Turn) → RunFrom plan w (earlier ++ turn ∷ [])
     → RunFrom plan w earlier × Step plan (after_all w earlier) turn.event turn.outcome turn.after
 run_parts plan w [] turn (step, none) = (tt, step)
 run_parts plan w (first ∷ earlier) turn (step, rest) = let later = run_parts plan first.after earlier turn rest in ((step, later.0), later.1)

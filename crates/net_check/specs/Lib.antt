@@ -20,3 +20,4 @@ pub mod Networks
 pub mod Runs
 pub mod Promises
 pub mod Headline
+pub mod Deliveries
