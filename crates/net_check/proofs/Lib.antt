@@ -6,6 +6,7 @@ pub mod Deciding
 pub mod Ends
 pub mod Nexts
 pub mod Fates
+pub mod ByPlace
 pub mod Kept
 pub mod Promised
 pub mod Delivered

@@ -1,13 +1,18 @@
--- What an accepted plan and certificate promise of every run of the plan's network.
-use Rattle.std.specs.Prelude.{◌≡◌, ℕ, ◌+◌, ◌≤◌, List, [], ◌∷◌, ◌++◌, Some, All}
+-- What an accepted plan and certificate promise of every run of the plan's network, and of every walk over a terminus.
+use Rattle.std.specs.Prelude.{◌≡◌, ◌≢◌, ℕ, ◌+◌, ◌≤◌, List, [], ◌∷◌, ◌++◌, length, slice_get, Some, None, Ok, All, AllPairs}
 use Rattle.mctp_transport.specs.Frames.{Frame, KeyValue, key_of}
 use Rattle.mctp_transport.specs.Messages.{Joined}
 use Rattle.mctp_transport.specs.Histories.{EachArrival, Comes}
 use Rattle.mctp_transport.specs.Hearing.{Whole}
 use Rattle.net_plan.specs.declared.plan.Plan.{Plan}
 use Rattle.net_plan.specs.declared.certificate.Certificate.{Certificate}
+use Rattle.net_plan.specs.declared.terminus.Record.{Record}
+use Rattle.pldm_message.specs.Pdrs.{Part}
+use Rattle.pdr_repository.specs.Records.{Means, handle_in, bytes_by_place}
+use Rattle.pdr_repository.specs.Walks.{Exchange, Walk, IsFinished, Collects}
 use Rattle.net_check.specs.Routing.{Holds}
 use Rattle.net_check.specs.Ranks.{rank}
+use Rattle.net_check.specs.Repositories.{terminus_of, records_of, places_of, entry_of, records_by_place}
 use Rattle.net_check.specs.States.{NetworkState, Flight, destination, slots, limit}
 use Rattle.net_check.specs.Events.{Entered}
 use Rattle.net_check.specs.Runs.{Turn, Run, reached, WasPutIn}
@@ -40,3 +45,30 @@ pub record KeepsPackets (plan : Plan) (cert : Certificate) : Type 0 where
   -- a message that a turn tells joins packets that were put in earlier
   pub tells : (earlier : List Turn) (turn : Turn) → Run plan cert (earlier ++ turn ∷ []) → (number n : ℕ) (key : KeyValue) (message : List ℕ)
       → turn.outcome ≡ Entered number n key (Whole message) → JoinsPackets plan earlier n key message
+
+-- the answer names as the next handle that which the plan gives the record asked for
+pub record NamesPlannedNext (plan : Plan) (cert : Certificate) (n : ℕ) (x : Exchange) : Type 0 where
+  pub place : ℕ
+  pub asked : Record
+  pub meant : Means (records_by_place plan cert n) x.request.handle place (entry_of asked)
+  pub j : ℕ
+  pub planned : slice_get (records_of plan n) j ≡ Some asked
+  pub part : Part
+  pub answered : x.answer ≡ Ok part
+  pub next : part.next ≡ asked.next
+
+-- The exchanges have collected each record of n once, at its place, with different handles.
+pub record CollectsEach (plan : Plan) (cert : Certificate) (n : ℕ) (xs : List Exchange) : Type 0 where
+  pub collected : List (List ℕ)
+  pub collects : Collects xs collected []
+  pub ordered : collected ≡ bytes_by_place (records_by_place plan cert n)
+  pub as_many : length collected ≡ length (records_of plan n)
+  pub each : (j place : ℕ) (r : Record) → slice_get (records_of plan n) j ≡ Some r → slice_get (places_of cert n) j ≡ Some place
+      → slice_get collected place ≡ Some r.bytes.items
+  pub handles : AllPairs (λ a b. handle_in a ≢ handle_in b) collected
+  pub nexts : (i : ℕ) (x : Exchange) → slice_get xs i ≡ Some x → NamesPlannedNext plan cert n x
+
+-- every finished walk over a terminus, with parts of 8 to 4079 bytes, has collected each of its records
+abbrev pub WalksCollectEach : Plan → Certificate → Type 0
+WalksCollectEach plan cert = (n count : ℕ) (xs : List Exchange) → terminus_of plan n ≢ None → 8 ≤ count → count ≤ 4079
+    → Walk (records_by_place plan cert n) count xs → IsFinished count xs → CollectsEach plan cert n xs
