@@ -13,6 +13,8 @@ pub mod Standing
 pub mod Parts
 pub mod AssemblyLaws
 pub mod Arrivals
+pub mod Collecting
 pub mod Answered
+pub mod Sending
 pub mod Heard
 pub mod Spellings

@@ -68,7 +68,7 @@ payload_at [] i f a = absurd (none-some f a)
 payload_at (g ∷ fs) zero f a = ap (λ (x : Frame). Some x.payload) (same_Some g f a)
 payload_at (g ∷ fs) (suc i) f a = payload_at fs i f a
 
-joined_payloads : (fs : List Frame) → concat (payloads fs) ≡ payloads_of fs
+pub joined_payloads : (fs : List Frame) → concat (payloads fs) ≡ payloads_of fs
 joined_payloads [] = refl
 joined_payloads (f ∷ fs) = ap (λ xs. f.payload ++ xs) (joined_payloads fs)
 

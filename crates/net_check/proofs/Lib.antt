@@ -10,5 +10,6 @@ pub mod ByPlace
 pub mod Kept
 pub mod Promised
 pub mod Delivered
+pub mod Exact
 pub mod Answering
 pub mod Steps

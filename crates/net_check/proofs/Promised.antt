@@ -106,7 +106,7 @@ happens_tells plan w (AnswerAt node) _ j n key message new (t, oldest, rest, Non
 happens_tells plan w (AnswerAt node) _ j n key message new (t, oldest, rest, Some answer, tid, stands, waits, answers, done) is = absurd done
 happens_tells plan w _ _ j n key message new h is = absurd h
 
-step_tells : (plan : Plan) (w : NetworkState) (event : EventValue) (outcome : OutcomeValue) (j n : ℕ) (key : KeyValue) (message : List ℕ) (new : NetworkState)
+pub step_tells : (plan : Plan) (w : NetworkState) (event : EventValue) (outcome : OutcomeValue) (j n : ℕ) (key : KeyValue) (message : List ℕ) (new : NetworkState)
     → Step plan w event outcome new → outcome ≡ Entered j n key (Whole message) → TellsMessage plan w n key message
 step_tells plan w event (Refused why) j n key message new step is = absurd (cc)
 step_tells plan w event outcome j n key message new step is = happens_tells plan w event outcome j n key message new step.1 is

@@ -21,3 +21,4 @@ pub mod Runs
 pub mod Promises
 pub mod Headline
 pub mod Deliveries
+pub mod ExactMessages
