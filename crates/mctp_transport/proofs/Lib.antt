@@ -14,6 +14,7 @@ pub mod Parts
 pub mod AssemblyLaws
 pub mod Arrivals
 pub mod Collecting
+pub mod InOrder
 pub mod Answered
 pub mod Sending
 pub mod Heard

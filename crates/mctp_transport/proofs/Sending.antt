@@ -5,7 +5,7 @@ use Rattle.std.proofs.lemmas.Bool.{true≢false, eqb-true, eq-eqb}
 use Rattle.std.proofs.lemmas.Bool.Decides.{nat_tests}
 use Rattle.std.proofs.lemmas.List.{length-map}
 use Rattle.std.proofs.lemmas.Option.{same_Some, none-some, slice_get_within, slice_get_cases}
-use Rattle.mctp_transport.specs.Frames.{Frame, KeyValue}
+use Rattle.mctp_transport.specs.Frames.{Frame, KeyValue, key_of}
 use Rattle.mctp_transport.specs.Messages.{Joined, payloads_of}
 use Rattle.mctp_transport.specs.Cutting.{IsCut, ArePacketsOf}
 use Rattle.mctp_transport.specs.Sending.{IsPacketOf}
@@ -23,7 +23,7 @@ few_payloads unit (suc n) message (p ∷ q ∷ ps) cut most =
     let rest = few_payloads unit n (concat (q ∷ ps)) (q ∷ ps) (cut_rest unit message p q ps cut) (omega (arith, suc-mul n unit, length-append p (concat (q ∷ ps)))) in
     omega arith
 
-few_packets : (unit n : ℕ) (message : List ℕ) (d : ℕ) (key : KeyValue) (start : ℕ) (ps : List Frame) → ArePacketsOf unit message d key start ps → length message ≤ n * unit
+pub few_packets : (unit n : ℕ) (message : List ℕ) (d : ℕ) (key : KeyValue) (start : ℕ) (ps : List Frame) → ArePacketsOf unit message d key start ps → length message ≤ n * unit
     → length ps ≤ n
 few_packets unit n message d key start ps are most =
     omega (arith, few_payloads unit n message (map (λ f. f.payload) ps) are.cut most, length-map ps (λ (f : Frame). f.payload))
@@ -107,3 +107,61 @@ joins_to_itself unit message d key s (p ∷ ps) whole short all joined = by all.
             let count : length ps + 1 ≡ length qs = eqb-true (length ps + 1) (length qs) (sym (are.eom (length ps) r (each (length ps) r at)) ∙ ends) in
             let same = same_list (p ∷ ps) qs (omega arith) each in
             joined.whole ∙ ap payloads_of same ∙ sym (joined_payloads qs) ∙ sym are.cut.whole
+
+-- so many packets carry no more bytes than they have room for
+room_of : (unit : ℕ) (message : List ℕ) (ps : List (List ℕ)) → IsCut unit message ps → length message ≤ length ps * unit
+room_of unit message [] cut = let e = ap length cut.whole in omega (arith, zero-mul unit)
+room_of unit message (p ∷ []) cut =
+    let e = ap length cut.whole in
+    let most = (cut.last 0 p refl refl).1 in
+    omega (arith, length-append p [], suc-mul 0 unit, zero-mul unit)
+room_of unit message (p ∷ q ∷ ps) cut =
+    let e = ap length cut.whole in
+    let full = cut.full 0 p refl (omega arith) in
+    let rest = room_of unit (concat (q ∷ ps)) (q ∷ ps) (cut_rest unit message p q ps cut) in
+    omega (arith, length-append p (concat (q ∷ ps)), suc-mul (length (q ∷ ps)) unit)
+
+pub many_packets : (unit : ℕ) (message : List ℕ) (d : ℕ) (key : KeyValue) (start : ℕ) (ps : List Frame) → ArePacketsOf unit message d key start ps
+    → length message ≤ length ps * unit
+many_packets unit message d key start ps are =
+    let long = length-map ps (λ (f : Frame). f.payload) in
+    let R : ℕ → Type 0 = λ n. length message ≤ n * unit in
+    subst R long (room_of unit message (map (λ f. f.payload) ps) are.cut)
+
+-- The first and the last of six packets join, to a message of at most twice the unit.
+pub ends_of_six_join : (unit : ℕ) (message : List ℕ) (d : ℕ) (key : KeyValue) (s : ℕ) (a b c e f g : Frame) → ArePacketsOf unit message d key s (a ∷ b ∷ c ∷ e ∷ f ∷ g ∷ [])
+    → Joined (a ∷ g ∷ []) (payloads_of (a ∷ g ∷ [])) × (length (payloads_of (a ∷ g ∷ [])) ≤ 2 * unit)
+ends_of_six_join unit message d key s a b c e f g are =
+    let full = are.cut.full 0 a.payload refl (omega arith) in
+    let last = are.cut.last 5 g.payload refl refl in
+    let first_number = are.numbers 0 a refl in
+    let last_number = are.numbers 5 g refl in (
+      record {
+        some = omega arith;
+        one_key = pairs (λ i p q. key_of q ≡ key_of p) refl (are.of_key 5 g refl ∙ sym (are.of_key 0 a refl));
+        start = each (λ i p. p.som ≡ nat_eq i 0) (are.som 0 a refl) (are.som 5 g refl);
+        finish = each (λ i p. p.eom ≡ nat_eq (i + 1) 2) (are.eom 0 a refl) (are.eom 5 g refl);
+        numbers = nexts (omega arith);
+        middle = pairs (λ i p q. i + 1 < 2 → length q.payload ≡ length p.payload) (λ lt. refl) (λ lt. absurd (omega arith));
+        last = pairs (λ i p q. length q.payload ≤ length p.payload) (omega arith) (omega arith);
+        whole = refl;
+      },
+      omega (arith, length-append a.payload (payloads_of (g ∷ [])), length-append g.payload []),
+    )
+  where
+    each : (P : ℕ → Frame → Type 0) → P 0 a → P 1 g → (i : ℕ) (p : Frame) → slice_get (a ∷ g ∷ []) i ≡ Some p → P i p
+    each P x y zero p at = subst (P 0) (same_Some a p at) x
+    each P x y (suc zero) p at = subst (P 1) (same_Some g p at) y
+    each P x y (suc (suc i)) p at = absurd (none-some p at)
+
+    pairs : (R : ℕ → Frame → Frame → Type 0) → R 0 a a → R 1 a g → (i : ℕ) (p q : Frame) → slice_get (a ∷ g ∷ []) 0 ≡ Some p → slice_get (a ∷ g ∷ []) i ≡ Some q → R i p q
+    pairs R x y i p q first at =
+        let P : Frame → Type 0 = λ o. R i o q in
+        subst P (same_Some a p first) (each (λ j o. R j a o) x y i q at)
+
+    nexts : g.number ≡ (a.number + 1) % 4 → (i : ℕ) (p q : Frame) → slice_get (a ∷ g ∷ []) i ≡ Some p → slice_get (a ∷ g ∷ []) (i + 1) ≡ Some q → q.number ≡ (p.number + 1) % 4
+    nexts counts zero p q at next =
+        let A : Frame → Type 0 = λ o. q.number ≡ (o.number + 1) % 4 in
+        let G : Frame → Type 0 = λ o. o.number ≡ (a.number + 1) % 4 in
+        subst A (same_Some a p at) (subst G (same_Some g q next) counts)
+    nexts counts (suc i) p q at next = absurd (omega (arith, slice_get_within (a ∷ g ∷ []) (suc i + 1) q next))

@@ -1,20 +1,16 @@
 -- In a tidy rest of a run each message that comes is the one that was sent.
-use Rattle.std.proofs.Common.{◌≡◌, ◌⊎◌, ℕ, ◌+◌, ◌*◌, ◌<◌, ◌≤◌, List, [], ◌∷◌, ◌++◌, length, Option, Some, None, sym, refl, ap, ◌∙◌, subst, inl, inr, arith}
+use Rattle.std.proofs.Common.{◌≡◌, ◌⊎◌, ℕ, ◌*◌, ◌≤◌, List, [], ◌∷◌, length, Some, sym, ◌∙◌, subst, inl, inr}
 use Rattle.std.specs.List.{AllByRecursion}
-use Rattle.std.specs.Prelude.{All}
 use Rattle.std.proofs.lemmas.Option.{same_Some}
 use Rattle.std.proofs.lemmas.List.Elements.{All-from_recursion}
 use Rattle.mctp_transport.specs.Frames.{Frame, KeyValue, key_of}
-use Rattle.mctp_transport.specs.Histories.{Input, Arrived, TimeUp, History, EachArrival, after, key_of_input, last_of, IsOpen, Comes}
-use Rattle.mctp_transport.specs.Hearing.{Whole}
+use Rattle.mctp_transport.specs.Histories.{Input, Arrived, TimeUp, History, EachArrival, key_of_input, last_of, IsOpen}
 use Rattle.mctp_transport.proofs.Collecting.{collected_more, comes_from_such}
 use Rattle.mctp_transport.proofs.Sending.{joins_to_itself}
 use Rattle.net_plan.specs.declared.plan.Plan.{Plan}
 use Rattle.net_check.specs.Routing.{Holds}
 use Rattle.net_check.specs.States.{NetworkState, Flight, destination, slots, limit}
-use Rattle.net_check.specs.Events.{OutcomeValue, Entered}
-use Rattle.net_check.specs.Networks.{Step}
-use Rattle.net_check.specs.Runs.{Turn, RunFrom, PutsIn}
+use Rattle.net_check.specs.Runs.{RunFrom, PutsIn}
 use Rattle.net_check.specs.ExactMessages.{IsQuiet, Epoch, IsOfEpoch, TurnOfEpoch, IsTidyFrom, turns_of, TellsAsSent, RunsAsSent}
 use Rattle.net_check.proofs.Nexts.{IsThere, HasMoved, IsNew, IsNext, MayBeGiven, step_is_next}
 use Rattle.net_check.proofs.Promised.{TellsMessage, step_tells}

@@ -11,5 +11,7 @@ pub mod Kept
 pub mod Promised
 pub mod Delivered
 pub mod Exact
+pub mod Sends
+pub mod Sent
 pub mod Answering
 pub mod Steps

@@ -8,7 +8,7 @@ use Rattle.mctp_transport.specs.Hearing.{Whole}
 use Rattle.net_plan.specs.declared.plan.Plan.{Plan}
 use Rattle.net_plan.specs.declared.certificate.Certificate.{Certificate}
 use Rattle.net_check.specs.Routing.{Holds}
-use Rattle.net_check.specs.Termini.{TerminusState, WaitingMessage}
+use Rattle.net_check.specs.Termini.{TerminusState}
 use Rattle.net_check.specs.States.{NetworkState, Flight, destination, at_start, slots, limit}
 use Rattle.net_check.specs.Events.{Entered}
 use Rattle.net_check.specs.Runs.{Turn, RunFrom, PutsIn}

@@ -72,3 +72,8 @@ pub record CollectsEach (plan : Plan) (cert : Certificate) (n : ℕ) (xs : List 
 abbrev pub WalksCollectEach : Plan → Certificate → Type 0
 WalksCollectEach plan cert = (n count : ℕ) (xs : List Exchange) → terminus_of plan n ≢ None → 8 ≤ count → count ≤ 4079
     → Walk (records_by_place plan cert n) count xs → IsFinished count xs → CollectsEach plan cert n xs
+
+-- what an accepted plan and certificate promise of packets and of walks
+pub record Headline (plan : Plan) (cert : Certificate) : Type 0 where
+  pub packets : KeepsPackets plan cert
+  pub walks : WalksCollectEach plan cert
