@@ -1,0 +1,9 @@
+pub mod First
+pub mod Headers
+pub mod HeaderLaws
+pub mod HeaderValues
+pub mod Commands
+pub mod Faults
+pub mod Messages
+pub mod MessageLaws
+pub mod Heads
