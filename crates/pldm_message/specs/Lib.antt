@@ -7,3 +7,6 @@ pub mod Faults
 pub mod Messages
 pub mod MessageLaws
 pub mod Heads
+pub mod Pdrs
+pub mod PdrLaws
+pub mod PdrValues

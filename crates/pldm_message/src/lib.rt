@@ -4,6 +4,8 @@
 
 mod command;
 mod error_code;
+mod fields;
+mod get_pdr;
 mod head;
 mod header;
 mod instance;
@@ -12,6 +14,7 @@ mod pldm_error;
 
 pub use command::Command;
 pub use error_code::ErrorCode;
+pub use get_pdr::{GetPdrRequest, TransferOperation};
 pub use head::{AnswerHead, RequestHead};
 pub use header::{HEADER_LENGTH, PldmHeader, PldmType};
 pub use instance::InstanceId;
