@@ -1,4 +1,4 @@
--- The PLDM types and command bytes of the commands (DSP0240, section 8.3; DSP0248, section 26).
+-- The PLDM types and command bytes of the commands (DSP0240, messaging control and discovery; DSP0248, GetPDR).
 use Rattle.std.specs.Prelude.{ℕ}
 use Rattle.pldm_message.specs.declared.command.Command.{Command}
 use Rattle.pldm_message.specs.declared.command.Command.TheVariants.{SetTid, GetTid, GetPldmTypes, GetPdr}

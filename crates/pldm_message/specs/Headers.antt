@@ -1,4 +1,4 @@
--- The four bytes that each PLDM message begins with (DSP0240, section 8.1; DSP0241 for the message type).
+-- The four bytes that each PLDM message begins with (DSP0240, PLDM message fields).
 use Rattle.std.specs.Prelude.{◌≡◌, ℕ, ◌<◌, ◌+◌, ◌*◌, Bool, List, [], ◌∷◌, take}
 use Rattle.mctp_transport.specs.Frames.{bit}
 use Rattle.pldm_message.specs.declared.kind.MessageKind.{MessageKind}

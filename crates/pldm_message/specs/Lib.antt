@@ -10,3 +10,6 @@ pub mod Heads
 pub mod Pdrs
 pub mod PdrLaws
 pub mod PdrValues
+pub mod BaseCommands
+pub mod BaseCommandLaws
+pub mod BaseCommandValues

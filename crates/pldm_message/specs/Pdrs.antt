@@ -1,7 +1,7 @@
--- Requests for parts of records, and their answers (DSP0248, section 26.2).
-use Rattle.std.specs.Prelude.{◌≡◌, ℕ, ◌<◌, ◌^◌, List, [], ◌∷◌, ◌++◌, length, Option, is_some, IfSome, ◌==◌}
+-- Requests for parts of records, and their answers (DSP0248, GetPDR).
+use Rattle.std.specs.Prelude.{◌≡◌, ℕ, ◌+◌, ◌<◌, ◌^◌, List, [], ◌∷◌, ◌++◌, length, drop, slice_index, Option, is_some, Some, ◌==◌, if◌then◌else◌}
 use Rattle.std.specs.Option.{option_to_list}
-use Rattle.byteorder.specs.Endian.{little_bytes}
+use Rattle.byteorder.specs.Endian.{little_bytes, little_number}
 use Rattle.pldm_message.specs.declared.command.Command.TheVariants as command
 use Rattle.pldm_message.specs.Messages.{RequestMessage, AnswerMessage, IsRequest, IsAnswer, request_bytes, answer_bytes}
 
@@ -41,11 +41,33 @@ pub record IsPart (p : Part) : Type 0 where
   pub flag : p.flag < 256
   pub count : length p.bytes < 2 ^ 16
   pub checked : is_some p.crc ≡ (p.flag == 4)
-  pub crc : IfSome p.crc (λ crc. crc < 256)
+  pub crc : (crc : ℕ) → p.crc ≡ Some crc → crc < 256
 
--- each number with its lowest byte first; before the bytes stands how many they are
+-- what stands before the record's bytes: each number with its lowest byte first, the last of them how many bytes follow
+abbrev pub part_numbers : Part → List ℕ
+part_numbers p = little_bytes 4 p.next ++ little_bytes 4 p.transfer ++ (p.flag ∷ []) ++ little_bytes 2 (length p.bytes)
+
 abbrev pub part_bytes : Part → List ℕ
-part_bytes p = little_bytes 4 p.next ++ little_bytes 4 p.transfer ++ (p.flag ∷ []) ++ little_bytes 2 (length p.bytes) ++ p.bytes ++ option_to_list p.crc
+part_bytes p = part_numbers p ++ p.bytes ++ option_to_list p.crc
+
+-- one byte more where the flag is 4
+abbrev pub check_length : ℕ → ℕ
+check_length flag = if flag == 4 then 1 else 0
+
+-- the data are so many bytes of a record, and behind them a check byte where the flag is 4
+pub record IsChecked (tail : List ℕ) (count flag : ℕ) (bytes : List ℕ) (crc : Option ℕ) : Type 0 where
+  pub spelled : tail ≡ bytes ++ option_to_list crc
+  pub counted : length bytes ≡ count
+  pub checked : is_some crc ≡ (flag == 4)
+  pub in_range : (byte : ℕ) → crc ≡ Some byte → byte < 256
+
+-- how long a part's bytes are, by the number and the flag in them
+abbrev pub part_length : List ℕ → ℕ
+part_length bytes = 11 + little_number 2 (drop 9 bytes) + check_length (slice_index bytes 8)
+
+-- the same of an answer with completion code 0
+abbrev pub part_answer_length : List ℕ → ℕ
+part_answer_length bytes = 5 + part_length (drop 5 bytes)
 
 abbrev pub IsGetPdrRequest : RequestMessage PartRequest → Type 0
 IsGetPdrRequest m = IsRequest IsPartRequest m

@@ -6,13 +6,13 @@ use crate::header::PldmType;
 /// A command, with its PLDM type and its byte in the header.
 #[derive(Clone, Copy, Debug, PartialEq, Eq)]
 pub enum Command {
-    /// Type 0, command 0x01 (DSP0240, section 8.3.1).
+    /// Type 0, command 0x01 (DSP0240, SetTID).
     SetTid,
-    /// Type 0, command 0x02 (DSP0240, section 8.3.2).
+    /// Type 0, command 0x02 (DSP0240, GetTID).
     GetTid,
-    /// Type 0, command 0x04 (DSP0240, section 8.3.4).
+    /// Type 0, command 0x04 (DSP0240, GetPLDMTypes).
     GetPldmTypes,
-    /// Type 2, command 0x51 (DSP0248, section 26.2).
+    /// Type 2, command 0x51 (DSP0248, GetPDR).
     GetPdr,
 }
 

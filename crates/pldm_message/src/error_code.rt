@@ -1,7 +1,10 @@
 //! Completion codes that say why a request was not carried out.
 ghost use Rattle.std.specs.Prelude.{◌≡◌, ◌<◌};
 
-/// A completion code other than 0, which is success (DSP0240, section 8.4; of GetPDR DSP0248, section 26.2).
+/// The completion code of a request that was carried out.
+pub const SUCCESS: u8 = 0;
+
+/// A completion code other than 0, which is success (DSP0240, completion codes; of GetPDR DSP0248, GetPDR).
 #[derive(Clone, Copy, Debug, PartialEq, Eq)]
 pub struct ErrorCode {
     pub value: u8,

@@ -1,5 +1,5 @@
 //! What the headers of requests and answers say beside their command, and the fronts of both.
-ghost use Rattle.std.specs.Prelude.{◌≡◌, ◌≤◌, ◌++◌, length, drop};
+ghost use Rattle.std.specs.Prelude.{◌≡◌, ◌≤◌, ◌++◌, ◌∷◌, [], length, drop};
 
 use crate::command::Command;
 use crate::error_code::ErrorCode;
@@ -8,6 +8,9 @@ use crate::instance::InstanceId;
 use crate::kind::{MessageKind, RequestKind};
 use crate::pldm_error::PldmError;
 use mctp_transport::Wire;
+
+/// The bytes of an answer up to its completion code, which is the last of them.
+pub const OUTCOME_LENGTH: usize = HEADER_LENGTH + 1;
 
 /// What a request's header says beside its command.
 #[derive(Clone, Copy, Debug, PartialEq, Eq)]
@@ -150,11 +153,12 @@ impl AnswerHead {
         }
     }
 
-    /// Writes the header of an answer to a request with this command at the front of `out`.
-    pub fn put(self, command: Command, out: &mut [u8])
-        requires { 4 ≤ length out.old }
-        ensures { out.new ≡ header_bytes (answer_header command (answer_head self)) ++ drop 4 out.old }
+    /// Writes the header of an answer to a request with this command at the front of `out`, and a completion code.
+    pub fn put(self, command: Command, code: u8, out: &mut [u8])
+        requires { 5 ≤ length out.old }
+        ensures { out.new ≡ header_bytes (answer_header command (answer_head self)) ++ code ∷ [] ++ drop 5 out.old }
     {
         let _ = self.header(command).put(out);
+        out[HEADER_LENGTH] = code;
     }
 }

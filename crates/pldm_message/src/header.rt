@@ -26,7 +26,7 @@ impl PldmType {
     }
 }
 
-/// A message's header: its first four bytes, with MCTP's message type (DSP0240, section 8.1). The message type is 1
+/// A message's header: its first four bytes, with MCTP's message type (DSP0240, PLDM message fields). The message type is 1
 /// and the header version 0, so neither is kept.
 #[derive(Clone, Copy, Debug, PartialEq, Eq)]
 pub struct PldmHeader {

@@ -1,7 +1,7 @@
 //! Instance IDs, which tell the requests of one requester from each other.
 ghost use Rattle.std.specs.Prelude.{◌≡◌, ◌<◌};
 
-/// An instance ID, 0 to 31 (DSP0240, section 8.1). An answer has that of its request.
+/// An instance ID, 0 to 31 (DSP0240, PLDM message fields). An answer has that of its request.
 #[derive(Clone, Copy, Debug, PartialEq, Eq)]
 pub struct InstanceId {
     pub value: u8,

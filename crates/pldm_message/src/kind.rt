@@ -1,7 +1,7 @@
 //! What a message is.
 ghost use Rattle.std.specs.Prelude.{◌≡◌};
 
-/// What a message is, by the bits Rq and D of its header (DSP0240, section 8.1).
+/// What a message is, by the bits Rq and D of its header (DSP0240, PLDM message fields).
 #[derive(Clone, Copy, Debug, PartialEq, Eq)]
 pub enum MessageKind {
     /// Rq 1, D 0: a request that is to be answered.

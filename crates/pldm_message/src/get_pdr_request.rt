@@ -1,37 +1,18 @@
-//! Requests for parts of platform descriptor records, and their answers.
-ghost use Rattle.std.specs.Prelude.{◌≡◌, ◌<◌, ◌^◌};
+//! Requests for parts of platform descriptor records.
+ghost use Rattle.std.specs.Prelude.{◌<◌, ◌^◌};
 
 use crate::command::Command;
 use crate::fields::{split_u16, split_u32};
 use crate::head::RequestHead;
 use crate::header::HEADER_LENGTH;
 use crate::pldm_error::PldmError;
+use crate::transfer::TransferOperation;
 use byteorder::{ByteOrder, LittleEndian};
 use mctp_transport::Wire;
 
-/// Whether a first or a next part of a record is asked for (DSP0248, section 26.2). Other bytes can be read too.
-#[derive(Clone, Copy, Debug, PartialEq, Eq)]
-pub struct TransferOperation {
-    pub value: u8,
-    pub ghost in_range: { value < 256 },
-}
-
-impl TransferOperation {
-    /// The part from the data transfer handle on.
-    pub const NEXT_PART: TransferOperation = TransferOperation { value: 0 };
-    /// The record from its first byte on.
-    pub const FIRST_PART: TransferOperation = TransferOperation { value: 1 };
-
-    pub fn new(value: u8) -> Self
-        ensures { result.value ≡ value }
-    {
-        TransferOperation { value }
-    }
-}
-
 /// A request for a part of a record: 17 bytes. Behind the header stand the record handle (4 bytes), the data transfer
 /// handle (4), the transfer operation flag (1), the most bytes that the part may have (2) and the record change number
-/// (2), each with its lowest byte first (DSP0248, section 26.2).
+/// (2), each with its lowest byte first (DSP0248, GetPDR).
 #[derive(Clone, Copy, Debug, PartialEq, Eq)]
 pub struct GetPdrRequest {
     pub head: RequestHead,
@@ -115,3 +96,4 @@ impl<'a> Wire<'a> for GetPdrRequest {
 
     ghost one_value = { one_get_pdr_request };
 }
+
