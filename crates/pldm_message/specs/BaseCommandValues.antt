@@ -25,4 +25,4 @@ abbrev pub get_pldm_types : GetPldmTypes → RequestMessage (Unit {0})
 get_pldm_types m = request_of m.head tt
 
 abbrev pub get_pldm_types_answer : GetPldmTypesAnswer → AnswerMessage (List ℕ)
-get_pldm_types_answer m = answer_of (λ types. types) m.head m.outcome
+get_pldm_types_answer m = answer_of (λ types. types.bits) m.head m.outcome

@@ -1,6 +1,6 @@
 -- The commands that set and tell a terminus ID, and that which tells the PLDM types, with their answers (DSP0240,
 -- messaging control and discovery).
-use Rattle.std.specs.Prelude.{◌≡◌, ℕ, ◌<◌, ◌≤◌, List, [], ◌∷◌, length}
+use Rattle.std.specs.Prelude.{◌≡◌, ℕ, ◌<◌, ◌≤◌, ◌/◌, ◌%◌, ◌^◌, List, [], ◌∷◌, length, slice_index}
 use Rattle.pldm_message.specs.declared.command.Command.TheVariants as command
 use Rattle.pldm_message.specs.Messages.{RequestMessage, AnswerMessage, IsRequest, IsAnswer, request_bytes, answer_bytes}
 
@@ -18,7 +18,11 @@ IsByte byte = byte < 256
 abbrev pub one_byte : ℕ → List ℕ
 one_byte byte = byte ∷ []
 
--- eight bytes of data: type 8 i + j is bit j of byte i
+-- bit j of byte i stands for the PLDM type 8 i + j
+abbrev pub HasType : List ℕ → ℕ → Type 0
+HasType bits pldm_type = slice_index bits (pldm_type / 8) / 2 ^ (pldm_type % 8) % 2 ≡ 1
+
+-- eight bytes of data, which stand for a set of PLDM types
 abbrev pub AreTypes : List ℕ → Type 0
 AreTypes bits = length bits ≡ 8
 

@@ -96,4 +96,3 @@ impl<'a> Wire<'a> for GetPdrRequest {
 
     ghost one_value = { one_get_pdr_request };
 }
-

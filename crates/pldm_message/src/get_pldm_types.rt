@@ -5,6 +5,7 @@ use crate::error_code::{ErrorCode, SUCCESS};
 use crate::head::{AnswerHead, OUTCOME_LENGTH, RequestHead};
 use crate::header::HEADER_LENGTH;
 use crate::pldm_error::PldmError;
+use crate::pldm_types::{PldmTypes, TYPES_LENGTH};
 use mctp_transport::Wire;
 
 /// A request for the PLDM types of a terminus: the header alone, 4 bytes (DSP0240, GetPLDMTypes).
@@ -59,16 +60,13 @@ impl<'a> Wire<'a> for GetPldmTypes {
     ghost one_value = { one_get_pldm_types };
 }
 
-/// The bytes of an answer that say which PLDM types a terminus has.
-const TYPES_LENGTH: usize = 8;
-
 /// The answer to a request for PLDM types: the header, the completion code 0 and eight bytes, of which bit j of byte i
 /// says whether the terminus has type 8 i + j, 13 bytes; or another completion code alone, 5 bytes (DSP0240,
 /// GetPLDMTypes).
 #[derive(Clone, Copy, Debug, PartialEq, Eq)]
 pub struct GetPldmTypesAnswer {
     pub head: AnswerHead,
-    pub outcome: Result<[u8; 8], ErrorCode>,
+    pub outcome: Result<PldmTypes, ErrorCode>,
 }
 
 impl<'a> Wire<'a> for GetPldmTypesAnswer {
@@ -104,11 +102,15 @@ impl<'a> Wire<'a> for GetPldmTypesAnswer {
                 head,
                 outcome: Err(code),
             }),
-            Ok([a, b, c, d, e, f, g, h]) => Ok(GetPldmTypesAnswer {
-                head,
-                outcome: Ok([*a, *b, *c, *d, *e, *f, *g, *h]),
-            }),
-            Ok(_) => Err(PldmError::Length),
+            Ok(data) => {
+                if data.len() != TYPES_LENGTH {
+                    return Err(PldmError::Length);
+                }
+                Ok(GetPldmTypesAnswer {
+                    head,
+                    outcome: Ok(PldmTypes::of(data)),
+                })
+            }
         }
     }
 
@@ -124,7 +126,7 @@ impl<'a> Wire<'a> for GetPldmTypesAnswer {
             Ok(types) => {
                 self.head.put(Command::GetPldmTypes, SUCCESS, out);
                 let len = OUTCOME_LENGTH + TYPES_LENGTH;
-                out[OUTCOME_LENGTH..len].copy_from_slice(types);
+                out[OUTCOME_LENGTH..len].copy_from_slice(&types.bits);
                 len
             }
             Err(code) => {

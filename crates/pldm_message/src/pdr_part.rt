@@ -123,7 +123,11 @@ fn put_checked(bytes: &[u8], check: Option<u8>, out: &mut [u8]) -> usize
 }
 
 /// So many bytes of a record, and the check byte that follows them where the flag says so.
-fn split_checked(rest: &[u8], count: u16, flag: TransferFlag) -> Result<(&[u8], Option<u8>), PldmError>
+fn split_checked(
+    rest: &[u8],
+    count: u16,
+    flag: TransferFlag,
+) -> Result<(&[u8], Option<u8>), PldmError>
     ensures { MatchResult result (λ r. IsChecked rest.now count flag.value r.0.now r.1) (λ e. (e ≡ PldmError.Length) × (length rest.now ≢ count + check_length flag.value)) }
 {
     let count = usize::from(count);

@@ -44,4 +44,3 @@ impl TransferFlag {
         TransferFlag { value }
     }
 }
-
