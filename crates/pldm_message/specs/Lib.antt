@@ -13,3 +13,5 @@ pub mod PdrValues
 pub mod BaseCommands
 pub mod BaseCommandLaws
 pub mod BaseCommandValues
+pub mod InstanceIds
+pub mod InstanceIdValues
