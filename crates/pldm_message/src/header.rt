@@ -40,7 +40,7 @@ pub struct PldmHeader {
 }
 
 impl PldmHeader {
-    ghost use Rattle.std.specs.Prelude.{◌≡◌, ◌↔◌, IsTrue, IfOk, IsOkAnd, None};
+    ghost use Rattle.std.specs.Prelude.{◌≡◌, ◌↔◌, IsTrue, IfOk, IsOkAnd, None, false};
     ghost use Rattle.pldm_message.specs.Commands.{type_of, command_byte};
     ghost use Rattle.std.specs.Result.{result_err};
     ghost use Rattle.pldm_message.specs.Headers.{HeaderValue, BeginsWith};
@@ -75,6 +75,19 @@ impl PldmHeader {
             pldm_type: PldmType::new(*version),
             command: *command,
         })
+    }
+
+    /// The header of the answer to a request with this header: a response with the reserved bit clear.
+    pub fn answer(&self) -> PldmHeader
+        ensures { header_value result ≡ record (header_value self.now) { kind = MessageKind.Response; reserved = false } }
+    {
+        PldmHeader {
+            kind: MessageKind::Response,
+            reserved: false,
+            instance: self.instance,
+            pldm_type: self.pldm_type,
+            command: self.command,
+        }
     }
 
     /// Whether it has the PLDM type and command byte of this command.
