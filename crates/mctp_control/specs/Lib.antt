@@ -1,0 +1,4 @@
+pub mod Codes
+pub mod Refusals
+pub mod RouteEntries
+pub mod RouteEntryLaws
