@@ -3,7 +3,13 @@
 #![tactic(auto)]
 
 mod control_error;
+mod header;
+mod operations;
+mod request;
 mod route_entry;
 
 pub use control_error::ControlError;
+pub use header::{ControlHeader, InstanceId};
+pub use operations::{AllocateOperation, Reserved, SetOperation};
+pub use request::{Command, Request};
 pub use route_entry::{EntryKind, MAX_ADDRESS, Port, RouteEntry};
