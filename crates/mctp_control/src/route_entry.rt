@@ -9,7 +9,7 @@ use mctp_transport::{Eid, Wire};
 pub const MAX_ADDRESS: usize = 52;
 
 /// The bytes of an entry before its address.
-const FIXED_LENGTH: usize = 6;
+pub(crate) const FIXED_LENGTH: usize = 6;
 
 /// What an entry is for: bits 7 and 6 of its third byte.
 #[derive(Clone, Copy, Debug, PartialEq, Eq)]
@@ -150,4 +150,20 @@ impl<'a> Wire<'a> for RouteEntry {
     }
 
     ghost one_value = { one_entry };
+}
+
+impl Default for RouteEntry {
+    /// An entry of no EIDs.
+    fn default() -> Self {
+        RouteEntry {
+            size: 0,
+            first: Eid::new(0),
+            kind: EntryKind::Endpoint,
+            is_static: false,
+            port: Port::new(0),
+            binding: 0,
+            media: 0,
+            address: ArrayVec::new(),
+        }
+    }
 }
