@@ -10,14 +10,10 @@ use mctp_transport::{Eid, Wire};
 /// The number of a command.
 #[derive(Clone, Copy, Debug, PartialEq, Eq)]
 pub enum CommandNumber {
-    /// 0x01.
-    SetEndpointId,
-    /// 0x02.
-    GetEndpointId,
-    /// 0x08.
-    AllocateEndpointIds,
-    /// 0x0A.
-    GetRoutingTableEntries,
+    SetEndpointId = 0x01,
+    GetEndpointId = 0x02,
+    AllocateEndpointIds = 0x08,
+    GetRoutingTableEntries = 0x0a,
 }
 
 impl CommandNumber {
@@ -36,17 +32,6 @@ impl CommandNumber {
             8 => Some(CommandNumber::AllocateEndpointIds),
             10 => Some(CommandNumber::GetRoutingTableEntries),
             _ => None,
-        }
-    }
-
-    fn number(self) -> u8
-        ensures { result ≡ command_number self }
-    {
-        match self {
-            CommandNumber::SetEndpointId => 1,
-            CommandNumber::GetEndpointId => 2,
-            CommandNumber::AllocateEndpointIds => 8,
-            CommandNumber::GetRoutingTableEntries => 10,
         }
     }
 }
@@ -218,7 +203,7 @@ impl Answer {
                 put_entries(entries.items.as_slice(), &mut out[4..]);
             }
             Answer::Failed { command, failure } => {
-                put_front(out, [command.number(), failure.code]);
+                put_front(out, [*command as u8, failure.code]);
             }
         }
     }

@@ -7,13 +7,13 @@ use crate::operations::Reserved;
 #[derive(Clone, Copy, Debug, PartialEq, Eq)]
 pub enum Acceptance {
     /// 0: taken.
-    Accepted,
+    Accepted = 0,
     /// 1: not taken.
-    Rejected,
+    Rejected = 1,
     /// 2: reserved.
-    Reserved2,
+    Reserved2 = 2,
     /// 3: reserved.
-    Reserved3,
+    Reserved3 = 3,
 }
 
 impl Acceptance {
@@ -30,30 +30,19 @@ impl Acceptance {
             _ => Acceptance::Reserved3,
         }
     }
-
-    fn number(self) -> u8
-        ensures { result ≡ acceptance_number self }
-    {
-        match self {
-            Acceptance::Accepted => 0,
-            Acceptance::Rejected => 1,
-            Acceptance::Reserved2 => 2,
-            Acceptance::Reserved3 => 3,
-        }
-    }
 }
 
 /// Whether a device wants a pool of EIDs (DSP0236, section 12.3).
 #[derive(Clone, Copy, Debug, PartialEq, Eq)]
 pub enum Allocation {
     /// 0: it uses none.
-    NoPool,
+    NoPool = 0,
     /// 1: it wants one.
-    Required,
+    Required = 1,
     /// 2: it has one.
-    Received,
+    Received = 2,
     /// 3: reserved.
-    Reserved,
+    Reserved = 3,
 }
 
 impl Allocation {
@@ -70,30 +59,19 @@ impl Allocation {
             _ => Allocation::Reserved,
         }
     }
-
-    fn number(self) -> u8
-        ensures { result ≡ allocation_number self }
-    {
-        match self {
-            Allocation::NoPool => 0,
-            Allocation::Required => 1,
-            Allocation::Received => 2,
-            Allocation::Reserved => 3,
-        }
-    }
 }
 
 /// What a device is (DSP0236, section 12.4).
 #[derive(Clone, Copy, Debug, PartialEq, Eq)]
 pub enum EndpointType {
     /// 0: an endpoint and no more.
-    Simple,
+    Simple = 0,
     /// 1: a bridge or a bus owner.
-    Bridge,
+    Bridge = 1,
     /// 2: reserved.
-    Reserved2,
+    Reserved2 = 2,
     /// 3: reserved.
-    Reserved3,
+    Reserved3 = 3,
 }
 
 impl EndpointType {
@@ -110,30 +88,19 @@ impl EndpointType {
             _ => EndpointType::Reserved3,
         }
     }
-
-    fn number(self) -> u8
-        ensures { result ≡ endpoint_number self }
-    {
-        match self {
-            EndpointType::Simple => 0,
-            EndpointType::Bridge => 1,
-            EndpointType::Reserved2 => 2,
-            EndpointType::Reserved3 => 3,
-        }
-    }
 }
 
 /// Where a device's EID is from (DSP0236, section 12.4).
 #[derive(Clone, Copy, Debug, PartialEq, Eq)]
 pub enum EidType {
     /// 0: it is given.
-    Dynamic,
+    Dynamic = 0,
     /// 1: the device may have a static one.
-    Static,
+    Static = 1,
     /// 2: it is the static one.
-    StaticPresent,
+    StaticPresent = 2,
     /// 3: it is given in place of the static one.
-    StaticReplaced,
+    StaticReplaced = 3,
 }
 
 impl EidType {
@@ -148,17 +115,6 @@ impl EidType {
             1 => EidType::Static,
             2 => EidType::StaticPresent,
             _ => EidType::StaticReplaced,
-        }
-    }
-
-    fn number(self) -> u8
-        ensures { result ≡ eid_type_number self }
-    {
-        match self {
-            EidType::Dynamic => 0,
-            EidType::Static => 1,
-            EidType::StaticPresent => 2,
-            EidType::StaticReplaced => 3,
         }
     }
 }
@@ -210,9 +166,9 @@ impl SetStatus {
         ensures { result ≡ pairs_byte (set_status self) }
     {
         64 * self.high.value
-            + 16 * self.acceptance.number()
+            + 16 * (self.acceptance as u8)
             + 4 * self.low.value
-            + self.allocation.number()
+            + (self.allocation as u8)
     }
 }
 
@@ -246,7 +202,7 @@ impl EndpointStatus {
     pub(crate) fn byte(self) -> u8
         ensures { result ≡ pairs_byte (endpoint_status self) }
     {
-        64 * self.high.value + 16 * self.endpoint.number() + 4 * self.low.value + self.eid.number()
+        64 * self.high.value + 16 * (self.endpoint as u8) + 4 * self.low.value + (self.eid as u8)
     }
 }
 
@@ -274,6 +230,6 @@ impl PoolStatus {
     pub(crate) fn byte(self) -> u8
         ensures { result ≡ pool_byte (pool_status self) }
     {
-        4 * self.reserved.value + self.acceptance.number()
+        4 * self.reserved.value + (self.acceptance as u8)
     }
 }
