@@ -1,3 +1,4 @@
 pub mod EntryReading
 pub mod EntryTaking
 pub mod CommandNumbers
+pub mod PoolLaws

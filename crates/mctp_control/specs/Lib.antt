@@ -1,3 +1,5 @@
+pub mod Ranges
+pub mod Pools
 pub mod Codes
 pub mod Numbers
 pub mod Digits
