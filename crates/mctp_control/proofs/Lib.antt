@@ -2,3 +2,4 @@ pub mod EntryReading
 pub mod EntryTaking
 pub mod CommandNumbers
 pub mod PoolLaws
+pub mod EntryFitting

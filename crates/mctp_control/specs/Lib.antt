@@ -14,3 +14,6 @@ pub mod Requests
 pub mod RequestLaws
 pub mod Responses
 pub mod ResponseLaws
+pub mod Devices
+pub mod Replies
+pub mod Outcomes

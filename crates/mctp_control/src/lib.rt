@@ -3,6 +3,7 @@
 #![tactic(auto)]
 
 mod control_error;
+mod device;
 mod eid_pool;
 mod eid_range;
 mod entries;
@@ -14,6 +15,7 @@ mod route_entry;
 mod statuses;
 
 pub use control_error::ControlError;
+pub use device::{Device, DeviceKind, MAX_BODY};
 pub use eid_pool::EidPool;
 pub use eid_range::EidRange;
 pub use entries::{Entries, MAX_ENTRIES, MAX_ENTRY_BYTES};
