@@ -1,4 +1,4 @@
--- What a device replies to a request, and what it holds afterwards (DSP0236, sections 12.3, 12.4, 12.9 and 12.13;
+-- What a device replies to a request, and what it holds afterwards (DSP0236, the commands of these names;
 -- this project's own choice where the standard leaves one).
 use Rattle.std.specs.Prelude.{◌≡◌, ◌≢◌, ◌⊎◌, ℕ, ◌+◌, ◌/◌, ◌%◌, ◌<◌, ◌≤◌, ◌==◌, if◌then◌else◌, List, [], ◌∷◌, length, take, drop, slice_index, Option, Some, None}
 use Rattle.mctp_transport.specs.Frames.{IsAssignable}
