@@ -1,0 +1,3 @@
+pub mod Apart
+pub mod Halving
+pub mod Fronts

@@ -1,0 +1,15 @@
+//! What an MCTP bridge decides by (DSP0236): its routing table, where it sends a packet, and the routing table entries that
+//! tell others of it.
+#![tactic(auto)]
+
+mod range_table;
+mod row;
+mod row_faults;
+mod table_fault;
+
+pub use range_table::RangeTable;
+pub use row::{Hop, Row};
+pub use table_fault::TableFault;
+
+#[cfg(test)]
+mod tests;
