@@ -1,0 +1,9 @@
+pub mod Codes
+pub mod Numbers
+pub mod Digits
+pub mod Headers
+pub mod Refusals
+pub mod RouteEntries
+pub mod RouteEntryLaws
+pub mod Requests
+pub mod RequestLaws
