@@ -2,11 +2,13 @@
 //! tell others of it.
 #![tactic(auto)]
 
+mod decision;
 mod range_table;
 mod row;
 mod row_faults;
 mod table_fault;
 
+pub use decision::{Decision, Kind, Node, Obstacle, Progress, decide};
 pub use range_table::RangeTable;
 pub use row::{Hop, Row};
 pub use table_fault::TableFault;
