@@ -1,3 +1,4 @@
 pub mod Apart
 pub mod Halving
 pub mod Fronts
+pub mod EntryRows

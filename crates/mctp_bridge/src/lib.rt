@@ -4,12 +4,14 @@
 
 mod decision;
 mod range_table;
+mod routing_entries;
 mod row;
 mod row_faults;
 mod table_fault;
 
 pub use decision::{Decision, Kind, Node, Obstacle, Progress, decide};
 pub use range_table::RangeTable;
+pub use routing_entries::{Neighbor, route_entries};
 pub use row::{Hop, Row};
 pub use table_fault::TableFault;
 
