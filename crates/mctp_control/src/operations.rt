@@ -5,13 +5,13 @@ ghost use Rattle.std.specs.Prelude.{◌≡◌, ◌<◌};
 #[derive(Clone, Copy, Debug, PartialEq, Eq)]
 pub enum SetOperation {
     /// 0: takes the EID where none is held or the same bus gave it.
-    Set,
+    Set = 0,
     /// 1: takes the EID whatever is held.
-    Force,
+    Force = 1,
     /// 2: goes back to a static EID.
-    Reset,
+    Reset = 2,
     /// 3: sets the discovered flag.
-    SetDiscovered,
+    SetDiscovered = 3,
 }
 
 impl SetOperation {
@@ -28,30 +28,19 @@ impl SetOperation {
             _ => SetOperation::SetDiscovered,
         }
     }
-
-    pub(crate) fn number(self) -> u8
-        ensures { result ≡ set_number self }
-    {
-        match self {
-            SetOperation::Set => 0,
-            SetOperation::Force => 1,
-            SetOperation::Reset => 2,
-            SetOperation::SetDiscovered => 3,
-        }
-    }
 }
 
 /// What Allocate Endpoint IDs does: bits 1 and 0 of its first byte (DSP0236, section 12.9).
 #[derive(Clone, Copy, Debug, PartialEq, Eq)]
 pub enum AllocateOperation {
     /// 0: takes the pool where none is held or the same bus gave it.
-    Allocate,
+    Allocate = 0,
     /// 1: takes the pool whatever is held.
-    Force,
+    Force = 1,
     /// 2: tells the present pool.
-    GetInformation,
+    GetInformation = 2,
     /// 3: reserved.
-    Reserved,
+    Reserved = 3,
 }
 
 impl AllocateOperation {
@@ -66,17 +55,6 @@ impl AllocateOperation {
             1 => AllocateOperation::Force,
             2 => AllocateOperation::GetInformation,
             _ => AllocateOperation::Reserved,
-        }
-    }
-
-    pub(crate) fn number(self) -> u8
-        ensures { result ≡ allocate_number self }
-    {
-        match self {
-            AllocateOperation::Allocate => 0,
-            AllocateOperation::Force => 1,
-            AllocateOperation::GetInformation => 2,
-            AllocateOperation::Reserved => 3,
         }
     }
 }

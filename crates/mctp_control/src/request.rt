@@ -96,7 +96,7 @@ impl Command {
                 eid,
             } => {
                 out[0] = 1;
-                out[1] = 4 * reserved.value + operation.number();
+                out[1] = 4 * reserved.value + (*operation as u8);
                 out[2] = eid.value;
             }
             Command::GetEndpointId => out[0] = 2,
@@ -107,7 +107,7 @@ impl Command {
                 first,
             } => {
                 out[0] = 8;
-                out[1] = 4 * reserved.value + operation.number();
+                out[1] = 4 * reserved.value + (*operation as u8);
                 out[2] = *size;
                 out[3] = first.value;
             }

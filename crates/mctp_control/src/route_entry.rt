@@ -9,19 +9,19 @@ use mctp_transport::{Eid, Wire};
 pub const MAX_ADDRESS: usize = 52;
 
 /// The bytes of an entry before its address.
-const FIXED_LENGTH: usize = 6;
+pub(crate) const FIXED_LENGTH: usize = 6;
 
 /// What an entry is for: bits 7 and 6 of its third byte.
 #[derive(Clone, Copy, Debug, PartialEq, Eq)]
 pub enum EntryKind {
     /// 0: one endpoint that is no bridge.
-    Endpoint,
+    Endpoint = 0,
     /// 1: a range that starts with the bridge's own EID.
-    BridgeAndRange,
+    BridgeAndRange = 1,
     /// 2: one endpoint that is a bridge.
-    Bridge,
+    Bridge = 2,
     /// 3: a range without the bridge's own EID.
-    Range,
+    Range = 3,
 }
 
 impl EntryKind {
@@ -36,17 +36,6 @@ impl EntryKind {
             1 => EntryKind::BridgeAndRange,
             2 => EntryKind::Bridge,
             _ => EntryKind::Range,
-        }
-    }
-
-    fn number(self) -> u8
-        ensures { result ≡ kind_number self }
-    {
-        match self {
-            EntryKind::Endpoint => 0,
-            EntryKind::BridgeAndRange => 1,
-            EntryKind::Bridge => 2,
-            EntryKind::Range => 3,
         }
     }
 }
@@ -141,7 +130,7 @@ impl<'a> Wire<'a> for RouteEntry {
         let len = self.len();
         out[0] = self.size;
         out[1] = self.first.value;
-        out[2] = 64 * self.kind.number() + 32 * u8::from(self.is_static) + self.port.value;
+        out[2] = 64 * (self.kind as u8) + 32 * u8::from(self.is_static) + self.port.value;
         out[3] = self.binding;
         out[4] = self.media;
         out[5] = self.address.len() as u8;
@@ -150,4 +139,20 @@ impl<'a> Wire<'a> for RouteEntry {
     }
 
     ghost one_value = { one_entry };
+}
+
+impl Default for RouteEntry {
+    /// An entry of no EIDs.
+    fn default() -> Self {
+        RouteEntry {
+            size: 0,
+            first: Eid::new(0),
+            kind: EntryKind::Endpoint,
+            is_static: false,
+            port: Port::new(0),
+            binding: 0,
+            media: 0,
+            address: ArrayVec::new(),
+        }
+    }
 }
