@@ -4,6 +4,7 @@
 
 mod decision;
 mod entry_reader;
+mod laws;
 mod range_table;
 mod routing_entries;
 mod read_fault;
@@ -14,6 +15,7 @@ mod table_part;
 
 pub use decision::{Decision, Kind, Node, Obstacle, Progress, decide};
 pub use entry_reader::{EntryReader, MAX_READ};
+pub use laws::{asks_what_is_due, every_answer_is_taken, readings_collect_all};
 pub use range_table::RangeTable;
 pub use routing_entries::{Neighbor, route_entries};
 pub use read_fault::ReadFault;
