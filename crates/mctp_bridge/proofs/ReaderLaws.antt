@@ -28,8 +28,8 @@ pub asked : (old new : ReaderState) (xs : List Exchange) (id : ℕ) (request : O
     → (request ≡ option_map (asking id) (due_after xs)) × StandsFor new xs
 asked old new xs id request stands asks =
     elim asks [
-      inl (failed, _) ↦ absurd (false≢true (sym stands.goes ∙ failed))
-    | inr (_, rest) ↦ asked_by old new xs id request old.handle stands stands.handle rest
+      | inl (failed, _) ↦ absurd (false≢true (sym stands.goes ∙ failed))
+      | inr (_, rest) ↦ asked_by old new xs id request old.handle stands stands.handle rest
     ]
 
 told_next : (n m : ℕ) (es fs : List EntryValue) → EntriesTold n es ≡ EntriesTold m fs → n ≡ m
@@ -65,8 +65,8 @@ module _ (table : List EntryValue) (told : IsTold table) (xs : List Exchange) (x
   never_empty : x.entries ≡ [] → x.next ≢ 255 → ⊥
   never_empty none more =
       elim (cases_lt (x.handle + length x.entries) (length table)) [
-        inl lt ↦ (let some = rw none at (some_entry table told x part (omega arith)) in absurd (omega arith))
-      | inr ge ↦ more (part.last ge)
+        | inl lt ↦ (let some = rw none at (some_entry table told x part (omega arith)) in absurd (omega arith))
+        | inr ge ↦ more (part.last ge)
       ]
 
   -- there is room for its entries
@@ -99,10 +99,10 @@ module _ (table : List EntryValue) (told : IsTold table) (xs : List Exchange) (x
       → old.waiting ≡ Some header.instance → First (old.waiting ≢ Some h.instance) (Ignores old NotAsked result new) (TakesPart old n es result new) → IsTaken table xs x result new
   by header h n es result new (is_h, is_n, is_es) waits rest =
       elim rest [
-        inl (other, _) ↦ absurd (other (waits ∙ ap (λ (k : HeaderValue). Some k.instance) (sym is_h)))
-      | inr (_, inl ((none, more), _)) ↦ absurd (never_empty (sym is_es ∙ none) (λ last. more (is_n ∙ last)))
-      | inr (_, inr (_, inl (many, _))) ↦ absurd (never_too_many (rw is_es at many))
-      | inr (_, inr (_, inr (_, (is_result, is_new)))) ↦ taken result new (is_result ∙ ap (λ m. Ok (is_last m)) is_n) (is_new ∙ ap (λ m. state_after old m es) is_n ∙ ap (state_after old x.next) is_es)
+        | inl (other, _) ↦ absurd (other (waits ∙ ap (λ (k : HeaderValue). Some k.instance) (sym is_h)))
+        | inr (_, inl ((none, more), _)) ↦ absurd (never_empty (sym is_es ∙ none) (λ last. more (is_n ∙ last)))
+        | inr (_, inr (_, inl (many, _))) ↦ absurd (never_too_many (rw is_es at many))
+        | inr (_, inr (_, inr (_, (is_result, is_new)))) ↦ taken result new (is_result ∙ ap (λ m. Ok (is_last m)) is_n) (is_new ∙ ap (λ m. state_after old m es) is_n ∙ ap (state_after old x.next) is_es)
       ]
 
   -- the answer to the reader's request is taken
@@ -110,8 +110,8 @@ module _ (table : List EntryValue) (told : IsTold table) (xs : List Exchange) (x
       → old.waiting ≡ Some header.instance → Takes old bytes result new → IsTaken table xs x result new
   answer_taken header bytes result new tells waits takes =
       elim takes [
-        inl (failed, _) ↦ absurd (false≢true (sym stands.goes ∙ failed))
-      | inr (_, inl (none, _)) ↦ absurd (is_there old.waiting header.instance waits none)
-      | inr (_, inr (_, inl (nothing, _))) ↦ absurd (nothing header x.next x.entries tells)
-      | inr (_, inr (_, inr (_, (h, n, es, other, rest)))) ↦ by header h n es result new (same_told h header n x.next es x.entries bytes other tells) waits rest
+        | inl (failed, _) ↦ absurd (false≢true (sym stands.goes ∙ failed))
+        | inr (_, inl (none, _)) ↦ absurd (is_there old.waiting header.instance waits none)
+        | inr (_, inr (_, inl (nothing, _))) ↦ absurd (nothing header x.next x.entries tells)
+        | inr (_, inr (_, inr (_, (h, n, es, other, rest)))) ↦ by header h n es result new (same_told h header n x.next es x.entries bytes other tells) waits rest
       ]

@@ -19,8 +19,8 @@ take_two h n xs =
 pub goes_on : (next : ℕ) → next < 255 → handle_after next ≡ Some next
 goes_on next lt =
     elim (eqb_tells next 255) [
-      inl same ↦ (let is : next ≡ 255 = same.1 in absurd (omega arith))
-    | inr other ↦ rw other.0 refl
+      | inl same ↦ (let is : next ≡ 255 = same.1 in absurd (omega arith))
+      | inr other ↦ rw other.0 refl
     ]
 
 -- the bytes of one entry with a short address
@@ -32,17 +32,17 @@ module _ (table : List EntryValue) (told : IsTold table) where
   pub some_entry : (x : Exchange) → IsTablePart table x → x.handle < length table → 0 < length x.entries
   some_entry x part lt =
       elim (cases_lt 0 (length x.entries)) [
-        inl some ↦ some
-      | inr none ↦
-          (let d : EntryValue = record { size = 0; first = 0; kind = 0; fixed = false; port = 0; binding = 0; media = 0; address = [] } in
-          let e = get_or table x.handle d in
-          let cut = drop-cons table x.handle d lt in
-          let one : 1 ≤ length (drop x.handle table) = simp length-drop (omega arith) in
-          let most = part.most 1 (omega arith) one in
-          let front : take 1 (drop x.handle table) ≡ e ∷ [] = rw cut refl in
-          let short = entry_length e (told.short x.handle d lt) in
-          let long = rw front at most in
-          absurd (omega arith))
+        | inl some ↦ some
+        | inr none ↦
+            (let d : EntryValue = record { size = 0; first = 0; kind = 0; fixed = false; port = 0; binding = 0; media = 0; address = [] } in
+            let e = get_or table x.handle d in
+            let cut = drop-cons table x.handle d lt in
+            let one : 1 ≤ length (drop x.handle table) = simp length-drop (omega arith) in
+            let most = part.most 1 (omega arith) one in
+            let front : take 1 (drop x.handle table) ≡ e ∷ [] = rw cut refl in
+            let short = entry_length e (told.short x.handle d lt) in
+            let long = rw front at most in
+            absurd (omega arith))
       ]
 
   -- an answer's entries follow those before its handle
@@ -58,13 +58,13 @@ module _ (table : List EntryValue) (told : IsTold table) where
       let joined = follows before x upto.0 part in
       let P : Option ℕ → Type 0 = λ due. IsReadUpTo table due (before ++ x.entries) in
       elim (cases_lt end (length table)) [
-        inl lt ↦
-          (let few = told.few in
-          let due : handle_after x.next ≡ Some end = ap handle_after (part.more lt) ∙ goes_on end (omega arith) in
-          subst P (sym due) (joined, inr lt))
-      | inr ge ↦
-          (let due : handle_after x.next ≡ None = ap handle_after (part.last ge) in
-          subst P (sym due) (joined ∙ take_all end table ge))
+        | inl lt ↦
+            (let few = told.few in
+            let due : handle_after x.next ≡ Some end = ap handle_after (part.more lt) ∙ goes_on end (omega arith) in
+            subst P (sym due) (joined, inr lt))
+        | inr ge ↦
+            (let due : handle_after x.next ≡ None = ap handle_after (part.last ge) in
+            subst P (sym due) (joined ∙ take_all end table ge))
       ]
 
   pub reads_all : (due : Option ℕ) (xs : List Exchange) (before : List EntryValue) → ReadsFrom table due xs → IsReadUpTo table due before
