@@ -3,6 +3,9 @@
 #![tactic(auto)]
 
 mod control_error;
+mod device;
+mod eid_pool;
+mod eid_range;
 mod entries;
 mod header;
 mod operations;
@@ -12,6 +15,9 @@ mod route_entry;
 mod statuses;
 
 pub use control_error::ControlError;
+pub use device::{Device, DeviceKind, MAX_BODY};
+pub use eid_pool::EidPool;
+pub use eid_range::EidRange;
 pub use entries::{Entries, MAX_ENTRIES, MAX_ENTRY_BYTES};
 pub use header::{ControlHeader, InstanceId};
 pub use operations::{AllocateOperation, Reserved, SetOperation};
