@@ -4,3 +4,4 @@ pub mod Fronts
 pub mod EntryRows
 pub mod Readings
 pub mod ReaderLaws
+pub mod Replying

@@ -12,7 +12,7 @@ use Rattle.mctp_bridge.specs.declared.read_fault.ReadFault.TheVariants.{NotAsked
 use Rattle.mctp_bridge.specs.Parts.{Tells}
 use Rattle.mctp_bridge.specs.Readers.{ReaderState, First, Asks, AsksNothing, Takes, TakesPart, Ignores, asking, handle_after, is_last, state_after}
 use Rattle.mctp_bridge.specs.Reads.{Exchange, IsTold, IsTablePart, Reads, due_after, collected, IsReadUpTo, StandsFor, IsTaken}
-use Rattle.mctp_bridge.proofs.Readings.{some_entry, follows, reads_more, reading_collects, due_pushed, collected_pushed, reads_pushed}
+use Rattle.mctp_bridge.proofs.Readings.{some_entry, next_last, ends_within, follows, reads_more, reading_collects, due_pushed, collected_pushed, reads_pushed}
 
 asked_by : (old new : ReaderState) (xs : List Exchange) (id : ℕ) (request : Option (List ℕ)) (handle : Option ℕ) → StandsFor old xs → handle ≡ due_after xs
     → MatchOption handle (AsksNothing old request new) (λ handle. (request ≡ Some (asking id handle)) × (new ≡ record old { waiting = Some id }))
@@ -66,7 +66,7 @@ module _ (table : List EntryValue) (told : IsTold table) (xs : List Exchange) (x
   never_empty none more =
       elim (cases_lt (x.handle + length x.entries) (length table)) [
         | inl lt ↦ (let some = rw none at (some_entry table told x part (omega arith)) in absurd (omega arith))
-        | inr ge ↦ more (part.last ge)
+        | inr ge ↦ more (part.next ∙ next_last table (x.handle + length x.entries) (ends_within table told x part) ge)
       ]
 
   -- there is room for its entries

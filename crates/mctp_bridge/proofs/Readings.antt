@@ -8,6 +8,7 @@ use Rattle.std.proofs.lemmas.List.{take_all, append-nil, take-append-drop, take-
 use Rattle.std.specs.List.{flat_map}
 use Rattle.mctp_control.specs.RouteEntries.{EntryValue, entry_bytes}
 use Rattle.mctp_control.specs.EntryLists.{entries_bytes}
+use Rattle.mctp_control.specs.Replies.{handle_after as next_handle}
 use Rattle.mctp_bridge.specs.Readers.{handle_after, is_last}
 use Rattle.mctp_bridge.specs.Reads.{Exchange, IsTold, IsTablePart, ReadsFrom, Reads, due_from, due_after, collected, IsReadUpTo}
 
@@ -23,6 +24,21 @@ goes_on next lt =
       | inr other ↦ rw other.0 refl
     ]
 
+-- the next handle where entries are left, and where none is
+pub next_before : (table : List EntryValue) (index : ℕ) → index < length table → next_handle table index ≡ index
+next_before table index lt =
+    elim (eqb_tells index (length table)) [
+      inl same ↦ (let is = same.1 in absurd (omega arith))
+    | inr other ↦ rw other.0 refl
+    ]
+
+pub next_last : (table : List EntryValue) (index : ℕ) → index ≤ length table → length table ≤ index → next_handle table index ≡ 255
+next_last table index le ge =
+    elim (eqb_tells index (length table)) [
+      inl same ↦ rw same.0 refl
+    | inr other ↦ (let no = other.1 in absurd (no (omega arith)))
+    ]
+
 -- the bytes of one entry with a short address
 entry_length : (e : EntryValue) → length e.address ≤ 8 → length (entries_bytes (e ∷ [])) ≤ 14
 entry_length e short = rw (append-nil e.address) (omega arith)
@@ -32,23 +48,33 @@ module _ (table : List EntryValue) (told : IsTold table) where
   pub some_entry : (x : Exchange) → IsTablePart table x → x.handle < length table → 0 < length x.entries
   some_entry x part lt =
       elim (cases_lt 0 (length x.entries)) [
-        | inl some ↦ some
-        | inr none ↦
-            (let d : EntryValue = record { size = 0; first = 0; kind = 0; fixed = false; port = 0; binding = 0; media = 0; address = [] } in
-            let e = get_or table x.handle d in
-            let cut = drop-cons table x.handle d lt in
-            let one : 1 ≤ length (drop x.handle table) = simp length-drop (omega arith) in
-            let most = part.most 1 (omega arith) one in
-            let front : take 1 (drop x.handle table) ≡ e ∷ [] = rw cut refl in
-            let short = entry_length e (told.short x.handle d lt) in
-            let long = rw front at most in
-            absurd (omega arith))
+        inl some ↦ some
+      | inr none ↦
+          (let d : EntryValue = record { size = 0; first = 0; kind = 0; fixed = false; port = 0; binding = 0; media = 0; address = [] } in
+          let zero_told : length x.entries ≡ 0 = omega arith in
+          let left : length x.entries < length (drop x.handle table) = simp length-drop (omega arith) in
+          let cut = drop-cons table x.handle d lt in
+          let most = part.most.most left in
+          let front : take (length x.entries + 1) (drop x.handle table) ≡ get_or table x.handle d ∷ [] = rw (zero_told, cut) refl in
+          let short = entry_length (get_or table x.handle d) (told.short x.handle d lt) in
+          let long = rw front at most in
+          absurd (omega arith))
       ]
 
   -- an answer's entries follow those before its handle
   pub follows : (before : List EntryValue) (x : Exchange) → before ≡ take x.handle table → IsTablePart table x
       → before ++ x.entries ≡ take (x.handle + length x.entries) table
   follows before x is part = ap (λ es. es ++ x.entries) is ∙ ap (λ es. take x.handle table ++ es) part.entries ∙ sym (take_two x.handle (length x.entries) table)
+
+  -- an answer doesn't reach past the table
+  pub ends_within : (x : Exchange) → IsTablePart table x → x.handle + length x.entries ≤ length table
+  ends_within x part =
+      let there = part.most.there in
+      let cut = length-drop x.handle table in
+      elim part.known [
+        inl first ↦ omega arith
+      | inr within ↦ omega arith
+      ]
 
   -- with an answer, more is read
   pub reads_more : (before : List EntryValue) (x : Exchange) → IsReadUpTo table (Some x.handle) before → IsTablePart table x
@@ -60,10 +86,12 @@ module _ (table : List EntryValue) (told : IsTold table) where
       elim (cases_lt end (length table)) [
         | inl lt ↦
             (let few = told.few in
-            let due : handle_after x.next ≡ Some end = ap handle_after (part.more lt) ∙ goes_on end (omega arith) in
+            let more : next_handle table end ≡ end = next_before table end lt in
+            let due : handle_after x.next ≡ Some end = ap handle_after (part.next ∙ more) ∙ goes_on end (omega arith) in
             subst P (sym due) (joined, inr lt))
         | inr ge ↦
-            (let due : handle_after x.next ≡ None = ap handle_after (part.last ge) in
+            (let last : next_handle table end ≡ 255 = next_last table end (ends_within x part) ge in
+            let due : handle_after x.next ≡ None = ap handle_after (part.next ∙ last) in
             subst P (sym due) (joined ∙ take_all end table ge))
       ]
 

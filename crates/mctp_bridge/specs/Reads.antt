@@ -1,10 +1,10 @@
 -- Reading a bridge's routing table: a list of requests and answers, instance IDs left aside.
-use Rattle.std.specs.Prelude.{◌≡◌, ◌⊎◌, ℕ, ◌+◌, ◌<◌, ◌≤◌, Bool, true, false, List, [], ◌∷◌, ◌++◌, length, take, drop, All, Option, Some, None, option_map, Result, Ok, ◌==◌, if◌then◌else◌}
-use Rattle.std.specs.List.{flat_map}
-use Rattle.mctp_control.specs.Headers.{HeaderValue}
-use Rattle.mctp_control.specs.RouteEntries.{EntryValue}
-use Rattle.mctp_control.specs.EntryLists.{entries_bytes}
-use Rattle.mctp_bridge.specs.Parts.{Tells}
+use Rattle.std.specs.Prelude.{◌≡◌, ◌⊎◌, ℕ, ◌+◌, ◌<◌, ◌≤◌, Bool, true, false, List, [], ◌∷◌, ◌++◌, length, take, drop, All, Option, Some, None, IsSomeAnd, option_map, Result, Ok, ◌==◌, if◌then◌else◌}
+use Rattle.std.specs.List.{flat_map, AllByRecursion}
+use Rattle.mctp_control.specs.RouteEntries.{EntryValue, IsEntry}
+use Rattle.mctp_control.specs.Devices.{DeviceValue}
+use Rattle.mctp_control.specs.Replies.{IsMost, Replies, handle_after as next_handle}
+use Rattle.mctp_control.specs.declared.device.DeviceKind.TheVariants.{Bridge}
 use Rattle.mctp_bridge.specs.Readers.{ReaderState, handle_after, is_last, asking, Asks, Takes}
 use Rattle.mctp_bridge.specs.declared.read_fault.ReadFault.{ReadFault}
 
@@ -16,17 +16,17 @@ pub record Exchange : Type 0 where
 
 -- a table that a bridge can tell of: at most 247 entries, with addresses of at most 8 bytes
 pub record IsTold (table : List EntryValue) : Type 0 where
+  pub each : AllByRecursion IsEntry table
   pub few : length table ≤ 247
   pub short : All (λ entry. length entry.address ≤ 8) table
 
--- A bridge of this table answers so: with the entries from the handle on, as many as fit 58 bytes, and with the handle of the
--- entry after them, or 255 where there is none.
+-- A bridge of this table answers so: to handle 0 or that of an entry, with the entries from there on, as many as fit, and with
+-- the handle of the entry after them, or 255 where there is none.
 pub record IsTablePart (table : List EntryValue) (x : Exchange) : Type 0 where
+  pub known : (x.handle ≡ 0) ⊎ (x.handle < length table)
+  pub most : IsMost (drop x.handle table) (length x.entries)
   pub entries : x.entries ≡ take (length x.entries) (drop x.handle table)
-  pub fits : length (entries_bytes x.entries) ≤ 58
-  pub most : (count : ℕ) → length x.entries < count → count ≤ length (drop x.handle table) → 58 < length (entries_bytes (take count (drop x.handle table)))
-  pub more : x.handle + length x.entries < length table → x.next ≡ x.handle + length x.entries
-  pub last : length table ≤ x.handle + length x.entries → x.next ≡ 255
+  pub next : x.next ≡ next_handle table (x.handle + length x.entries)
 
 -- each request asks for the handle that is due, first this one and then the one that the answer before it gave, and each
 -- answer is the table's
@@ -71,7 +71,7 @@ abbrev pub AsksWhatIsDue : Type 0
 AsksWhatIsDue = (old new : ReaderState) (xs : List Exchange) (id : ℕ) (request : Option (List ℕ)) → StandsFor old xs → Asks old id request new
     → (request ≡ option_map (asking id) (due_after xs)) × StandsFor new xs
 
--- The answer of a bridge to the reader's request is taken without a fault, and told to be the last exactly where its next handle
+-- The reader takes an answer without a fault, and told to be the last exactly where its next handle
 -- is 255; the reader then stands for the reading with it, and where it was the last has the table.
 pub record IsTaken (table : List EntryValue) (xs : List Exchange) (x : Exchange) (result : Result Bool ReadFault) (new : ReaderState) : Type 0 where
   pub told : result ≡ Ok (is_last x.next)
@@ -79,7 +79,9 @@ pub record IsTaken (table : List EntryValue) (xs : List Exchange) (x : Exchange)
   pub stands : StandsFor new (xs ++ x ∷ [])
   pub whole : is_last x.next ≡ true → new.entries ≡ table
 
-abbrev pub EveryAnswerIsTaken : Type 0
-EveryAnswerIsTaken = (table : List EntryValue) (xs : List Exchange) (x : Exchange) (header : HeaderValue) (bytes : List ℕ) (old new : ReaderState) (result : Result Bool ReadFault)
-    → IsTold table → Reads table xs → StandsFor old xs → old.handle ≡ Some x.handle → IsTablePart table x
-    → Tells header x.next x.entries bytes → old.waiting ≡ Some header.instance → Takes old bytes result new → IsTaken table xs x result new
+-- A bridge replies to each request of the reader, and whatever the reader does with the reply, it takes it.
+abbrev pub EveryReplyIsTaken : Type 0
+EveryReplyIsTaken = (d after : DeviceValue) (bus id handle : ℕ) (table : List EntryValue) (xs : List Exchange) (old : ReaderState) (reply : Option (List ℕ))
+    → IsTold table → d.kind ≡ Bridge → Reads table xs → StandsFor old xs → old.handle ≡ Some handle → old.waiting ≡ Some id → id < 32
+    → Replies d bus table (asking id handle) reply after
+    → IsSomeAnd reply (λ bytes. (result : Result Bool ReadFault) (new : ReaderState) → Takes old bytes result new → (x : Exchange) × IsTaken table xs x result new)

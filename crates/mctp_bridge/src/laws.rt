@@ -1,5 +1,5 @@
 //! Laws that hold of all readings of routing tables. The functions do nothing: their contracts are the laws.
-ghost use Rattle.mctp_bridge.specs.Reads.{EveryReadingCollects, AsksWhatIsDue, EveryAnswerIsTaken};
+ghost use Rattle.mctp_bridge.specs.Reads.{EveryReadingCollects, AsksWhatIsDue, EveryReplyIsTaken};
 
 /// What a reading has collected is a beginning of the bridge's table, and once it is finished it is the table.
 pub fn readings_collect_all()
@@ -11,7 +11,8 @@ pub fn asks_what_is_due()
     ensures { AsksWhatIsDue }
 {}
 
-/// An entry reader takes each answer of a bridge to its request without a fault, and has the whole table with the last.
-pub fn every_answer_is_taken()
-    ensures { EveryAnswerIsTaken }
+/// A bridge replies to each request of an entry reader. The reader takes the reply without a fault, and has the whole table
+/// with the last.
+pub fn every_reply_is_taken()
+    ensures { EveryReplyIsTaken }
 {}

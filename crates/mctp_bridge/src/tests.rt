@@ -2,7 +2,7 @@
 ghost use Rattle.std.specs.Prelude.{◌≤◌, length, All};
 
 use crate::*;
-use mctp_control::{InstanceId, RouteEntry};
+use mctp_control::{DeviceKind, InstanceId, RouteEntry};
 use mctp_transport::{Eid, Header, Reserved, Seq, Tag, Wire};
 use std::alloc::{AllocError, Global};
 use std::test::Fail;
@@ -69,7 +69,7 @@ fn an_endpoint_forwards_its_own_packets_alone(rt: HostRuntime) -> Result<(), Fai
         .ok_or("no table")?;
     let nic = Node {
         eid: Eid::new(17),
-        kind: Kind::Endpoint,
+        kind: DeviceKind::Endpoint,
         table: &table,
     };
     assert_eq!(rt;
@@ -116,7 +116,7 @@ fn spelled(entry: &RouteEntry) -> Option<[u8; 7]> {
 #[test]
 fn a_row_is_cut_before_the_bridge_itself(rt: HostRuntime) -> Result<(), Fail> {
     let riser = Neighbor {
-        kind: Kind::Bridge,
+        kind: DeviceKind::Bridge,
         eid: Eid::new(16),
         binding: 1,
         media: 4,
