@@ -28,15 +28,15 @@ goes_on next lt =
 pub next_before : (table : List EntryValue) (index : ℕ) → index < length table → next_handle table index ≡ index
 next_before table index lt =
     elim (eqb_tells index (length table)) [
-      inl same ↦ (let is = same.1 in absurd (omega arith))
-    | inr other ↦ rw other.0 refl
+      | inl same ↦ (let is = same.1 in absurd (omega arith))
+      | inr other ↦ rw other.0 refl
     ]
 
 pub next_last : (table : List EntryValue) (index : ℕ) → index ≤ length table → length table ≤ index → next_handle table index ≡ 255
 next_last table index le ge =
     elim (eqb_tells index (length table)) [
-      inl same ↦ rw same.0 refl
-    | inr other ↦ (let no = other.1 in absurd (no (omega arith)))
+      | inl same ↦ rw same.0 refl
+      | inr other ↦ (let no = other.1 in absurd (no (omega arith)))
     ]
 
 -- the bytes of one entry with a short address
@@ -48,17 +48,17 @@ module _ (table : List EntryValue) (told : IsTold table) where
   pub some_entry : (x : Exchange) → IsTablePart table x → x.handle < length table → 0 < length x.entries
   some_entry x part lt =
       elim (cases_lt 0 (length x.entries)) [
-        inl some ↦ some
-      | inr none ↦
-          (let d : EntryValue = record { size = 0; first = 0; kind = 0; fixed = false; port = 0; binding = 0; media = 0; address = [] } in
-          let zero_told : length x.entries ≡ 0 = omega arith in
-          let left : length x.entries < length (drop x.handle table) = simp length-drop (omega arith) in
-          let cut = drop-cons table x.handle d lt in
-          let most = part.most.most left in
-          let front : take (length x.entries + 1) (drop x.handle table) ≡ get_or table x.handle d ∷ [] = rw (zero_told, cut) refl in
-          let short = entry_length (get_or table x.handle d) (told.short x.handle d lt) in
-          let long = rw front at most in
-          absurd (omega arith))
+        | inl some ↦ some
+        | inr none ↦
+            (let d : EntryValue = record { size = 0; first = 0; kind = 0; fixed = false; port = 0; binding = 0; media = 0; address = [] } in
+            let zero_told : length x.entries ≡ 0 = omega arith in
+            let left : length x.entries < length (drop x.handle table) = simp length-drop (omega arith) in
+            let cut = drop-cons table x.handle d lt in
+            let most = part.most.most left in
+            let front : take (length x.entries + 1) (drop x.handle table) ≡ get_or table x.handle d ∷ [] = rw (zero_told, cut) refl in
+            let short = entry_length (get_or table x.handle d) (told.short x.handle d lt) in
+            let long = rw front at most in
+            absurd (omega arith))
       ]
 
   -- an answer's entries follow those before its handle
@@ -72,8 +72,8 @@ module _ (table : List EntryValue) (told : IsTold table) where
       let there = part.most.there in
       let cut = length-drop x.handle table in
       elim part.known [
-        inl first ↦ omega arith
-      | inr within ↦ omega arith
+        | inl first ↦ omega arith
+        | inr within ↦ omega arith
       ]
 
   -- with an answer, more is read

@@ -42,8 +42,8 @@ module _ (table : List EntryValue) (told : IsTold table) (id handle : ℕ) (smal
   next_small i le =
       let few = told.few in
       elim (cases_lt i (length table)) [
-        inl lt ↦ rw (next_before table i lt) (omega arith)
-      | inr ge ↦ rw (next_last table i le ge) (omega arith)
+        | inl lt ↦ rw (next_before table i lt) (omega arith)
+        | inr ge ↦ rw (next_last table i le ge) (omega arith)
       ]
 
   -- the exchange that a reply of so many entries makes
@@ -69,9 +69,10 @@ module _ (table : List EntryValue) (told : IsTold table) (id handle : ℕ) (smal
       let each = recursion_from_All IsEntry entries (All-take IsEntry count (drop handle table) (All-drop IsEntry handle table (All-from_recursion IsEntry table told.each))) in
       let within = ends_within table told (exchange count) (part_of count most) in
       let end : handle + count ≤ length table = rw long at within in
-      let low : (128 + id) % 32 ≡ 0 + id = omega arith in
-      (record { instance = small; answer = (next_small (handle + count) end, each, most.fit) },
-        λ i. 0 ∷ low i ∷ 10 ∷ 0 ∷ next_handle table (handle + count) ∷ (sym long) i ∷ entries_bytes entries)
+      let low : (128 + id) % 32 ≡ 0 + id = omega arith in (
+        record { instance = small; answer = (next_small (handle + count) end, each, most.fit) },
+        λ i. 0 ∷ low i ∷ 10 ∷ 0 ∷ next_handle table (handle + count) ∷ (sym long) i ∷ entries_bytes entries,
+      )
 
 -- the reader takes what the bridge replies to its request
 pub reply_taken : (d after : DeviceValue) (bus id handle : ℕ) (table : List EntryValue) (xs : List Exchange) (old : ReaderState) (reply : Option (List ℕ))
@@ -92,4 +93,4 @@ reply_taken d after bus id handle table xs old reply told bridge reads stands du
     let tells = subst T (sym brought.2) (tells_of table told id handle small known count brought.1) in
     let A : Option (List ℕ) → Type 0 = λ reply. IsSomeAnd reply (λ bytes. (result : Result Bool ReadFault) (new : ReaderState) → Takes old bytes result new → (x : Exchange) × IsTaken table xs x result new) in
     subst A (sym answered.1) (λ result new takes.
-      (x, answer_taken table told xs x reads (part_of table told id handle small known count brought.1) old stands due (header id) (reply_bytes body answered.0) result new tells waits takes))
+    (x, answer_taken table told xs x reads (part_of table told id handle small known count brought.1) old stands due (header id) (reply_bytes body answered.0) result new tells waits takes))

@@ -52,7 +52,13 @@ fn push_entries(entries: &mut Vec<RouteEntry>, row: &Row, next: &Neighbor) -> Re
     ensures { OnOk result (map entry_value entries.new.items ≡ map entry_value entries.old.items ++ row_entries row.now next.now) }
 {
     match next.kind {
-        DeviceKind::Endpoint => entries.push(run(row, next, row.first, row.size, EntryKind::Endpoint))?,
+        DeviceKind::Endpoint => entries.push(run(
+            row,
+            next,
+            row.first,
+            row.size,
+            EntryKind::Endpoint,
+        ))?,
         DeviceKind::Bridge => push_bridge_entries(entries, row, next)?,
     }
     Ok(())
