@@ -11,6 +11,10 @@ pub mod CertificateLaw
 -- the rules
 pub mod Spots
 pub mod Beyond
+-- certificates made
+pub mod Pigeons
+pub mod Circling
+pub mod SameMoves
 -- the network
 pub mod Ends
 pub mod Kept

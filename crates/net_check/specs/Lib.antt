@@ -25,8 +25,10 @@ pub mod Rules
 pub mod Faults
 pub mod Search
 pub mod Errors
--- the network
+-- certificates made
 pub mod Moves
+pub mod Circles
+-- the network
 pub mod Decisions
 pub mod Networks
 pub mod Runs

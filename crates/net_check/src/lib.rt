@@ -1,6 +1,7 @@
 //! Whether a planned MCTP network routes its packets as it should.
 #![tactic(auto)]
 
+mod certifying;
 mod check_error;
 mod checked;
 mod fault;

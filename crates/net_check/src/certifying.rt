@@ -1,0 +1,3 @@
+//! `certify`, and what it answers.
+
+pub mod walks;
