@@ -12,11 +12,13 @@ pub mod CertificateLaw
 pub mod Spots
 pub mod Beyond
 -- certificates made
+pub mod Ends
 pub mod Pigeons
 pub mod Circling
 pub mod SameMoves
+pub mod Elements
+pub mod EidMoves
 -- the network
-pub mod Ends
 pub mod Kept
 pub mod Promised
 pub mod Steps

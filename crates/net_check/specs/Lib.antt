@@ -33,3 +33,4 @@ pub mod Decisions
 pub mod Networks
 pub mod Runs
 pub mod Promises
+pub mod RoutingLoops
