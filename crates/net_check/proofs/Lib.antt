@@ -18,6 +18,7 @@ pub mod Circling
 pub mod SameMoves
 pub mod Elements
 pub mod EidMoves
+pub mod Runs
 -- the network
 pub mod Kept
 pub mod Promised

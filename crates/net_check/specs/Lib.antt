@@ -34,3 +34,4 @@ pub mod Networks
 pub mod Runs
 pub mod Promises
 pub mod RoutingLoops
+pub mod RankRuns
