@@ -11,6 +11,7 @@ pub mod CertificateLaw
 -- the rules
 pub mod Spots
 pub mod Beyond
+pub mod PlanFaults
 -- certificates made
 pub mod Ends
 pub mod Pigeons

@@ -23,6 +23,7 @@ pub mod Ranks
 pub mod RankTables
 pub mod Rules
 pub mod Faults
+pub mod PlanFaults
 pub mod Search
 pub mod Errors
 -- certificates made

@@ -8,6 +8,7 @@ mod fault;
 mod first_fault;
 mod laws;
 pub mod plan;
+mod plan_fault;
 mod rank_tables;
 mod routing;
 mod rule;
