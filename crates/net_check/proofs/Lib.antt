@@ -20,6 +20,9 @@ pub mod SameMoves
 pub mod Elements
 pub mod EidMoves
 pub mod Runs
+pub mod Filters
+pub mod Routed
+pub mod Certified
 -- the network
 pub mod Kept
 pub mod Promised

@@ -36,3 +36,4 @@ pub mod Runs
 pub mod Promises
 pub mod RoutingLoops
 pub mod RankRuns
+pub mod Certificates

@@ -1,5 +1,33 @@
-//! `certify`, and what it answers.
+//! `certify`: the certificate of a plan, or why there is none.
+ghost use Rattle.std.specs.Prelude.{IfOk, IfErr};
+ghost use Rattle.net_check.specs.Rules.{Accepts};
+ghost use Rattle.net_check.specs.Certificates.{HasExactRanks, NamesObstacle, RulesOutCertificates};
 
-pub mod next_nodes;
-pub mod rank_ranges;
-pub mod walks;
+mod next_nodes;
+mod rank_ranges;
+mod routes;
+mod walks;
+
+use crate::certifying::routes::{Routed, route};
+use crate::certify_error::CertifyError;
+use crate::plan::{Certificate, Plan};
+use crate::plan_fault::first_of_plan;
+use std::alloc::Global;
+
+/// The certificate of a plan: the rank of each node and endpoint ID is the number of moves along rows from the node to
+/// the endpoint ID's holder, or to a node without a row for it. It is answered exactly where a certificate exists;
+/// otherwise the plan's first fault, the first routing loop, or want of memory.
+pub fn certify(alloc: Global, plan: &Plan) -> Result<Certificate, CertifyError>
+    ensures accepted { IfOk result (λ certificate. Accepts plan.now certificate) }
+    ensures exact { IfOk result (λ certificate. HasExactRanks plan.now certificate) }
+    ensures obstacle { IfErr result (λ error. NamesObstacle plan.now error) }
+    ensures none { IfErr result (λ error. RulesOutCertificates plan.now error) }
+{
+    if let Some(fault) = first_of_plan(plan) {
+        return Err(CertifyError::Fault(fault));
+    }
+    match route(alloc, plan)? {
+        Routed::Ranked(certificate) => Ok(certificate),
+        Routed::Looped(eid, nodes) => Err(CertifyError::Loop(eid, nodes)),
+    }
+}

@@ -1,6 +1,7 @@
 //! Whether a planned MCTP network routes its packets as it should.
 #![tactic(auto)]
 
+mod certify_error;
 mod certifying;
 mod check_error;
 mod checked;
@@ -16,6 +17,8 @@ mod rules;
 mod spot;
 mod trial;
 
+pub use certify_error::CertifyError;
+pub use certifying::certify;
 pub use check_error::CheckError;
 pub use checked::{Checked, check};
 pub use fault::Fault;
