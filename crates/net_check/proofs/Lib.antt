@@ -1,17 +1,6 @@
--- plans and certificates, and their texts
-pub mod Items
-pub mod Keys
-pub mod KeysLaw
-pub mod Names
-pub mod BusNames
-pub mod RankNames
-pub mod Telling
-pub mod PlanLaw
-pub mod CertificateLaw
 -- the rules
 pub mod Spots
 pub mod Beyond
-pub mod PlanFaults
 -- certificates made
 pub mod Ends
 pub mod Pigeons
@@ -19,10 +8,10 @@ pub mod Circling
 pub mod SameMoves
 pub mod Elements
 pub mod EidMoves
-pub mod Runs
+pub mod RankRunLaws
 pub mod Filters
-pub mod Routed
-pub mod Certified
+pub mod RankLaws
+pub mod CertificateLaws
 -- the network
 pub mod Kept
 pub mod Promised

@@ -4,9 +4,9 @@ use Rattle.net_check.specs.declared.certify_error.CertifyError.{CertifyError}
 use Rattle.net_check.specs.declared.certify_error.CertifyError.TheVariants as error
 use Rattle.net_check.specs.declared.certifying.routes.Routed.{Routed}
 use Rattle.net_check.specs.declared.certifying.routes.Routed.TheVariants.{Ranked, Looped}
-use Rattle.net_check.specs.declared.plan.nodes.Plan.{Plan}
-use Rattle.net_check.specs.declared.plan.certificate.Certificate.{Certificate}
-use Rattle.net_check.specs.declared.plan.certificate.NodeRanks.{NodeRanks}
+use Rattle.net_plan.specs.declared.nodes.Plan.{Plan}
+use Rattle.net_plan.specs.declared.certificate.Certificate.{Certificate}
+use Rattle.net_plan.specs.declared.certificate.NodeRanks.{NodeRanks}
 use Rattle.net_check.specs.Routing.{MovesTo}
 use Rattle.net_check.specs.Ranks.{rank}
 use Rattle.net_check.specs.Rules.{Accepts}

@@ -1,19 +1,3 @@
--- plans and certificates, and their texts
-pub mod NameText
-pub mod PlanValues
-pub mod CertificateValues
-pub mod Keys
-pub mod JsonWords
-pub mod Texts
-pub mod PlanText
-pub mod CertificateText
-pub mod Stream
-pub mod TextFaults
-pub mod Reading
-pub mod Json
-pub mod Places
-pub mod PlanReading
-pub mod CertificateReading
 -- the rules
 pub mod Routing
 pub mod Names
@@ -26,14 +10,14 @@ pub mod Faults
 pub mod PlanFaults
 pub mod Search
 pub mod Errors
--- certificates made
-pub mod Moves
-pub mod Circles
 -- the network
+pub mod Moves
 pub mod Decisions
 pub mod Networks
 pub mod Runs
 pub mod Promises
+-- certificates made
+pub mod Circles
 pub mod RoutingLoops
 pub mod RankRuns
 pub mod Certificates

@@ -8,7 +8,6 @@ mod checked;
 mod fault;
 mod first_fault;
 mod laws;
-pub mod plan;
 mod plan_fault;
 mod rank_tables;
 mod routing;

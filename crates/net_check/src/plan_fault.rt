@@ -5,7 +5,7 @@ ghost use Rattle.net_check.specs.Search.{IsFirstSpot};
 ghost use Rattle.net_check.specs.PlanFaults.{IsFirstOfPlan, IsFirstOfPlanRule};
 
 use crate::fault::Fault;
-use crate::plan::Plan;
+use net_plan::Plan;
 use crate::rule::{RULES, Rule};
 use crate::rules::{eids, names, rows};
 use crate::spot::Spot;

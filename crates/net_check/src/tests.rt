@@ -1,10 +1,10 @@
 //! The two-node network, and what is found wrong with others like it.
 ghost use Rattle.std.specs.Prelude.{◌+◌, ◌<◌, ◌≤◌, IsTrue, vec_len};
-ghost use Rattle.net_check.specs.NameText.{is_name};
+ghost use Rattle.net_plan.specs.NameText.{is_name};
 
-use crate::plan::{Bus, Certificate, Kind, Name, Node, NodeRanks, Plan, Port, RankRange, Row};
 use crate::{CheckError, Fault, Rule, check};
 use mctp_transport::Eid;
+use net_plan::{Bus, Certificate, Kind, Name, Node, NodeRanks, Plan, Port, RankRange, Row};
 use std::alloc::{AllocError, Global};
 use std::test::Fail;
 

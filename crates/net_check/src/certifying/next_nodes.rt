@@ -5,7 +5,7 @@ ghost use Rattle.net_check.specs.RoutingLoops.{NamesFor, IsNext, AreNexts, RowsA
 ghost use Rattle.net_check.specs.Circles.{IsWalked};
 
 use crate::certifying::walks::{Walked, walk};
-use crate::plan::{Plan, Row};
+use net_plan::{Plan, Row};
 use crate::routing::{holds, row_end, rows_at};
 use mctp_transport::Eid;
 use std::alloc::{AllocError, Global};

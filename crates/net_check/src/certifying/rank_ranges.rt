@@ -2,7 +2,7 @@
 ghost use Rattle.std.specs.Prelude.{◌≡◌, ℕ, ◌+◌, ◌<◌, ◌↔◌, length, IfOk, OnOk, IsTrue, slice_get, Some};
 ghost use Rattle.net_check.specs.RankRuns.{AreLongestRuns, Precedes, Continues, below, AreGrown, AreNone};
 
-use crate::plan::{NodeRanks, RankRange};
+use net_plan::{NodeRanks, RankRange};
 use mctp_transport::Eid;
 use std::alloc::{AllocError, Global};
 

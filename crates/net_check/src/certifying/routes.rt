@@ -6,7 +6,7 @@ ghost use Rattle.net_check.specs.Certificates.{IsRouted, has_ranges};
 use crate::certifying::next_nodes::walk_for;
 use crate::certifying::rank_ranges::{add_ranks, no_ranges};
 use crate::certifying::walks::Walked;
-use crate::plan::{Certificate, NodeRanks, Plan};
+use net_plan::{Certificate, NodeRanks, Plan};
 use mctp_transport::Eid;
 use std::alloc::{AllocError, Global};
 

@@ -3,7 +3,7 @@ use Rattle.std.specs.Prelude.{slice_get}
 use Rattle.std.proofs.lemmas.Bool.{false≢true}
 use Rattle.std.proofs.lemmas.Option.{slice_get_read, slice_get_within, same_Some}
 use borrow.Author.Count.{below_more}
-use Rattle.net_check.specs.declared.plan.nodes.Row.{Row}
+use Rattle.net_plan.specs.declared.nodes.Row.{Row}
 use Rattle.net_check.specs.Routing.{Covers, OfRow}
 use Rattle.net_check.proofs.certifying.next_nodes.named_for.Goals as goal
 

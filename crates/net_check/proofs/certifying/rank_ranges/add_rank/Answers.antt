@@ -2,9 +2,9 @@ use Rattle.std.proofs.Common.{◌≡◌, ℕ, List, ◌+◌, ◌-◌, ◌<◌, l
 use Rattle.std.specs.Prelude.{slice_set}
 use Rattle.std.proofs.lemmas.Bool.{false≢true}
 use Rattle.std.proofs.lemmas.Option.{get_or_from_slice_get}
-use Rattle.net_check.specs.declared.plan.certificate.RankRange.{RankRange}
+use Rattle.net_plan.specs.declared.certificate.RankRange.{RankRange}
 use Rattle.net_check.specs.RankRuns.{AreLongestRuns, Precedes, Continues, below}
-use Rattle.net_check.proofs.Runs.{skipped, pushed, extended, read_last, precedes_ends}
+use Rattle.net_check.proofs.RankRunLaws.{skipped, pushed, extended, read_last, precedes_ends}
 use Rattle.net_check.proofs.certifying.rank_ranges.add_rank.Goals.{After-index}
 use Rattle.net_check.proofs.certifying.rank_ranges.add_rank.Goals as goal
 

@@ -1,6 +1,6 @@
 use Rattle.std.proofs.Common.{◌≡◌, ℕ, ◌<◌, ◌≤◌, length, Some}
 use Rattle.std.specs.Prelude.{slice_get}
-use Rattle.net_check.specs.declared.plan.certificate.NodeRanks.{NodeRanks}
+use Rattle.net_plan.specs.declared.certificate.NodeRanks.{NodeRanks}
 use Rattle.net_check.specs.RankRuns.{IsGrown}
 use Rattle.net_check.proofs.certifying.rank_ranges.add_ranks.Given as goal
 

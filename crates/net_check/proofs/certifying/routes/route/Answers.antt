@@ -2,12 +2,12 @@ use Rattle.std.proofs.Common.{◌≡◌, ℕ, ◌+◌, ◌<◌, ◌≤◌, lengt
 use Rattle.std.proofs.lemmas.List.{take_all, drop_all, append-nil}
 use Rattle.net_check.specs.declared.certifying.walks.Walked.{Walked}
 use Rattle.net_check.specs.declared.certifying.walks.Walked.TheVariants.{Ended}
-use Rattle.net_check.specs.declared.plan.certificate.NodeRanks.{NodeRanks}
+use Rattle.net_plan.specs.declared.certificate.NodeRanks.{NodeRanks}
 use Rattle.net_check.specs.Routing.{MovesTo}
 use Rattle.net_check.specs.Circles.{IsWalked}
 use Rattle.net_check.specs.RankRuns.{AreNone, AreGrown}
 use Rattle.net_check.specs.Certificates.{AreRoutedBelow}
-use Rattle.net_check.proofs.Routed.{routed_start, routed_step, routed_all, counts_small}
+use Rattle.net_check.proofs.RankLaws.{routed_start, routed_step, routed_all, counts_small}
 use Rattle.net_check.proofs.certifying.routes.route.Goals.{In-Ended}
 use Rattle.net_check.proofs.certifying.routes.route.Goals as goal
 

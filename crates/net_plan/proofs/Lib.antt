@@ -1,0 +1,9 @@
+pub mod Items
+pub mod Keys
+pub mod KeysLaw
+pub mod Names
+pub mod BusNames
+pub mod RankNames
+pub mod Telling
+pub mod PlanLaw
+pub mod CertificateLaw
