@@ -9,7 +9,7 @@ use Rattle.net_check.specs.Ranks.{rank, Falls}
 use Rattle.net_check.specs.Rules.{PlanDemands, CertificateDemands, Accepts}
 use Rattle.net_check.specs.PlanFaults.{PlanMeetsAll}
 use Rattle.net_check.specs.RoutingLoops.{RowsAreApart, RowsAreInRange, IsFirstRoutingLoop}
-use Rattle.net_check.specs.Certificates.{HasExactRanks}
+use Rattle.net_check.specs.Certificates.{HasExactRanks, HasNoCertificate}
 use Rattle.net_check.proofs.Circling.{one_less, no_circle_down}
 use Rattle.net_check.proofs.EidMoves.{moves_only, ends_from_rank}
 use Rattle.net_check.proofs.Ends.{move_falls}
@@ -40,6 +40,6 @@ pub exact_accepted : (plan : Plan) (cert : Certificate) → PlanMeetsAll plan �
 exact_accepted plan cert met exact rule n entry eid = (met rule n entry eid, ranks_met plan cert (rows_apart plan met) exact rule n entry eid)
 
 -- ranks that fall leave no circle
-pub looped_has_none : (plan : Plan) (e : ℕ) (nodes : List ℕ) → IsFirstRoutingLoop plan e nodes → (cert : Certificate) → ¬ Accepts plan cert
+pub looped_has_none : (plan : Plan) (e : ℕ) (nodes : List ℕ) → IsFirstRoutingLoop plan e nodes → HasNoCertificate plan
 looped_has_none plan e nodes loop cert accepted =
     no_circle_down (MovesTo plan e) (λ n. rank cert n e) (λ n m move. move_falls plan cert e n m accepted move) loop.picked.0 loop.picked.1.0

@@ -17,7 +17,7 @@ use std::alloc::Global;
 /// The certificate of a plan: the rank of each node and endpoint ID is the number of moves along rows from the node to
 /// the endpoint ID's holder, or to a node without a row for it. It is answered exactly where a certificate exists;
 /// otherwise the plan's first fault, the first routing loop, or want of memory.
-#[tactic(auto, using(crate::proofs::CertificateLaws::rows_apart, crate::proofs::CertificateLaws::rows_in_range, crate::proofs::CertificateLaws::exact_accepted, crate::proofs::CertificateLaws::looped_has_none))]
+#[tactic(auto, using(crate::proofs::CertificateLaws::rows_apart, crate::proofs::CertificateLaws::rows_in_range, crate::proofs::CertificateLaws::exact_accepted))]
 pub fn certify(alloc: Global, plan: &Plan) -> Result<Certificate, CertifyError>
     ensures accepted { IfOk result (λ certificate. Accepts plan.now certificate) }
     ensures exact { IfOk result (λ certificate. HasExactRanks plan.now certificate) }
