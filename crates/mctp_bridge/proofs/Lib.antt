@@ -1,0 +1,4 @@
+pub mod Apart
+pub mod Halving
+pub mod Fronts
+pub mod EntryRows

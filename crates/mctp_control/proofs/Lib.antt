@@ -1,0 +1,3 @@
+pub mod EntryReading
+pub mod EntryTaking
+pub mod CommandNumbers

@@ -1,0 +1,14 @@
+pub mod Codes
+pub mod Numbers
+pub mod Digits
+pub mod Statuses
+pub mod Headers
+pub mod Refusals
+pub mod RouteEntries
+pub mod RouteEntryLaws
+pub mod EntryLists
+pub mod EntriesValue
+pub mod Requests
+pub mod RequestLaws
+pub mod Responses
+pub mod ResponseLaws
