@@ -95,10 +95,8 @@ unmoved_circle plan e ranges outside n circle = unmoved plan e n ranges outside 
 
 -- ---- what a table has is where the rows lead
 
-pub next_is : (plan : Plan) (e n : ℕ) (rows : List Row) → rows ≡ rows_of plan n → ¬ Holds plan n e → (found : Option ℕ)
-    → MatchOption found ((r : ℕ) → OfRow rows r (λ row. ¬ Covers row e)) (NamesFor rows e) → IsNext plan e n found
-next_is plan e n rows same away None none = inr (λ (m, (r, row, is, covers, next)). none r row (ap (λ rs. slice_get rs r) same ∙ is) covers)
-next_is plan e n rows same away (Some m) (r, row, is, covers, next) = (away, (r, row, ap (λ rs. slice_get rs r) (sym same) ∙ is, covers, next))
+pub nowhere : (plan : Plan) (e n : ℕ) → ((m : ℕ) → ¬ NamesFor (rows_of plan n) e m) → WayEnds plan e n
+nowhere plan e n none = inr (λ (m, routes). none m routes)
 
 table_to : (plan : Plan) (e : ℕ) (table : List (Option ℕ)) → AreNexts plan e (length plan.nodes.items) table → (n m : ℕ) → MovesBy table n m → MovesTo plan e n m
 table_to plan e table nexts n m move = option_and_then_some (λ next. next) (slice_get table n) m move (λ x is same. nexts.1 n (Some m) (is ∙ ap Some same))

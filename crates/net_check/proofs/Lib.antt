@@ -7,6 +7,7 @@ pub mod Pigeons
 pub mod Circling
 pub mod SameMoves
 pub mod Elements
+pub mod TableLaws
 pub mod EidMoves
 pub mod RankRunLaws
 pub mod Filters

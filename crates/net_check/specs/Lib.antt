@@ -19,5 +19,6 @@ pub mod Promises
 -- certificates made
 pub mod Circles
 pub mod RoutingLoops
+pub mod Tables
 pub mod RankRuns
 pub mod Certificates

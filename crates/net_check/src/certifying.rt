@@ -6,6 +6,7 @@ ghost use Rattle.net_check.specs.Certificates.{HasExactRanks, NamesObstacle, Rul
 mod next_nodes;
 mod rank_ranges;
 mod routes;
+mod tables;
 mod walks;
 
 use crate::certifying::routes::{Routed, route};

@@ -1,60 +1,59 @@
 //! Where what is for an endpoint ID goes on to from each node.
-ghost use Rattle.std.specs.Prelude.{◌≡◌, ℕ, ◌<◌, ◌↔◌, length, IsTrue, IfOk, MatchOption};
-ghost use Rattle.net_check.specs.Routing.{Covers, MovesTo, OfRow};
-ghost use Rattle.net_check.specs.RoutingLoops.{NamesFor, IsNext, AreNexts, RowsAreApart};
+ghost use Rattle.std.specs.Prelude.{◌≡◌, ℕ, ◌<◌, length, IfOk};
+ghost use Rattle.net_check.specs.Routing.{MovesTo, rows_of};
+ghost use Rattle.net_check.specs.RoutingLoops.{IsNext, AreNexts, RowsAreApart};
+ghost use Rattle.net_check.specs.Tables.{SendsAs, AreTables};
 ghost use Rattle.net_check.specs.Circles.{IsWalked};
 
 use crate::certifying::walks::{Walked, walk};
-use net_plan::{Plan, Row};
-use crate::routing::{holds, row_end, rows_at};
+use crate::routing::holds;
+use mctp_bridge::RangeTable;
 use mctp_transport::Eid;
+use net_plan::Plan;
 use std::alloc::{AllocError, Global};
 
 /// Where what is for the endpoint ID ends up from each node: at an end of its way, or on a circle.
-pub fn walk_for(alloc: Global, plan: &Plan, eid: Eid) -> Result<Walked, AllocError>
-    requires { RowsAreApart plan.now }
+pub fn walk_for(
+    alloc: Global,
+    plan: &Plan,
+    tables: &[RangeTable],
+    eid: Eid,
+) -> Result<Walked, AllocError>
+    requires apart { RowsAreApart plan.now }
+    requires tables { AreTables plan.now (length plan.now.nodes.items) tables.now }
     ensures { IfOk result (λ walked. IsWalked (MovesTo plan.now eid.value) (length plan.now.nodes.items) walked) }
 {
-    let table = next_nodes(alloc, plan, eid)?;
-    walk(alloc, &table)
+    let nexts = next_nodes(alloc, plan, tables, eid)?;
+    walk(alloc, &nexts)
 }
 
 /// Where what is for the endpoint ID goes on to from each node.
-fn next_nodes(alloc: Global, plan: &Plan, eid: Eid) -> Result<Vec<Option<usize>>, AllocError>
-    ensures { IfOk result (λ table. AreNexts plan.now eid.value (length plan.now.nodes.items) table.items) }
+fn next_nodes(
+    alloc: Global,
+    plan: &Plan,
+    tables: &[RangeTable],
+    eid: Eid,
+) -> Result<Vec<Option<usize>>, AllocError>
+    requires { AreTables plan.now (length plan.now.nodes.items) tables.now }
+    ensures { IfOk result (λ nexts. AreNexts plan.now eid.value (length plan.now.nodes.items) nexts.items) }
 {
-    let mut table = Vec::new(alloc);
+    let mut nexts = Vec::new(alloc);
     for node in 0..plan.nodes.len() {
-        table.push(next_node(plan, node, eid))?;
+        nexts.push(next_node(plan, &tables[node], node, eid))?;
     }
-    Ok(table)
+    Ok(nexts)
 }
 
 /// Where what is for the endpoint ID goes on to from a node; nowhere from its holder, nor without a row.
-fn next_node(plan: &Plan, node: usize, eid: Eid) -> Option<usize>
+fn next_node(plan: &Plan, table: &RangeTable, node: usize, eid: Eid) -> Option<usize>
+    requires { SendsAs (rows_of plan.now node) table.now }
     ensures { IsNext plan.now eid.value node result }
 {
     if holds(plan, node, eid) {
         return None;
     }
-    named_for(rows_at(plan, node), eid)
-}
-
-/// The next node of the first row that covers the endpoint ID.
-fn named_for(rows: &[Row], eid: Eid) -> Option<usize>
-    ensures { MatchOption result ((r : ℕ) → OfRow rows.now r (λ row. ¬ Covers row eid.value)) (NamesFor rows.now eid.value) }
-{
-    for row in rows {
-        if covers(row, eid) {
-            return Some(row.next);
-        }
+    match table.next(eid) {
+        Some(hop) => Some(hop.next),
+        None => None,
     }
-    None
-}
-
-/// Whether the row covers the endpoint ID.
-fn covers(row: &Row, eid: Eid) -> bool
-    ensures { IsTrue result ↔ Covers row.now eid.value }
-{
-    row.first.value <= eid.value && u16::from(eid.value) < row_end(row)
 }

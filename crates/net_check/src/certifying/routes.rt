@@ -5,6 +5,7 @@ ghost use Rattle.net_check.specs.Certificates.{IsRouted, has_ranges};
 
 use crate::certifying::next_nodes::walk_for;
 use crate::certifying::rank_ranges::{add_ranks, no_ranges};
+use crate::certifying::tables::tables_of;
 use crate::certifying::walks::Walked;
 use net_plan::{Certificate, NodeRanks, Plan};
 use mctp_transport::Eid;
@@ -25,10 +26,11 @@ pub fn route(alloc: Global, plan: &Plan) -> Result<Routed, AllocError>
     requires in_range { RowsAreInRange plan.now }
     ensures { IfOk result (λ routed. IsRouted plan.now routed) }
 {
+    let tables = tables_of(alloc, plan)?;
     let mut given = no_ranges(alloc, plan.nodes.len())?;
     for value in 8..255u8 {
         let eid = Eid::new(value);
-        match walk_for(alloc, plan, eid)? {
+        match walk_for(alloc, plan, &tables, eid)? {
             Walked::Ended(moves) => add_ranks(&mut given, eid, &moves)?,
             Walked::Circled(nodes) => return Ok(Routed::Looped(eid, nodes)),
         }

@@ -8,11 +8,11 @@ pub loop-node-preserved : goal.loop-node-preserved
 loop-node-preserved c =
     let plan = c.args.plan.now in
     let e = c.args.eid.value in
-    let table = c.loop-node.table.items in
+    let nexts = c.loop-node.nexts.items in
     let next = c.next_node.result in
-    let more : AreNexts plan e (c.loop-node.node + 1) (table ++ next ∷ []) = (
-      omega (arith, length_push table next, c.loop-node.invariant.0),
-      λ n found is. elim (in_push table next n found is) [
+    let more : AreNexts plan e (c.loop-node.node + 1) (nexts ++ next ∷ []) = (
+      omega (arith, length_push nexts next, c.loop-node.invariant.0),
+      λ n found is. elim (in_push nexts next n found is) [
         | inl old ↦ c.loop-node.invariant.1 n found old
         | inr (at, same) ↦ (
             let here : n ≡ c.loop-node.node = omega (arith, at, c.loop-node.invariant.0) in

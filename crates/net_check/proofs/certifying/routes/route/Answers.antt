@@ -33,7 +33,7 @@ add_ranks-requires-clause-small c =
     let plan = c.args.plan.now in
     let walked = ended ((goal.at.add_ranks-requires-clause-small c).In-Ended) in
     let few : length plan.nodes.items ≤ 64 = omega (arith, plan.few_nodes, plan.nodes.ok.0) in
-    rw c.deref.ensures.value (counts_small plan c.loop-value.value c.in-Ended.moves.items few walked.0 walked.1)
+    rw c.deref-in-Ended.ensures.value (counts_small plan c.loop-value.value c.in-Ended.moves.items few walked.0 walked.1)
 
 pub returns-in-Circled : goal.returns-in-Circled
 returns-in-Circled c =
@@ -51,11 +51,11 @@ loop-value-preserved c =
     let given = c.loop-value.given.items in
     let new = c.add_ranks.new.given in
     let walked = ended ((goal.at.loop-value-preserved c).In-Ended) in
-    let grown : AreGrown c.new-eid.result.value c.deref.result.now c.deref_mut.result.now new = c.in_ok-add_ranks-in-Ended.ensures in
-    let O : ℕ → Type 0 = λ d. AreGrown d c.deref.result.now c.deref_mut.result.now new in
+    let grown : AreGrown c.new-eid.result.value c.deref-in-Ended.result.now c.deref_mut.result.now new = c.in_ok-add_ranks-in-Ended.ensures in
+    let O : ℕ → Type 0 = λ d. AreGrown d c.deref-in-Ended.result.now c.deref_mut.result.now new in
     let P : List ℕ → Type 0 = λ moves. AreGrown e moves c.deref_mut.result.now new in
     let Q : List NodeRanks → Type 0 = λ old. AreGrown e c.in-Ended.moves.items old new in
-    let grown' : AreGrown e c.in-Ended.moves.items given new = subst Q c.deref_mut.ensures.value (subst P c.deref.ensures.value (subst O c.new-eid.ensures grown)) in
+    let grown' : AreGrown e c.in-Ended.moves.items given new = subst Q c.deref_mut.ensures.value (subst P c.deref-in-Ended.ensures.value (subst O c.new-eid.ensures grown)) in
     let more = routed_step plan e given new c.in-Ended.moves.items c.requires.apart c.loop-value.invariant walked.0 walked.1 grown' in
     let R : List NodeRanks → Type 0 = AreRoutedBelow plan (e + 1) in
     subst R (sym (written_whole c.loop-value.given.len new given grown'.0 c.loop-value.given.ok.0)) more
