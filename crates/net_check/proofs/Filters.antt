@@ -51,4 +51,3 @@ filter_pairs R test (z ∷ zs) pairs i j x y lt =
       | inl passes ↦ rw passes (head_pairs R test z zs pairs rest i j x y lt)
       | inr fails ↦ rw fails (rest i j x y lt)
     ]
-

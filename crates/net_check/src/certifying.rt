@@ -9,10 +9,10 @@ mod routes;
 mod tables;
 mod walks;
 
-use crate::certifying::routes::{Routed, route};
 use crate::certify_error::CertifyError;
-use net_plan::{Certificate, Plan};
+use crate::certifying::routes::{Routed, route};
 use crate::plan_fault::first_of_plan;
+use net_plan::{Certificate, Plan};
 use std::alloc::Global;
 
 /// The certificate of a plan: the rank of each node and endpoint ID is the number of moves along rows from the node to

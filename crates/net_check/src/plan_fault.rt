@@ -5,10 +5,10 @@ ghost use Rattle.net_check.specs.Search.{IsFirstSpot};
 ghost use Rattle.net_check.specs.PlanFaults.{IsFirstOfPlan, IsFirstOfPlanRule};
 
 use crate::fault::Fault;
-use net_plan::Plan;
 use crate::rule::{RULES, Rule};
 use crate::rules::{eids, names, rows};
 use crate::spot::Spot;
+use net_plan::Plan;
 
 /// The first place where the plan breaks a rule.
 pub fn first_of_plan(plan: &Plan) -> Option<Fault>

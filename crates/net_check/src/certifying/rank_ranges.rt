@@ -2,8 +2,8 @@
 ghost use Rattle.std.specs.Prelude.{◌≡◌, ℕ, ◌+◌, ◌<◌, ◌↔◌, length, IfOk, OnOk, IsTrue, slice_get, Some};
 ghost use Rattle.net_check.specs.RankRuns.{AreLongestRuns, Precedes, Continues, below, AreGrown, AreNone};
 
-use net_plan::{NodeRanks, RankRange};
 use mctp_transport::Eid;
+use net_plan::{NodeRanks, RankRange};
 use std::alloc::{AllocError, Global};
 
 /// No ranges for each of so many nodes.

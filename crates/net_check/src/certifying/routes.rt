@@ -7,8 +7,8 @@ use crate::certifying::next_nodes::walk_for;
 use crate::certifying::rank_ranges::{add_ranks, no_ranges};
 use crate::certifying::tables::tables_of;
 use crate::certifying::walks::Walked;
-use net_plan::{Certificate, NodeRanks, Plan};
 use mctp_transport::Eid;
+use net_plan::{Certificate, NodeRanks, Plan};
 use std::alloc::{AllocError, Global};
 
 /// Ranks, or why there are none.

@@ -51,8 +51,18 @@ fn ranks_are_the_moves_along_rows(rt: HostRuntime) -> Result<(), Fail> {
 #[test]
 fn a_plan_without_a_certificate_has_a_fault_or_a_loop(rt: HostRuntime) -> Result<(), Fail> {
     let alloc = rt.alloc();
-    let a = endpoint(alloc, "a", 8, vec![in alloc; row(254, 1, 1), row(100, 1, 1)]?)?;
-    let z = endpoint(alloc, "z", 254, vec![in alloc; row(8, 1, 0), row(100, 1, 0)]?)?;
+    let a = endpoint(
+        alloc,
+        "a",
+        8,
+        vec![in alloc; row(254, 1, 1), row(100, 1, 1)]?,
+    )?;
+    let z = endpoint(
+        alloc,
+        "z",
+        254,
+        vec![in alloc; row(8, 1, 0), row(100, 1, 0)]?,
+    )?;
     let plan = network(alloc, vec![in alloc; a, z]?)?;
     let (eid, nodes) = looped(alloc, &plan).expect(&rt, "100 goes round");
     assert_eq!(rt; eid, 100);
