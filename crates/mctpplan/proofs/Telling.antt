@@ -1,6 +1,6 @@
 -- Why a certificate is not read, by the reader's error.
 use Rattle.std.proofs.Common.{◌≡◌, ◌+◌, refl}
-use Rattle.net_plan.specs.declared.nodes.Plan.{Plan}
+use Rattle.net_plan.specs.declared.plan.Plan.{Plan}
 use Rattle.net_plan.specs.declared.error.PlanError.{PlanError}
 use Rattle.net_plan.specs.declared.error.PlanError.TheVariants as error
 use Rattle.net_plan.specs.CertificateText.{IsCertificateOf}

@@ -4,7 +4,7 @@ use Rattle.std.specs.Prelude.{◌⊎◌, slice_get}
 use Rattle.std.proofs.lemmas.Option.{same_Some}
 use Rattle.std.proofs.lemmas.Bool.{cases_lt, cases_order}
 use Rattle.net_check.specs.declared.rule.Rule.TheVariants.{C10}
-use Rattle.net_plan.specs.declared.nodes.Plan.{Plan}
+use Rattle.net_plan.specs.declared.plan.Plan.{Plan}
 use Rattle.net_plan.specs.declared.nodes.Row.{Row}
 use Rattle.net_plan.specs.declared.certificate.Certificate.{Certificate}
 use Rattle.net_check.specs.Routing.{Covers, MovesTo, rows_of, eid_of}

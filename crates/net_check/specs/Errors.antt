@@ -1,5 +1,5 @@
 -- What the errors of check say.
-use Rattle.net_plan.specs.declared.nodes.Plan.{Plan}
+use Rattle.net_plan.specs.declared.plan.Plan.{Plan}
 use Rattle.net_plan.specs.declared.certificate.Certificate.{Certificate}
 use Rattle.net_check.specs.declared.check_error.CheckError.{CheckError}
 use Rattle.net_check.specs.declared.check_error.CheckError.TheVariants as error

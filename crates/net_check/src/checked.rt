@@ -20,7 +20,7 @@ pub struct Checked<'a> {
 }
 
 impl<'a> Model for Checked<'a> {
-    ghost use Rattle.net_plan.specs.declared.nodes.Plan.{Plan};
+    ghost use Rattle.net_plan.specs.declared.plan.Plan.{Plan};
     ghost use Rattle.net_plan.specs.declared.certificate.Certificate.{Certificate};
     ghost use Rattle.net_check.specs.Rules.{Accepts};
 

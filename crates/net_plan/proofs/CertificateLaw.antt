@@ -145,8 +145,8 @@ certificate_sound p d v e =
     subst (IsCertificateOf p d) (same_Ok r.2) (record {
       keys = keys_sound certificate_keys d k.0 k.1;
       format = format_sound d f.0 f.1;
-      levels = no_entries_at (codes "levels") d l.0 l.1;
-      places = no_entries_at (codes "places") d q.0 q.1;
+      levels = (no_entries_at (codes "levels") d l.0 l.1, refl);
+      places = (no_entries_at (codes "places") d q.0 q.1, refl);
       names = ranks.2.0;
       differ = ranks.2.1;
       ranks = (ranks.0, ranks.1, ranks.2.2);
@@ -155,7 +155,8 @@ certificate_sound p d v e =
 certificate_whole : (p : PlanValue) (d : Data) (v : CertificateValue) → IsCertificateOf p d v → certificate (node_names p.nodes) d ≡ Ok v
 certificate_whole p d v h =
     let r = (among_at (node_names p.nodes)).whole d v.ranks (h.ranks.0, h.ranks.1, (h.names, h.differ, h.ranks.2)) in
-    rw (keys_whole certificate_keys d h.keys, format_whole d h.format, h.levels, h.places, r) refl
+    let same : record { levels = []; places = []; ranks = v.ranks } ≡ v = rw (h.levels.1, h.places.1) refl in
+    rw (keys_whole certificate_keys d h.keys, format_whole d h.format, h.levels.0, h.places.0, r) (ap Ok same)
 
 pub certificate_tells : (p : PlanValue) → Tells (certificate (node_names p.nodes)) (IsCertificateOf p)
 certificate_tells p = record { sound = certificate_sound p; whole = certificate_whole p }

@@ -1,6 +1,7 @@
 pub mod Items
 pub mod Keys
 pub mod KeysLaw
+pub mod Placed
 pub mod Names
 pub mod BusNames
 pub mod RankNames

@@ -1,19 +1,20 @@
 -- What is read of a plan is what the relation tells.
 use Rattle.std.proofs.Common.{◌≡◌, ◌≢◌, ℕ, zero, suc, ◌<◌, ◌≤◌, List, [], ◌∷◌, length, Bool, true, false, not, nat_le, ◌&&◌, ◌||◌, Option, Some, None, option_map, Result, Ok, Err, refl, sym, ap, ◌∙◌, subst, cond, true≢false, codes, slice_get, arith, AllPairs}
-use Rattle.std.proofs.lemmas.Bool.{leb-true, le-leb}
+use Rattle.std.proofs.lemmas.Bool.{leb-true, le-leb, lt-ltb}
 use Rattle.std.proofs.lemmas.List.{length-map}
 use Rattle.std.proofs.lemmas.Slice.Eq.{bytes_eq-Decides}
 use Rattle.std.proofs.lemmas.Map.Made.{AllPairs-from_IsDistinct, IsDistinct-from_AllPairs}
-use Rattle.std.specs.List.{list_any, IsDistinct, AllByRecursion}
+use Rattle.std.specs.List.{list_all, list_any, IsDistinct, AllByRecursion}
 use Rattle.std.specs.Str.{bytes_eq}
 use Rattle.hex.specs.Hex.{decode_of}
 use Rattle.hex.specs.declared.error.FromHexError.{FromHexError}
 use Rattle.serde_json.specs.Data.{Data, null, boolean, number, string, array, object, Items, no_items, item}
 use Rattle.serde_json.specs.Find.{get}
 use Rattle.net_plan.specs.Json.{keyed, at_key, list_within, demand, found, name_text, whole_number, nothing, address_text, bytes_within}
-use Rattle.net_plan.specs.JsonWords.{At, IsShortListOf, IsNumber, IsNumberWithin, IsName, IsAddress, IsPlace, IsFirstOf, AreItems}
+use Rattle.net_plan.specs.JsonWords.{At, IsShortListOf, IsNumber, IsNumberWithin, IsName, IsAddress, IsPlace, IsFirstOf, AreItems, IsNothing}
 use Rattle.net_plan.specs.NameText.{is_name}
 use Rattle.net_plan.specs.Keys.{plan_keys, bus_keys, port_keys, row_keys, node_keys}
+use Rattle.net_plan.specs.Placed.{is_port_placed, is_row_placed, is_node_placed, are_placed}
 use Rattle.net_plan.specs.PlanReading.{place_of, place_text, names_differ, bus, port, row, kind_text, node_name, nothing_else, node, nodes_among, plan}
 use Rattle.net_plan.specs.PlanText.{IsBusOf, IsPortOf, IsRowOf, IsKindOf, IsNodeOf, IsPlanOf}
 use Rattle.net_plan.specs.PlanValues.{BusValue, PortValue, RowValue, NodeValue, PlanValue, bus_names, node_names}
@@ -261,8 +262,30 @@ module _ (nodes : List (List ℕ)) where
   row_tells : Tells (row (place_of nodes)) (IsRowOf nodes)
   row_tells = record { sound = row_sound; whole = row_whole }
 
+-- a place at which a name stands is in the list
+within_list : {A : Type 0} (xs : List A) (k : ℕ) (x : A) → slice_get xs k ≡ Some x → k < length xs
+within_list [] k x is = absurd (no_Some is)
+within_list (y ∷ ys) zero x is = omega arith
+within_list (y ∷ ys) (suc k) x is = let rest = within_list ys k x is in omega arith
+
+place_within : (names : List (List ℕ)) (d : Data) (p : ℕ) → IsPlace names d p → p < length names
+place_within names d p h = within_list names p h.0 h.2.stands
+
+-- what holds of what each item tells holds of all
+items_placed : {A : Type 0} (p : A → Bool) (R : Data → A → Type 0) → ((d : Data) (x : A) → R d x → p x ≡ true) → (ds : Items) (xs : List A) → AreItems R ds xs → list_all p xs ≡ true
+items_placed p R each no_items [] h = refl
+items_placed p R each no_items (x ∷ xs) h = absurd h
+items_placed p R each (item d ds) [] h = absurd h
+items_placed p R each (item d ds) (x ∷ xs) h = rw (each d x h.0, items_placed p R each ds xs h.1) refl
+
 nothing_at : (key : List ℕ) (d : Data) (u : Unit {0}) → at_key key nothing d ≡ Ok u → get key d ≡ Some null
 nothing_at key d u e = key_sound key nothing null nothing_sound d u e
+
+abbrev NothingAt : {A : Type 0} → List ℕ → Data → Option A → Type 0
+NothingAt key d o = At key IsNothing d o
+
+nothing_stands : {A : Type 0} (key : List ℕ) (d : Data) (o : Option A) → NothingAt key d o → get key d ≡ Some null
+nothing_stands key d o h = h.1 ∙ ap Some h.2.0
 
 nothing_else_sound : (d : Data) (u : Unit {0}) → nothing_else d ≡ Ok u → (get (codes "owner") d ≡ Some null) × (get (codes "pool") d ≡ Some null) × (get (codes "terminus") d ≡ Some null)
 nothing_else_sound d u e =
@@ -298,11 +321,11 @@ module _ (buses nodes : List (List ℕ)) where
         name = (name_at (codes "name")).sound d n.0 n.1;
         kind = kind_at.sound d kind.0 kind.1;
         eid = (byte_at (codes "eid")).sound d eid.0 eid.1;
-        owner = none.0;
-        pool = none.1;
+        owner = (null, none.0, (refl, refl));
+        pool = (null, none.1, (refl, refl));
         ports = ports_at.sound d ps.0 ps.1;
         rows = rows_at.sound d rs.0 rs.1;
-        terminus = none.2;
+        terminus = (null, none.2, (refl, refl));
       })
 
   node_whole : (d : Data) (v : NodeValue) → IsNodeOf buses nodes d v → node (place_of buses) (place_of nodes) d ≡ Ok v
@@ -312,7 +335,15 @@ module _ (buses nodes : List (List ℕ)) where
       let eid = (byte_at (codes "eid")).whole d v.eid h.eid in
       let ps = ports_at.whole d v.ports h.ports in
       let rs = rows_at.whole d v.rows h.rows in
-      rw (keys_whole node_keys d h.keys, nothing_else_whole d h.owner h.pool h.terminus, n, kind, eid, ps, rs) refl
+      let none = nothing_else_whole d (nothing_stands (codes "owner") d v.owner h.owner) (nothing_stands (codes "pool") d v.pool h.pool) (nothing_stands (codes "terminus") d v.terminus h.terminus) in
+      let same : record { name = v.name; kind = v.kind; eid = v.eid; owner = None; pool = None; ports = v.ports; rows = v.rows; terminus = None } ≡ v = rw (h.owner.2.1, h.pool.2.1, h.terminus.2.1) refl in
+      rw (keys_whole node_keys d h.keys, none, n, kind, eid, ps, rs) (ap Ok same)
+
+  node_placed : (d : Data) (v : NodeValue) → IsNodeOf buses nodes d v → is_node_placed (length buses) (length nodes) v ≡ true
+  node_placed d v h =
+      let ports = items_placed (is_port_placed (length buses)) (IsPortOf buses) (λ e p stands. lt-ltb p.bus (length buses) (place_within buses stands.bus.0 p.bus stands.bus.2)) h.ports.2.0.0 v.ports h.ports.2.0.2 in
+      let rows = items_placed (is_row_placed (length nodes)) (IsRowOf nodes) (λ e r stands. lt-ltb r.next (length nodes) (place_within nodes stands.next.0 r.next stands.next.2)) h.rows.2.0.0 v.rows h.rows.2.0.2 in
+      rw (h.owner.2.1, ports, rows) refl
 
   node_tells : Tells (node (place_of buses) (place_of nodes)) (IsNodeOf buses nodes)
   node_tells = record { sound = node_sound; whole = node_whole }
@@ -374,7 +405,8 @@ plan_sound d v e =
     let b = then_Ok (at_key (codes "buses") (list_within 64 bus) d) _ v f.2 in
     let u = then_Ok (demand (names_differ (bus_names b.0))) _ v b.2 in
     let n = then_Ok (at_key (codes "nodes") (nodes_among (bus_names b.0)) d) _ v u.2 in
-    subst (IsPlanOf d) (same_Ok n.2) (record {
+    let p = then_Ok (demand (are_placed (length b.0) n.0)) _ v n.2 in
+    subst (IsPlanOf d) (same_Ok p.2) (record {
       keys = keys_sound plan_keys d k.0 k.1;
       format = format_sound d f.0 f.1;
       buses = buses_at.sound d b.0 b.1;
@@ -382,12 +414,17 @@ plan_sound d v e =
       nodes = (nodes_at (bus_names b.0)).sound d n.0 n.1;
     })
 
+nodes_placed : (buses : List BusValue) (d : Data) (ns : List NodeValue) → AreNodesOf (bus_names buses) d ns → are_placed (length buses) ns ≡ true
+nodes_placed buses d ns h =
+    let all = items_placed (is_node_placed (length (bus_names buses)) (length (node_names ns))) (IsNodeOf (bus_names buses) (node_names ns)) (node_placed (bus_names buses) (node_names ns)) h.0.0 ns h.0.2 in
+    ap (λ count. list_all (is_node_placed count (length ns)) ns) (sym (length-map buses (λ b. b.name))) ∙ ap (λ count. list_all (is_node_placed (length (bus_names buses)) count) ns) (sym (length-map ns (λ n. n.name))) ∙ all
+
 plan_whole : (d : Data) (v : PlanValue) → IsPlanOf d v → plan d ≡ Ok v
 plan_whole d v h =
     let b = buses_at.whole d v.buses h.buses in
     let u = differ_whole (bus_names v.buses) h.names in
     let n = (nodes_at (bus_names v.buses)).whole d v.nodes h.nodes in
-    rw (keys_whole plan_keys d h.keys, format_whole d h.format, b, u, n) refl
+    rw (keys_whole plan_keys d h.keys, format_whole d h.format, b, u, n, nodes_placed v.buses h.nodes.0 v.nodes h.nodes.2) refl
 
 pub plan_tells : Tells plan IsPlanOf
 plan_tells = record { sound = plan_sound; whole = plan_whole }

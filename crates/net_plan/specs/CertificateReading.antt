@@ -35,4 +35,4 @@ ranks_among nodes d = then_with (all_of ranks_name d) (λ names. then_with (dema
 abbrev pub certificate : List (List ℕ) → Data → Result CertificateValue Fault
 certificate nodes d = then_with (keyed certificate_keys d) (λ _. then_with (at_key (codes "format") (whole_number 1 1) d) (λ _. then_with (at_key (codes "levels") no_entries d) (λ _.
     then_with (at_key (codes "places") no_entries d) (λ _. then_with (at_key (codes "ranks") (ranks_among nodes) d) (λ rs.
-    Ok (record { ranks = rs }))))))
+    Ok (record { levels = []; places = []; ranks = rs }))))))

@@ -1,5 +1,5 @@
 -- Which certificate a JSON value is.
-use Rattle.std.specs.Prelude.{ℕ, ◌≡◌, ◌≢◌, ◌+◌, ◌≤◌, codes, List, Some, AllPairs}
+use Rattle.std.specs.Prelude.{ℕ, ◌≡◌, ◌≢◌, ◌+◌, ◌≤◌, codes, List, [], Some, AllPairs}
 use Rattle.serde_json.specs.Data.{Data, array, no_items}
 use Rattle.serde_json.specs.Find.{get}
 use Rattle.net_plan.specs.Keys.{certificate_keys, ranks_keys, range_keys}
@@ -36,8 +36,8 @@ IsRanksList nodes names d rs = IsListOf (At (codes "node") IsName) d names × Is
 pub record IsCertificateOf (plan : PlanValue) (d : Data) (c : CertificateValue) : Type 0 where
   pub keys : HasKeys certificate_keys d
   pub format : At (codes "format") IsNumber d 1
-  pub levels : get (codes "levels") d ≡ Some (array no_items)
-  pub places : get (codes "places") d ≡ Some (array no_items)
+  pub levels : (get (codes "levels") d ≡ Some (array no_items)) × (c.levels ≡ [])
+  pub places : (get (codes "places") d ≡ Some (array no_items)) × (c.places ≡ [])
   pub names : List (List ℕ)
   pub differ : AllPairs (λ a b. a ≢ b) names
   pub ranks : At (codes "ranks") (IsRanksList (node_names plan.nodes) names) d c.ranks

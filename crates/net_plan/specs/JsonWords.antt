@@ -1,7 +1,7 @@
 -- Sentences over JSON values.
-use Rattle.std.specs.Prelude.{ℕ, ◌≡◌, ◌≢◌, ◌↔◌, ◌<◌, ◌≤◌, List, [], ◌∷◌, length, slice_get, Some, Ok, IsSome, IsTrue, Contains}
+use Rattle.std.specs.Prelude.{ℕ, ◌≡◌, ◌≢◌, ◌↔◌, ◌<◌, ◌≤◌, List, [], ◌∷◌, length, slice_get, Option, Some, None, Ok, IsSome, IsTrue, Contains}
 use Rattle.hex.specs.Hex.{decode_of}
-use Rattle.serde_json.specs.Data.{Data, number, unsigned, string, array, object, Items, no_items, item, Members}
+use Rattle.serde_json.specs.Data.{Data, null, number, unsigned, string, array, object, Items, no_items, item, Members}
 use Rattle.serde_json.specs.Find.{get, get_member}
 use Rattle.net_plan.specs.NameText.{is_name}
 
@@ -26,6 +26,10 @@ IsListOf R d xs = (ds : Items) × (d ≡ array ds) × AreItems R ds xs
 -- a list of at most so many items
 abbrev pub IsShortListOf : {A : Type 0} → ℕ → (Data → A → Type 0) → Data → List A → Type 0
 IsShortListOf most R d xs = IsListOf R d xs × (length xs ≤ most)
+
+-- `null`, and no value
+abbrev pub IsNothing : {A : Type 0} → Data → Option A → Type 0
+IsNothing d o = (d ≡ null) × (o ≡ None)
 
 -- a number, written without sign, fraction and exponent
 abbrev pub IsNumber : Data → ℕ → Type 0

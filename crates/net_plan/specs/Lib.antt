@@ -1,5 +1,7 @@
 -- plans, certificates and their texts
 pub mod NameText
+pub mod NodeValues
+pub mod Placed
 pub mod PlanValues
 pub mod CertificateValues
 pub mod Keys

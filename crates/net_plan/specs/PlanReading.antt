@@ -1,10 +1,11 @@
 -- The plan that a JSON value stands for, by functions.
-use Rattle.std.specs.Prelude.{ℕ, suc, ⊤, codes, ◌&&◌, List, [], ◌∷◌, Bool, true, not, if◌then◌else◌, Option, Some, None, option_map, Result, Ok, Err}
+use Rattle.std.specs.Prelude.{ℕ, suc, ⊤, codes, ◌&&◌, List, [], ◌∷◌, length, Bool, true, not, if◌then◌else◌, Option, Some, None, option_map, Result, Ok, Err}
 use Rattle.std.specs.List.{list_any}
 use Rattle.std.specs.Str.{bytes_eq}
 use Rattle.serde_json.specs.Data.{Data, string}
 use Rattle.net_plan.specs.Json.{keyed, at_key, list_within, demand, found, name_text, whole_number, nothing, address_text}
 use Rattle.net_plan.specs.Keys.{bus_keys, node_keys, plan_keys, port_keys, row_keys}
+use Rattle.net_plan.specs.Placed.{are_placed}
 use Rattle.net_plan.specs.PlanValues.{BusValue, PortValue, RowValue, NodeValue, PlanValue, bus_names}
 use Rattle.net_plan.specs.Reading.{then_with}
 use Rattle.net_plan.specs.declared.error.Fault.{Fault}
@@ -58,7 +59,7 @@ abbrev pub node : (List ℕ → Option ℕ) → (List ℕ → Option ℕ) → Da
 node find_bus find_node d = then_with (keyed node_keys d) (λ _. then_with (nothing_else d) (λ _. then_with (node_name d) (λ n.
     then_with (at_key (codes "kind") kind_text d) (λ k. then_with (at_key (codes "eid") (whole_number 0 255) d) (λ e.
     then_with (at_key (codes "ports") (list_within 32 (port find_bus)) d) (λ ps. then_with (at_key (codes "rows") (list_within 256 (row find_node)) d) (λ rs.
-    Ok (record { name = n; kind = k; eid = e; ports = ps; rows = rs }))))))))
+    Ok (record { name = n; kind = k; eid = e; owner = None; pool = None; ports = ps; rows = rs; terminus = None }))))))))
 
 -- nodes that name each other, and the buses of these names
 abbrev pub nodes_among : List (List ℕ) → Data → Result (List NodeValue) Fault
@@ -67,4 +68,4 @@ nodes_among buses d = then_with (list_within 64 node_name d) (λ names. list_wit
 abbrev pub plan : Data → Result PlanValue Fault
 plan d = then_with (keyed plan_keys d) (λ _. then_with (at_key (codes "format") (whole_number 1 1) d) (λ _. then_with (at_key (codes "buses") (list_within 64 bus) d) (λ bs.
     then_with (demand (names_differ (bus_names bs))) (λ _. then_with (at_key (codes "nodes") (nodes_among (bus_names bs)) d) (λ ns.
-    Ok (record { buses = bs; nodes = ns }))))))
+    then_with (demand (are_placed (length bs) ns)) (λ _. Ok (record { buses = bs; nodes = ns })))))))

@@ -1,8 +1,7 @@
 -- Which plan a JSON value is.
-use Rattle.std.specs.Prelude.{ℕ, ◌≡◌, ◌≢◌, codes, List, Some, AllPairs}
-use Rattle.serde_json.specs.Data.{Data, null, string}
-use Rattle.serde_json.specs.Find.{get}
-use Rattle.net_plan.specs.JsonWords.{HasKeys, At, IsShortListOf, IsNumber, IsNumberWithin, IsName, IsAddress, IsPlace}
+use Rattle.std.specs.Prelude.{ℕ, ◌≡◌, ◌≢◌, codes, List, AllPairs}
+use Rattle.serde_json.specs.Data.{Data, string}
+use Rattle.net_plan.specs.JsonWords.{HasKeys, At, IsShortListOf, IsNumber, IsNumberWithin, IsName, IsAddress, IsPlace, IsNothing}
 use Rattle.net_plan.specs.Keys.{plan_keys, bus_keys, port_keys, row_keys, node_keys}
 use Rattle.net_plan.specs.PlanValues.{BusValue, PortValue, RowValue, NodeValue, PlanValue, bus_names, node_names}
 use Rattle.net_plan.specs.declared.nodes.Kind.{Kind}
@@ -38,11 +37,11 @@ pub record IsNodeOf (buses nodes : List (List ℕ)) (d : Data) (n : NodeValue) :
   pub name : At (codes "name") IsName d n.name
   pub kind : At (codes "kind") IsKindOf d n.kind
   pub eid : At (codes "eid") (IsNumberWithin 0 255) d n.eid
-  pub owner : get (codes "owner") d ≡ Some null
-  pub pool : get (codes "pool") d ≡ Some null
+  pub owner : At (codes "owner") IsNothing d n.owner
+  pub pool : At (codes "pool") IsNothing d n.pool
   pub ports : At (codes "ports") (IsShortListOf 32 (IsPortOf buses)) d n.ports
   pub rows : At (codes "rows") (IsShortListOf 256 (IsRowOf nodes)) d n.rows
-  pub terminus : get (codes "terminus") d ≡ Some null
+  pub terminus : At (codes "terminus") IsNothing d n.terminus
 
 -- a plan: no two buses have one name, and ports and rows name its own buses and nodes
 pub record IsPlanOf (d : Data) (p : PlanValue) : Type 0 where

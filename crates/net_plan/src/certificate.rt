@@ -24,8 +24,37 @@ pub struct NodeRanks {
     pub ranges: Vec<RankRange>,
 }
 
-/// What is claimed of a plan: how many moves each endpoint ID is from each node.
+/// How many owners stand above a node.
+#[derive(Clone, Copy, Debug, PartialEq, Eq)]
+pub struct NodeLevel {
+    /// 1 to 63.
+    pub level: u8,
+    /// The place of the node in the plan's list.
+    pub node: usize,
+    pub ghost owned: { 0 < level },
+    pub ghost within: { level ≤ 63 },
+}
+
+/// The place of a record along the next handles of its list, 0 to 4,095.
+#[derive(Clone, Copy, Debug, PartialEq, Eq)]
+pub struct RecordPlace {
+    pub value: u16,
+    pub ghost in_range: { value < 4096 },
+}
+
+/// The places of one node's records, in the order of its list.
+#[derive(Debug, Drop)]
+pub struct NodePlaces {
+    /// The place of the node in the plan's list.
+    pub node: usize,
+    pub places: Vec<RecordPlace>,
+}
+
+/// What is claimed of a plan: how many owners each node has above it, where each record stands along the next handles, and
+/// how many moves each endpoint ID is from each node.
 #[derive(Debug, Drop)]
 pub struct Certificate {
+    pub levels: Vec<NodeLevel>,
+    pub places: Vec<NodePlaces>,
     pub ranks: Vec<NodeRanks>,
 }

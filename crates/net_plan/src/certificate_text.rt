@@ -16,8 +16,9 @@ use crate::json::{
     ReadItem, check_keys, member, read_all, read_byte, read_no_entries, read_number,
 };
 use crate::name::Name;
-use crate::nodes::{Node, Plan};
+use crate::nodes::Node;
 use crate::places::{Places, names_differ};
+use crate::plan::Plan;
 use crate::plan_text::{read_name, read_place};
 use mctp_transport::Eid;
 use serde_json::Value;
@@ -154,5 +155,9 @@ pub fn read_certificate_value(
     read_no_entries(member(value, "levels")?)?;
     read_no_entries(member(value, "places")?)?;
     let ranks = read_ranks(alloc, plan.nodes.as_slice(), member(value, "ranks")?)?;
-    Ok(Certificate { ranks })
+    Ok(Certificate {
+        levels: Vec::new(alloc),
+        places: Vec::new(alloc),
+        ranks,
+    })
 }

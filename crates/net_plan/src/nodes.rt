@@ -1,7 +1,8 @@
-//! A plan: its buses, and its nodes with their ports and routing tables.
+//! Buses, and nodes with their ports, routing tables, owners and pools.
 ghost use Rattle.std.specs.Prelude.{◌≤◌, vec_len};
 
 use crate::name::Name;
+use crate::terminus::Terminus;
 use mctp_transport::Eid;
 
 /// A bus, by the binding and the medium of its packets (the identifiers of DSP0239).
@@ -44,27 +45,29 @@ pub struct Row {
     pub next: usize,
 }
 
+/// A run of endpoint IDs that a bridge gives to the nodes behind it (DSP0236, the EID pool).
+#[derive(Clone, Copy, Debug, PartialEq, Eq)]
+pub struct Pool {
+    /// The first endpoint ID of the pool.
+    pub first: Eid,
+    /// How many it has from there.
+    pub size: u8,
+}
+
 /// A bridge or an endpoint.
 #[derive(Debug, Drop)]
 pub struct Node {
     pub name: Name,
     pub kind: Kind,
     pub eid: Eid,
+    /// The place in the plan's list of the bus owner that gives the node its endpoint ID.
+    pub owner: Option<usize>,
+    pub pool: Option<Pool>,
     /// At most 32.
     pub ports: Vec<Port>,
     /// At most 256.
     pub rows: Vec<Row>,
+    pub terminus: Option<Terminus>,
     pub ghost few_ports: { vec_len ports ≤ 32 },
     pub ghost few_rows: { vec_len rows ≤ 256 },
-}
-
-/// A planned network.
-#[derive(Debug, Drop)]
-pub struct Plan {
-    /// At most 64.
-    pub buses: Vec<Bus>,
-    /// At most 64.
-    pub nodes: Vec<Node>,
-    pub ghost few_buses: { vec_len buses ≤ 64 },
-    pub ghost few_nodes: { vec_len nodes ≤ 64 },
 }

@@ -7,14 +7,17 @@ ghost use Rattle.net_plan.specs.NameText.{is_name, is_name_byte, has_name_length
 ghost use Rattle.net_plan.specs.Reading.{IsReadOf};
 ghost use Rattle.net_plan.specs.Json.{demand, name_text, address_text};
 ghost use Rattle.net_plan.specs.Places.{find_in};
+ghost use Rattle.net_plan.specs.Placed.{are_placed};
 ghost use Rattle.net_plan.specs.PlanReading.{place_text, bus, port, row, kind_text, node_name, nothing_else, node, nodes_among, names_differ, plan};
 ghost use Rattle.net_plan.specs.PlanValues.{BusValue, PortValue, RowValue, NodeValue, name_bytes, bus_value, bus_names, port_value, row_value, node_value, plan_value};
 
 use crate::error::Fault;
 use crate::json::{ReadItem, check_keys, member, read_byte, read_list, read_nothing, read_number};
 use crate::name::Name;
-use crate::nodes::{Bus, Kind, Node, Plan, Port, Row};
+use crate::nodes::{Bus, Kind, Node, Port, Row};
 use crate::places::{Named, Places, names_differ};
+use crate::plan::Plan;
+use crate::references::are_placed;
 use hex::FromHexError;
 use mctp_transport::Eid;
 use serde_json::Value;
@@ -249,8 +252,11 @@ impl<'b, 'n> ReadItem for NodeReader<'b, 'n> {
             name,
             kind,
             eid: Eid::new(eid),
+            owner: None,
+            pool: None,
             ports,
             rows,
+            terminus: None,
         })
     }
 }
@@ -298,6 +304,17 @@ fn check_names_differ(buses: &[Bus]) -> Result<(), Fault>
     }
 }
 
+/// That ports and rows name the plan's own buses and nodes.
+fn check_placed(buses: &[Bus], nodes: &[Node]) -> Result<(), Fault>
+    ensures { result ≡ demand (are_placed (length buses.now) (map node_value nodes.now)) }
+{
+    if are_placed(buses.len(), nodes) {
+        Ok(())
+    } else {
+        Err(Fault::OutOfRange)
+    }
+}
+
 /// The plan of a JSON value.
 pub fn read_plan_value(alloc: Global, value: &Value) -> Result<Plan, Fault>
     ensures { IsReadOf plan_value (plan (view value.now)) result }
@@ -307,5 +324,6 @@ pub fn read_plan_value(alloc: Global, value: &Value) -> Result<Plan, Fault>
     let buses = read_list(alloc, &BusReader, member(value, "buses")?, 64)?;
     check_names_differ(buses.as_slice())?;
     let nodes = read_nodes(alloc, buses.as_slice(), member(value, "nodes")?)?;
+    check_placed(buses.as_slice(), nodes.as_slice())?;
     Ok(Plan { buses, nodes })
 }

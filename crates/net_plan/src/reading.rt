@@ -12,7 +12,7 @@ ghost use Rattle.net_plan.specs.CertificateValues.{certificate_value};
 use crate::certificate::Certificate;
 use crate::certificate_text::read_certificate_value;
 use crate::error::PlanError;
-use crate::nodes::Plan;
+use crate::plan::Plan;
 use crate::plan_text::read_plan_value;
 use crate::stream::{Source, read_within};
 use serde_json::Value;
