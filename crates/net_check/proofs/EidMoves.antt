@@ -6,7 +6,7 @@ use Rattle.std.proofs.lemmas.Bool.{cases_order, cases_lt}
 use Rattle.std.proofs.lemmas.Option.{slice_get_within, slice_get_past, slice_get-get_or, same_Some, none-some, option_and_then_some, get_or_from_slice_get}
 use Rattle.std.specs.declared.alloc.AllocError.{AllocError}
 use Rattle.net_check.specs.declared.certifying.walks.Walked.{Walked}
-use Rattle.net_plan.specs.declared.nodes.Plan.{Plan}
+use Rattle.net_plan.specs.declared.plan.Plan.{Plan}
 use Rattle.net_plan.specs.declared.nodes.Row.{Row}
 use Rattle.net_check.specs.Routing.{Holds, Covers, Routes, MovesTo, OfRow, rows_of}
 use Rattle.net_check.specs.Rows.{AreApart, IsInRange, IsApartFromEarlier}

@@ -1,10 +1,10 @@
 -- The certificate of a plan, and why there is none.
-use Rattle.std.specs.Prelude.{◌≡◌, ℕ, ◌+◌, ◌<◌, List, length, slice_get, Some, Bool, nat_lt}
+use Rattle.std.specs.Prelude.{◌≡◌, ℕ, ◌+◌, ◌<◌, List, [], length, slice_get, Some, Bool, nat_lt}
 use Rattle.net_check.specs.declared.certify_error.CertifyError.{CertifyError}
 use Rattle.net_check.specs.declared.certify_error.CertifyError.TheVariants as error
 use Rattle.net_check.specs.declared.certifying.routes.Routed.{Routed}
 use Rattle.net_check.specs.declared.certifying.routes.Routed.TheVariants.{Ranked, Looped}
-use Rattle.net_plan.specs.declared.nodes.Plan.{Plan}
+use Rattle.net_plan.specs.declared.plan.Plan.{Plan}
 use Rattle.net_plan.specs.declared.certificate.Certificate.{Certificate}
 use Rattle.net_plan.specs.declared.certificate.NodeRanks.{NodeRanks}
 use Rattle.net_check.specs.Routing.{MovesTo}
@@ -26,6 +26,10 @@ pub record HasExactRanks (plan : Plan) (cert : Certificate) : Type 0 where
   pub ascend : (i j : ℕ) (one other : NodeRanks) → i < j → slice_get cert.ranks.items i ≡ Some one → slice_get cert.ranks.items j ≡ Some other
       → one.node < other.node
 
+-- the certificate has no levels and no places
+abbrev pub HasRanksAlone : Certificate → Type 0
+HasRanksAlone cert = (cert.levels.items ≡ []) × (cert.places.items ≡ [])
+
 -- no certificate of the plan is accepted
 abbrev pub HasNoCertificate : Plan → Type 0
 HasNoCertificate plan = (cert : Certificate) → ¬ Accepts plan cert
@@ -46,7 +50,7 @@ RulesOutCertificates plan (error.Loop eid nodes) = HasNoCertificate plan
 
 -- what the search for ranks answers
 abbrev pub IsRouted : Plan → Routed → Type 0
-IsRouted plan (Ranked cert) = HasExactRanks plan cert
+IsRouted plan (Ranked cert) = HasExactRanks plan cert × HasRanksAlone cert
 IsRouted plan (Looped eid nodes) = IsFirstRoutingLoop plan eid.value nodes.items
 
 abbrev pub has_ranges : NodeRanks → Bool

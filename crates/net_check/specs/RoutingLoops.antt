@@ -1,6 +1,6 @@
 -- Where rows lead what is for an EID: so many moves on, or round a loop.
 use Rattle.std.specs.Prelude.{◌≡◌, ℕ, ◌<◌, List, length, slice_get, Option, Some, MatchOption}
-use Rattle.net_plan.specs.declared.nodes.Plan.{Plan}
+use Rattle.net_plan.specs.declared.plan.Plan.{Plan}
 use Rattle.net_plan.specs.declared.nodes.Row.{Row}
 use Rattle.net_check.specs.Routing.{rows_of, Covers, OfRow, MovesTo}
 use Rattle.net_check.specs.Rows.{IsInRange, IsApartFromEarlier}

@@ -36,7 +36,11 @@ pub fn route(alloc: Global, plan: &Plan) -> Result<Routed, AllocError>
         }
     }
     keep_ranked(&mut given);
-    Ok(Routed::Ranked(Certificate { ranks: given }))
+    Ok(Routed::Ranked(Certificate {
+        levels: Vec::new(alloc),
+        places: Vec::new(alloc),
+        ranks: given,
+    }))
 }
 
 /// Leaves out the nodes that have no ranges.
