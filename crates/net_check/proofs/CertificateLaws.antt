@@ -1,12 +1,12 @@
 -- Exact ranks fall with each move, and none do round a loop.
-use Rattle.std.proofs.Common.{◌≡◌, ℕ, ◌<◌, List, Option, Some, None, refl, subst, arith}
+use Rattle.std.proofs.Common.{ℕ, List, Option, Some, None, refl, arith}
 use Rattle.net_check.specs.declared.rule.Rule.{Rule}
 use Rattle.net_check.specs.declared.rule.Rule.TheVariants.{C01, C02, C03, C04, C05, C06, C10}
 use Rattle.net_plan.specs.declared.plan.Plan.{Plan}
 use Rattle.net_plan.specs.declared.certificate.Certificate.{Certificate}
 use Rattle.net_check.specs.Routing.{MovesTo}
 use Rattle.net_check.specs.Ranks.{rank, Falls}
-use Rattle.net_check.specs.Rules.{PlanDemands, CertificateDemands, Accepts}
+use Rattle.net_check.specs.Rules.{CertificateDemands, Accepts}
 use Rattle.net_check.specs.PlanFaults.{PlanMeetsAll}
 use Rattle.net_check.specs.RoutingLoops.{RowsAreApart, RowsAreInRange, IsFirstRoutingLoop}
 use Rattle.net_check.specs.Certificates.{HasExactRanks, HasNoCertificate}

@@ -1,5 +1,5 @@
 -- Where moves lead: to an end, or round a circle.
-use Rattle.std.proofs.Common.{◌≡◌, ℕ, zero, suc, ◌+◌, ◌-◌, ◌<◌, ◌≤◌, ◌⊎◌, inl, inr, arith, refl, subst, sym, ◌∙◌, ap, List, length, Some, Option, None, add-one, get_or, ◌++◌, ◌∷◌, [], ◌≢◌, length-append}
+use Rattle.std.proofs.Common.{◌≡◌, ℕ, zero, suc, ◌+◌, ◌-◌, ◌<◌, ◌≤◌, inl, inr, arith, refl, subst, sym, ◌∙◌, ap, List, length, Some, Option, None, add-one, get_or, ◌++◌, ◌∷◌, [], ◌≢◌, length-append}
 use Rattle.std.specs.Prelude.{slice_get}
 use Rattle.std.proofs.lemmas.Bool.{cases_lt}
 use Rattle.std.proofs.lemmas.List.{get_or_append_left, get_or_push, length_push}

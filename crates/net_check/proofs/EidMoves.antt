@@ -1,19 +1,19 @@
 -- Moves of what is for an EID, by rows and by table.
-use Rattle.std.proofs.Common.{◌≡◌, ℕ, zero, suc, ◌<◌, ◌≤◌, List, length, Option, Some, None, refl, sym, ◌∙◌, arith, ◌⊎◌, inl, inr, subst, ap, get_or, IfOk, Ok, Err, Result, All, take}
-use Rattle.std.specs.Prelude.{slice_get, MatchOption}
+use Rattle.std.proofs.Common.{◌≡◌, ℕ, ◌<◌, ◌≤◌, List, length, Option, Some, None, refl, sym, ◌∙◌, arith, ◌⊎◌, inl, inr, subst, ap, get_or, IfOk, Ok, Err, Result, All, take}
+use Rattle.std.specs.Prelude.{slice_get}
 use Rattle.std.proofs.lemmas.List.{length-take, get_or-take}
 use Rattle.std.proofs.lemmas.Bool.{cases_order, cases_lt}
-use Rattle.std.proofs.lemmas.Option.{slice_get_within, slice_get_past, slice_get-get_or, same_Some, none-some, option_and_then_some, get_or_from_slice_get}
+use Rattle.std.proofs.lemmas.Option.{slice_get_within, slice_get_past, slice_get-get_or, same_Some, option_and_then_some, get_or_from_slice_get}
 use Rattle.std.specs.declared.alloc.AllocError.{AllocError}
 use Rattle.net_check.specs.declared.certifying.walks.Walked.{Walked}
 use Rattle.net_plan.specs.declared.plan.Plan.{Plan}
 use Rattle.net_plan.specs.declared.nodes.Row.{Row}
-use Rattle.net_check.specs.Routing.{Holds, Covers, Routes, MovesTo, OfRow, rows_of}
+use Rattle.net_check.specs.Routing.{Covers, MovesTo, rows_of}
 use Rattle.net_check.specs.Rows.{AreApart, IsInRange, IsApartFromEarlier}
-use Rattle.net_check.specs.Moves.{Leads, IsEnd}
+use Rattle.net_check.specs.Moves.{IsEnd}
 use Rattle.net_check.specs.Circles.{MovesBy, EndsAfter, HasNoCircle, IsWalked}
 use Rattle.net_check.specs.Promises.{WayEnds}
-use Rattle.net_check.specs.RoutingLoops.{IsRank, RowsAreApart, RowsAreInRange, NamesFor, IsNext, AreNexts}
+use Rattle.net_check.specs.RoutingLoops.{IsRank, RowsAreApart, RowsAreInRange, NamesFor, AreNexts}
 use Rattle.net_check.proofs.Circling.{ends_once}
 use Rattle.net_check.proofs.SameMoves.{IsWalked-same}
 use Rattle.net_check.proofs.Ends.{moves_or_ends}

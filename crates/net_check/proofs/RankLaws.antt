@@ -1,6 +1,6 @@
 -- From one EID to the next, and from all of them to the certificate.
-use Rattle.std.proofs.Common.{◌≡◌, ℕ, zero, suc, ◌+◌, ◌-◌, ◌<◌, ◌≤◌, List, [], ◌∷◌, length, Option, Some, None, refl, sym, ◌∙◌, ap, subst, arith, ◌⊎◌, inl, inr, Bool, true, false, filter, ◌&&◌, nat_le, nat_lt}
-use Rattle.std.specs.Prelude.{slice_get, find, ◌==◌}
+use Rattle.std.proofs.Common.{◌≡◌, ℕ, ◌+◌, ◌<◌, ◌≤◌, List, [], length, Some, refl, sym, ◌∙◌, ap, subst, arith, inl, inr, true, filter, nat_le, nat_lt}
+use Rattle.std.specs.Prelude.{slice_get, ◌==◌}
 use Rattle.std.proofs.lemmas.Bool.{cases_lt, cases_eq, and_parts, ltb-true, ltb-false, leb-true, eqb-true, eq-eqb, lt-ltb, le-leb, and_from, false≢true, cases_Bool}
 use Rattle.std.proofs.lemmas.Option.{slice_get_within, same_Some, none-some}
 use Rattle.std.proofs.lemmas.List.{nil_from_length}
@@ -12,7 +12,7 @@ use Rattle.net_check.specs.Routing.{MovesTo}
 use Rattle.net_check.specs.Ranks.{rank, rank_in, is_in_range}
 use Rattle.net_check.specs.Circles.{HasNoCircle, AreMovesToEnds}
 use Rattle.net_check.specs.RoutingLoops.{IsRank, RowsAreApart, RowsAreInRange}
-use Rattle.net_check.specs.RankRuns.{LiesIn, AreLongestRuns, below, AreNone, AreGrown}
+use Rattle.net_check.specs.RankRuns.{AreLongestRuns, below, AreNone, AreGrown}
 use Rattle.net_check.specs.Certificates.{AreRoutedBelow, HasExactRanks, has_ranges}
 use Rattle.net_check.proofs.Circling.{circle_in}
 use Rattle.net_check.proofs.Elements.{element}

@@ -1,8 +1,7 @@
 -- What is said of moves holds of every relation that is the same.
-use Rattle.std.proofs.Common.{◌≡◌, ℕ, zero, suc, ◌<◌, ◌≤◌, List, length, Some}
-use Rattle.std.specs.Prelude.{slice_get}
-use Rattle.net_check.specs.Moves.{Leads, IsEnd}
-use Rattle.net_check.specs.Circles.{EndsAfter, IsOnCircle, HasNoCircle, IsLoop, IsLoopFrom, IsLeastLoop, AreMovesToEnds, IsWalked}
+use Rattle.std.proofs.Common.{ℕ, zero, suc, List}
+use Rattle.net_check.specs.Moves.{Leads}
+use Rattle.net_check.specs.Circles.{EndsAfter, HasNoCircle, IsLoop, IsLeastLoop, IsWalked}
 use Rattle.net_check.specs.declared.certifying.walks.Walked.{Walked}
 use Rattle.net_check.specs.declared.certifying.walks.Walked.TheVariants.{Ended, Circled}
 

@@ -1,8 +1,8 @@
 -- A routing table of a node's rows sends what is for an EID where the rows send it.
-use Rattle.std.proofs.Common.{◌≡◌, ℕ, ◌<◌, ◌≤◌, ◌⊎◌, List, Option, Some, None, length, map, take, get_or, refl, sym, ap, ◌∙◌, subst, arith, inl, inr, All, AllPairs}
-use Rattle.std.specs.Prelude.{slice_get, ◌↔◌, Any}
+use Rattle.std.proofs.Common.{◌≡◌, ℕ, ◌<◌, List, Some, None, length, map, take, get_or, refl, sym, ap, ◌∙◌, subst, arith, inl, inr}
+use Rattle.std.specs.Prelude.{slice_get}
 use Rattle.std.proofs.lemmas.List.{get_or-map, get_or-take, length-take, length-map}
-use Rattle.std.proofs.lemmas.Option.{slice_get_within, slice_get-get_or, get_or_from_slice_get, same_Some}
+use Rattle.std.proofs.lemmas.Option.{slice_get_within, slice_get-get_or, get_or_from_slice_get}
 use Rattle.mctp_bridge.specs.declared.row.Hop.{Hop}
 use Rattle.mctp_bridge.specs.declared.row.Row as bridge
 use Rattle.mctp_bridge.specs.declared.table_fault.TableFault.{TableFault}
@@ -10,10 +10,9 @@ use Rattle.mctp_bridge.specs.declared.table_fault.TableFault.TheVariants.{Empty,
 use Rattle.mctp_bridge.specs.Rows as rule
 use Rattle.mctp_bridge.specs.RowFaults.{IsFirstFault}
 use Rattle.net_plan.specs.declared.nodes.Row.{Row}
-use Rattle.net_check.specs.Routing.{Covers}
 use Rattle.net_check.specs.Rows.{AreApart, IsInRange, IsApartFromEarlier}
 use Rattle.net_check.specs.RoutingLoops.{NamesFor}
-use Rattle.net_check.specs.Tables.{AreRows, table_row, IsHopOf, SendsAs}
+use Rattle.net_check.specs.Tables.{AreRows, table_row, SendsAs}
 use Rattle.net_check.proofs.Elements.{element}
 
 -- ---- the rows are lawful

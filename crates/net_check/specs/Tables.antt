@@ -5,7 +5,7 @@ use Rattle.mctp_bridge.specs.declared.row.Row as bridge
 use Rattle.mctp_bridge.specs.Rows.{IsNext}
 use Rattle.net_plan.specs.declared.plan.Plan.{Plan}
 use Rattle.net_plan.specs.declared.nodes.Row.{Row}
-use Rattle.net_check.specs.Routing.{rows_of, Covers, OfRow}
+use Rattle.net_check.specs.Routing.{rows_of, OfRow}
 use Rattle.net_check.specs.Rows.{IsInRange, IsApartFromEarlier}
 use Rattle.net_check.specs.RoutingLoops.{NamesFor}
 

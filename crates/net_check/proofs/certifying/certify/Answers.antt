@@ -1,4 +1,4 @@
-use Rattle.std.proofs.Common.{◌≡◌, subst}
+use Rattle.std.proofs.Common.{subst}
 use Rattle.net_check.specs.declared.certifying.routes.Routed.{Routed}
 use Rattle.net_check.specs.Certificates.{IsRouted}
 use Rattle.net_check.proofs.CertificateLaws.{looped_has_none}

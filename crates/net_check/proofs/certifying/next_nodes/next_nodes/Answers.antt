@@ -1,4 +1,4 @@
-use Rattle.std.proofs.Common.{◌≡◌, ℕ, ◌+◌, ◌<◌, length, Option, Some, sym, ap, arith, subst, inl, inr, List, ◌++◌, ◌∷◌, []}
+use Rattle.std.proofs.Common.{◌≡◌, ◌+◌, sym, arith, subst, inl, inr, ◌++◌, ◌∷◌, []}
 use Rattle.std.proofs.lemmas.List.{length_push}
 use Rattle.net_check.specs.RoutingLoops.{IsNext, AreNexts}
 use Rattle.net_check.proofs.Elements.{in_push}

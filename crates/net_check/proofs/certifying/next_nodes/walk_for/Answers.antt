@@ -1,4 +1,4 @@
-use Rattle.std.proofs.Common.{◌≡◌, length}
+use Rattle.std.proofs.Common.{length}
 use Rattle.net_check.specs.RoutingLoops.{AreNexts}
 use Rattle.net_check.proofs.EidMoves.{walked_same}
 use Rattle.net_check.proofs.certifying.next_nodes.walk_for.Goals as goal

@@ -1,4 +1,4 @@
-use Rattle.std.proofs.Common.{◌≡◌, rules, of_calls}
+use Rattle.std.proofs.Common.{rules, of_calls}
 use Rattle.std.proofs.lemmas.List.Elements.{filter_from_retain}
 use Rattle.net_check.specs.Certificates.{has_ranges}
 use Rattle.net_check.proofs.certifying.routes.keep_ranked.Goals as goal

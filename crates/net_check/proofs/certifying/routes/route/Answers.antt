@@ -1,4 +1,4 @@
-use Rattle.std.proofs.Common.{◌≡◌, ℕ, ◌+◌, ◌<◌, ◌≤◌, length, arith, List, sym, ◌∙◌, ap, subst, take, drop, ◌++◌}
+use Rattle.std.proofs.Common.{◌≡◌, ℕ, ◌+◌, ◌≤◌, length, arith, List, sym, ◌∙◌, ap, subst, take, drop, ◌++◌}
 use Rattle.std.proofs.lemmas.List.{take_all, drop_all, append-nil}
 use Rattle.net_check.specs.declared.certifying.walks.Walked.{Walked}
 use Rattle.net_check.specs.declared.certifying.walks.Walked.TheVariants.{Ended}

@@ -1,4 +1,4 @@
-use Rattle.std.proofs.Common.{◌≡◌, List, subst, sym, ◌∙◌}
+use Rattle.std.proofs.Common.{List, subst, sym, ◌∙◌}
 use Rattle.mctp_bridge.specs.declared.row.Row as bridge
 use Rattle.mctp_bridge.specs.Rows as rule
 use Rattle.net_check.proofs.TableLaws.{lawful_rows, no_fault, sends_as}

@@ -1,6 +1,5 @@
-use Rattle.std.proofs.Common.{◌≡◌, ℕ, ◌+◌, length, List, ◌++◌, ◌∷◌, [], sym, ap, arith, subst, inl, inr}
+use Rattle.std.proofs.Common.{◌≡◌, ◌+◌, ◌++◌, ◌∷◌, [], arith, subst, inl, inr}
 use Rattle.std.proofs.lemmas.List.{length_push}
-use Rattle.mctp_bridge.specs.declared.row.Row.{Row}
 use Rattle.net_check.specs.Routing.{rows_of}
 use Rattle.net_check.specs.Tables.{SendsAs, AreTables}
 use Rattle.net_check.proofs.Elements.{in_push}

@@ -1,8 +1,7 @@
-use Rattle.std.proofs.Common.{◌≡◌, ℕ, ◌+◌, ◌<◌, ◌≤◌, length, sym, ◌∙◌, refl, ap, arith, add-one, true, false, Some}
+use Rattle.std.proofs.Common.{sym, ◌∙◌, refl, ap, arith, add-one, Some}
 use Rattle.std.proofs.lemmas.Bool.{false≢true}
-use Rattle.net_check.specs.Moves.{Leads}
-use Rattle.net_check.specs.Circles.{MovesBy, IsOnCircle}
-use Rattle.net_check.proofs.Circling.{not_back_more, never_back, ended_not_back, one_more, NotBackWithin}
+use Rattle.net_check.specs.Circles.{MovesBy}
+use Rattle.net_check.proofs.Circling.{not_back_more, never_back, ended_not_back, one_more}
 use Rattle.net_check.proofs.certifying.walks.is_on_circle.Goals as goal
 
 pub returns-in_default : goal.returns-in_default

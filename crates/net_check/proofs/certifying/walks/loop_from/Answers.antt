@@ -1,6 +1,6 @@
-use Rattle.std.proofs.Common.{◌≡◌, ℕ, ◌+◌, ◌<◌, ◌≤◌, length, sym, ◌∙◌, arith, List, subst, ◌-◌}
-use Rattle.net_check.specs.Circles.{MovesBy, IsOnCircle}
-use Rattle.net_check.proofs.Circling.{IsUnderWay, one_place_more, under_way_within, stands_there, ended_not_back}
+use Rattle.std.proofs.Common.{length, sym, arith, ◌-◌}
+use Rattle.net_check.specs.Circles.{MovesBy}
+use Rattle.net_check.proofs.Circling.{one_place_more, under_way_within, stands_there, ended_not_back}
 use Rattle.std.proofs.lemmas.List.{length_push}
 use Rattle.net_check.proofs.certifying.walks.loop_from.Goals as goal
 

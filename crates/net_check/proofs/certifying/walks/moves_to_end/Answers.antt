@@ -1,5 +1,4 @@
-use Rattle.std.proofs.Common.{◌≡◌, ℕ, ◌+◌, ◌<◌, ◌≤◌, length, sym, ◌∙◌, refl, ap, arith, add-one, Some, suc}
-use Rattle.net_check.specs.Moves.{Leads}
+use Rattle.std.proofs.Common.{sym, arith, add-one, suc}
 use Rattle.net_check.specs.Circles.{MovesBy}
 use Rattle.net_check.proofs.Circling.{short_way, one_more}
 use Rattle.net_check.proofs.certifying.walks.moves_to_end.Goals as goal

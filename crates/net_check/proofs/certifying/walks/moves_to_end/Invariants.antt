@@ -1,4 +1,4 @@
-use Rattle.std.proofs.Common.{◌-◌, ◌+◌, length}
+use Rattle.std.proofs.Common.{◌-◌, length}
 use Rattle.net_check.specs.Moves.{Leads}
 use Rattle.net_check.specs.Circles.{MovesBy}
 use Rattle.net_check.proofs.certifying.walks.moves_to_end.Given as goal

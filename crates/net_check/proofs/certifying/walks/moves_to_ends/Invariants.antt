@@ -1,4 +1,3 @@
-use Rattle.std.proofs.Common.{◌≡◌, length}
 use Rattle.net_check.specs.Circles.{MovesBy, AreMovesToEnds}
 use Rattle.net_check.proofs.certifying.walks.moves_to_ends.Given as goal
 
