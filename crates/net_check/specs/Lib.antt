@@ -7,6 +7,7 @@ pub mod Ranks
 pub mod RankTables
 pub mod Rules
 pub mod Faults
+pub mod PlanFaults
 pub mod Search
 pub mod Errors
 -- the network
@@ -15,3 +16,9 @@ pub mod Decisions
 pub mod Networks
 pub mod Runs
 pub mod Promises
+-- certificates made
+pub mod Circles
+pub mod RoutingLoops
+pub mod Tables
+pub mod RankRuns
+pub mod Certificates
