@@ -63,7 +63,7 @@ one_or_none (row ∷ rows) e = elim (covers_or_not row e) [
     in_neither row rows e not none (suc r) other is = none r other is
 
 -- what is for e moves on from n, or its way ends there
-moves_or_ends : (plan : Plan) (e n : ℕ) → ((next : ℕ) × MovesTo plan e n next) ⊎ WayEnds plan e n
+pub moves_or_ends : (plan : Plan) (e n : ℕ) → ((next : ℕ) × MovesTo plan e n next) ⊎ WayEnds plan e n
 moves_or_ends plan e n = elim (is_or_not (eid_of plan n) e) [
   | inl holds ↦ inr (inl holds)
   | inr away ↦ elim (one_or_none (rows_of plan n) e) [

@@ -7,6 +7,7 @@ pub mod Ranks
 pub mod RankTables
 pub mod Rules
 pub mod Faults
+pub mod PlanFaults
 pub mod Search
 pub mod Errors
 -- the network
@@ -22,3 +23,9 @@ pub mod Promises
 pub mod Headline
 pub mod Deliveries
 pub mod ExactMessages
+-- certificates made
+pub mod Circles
+pub mod RoutingLoops
+pub mod Tables
+pub mod RankRuns
+pub mod Certificates

@@ -2,6 +2,8 @@
 ghost use Rattle.std.specs.Prelude.{◌+◌, ◌<◌, ◌≤◌, IsTrue, vec_len};
 ghost use Rattle.net_plan.specs.NameText.{is_name};
 
+mod certificates;
+
 use crate::{CheckError, Fault, Rule, check};
 use mctp_transport::Eid;
 use net_plan::{Bus, Certificate, Kind, Name, Node, NodeRanks, Plan, Port, RankRange, Row};
