@@ -2,3 +2,5 @@ pub mod Crcs
 pub mod Collecting
 pub mod Dues
 pub mod Walks
+pub mod Commands
+pub mod Places

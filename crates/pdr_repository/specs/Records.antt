@@ -1,5 +1,5 @@
 -- The records of a terminus, by place.
-use Rattle.std.specs.Prelude.{◌≡◌, ◌≢◌, ℕ, ◌+◌, ◌<◌, ◌≤◌, List, length, map, slice_get, slice_index, Option, Some, None, Vec}
+use Rattle.std.specs.Prelude.{◌≡◌, ◌≢◌, ℕ, ◌+◌, ◌<◌, ◌≤◌, List, length, map, slice_get, slice_index, Option, Some, None, MatchOption, Vec}
 use Rattle.byteorder.specs.Endian.{little_from}
 
 -- a record with its handle
@@ -61,3 +61,7 @@ pub record Means (records : List Entry) (handle place : ℕ) (e : Entry) : Type 
 -- a handle means a record
 abbrev pub IsMeant : List Entry → ℕ → Type 0
 IsMeant records handle = (place : ℕ) × (e : Entry) × Means records handle place e
+
+-- the place of the record that a handle means, if it means one
+abbrev pub Places : {Z : Type 0} → List (ℕ × Vec ℕ Z) → ℕ → Option ℕ → Type 0
+Places records handle place = MatchOption place (¬ IsMeant (entries records) handle) (λ p. (e : Entry) × Means (entries records) handle p e)

@@ -2,12 +2,17 @@
 //! part by part, and the walk that reads all records of a terminus.
 #![tactic(auto)]
 
+mod answering;
 mod crc;
 mod laws;
+mod list_terminus;
 mod parts;
+mod terminus;
 mod walk_fault;
 
 pub use crc::crc8;
 pub use laws::{collects_once, one_check_byte, walks_collect_all};
+pub use list_terminus::{ListTerminus, MAX_RECORDS};
 pub use parts::MAX_PART;
+pub use terminus::{MAX_ANSWER, Terminus};
 pub use walk_fault::{Step, WalkFault};
