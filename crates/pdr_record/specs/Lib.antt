@@ -1,3 +1,6 @@
 pub mod Fields
+pub mod Written
 pub mod Layouts
 pub mod Records
+pub mod Values
+pub mod Codes
