@@ -5,11 +5,11 @@ use Rattle.pdr_record.specs.Fields.{Field, U8, U16, U32, Raw}
 -- what is identified by an entity type, an instance number and the container that the entity is in
 pub record EntityValue : Type 0 where
   pub entity_type : ℕ
-  pub instance : ℕ
-  pub container : ℕ
+  pub instance_number : ℕ
+  pub container_id : ℕ
 
 abbrev pub entity_fields : EntityValue → List Field
-entity_fields e = U16 e.entity_type ∷ U16 e.instance ∷ U16 e.container ∷ []
+entity_fields e = U16 e.entity_type ∷ U16 e.instance_number ∷ U16 e.container_id ∷ []
 
 -- entities one after the other
 abbrev pub entities_fields : List EntityValue → List Field
@@ -22,38 +22,38 @@ pub record TerminusValue : Type 0 where
   pub terminus_handle : ℕ
   pub validity : ℕ
   pub tid : ℕ
-  pub container : ℕ
+  pub container_id : ℕ
   pub locator_type : ℕ
-  pub locator : List ℕ
+  pub locator_value : List ℕ
 
 abbrev pub terminus_fields : TerminusValue → List Field
 terminus_fields t =
-    U16 t.terminus_handle ∷ U8 t.validity ∷ U8 t.tid ∷ U16 t.container ∷ U8 t.locator_type ∷ U8 (length t.locator) ∷ Raw t.locator ∷ []
+    U16 t.terminus_handle ∷ U8 t.validity ∷ U8 t.tid ∷ U16 t.container_id ∷ U8 t.locator_type ∷ U8 (length t.locator_value) ∷ Raw t.locator_value ∷ []
 
 -- ---- sensors
 
 -- how the record of a sensor begins
 pub record SensorValue : Type 0 where
   pub terminus_handle : ℕ
-  pub sensor : ℕ
+  pub sensor_id : ℕ
   pub entity : EntityValue
-  pub init : ℕ
-  pub auxiliary_names : ℕ
+  pub sensor_init : ℕ
+  pub auxiliary_names_pdr : ℕ
 
 abbrev pub sensor_fields : SensorValue → List Field
 sensor_fields s =
-    U16 s.terminus_handle ∷ U16 s.sensor ∷ U16 s.entity.entity_type ∷ U16 s.entity.instance ∷ U16 s.entity.container ∷ U8 s.init ∷ U8 s.auxiliary_names ∷ []
+    U16 s.terminus_handle ∷ U16 s.sensor_id ∷ U16 s.entity.entity_type ∷ U16 s.entity.instance_number ∷ U16 s.entity.container_id ∷ U8 s.sensor_init ∷ U8 s.auxiliary_names_pdr ∷ []
 
 -- ---- state sensor
 
 -- a state set, and the bits of the states that a sensor can report of it
 pub record StateSetValue : Type 0 where
-  pub state_set : ℕ
+  pub state_set_id : ℕ
   pub possible_states : List ℕ
 
 abbrev pub state_sets_fields : List StateSetValue → List Field
 state_sets_fields [] = []
-state_sets_fields (s ∷ ss) = U16 s.state_set ∷ U8 (length s.possible_states) ∷ Raw s.possible_states ∷ state_sets_fields ss
+state_sets_fields (s ∷ ss) = U16 s.state_set_id ∷ U8 (length s.possible_states) ∷ Raw s.possible_states ∷ state_sets_fields ss
 
 pub record StateValue : Type 0 where
   pub sensor : SensorValue
@@ -65,15 +65,15 @@ state_fields s = sensor_fields s.sensor ++ U8 (length s.state_sets) ∷ state_se
 -- ---- entity association
 
 pub record AssociationValue : Type 0 where
-  pub container : ℕ
+  pub container_id : ℕ
   pub association_type : ℕ
   pub container_entity : EntityValue
-  pub contained : List EntityValue
+  pub contained_entities : List EntityValue
 
 abbrev pub association_fields : AssociationValue → List Field
 association_fields a =
-    U16 a.container ∷ U8 a.association_type ∷ U16 a.container_entity.entity_type ∷ U16 a.container_entity.instance ∷ U16 a.container_entity.container
-    ∷ U8 (length a.contained) ∷ entities_fields a.contained
+    U16 a.container_id ∷ U8 a.association_type ∷ U16 a.container_entity.entity_type ∷ U16 a.container_entity.instance_number ∷ U16 a.container_entity.container_id
+    ∷ U8 (length a.contained_entities) ∷ entities_fields a.contained_entities
 
 -- ---- numeric sensor
 

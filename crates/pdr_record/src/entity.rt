@@ -9,8 +9,8 @@ use crate::reading::Fields;
 #[derive(Clone, Copy, Debug, PartialEq, Eq)]
 pub struct Entity {
     pub entity_type: u16,
-    pub instance: u16,
-    pub container: u16,
+    pub instance_number: u16,
+    pub container_id: u16,
 }
 
 impl Entity {
@@ -24,8 +24,8 @@ impl Entity {
     {
         Entity {
             entity_type: fields.u16(),
-            instance: fields.u16(),
-            container: fields.u16(),
+            instance_number: fields.u16(),
+            container_id: fields.u16(),
         }
     }
 }

@@ -3,12 +3,26 @@
 
 mod entity;
 mod field;
+mod precision;
+mod range_field_format;
+mod ranges;
 mod reading;
 mod record_error;
 mod sensor;
+mod sensor_data_size;
+mod terminus_locator;
+mod timing;
+mod units;
 
 pub use entity::Entity;
 pub use field::{Field, put_fields};
+pub use precision::Precision;
+pub use range_field_format::RangeFieldFormat;
+pub use ranges::Ranges;
 pub use reading::Fields;
 pub use record_error::RecordError;
 pub use sensor::Sensor;
+pub use sensor_data_size::SensorDataSize;
+pub use terminus_locator::TerminusLocator;
+pub use timing::Timing;
+pub use units::Units;

@@ -11,13 +11,13 @@ use crate::reading::Fields;
 #[derive(Clone, Copy, Debug, PartialEq, Eq)]
 pub struct Sensor {
     pub terminus_handle: u16,
-    pub sensor: u16,
+    pub sensor_id: u16,
     /// The entity that is measured.
     pub entity: Entity,
     /// How the sensor is to be initialized.
-    pub init: u8,
+    pub sensor_init: u8,
     /// Whether there is a record of names of the sensor.
-    pub auxiliary_names: u8,
+    pub auxiliary_names_pdr: u8,
 }
 
 impl Sensor {
@@ -31,10 +31,10 @@ impl Sensor {
     {
         Sensor {
             terminus_handle: fields.u16(),
-            sensor: fields.u16(),
+            sensor_id: fields.u16(),
             entity: Entity::take(fields),
-            init: fields.u8(),
-            auxiliary_names: fields.u8(),
+            sensor_init: fields.u8(),
+            auxiliary_names_pdr: fields.u8(),
         }
     }
 }
