@@ -4,4 +4,6 @@ pub mod Layouts
 pub mod Numbers
 pub mod Records
 pub mod Values
+pub mod NumericValues
+pub mod Endings
 pub mod Codes

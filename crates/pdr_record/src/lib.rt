@@ -3,6 +3,7 @@
 
 mod entity;
 mod field;
+mod numeric_sensor;
 mod precision;
 mod range_field_format;
 mod ranges;
@@ -16,6 +17,7 @@ mod units;
 
 pub use entity::Entity;
 pub use field::{Field, put_fields};
+pub use numeric_sensor::NumericSensor;
 pub use precision::Precision;
 pub use range_field_format::RangeFieldFormat;
 pub use ranges::Ranges;

@@ -1,6 +1,6 @@
 //! How exact a numeric sensor is.
 ghost use Rattle.std.specs.Prelude.{◌≡◌, ◌≤◌, ◌+◌, length};
-ghost use Rattle.pdr_record.specs.Fields.{followed};
+ghost use Rattle.pdr_record.specs.Fields.{followed, Fit};
 ghost use Rattle.pdr_record.specs.Layouts.{precision_fields};
 
 use crate::reading::Fields;
@@ -24,6 +24,7 @@ impl Precision {
     pub fn take(fields: &mut Fields) -> Precision
         requires { 12 ≤ length fields.old.rest.now }
         ensures field { fields.old.rest.now ≡ followed (precision_fields (precision_value result)) fields.new.rest.now }
+        ensures fits { Fit (precision_fields (precision_value result)) }
         ensures left { length fields.old.rest.now ≡ 12 + length fields.new.rest.now }
     {
         Precision {

@@ -1,6 +1,6 @@
 //! How the records of sensors begin.
 ghost use Rattle.std.specs.Prelude.{◌≡◌, ◌≤◌, ◌+◌, length};
-ghost use Rattle.pdr_record.specs.Fields.{followed};
+ghost use Rattle.pdr_record.specs.Fields.{followed, Fit};
 ghost use Rattle.pdr_record.specs.Layouts.{sensor_fields};
 
 use crate::entity::Entity;
@@ -27,6 +27,7 @@ impl Sensor {
     pub fn take(fields: &mut Fields) -> Sensor
         requires { 12 ≤ length fields.old.rest.now }
         ensures field { fields.old.rest.now ≡ followed (sensor_fields (sensor_value result)) fields.new.rest.now }
+        ensures fits { Fit (sensor_fields (sensor_value result)) }
         ensures left { length fields.old.rest.now ≡ 12 + length fields.new.rest.now }
     {
         Sensor {

@@ -1,6 +1,6 @@
 //! A numeric sensor's thresholds and times.
 ghost use Rattle.std.specs.Prelude.{◌≡◌, ◌≤◌, ◌+◌, length};
-ghost use Rattle.pdr_record.specs.Fields.{followed};
+ghost use Rattle.pdr_record.specs.Fields.{followed, Fit};
 ghost use Rattle.pdr_record.specs.Layouts.{timing_fields};
 
 use crate::reading::Fields;
@@ -22,6 +22,7 @@ impl Timing {
     pub fn take(fields: &mut Fields) -> Timing
         requires { 10 ≤ length fields.old.rest.now }
         ensures field { fields.old.rest.now ≡ followed (timing_fields (timing_value result)) fields.new.rest.now }
+        ensures fits { Fit (timing_fields (timing_value result)) }
         ensures left { length fields.old.rest.now ≡ 10 + length fields.new.rest.now }
     {
         Timing {

@@ -1,6 +1,6 @@
 //! What a numeric sensor measures in.
 ghost use Rattle.std.specs.Prelude.{◌≡◌, ◌≤◌, ◌+◌, length};
-ghost use Rattle.pdr_record.specs.Fields.{followed};
+ghost use Rattle.pdr_record.specs.Fields.{followed, Fit};
 ghost use Rattle.pdr_record.specs.Layouts.{units_fields};
 
 use crate::reading::Fields;
@@ -28,6 +28,7 @@ impl Units {
     pub fn take(fields: &mut Fields) -> Units
         requires { 10 ≤ length fields.old.rest.now }
         ensures field { fields.old.rest.now ≡ followed (units_fields (units_value result)) fields.new.rest.now }
+        ensures fits { Fit (units_fields (units_value result)) }
         ensures left { length fields.old.rest.now ≡ 10 + length fields.new.rest.now }
     {
         Units {
