@@ -1,0 +1,9 @@
+pub mod Fields
+pub mod Written
+pub mod Layouts
+pub mod Numbers
+pub mod Records
+pub mod Values
+pub mod NumericValues
+pub mod Endings
+pub mod Codes
