@@ -52,9 +52,9 @@ placed records handle o some is =
     ]
 
 -- 0 means the first record, if there is one
-pub first_placed : {Z : Type 0} (records : List (ℕ × Vec ℕ Z)) → 0 < length records → Places records 0 (Some 0)
-first_placed records some = elim (slice_get_cases records 0).1 [
-  | inl (x, _, here, _) ↦ (entry_of x, record { stands = entry_there records 0 x here; first = λ _. refl; named = λ h. absurd (h refl) })
+pub first_placed : {Z : Type 0} (records : List (ℕ × Vec ℕ Z)) (handle : ℕ) → handle ≡ 0 → 0 < length records → Places records handle (Some 0)
+first_placed records handle none some = elim (slice_get_cases records 0).1 [
+  | inl (x, _, here, _) ↦ (entry_of x, record { stands = entry_there records 0 x here; first = λ _. refl; named = λ h. absurd (h none) })
   | inr (past, _) ↦ absurd (omega arith)
 ]
 

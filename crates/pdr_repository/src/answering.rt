@@ -87,7 +87,7 @@ pub(crate) fn begin_answer(header: &PldmHeader, out: &mut ArrayVec<u8, 4096>)
 /// Appends the completion code 0 and a part, or another completion code.
 pub(crate) fn append_outcome(outcome: Result<PdrPart, ErrorCode>, out: &mut ArrayVec<u8, 4096>)
     requires room { array_vec_len out.old ≡ 4 }
-    requires most { IfOk outcome.entry (λ p. length p.bytes.now ≤ 4079) }
+    requires most { IfOk outcome (λ p. length p.bytes.now ≤ 4079) }
     ensures { out.new.items ≡ out.old.items ++ outcome_bytes part_bytes (outcome_value part outcome.entry) }
 {
     match outcome {
