@@ -29,26 +29,28 @@ placed records handle o some is =
           let at : o ≡ Some n = is ∙ cond-true (nat_lt n (length records)) (Some n) None (lt-ltb n (length records) within) in
           subst P (sym at) (elim (slice_get_cases records n).1 [
             | inl (x, _, here, read) ↦
-                let passes = passes_at_first (HasThis handle) records x within in
-                (entry_of x, record {
-                  stands = entry_there records n x here;
-                  first = λ none. absurd (some none);
-                  named = λ _. eqb-true x.0 handle (ap (HasThis handle) (sym read) ∙ passes);
-                })
+                let passes = passes_at_first (HasThis handle) records x within in (
+                  entry_of x,
+                  record {
+                    stands = entry_there records n x here;
+                    first = λ none. absurd (some none);
+                    named = λ _. eqb-true x.0 handle (ap (HasThis handle) (sym read) ∙ passes);
+                  },
+                )
             | inr (past, _) ↦ absurd (omega arith)
           ])
       | inr past ↦
           let at : o ≡ None = is ∙ cond-false (nat_lt n (length records)) (Some n) None (le-ltb n (length records) past) in
           subst P (sym at) (λ (place, e, means).
-            let before : place < length records = omega (arith, slice_get_within (entries records) place e means.stands, length-map records entry_of) in
-            elim (slice_get_cases records place).1 [
-              | inl (x, _, here, read) ↦
-                  let entry : e ≡ entry_of x = same_Some e (entry_of x) (sym means.stands ∙ entry_there records place x here) in
-                  let is_it : x.0 ≡ handle = ap (λ (f : Entry). f.handle) (sym entry) ∙ means.named some in
-                  let fails : nat_eq x.0 handle ≡ false = ap (HasThis handle) (sym read) ∙ fails_before_first (HasThis handle) records place x (omega arith) in
-                  grind (arith, nat_tests)
-              | inr (past, _) ↦ absurd (omega arith)
-            ])
+          let before : place < length records = omega (arith, slice_get_within (entries records) place e means.stands, length-map records entry_of) in
+          elim (slice_get_cases records place).1 [
+            | inl (x, _, here, read) ↦
+                let entry : e ≡ entry_of x = same_Some e (entry_of x) (sym means.stands ∙ entry_there records place x here) in
+                let is_it : x.0 ≡ handle = ap (λ (f : Entry). f.handle) (sym entry) ∙ means.named some in
+                let fails : nat_eq x.0 handle ≡ false = ap (HasThis handle) (sym read) ∙ fails_before_first (HasThis handle) records place x (omega arith) in
+                grind (arith, nat_tests)
+            | inr (past, _) ↦ absurd (omega arith)
+          ])
     ]
 
 -- 0 means the first record, if there is one

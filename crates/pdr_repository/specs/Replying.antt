@@ -1,9 +1,22 @@
--- An answer as it is written, piece by piece.
-use Rattle.std.specs.Prelude.{◌≡◌, ℕ, List, ◌++◌}
-use Rattle.pldm_message.specs.Headers.{HeaderValue}
+-- An answer as it is made, piece by piece.
+use Rattle.std.specs.Prelude.{◌≡◌, ◌≢◌, ℕ, ◌+◌, List, ◌++◌, length, Result, Ok, Err}
+use Rattle.pldm_message.specs.First.{First}
+use Rattle.pldm_message.specs.declared.kind.MessageKind.TheVariants.{Request}
 use Rattle.pldm_message.specs.declared.command.Command.{Command}
+use Rattle.pldm_message.specs.Headers.{HeaderValue, BeginsWith}
 use Rattle.pdr_repository.specs.Records.{Entry}
-use Rattle.pdr_repository.specs.Answers.{AnswersCommand, AnswersData}
+use Rattle.pdr_repository.specs.Answers.{AnswersCommand, AnswersData, IsOf, request_length}
+
+-- the command of a request with this header and so many data bytes, or the code that is answered before the command is looked at
+abbrev pub Checks : HeaderValue → List ℕ → Result Command ℕ → Type 0
+Checks h asked outcome =
+    First ((h.pldm_type ≢ 0) × (h.pldm_type ≢ 2)) (outcome ≡ Err 0x20)
+    (First ((c : Command) → ¬ IsOf c h) (outcome ≡ Err 0x05)
+    ((c : Command) × IsOf c h × First (length asked ≢ request_length c) (outcome ≡ Err 0x03) (outcome ≡ Ok c)))
+
+-- a request with this command that is to be answered, of the right length
+abbrev pub IsAskedFor : Command → List ℕ → Type 0
+IsAskedFor c request = (h : HeaderValue) × BeginsWith h request × (h.kind ≡ Request) × IsOf c h × (length request ≡ 4 + request_length c)
 
 -- to what stands there already, what follows the header of the answer is appended
 abbrev pub Replies : HeaderValue → ℕ → List Entry → List ℕ → List ℕ → List ℕ → ℕ → Type 0

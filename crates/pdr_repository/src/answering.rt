@@ -9,6 +9,7 @@ ghost use Rattle.pldm_message.specs.Heads.{outcome_value};
 ghost use Rattle.pldm_message.specs.Pdrs.{part_bytes};
 ghost use Rattle.pldm_message.specs.PdrValues.{part};
 ghost use Rattle.pdr_repository.specs.Answers.{IsAsked, IsOf, reply_header, request_length};
+ghost use Rattle.pdr_repository.specs.Replying.{Checks};
 
 use arrayvec::ArrayVec;
 use mctp_transport::Wire;
@@ -30,7 +31,7 @@ pub(crate) fn asked(request: &[u8]) -> Option<PldmHeader>
 
 /// The command of a header, if it is known.
 #[tactic(auto, using(crate::proofs::Commands::none_of))]
-pub(crate) fn command_of(header: &PldmHeader) -> Option<Command>
+fn command_of(header: &PldmHeader) -> Option<Command>
     ensures { MatchOption result ((c : Command) → ¬ IsOf c (header_value header.now)) (λ c. IsOf c (header_value header.now)) }
 {
     if header.is_of(Command::SetTid) {
@@ -49,7 +50,7 @@ pub(crate) fn command_of(header: &PldmHeader) -> Option<Command>
 }
 
 /// How many data bytes a request with this command has.
-pub(crate) fn data_length(command: Command) -> usize
+fn data_length(command: Command) -> usize
     ensures { result ≡ request_length command }
 {
     match command {
@@ -59,8 +60,25 @@ pub(crate) fn data_length(command: Command) -> usize
     }
 }
 
+/// The command of a request, or the code that is answered before the command is looked at.
+pub(crate) fn check(header: &PldmHeader, tail: &[u8]) -> Result<Command, ErrorCode>
+    ensures { Checks (header_value header.now) tail.now (outcome_value (λ c. c) result) }
+{
+    let pldm_type = header.pldm_type.value;
+    if pldm_type != 0 && pldm_type != 2 {
+        return Err(ErrorCode::INVALID_PLDM_TYPE);
+    }
+    let Some(command) = command_of(header) else {
+        return Err(ErrorCode::UNSUPPORTED_COMMAND);
+    };
+    if tail.len() != data_length(command) {
+        return Err(ErrorCode::INVALID_LENGTH);
+    }
+    Ok(command)
+}
+
 /// Appends a value's bytes.
-pub(crate) fn append<'a, W: Wire<'a>>(value: &W, out: &mut ArrayVec<u8, 4096>)
+fn append<'a, W: Wire<'a>>(value: &W, out: &mut ArrayVec<u8, 4096>)
     requires { array_vec_len out.old + length (W.spelling (W.meaning value.now)) ≤ 4096 }
     ensures { out.new.items ≡ out.old.items ++ W.spelling (W.meaning value.now) }
 {

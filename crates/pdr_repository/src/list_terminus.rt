@@ -3,10 +3,11 @@ ghost use Rattle.std.specs.Prelude.{◌≡◌, ◌≤◌, ◌<◌, ◌+◌, ◌^
 ghost use Rattle.pdr_repository.specs.Records.{entries, handle_at, IsLawful, Places};
 ghost use Rattle.pdr_repository.specs.Found.{Finds};
 
-use crate::answering::{append_outcome, asked, begin_answer, command_of, data_length};
+use crate::answering::{append_outcome, asked, begin_answer, check};
 use crate::parts::{Found, answer_part};
 use crate::terminus::Terminus;
 use arrayvec::ArrayVec;
+use mctp_transport::Wire;
 use pldm_message::{Command, ErrorCode, GetPdrRequest, HEADER_LENGTH, PldmHeader};
 use std::alloc::{AllocError, Global};
 
@@ -71,6 +72,7 @@ impl ListTerminus {
     ghost use Rattle.arrayvec.specs.ArrayVec.{array_vec_len};
     ghost use Rattle.pldm_message.specs.declared.command.Command.{Command};
     ghost use Rattle.pldm_message.specs.declared.command.Command.TheVariants as command;
+    ghost use Rattle.pldm_message.specs.declared.kind.MessageKind.TheVariants as kind;
     ghost use Rattle.pldm_message.specs.Headers.{BeginsWith};
     ghost use Rattle.pldm_message.specs.HeaderValues.{header_value};
     ghost use Rattle.pldm_message.specs.Messages.{outcome_bytes};
@@ -78,7 +80,7 @@ impl ListTerminus {
     ghost use Rattle.pldm_message.specs.PdrValues.{part_request};
     ghost use Rattle.pdr_repository.specs.Parts.{PartAnswer, AnswersPart};
     ghost use Rattle.pdr_repository.specs.Answers.{IsOf, request_length};
-    ghost use Rattle.pdr_repository.specs.Replying.{Replies, RepliesData};
+    ghost use Rattle.pdr_repository.specs.Replying.{IsAskedFor, Replies, RepliesData};
     ghost use Rattle.pdr_repository.specs.ListTermini.{list_tid, list_records};
 
     /// A terminus of this TID over these records, by place: at most 4096 of them, a lawful list.
@@ -112,5 +114,68 @@ impl ListTerminus {
         }
         self.tid = tid;
         out.push(0);
+    }
+
+    /// Appends the answer to a GetPDR request.
+    fn reply_part(&self, request: &[u8], out: &mut ArrayVec<u8, 4096>)
+        requires asked { IsAskedFor command.GetPdr request.now }
+        requires room { array_vec_len out.old ≡ 4 }
+        ensures { RepliesData command.GetPdr (list_tid self.now) (list_records self.now) (drop 4 request.now) out.old.items out.new.items (list_tid self.now) }
+    {
+        if let Ok(part_request) = GetPdrRequest::read(request) {
+            self.give_part(&part_request, out);
+        }
+    }
+
+    /// Appends the answer to a request of which command and length are right, and carries it out.
+    fn reply_data(&mut self, command: Command, request: &[u8], out: &mut ArrayVec<u8, 4096>)
+        requires asked { IsAskedFor command request.now }
+        requires room { array_vec_len out.old ≡ 4 }
+        ensures kept { list_records self.new ≡ list_records self.old }
+        ensures replies { RepliesData command (list_tid self.old) (list_records self.old) (drop 4 request.now) out.old.items out.new.items (list_tid self.new) }
+    {
+        match command {
+            Command::SetTid => self.set_tid(request[HEADER_LENGTH], out),
+            Command::GetTid => {
+                out.push(0);
+                out.push(self.tid);
+            }
+            Command::GetPldmTypes => {
+                let _ = out.try_extend_from_slice(&[0, 5, 0, 0, 0, 0, 0, 0, 0]);
+            }
+            Command::GetPdr => self.reply_part(request, out),
+        }
+    }
+
+    /// Appends what follows the header of the answer.
+    fn reply(&mut self, header: &PldmHeader, request: &[u8], out: &mut ArrayVec<u8, 4096>)
+        requires begins { BeginsWith (header_value header.now) request.now }
+        requires asked { header.now.kind ≡ kind.Request }
+        requires room { array_vec_len out.old ≡ 4 }
+        ensures kept { list_records self.new ≡ list_records self.old }
+        ensures replies { Replies (header_value header.now) (list_tid self.old) (list_records self.old) (drop 4 request.now) out.old.items out.new.items (list_tid self.new) }
+    {
+        match check(header, &request[HEADER_LENGTH..]) {
+            Err(code) => out.push(code.value),
+            Ok(command) => self.reply_data(command, request, out),
+        }
+    }
+}
+
+impl Terminus for ListTerminus {
+    ghost use Rattle.pdr_repository.specs.ListTermini.{list_tid, list_records};
+
+    ghost tid = { list_tid };
+
+    ghost records = { list_records };
+
+    fn answer(&mut self, request: &[u8], out: &mut ArrayVec<u8, 4096>) -> bool {
+        let Some(header) = asked(request) else {
+            out.clear();
+            return false;
+        };
+        begin_answer(&header, out);
+        self.reply(&header, request, out);
+        true
     }
 }

@@ -10,8 +10,7 @@ use Rattle.pdr_repository.proofs.list_terminus.ListTerminus.give_part.Goals as g
 pub returns : goal.returns
 returns c =
     let found : Option (ℕ × List ℕ) = option_map (λ f. (f.next, f.bytes.now)) c.found_in-found.result in
-    let finds = subst (λ rs. Finds (entries rs) c.args.request.now.record_handle found) c.as_slice.ensures.value c.found_in-found.ensures in
-    (
+    let finds = subst (λ rs. Finds (entries rs) c.args.request.now.record_handle found) c.as_slice.ensures.value c.found_in-found.ensures in (
       outcome_value part c.answer_part.result,
       c.append_outcome.ensures,
       found_answers (list_records c.args.self.now) (part_request c.args.request.now) (outcome_value part c.answer_part.result) found finds c.answer_part.ensures.answers,
