@@ -5,3 +5,6 @@ pub mod Dues
 pub mod Walks
 pub mod Commands
 pub mod Places
+pub mod Handles
+pub mod Judging
+pub mod Taking

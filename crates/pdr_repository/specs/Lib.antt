@@ -7,3 +7,6 @@ pub mod Replying
 pub mod ListTermini
 pub mod Walks
 pub mod Faults
+pub mod Dues
+pub mod Walkers
+pub mod WalkerStates

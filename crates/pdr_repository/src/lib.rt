@@ -9,6 +9,7 @@ mod list_terminus;
 mod parts;
 mod terminus;
 mod walk_fault;
+mod walker;
 
 pub use crc::crc8;
 pub use laws::{collects_once, one_check_byte, walks_collect_all};
@@ -16,3 +17,4 @@ pub use list_terminus::{ListTerminus, MAX_RECORDS};
 pub use parts::MAX_PART;
 pub use terminus::{MAX_ANSWER, Terminus};
 pub use walk_fault::{Step, WalkFault};
+pub use walker::Walker;
