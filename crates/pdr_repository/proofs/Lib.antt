@@ -8,3 +8,5 @@ pub mod Places
 pub mod Handles
 pub mod Judging
 pub mod Taking
+pub mod Following
+pub mod Telling

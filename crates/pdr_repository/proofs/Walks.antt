@@ -13,7 +13,7 @@ use Rattle.std.proofs.Math.Seq.{take-add}
 use Rattle.std.proofs.lemmas.Nat.{mul-le}
 use Rattle.pdr_repository.specs.Records.{Entry, IsLawful, Means, bytes_by_place, handle_in, handle_at}
 use Rattle.pldm_message.specs.Pdrs.{PartRequest, Part}
-use Rattle.pdr_repository.specs.Parts.{PartAnswer, AnswersPart}
+use Rattle.pdr_repository.specs.Parts.{PartAnswer, AnswersPart, IsPartOf}
 use Rattle.pdr_repository.specs.Walks.{Exchange, first_part, follows, due_by, due_after, Walk, IsFinished, data_of, flag_of, HasFlag, Collects, exchanges, IsBeginning, NamesTheNext, WalkPromises, EveryWalkCollects}
 use Rattle.pdr_repository.proofs.Collecting.{Collected, start_more, middle_more, whole_more, end_more}
 use Rattle.pdr_repository.proofs.Headers.{lawful_header}
@@ -213,6 +213,7 @@ on_last records count xs w x p least short request is complete past none =
 pub record Step (records : List Entry) (count : ℕ) (xs : List Exchange) (w : Within records count xs) (x : Exchange) : Type 0 where
   pub part : Part
   pub is : x.answer ≡ Ok part
+  pub of_record : IsPartOf (handle_at records (w.place + 1)) w.e.bytes w.r part
   pub kind : More w.place w.e count w.offset w.r part ⊎ Complete w.e count w.offset w.r part
   pub position : Position records count (xs ++ x ∷ [])
   pub names : NamesTheNext records x
@@ -229,12 +230,12 @@ one_step records count xs w x lawful least most request answers =
     elim (cases_lt (w.offset + count) (length w.e.bytes)) [
       | inl long ↦
           let more = goes_on (handle_at records (w.place + 1)) w.place w.e count w.offset w.r p least most long w.due part in
-          record { part = p; is = given.is; kind = inl more; position = inl (on_more records count xs w x p least long request given.is more); names = names }
+          record { part = p; is = given.is; of_record = part; kind = inl more; position = inl (on_more records count xs w x p least long request given.is more); names = names }
       | inr short ↦
           let complete = completes (handle_at records (w.place + 1)) w.place w.e count w.offset w.r p most w.within short w.due part in
           elim (next_is records w.place p.next part.follows) [
-            | inl (f, there, named) ↦ record { part = p; is = given.is; kind = inr complete; position = inl (on_next records count xs w x p f lawful least short request given.is complete there named); names = names }
-            | inr (past, none) ↦ record { part = p; is = given.is; kind = inr complete; position = inr (on_last records count xs w x p least short request given.is complete past none); names = names }
+            | inl (f, there, named) ↦ record { part = p; is = given.is; of_record = part; kind = inr complete; position = inl (on_next records count xs w x p f lawful least short request given.is complete there named); names = names }
+            | inr (past, none) ↦ record { part = p; is = given.is; of_record = part; kind = inr complete; position = inr (on_last records count xs w x p least short request given.is complete past none); names = names }
           ]
     ]
 

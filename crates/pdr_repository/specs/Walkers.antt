@@ -4,7 +4,7 @@ use Rattle.mctp_transport.specs.Wire.{Spells}
 use Rattle.pldm_message.specs.First.{First}
 use Rattle.pldm_message.specs.declared.kind.RequestKind.TheVariants.{Request}
 use Rattle.pldm_message.specs.Headers.{HeaderValue, BeginsWith}
-use Rattle.pldm_message.specs.Messages.{RequestMessage, AnswerMessage}
+use Rattle.pldm_message.specs.Messages.{RequestMessage, AnswerMessage, AnswerHeadValue}
 use Rattle.pldm_message.specs.Pdrs.{PartRequest, Part, IsGetPdrAnswer, get_pdr_request_bytes, get_pdr_answer_bytes}
 use Rattle.pdr_repository.specs.Records.{Entry, IsLawful}
 use Rattle.pdr_repository.specs.Parts.{PartAnswer, AnswersPart}
@@ -121,19 +121,33 @@ Takes old bytes result new =
     × First (old.waiting ≢ Some h.instance) (Ignores old NotAsked result new)
     (TakesMessage old bytes result new))))
 
--- Against the answers of a terminus over a lawful list to the request that is outstanding there is no fault but that there is too much or no memory,
--- and a walker that takes one stands for the walk with that exchange added.
-abbrev pub EveryAnswerIsTaken : Type 0
-EveryAnswerIsTaken =
-    (records : List Entry) (xs : List Exchange) (old new : WalkState) (r : PartRequest) (m : AnswerMessage Part) (bytes : List ℕ) (result : Result Step WalkFault)
-    → IsLawful records → 8 ≤ old.count → old.count ≤ 4079 → Walk records old.count xs → StandsFor old xs → old.due ≡ Some r → AnswersPart records r m.outcome
-    → old.waiting ≡ Some m.head.instance → IsAnswerIn bytes m → Takes old bytes result new
-    → MatchResult result
-    (λ step. Walk records old.count (xs ++ record { request = r; answer = m.outcome } ∷ []) × StandsFor new (xs ++ record { request = r; answer = m.outcome } ∷ []))
-    (λ fault. (fault ≡ TooMuch) ⊎ ((fault ≡ OutOfMemory) × (new ≡ old)))
+-- What the step says: the record goes on, a record is complete and another is to be asked for, or the last record is complete.
+abbrev pub TellsStep : Step → WalkState → WalkState → Type 0
+TellsStep More old new = (new.records ≡ old.records) × (new.due ≢ None)
+TellsStep Record old new = (bytes : List ℕ) × (new.records ≡ old.records ++ bytes ∷ []) × (new.due ≢ None)
+TellsStep Done old new = (bytes : List ℕ) × (new.records ≡ old.records ++ bytes ∷ []) × (new.due ≡ None)
 
--- The requests of a walker are those of the walk that it stands for, and asking doesn't change which.
-abbrev pub AsksWhatIsDue : Type 0
-AsksWhatIsDue =
-    (old new : WalkState) (xs : List Exchange) (id : ℕ) (request : Option (List ℕ)) → StandsFor old xs → Asks old id request new
-    → (request ≡ option_map (λ r. get_pdr_request_bytes (asked_under id r)) (due_after old.count xs)) × StandsFor new xs
+abbrev pub Tells : Result Step WalkFault → WalkState → WalkState → Type 0
+Tells result old new = MatchResult result (λ step. TellsStep step old new) (λ fault. Unit {0})
+
+-- these bytes are an answer of a terminus with these records to the request that is outstanding, of a walk that the walker stands for
+pub record IsDueAnswer (old : WalkState) (bytes : List ℕ) (records : List Entry) (xs : List Exchange) (x : Exchange) : Type 0 where
+  pub lawful : IsLawful records
+  pub walk : Walk records old.count xs
+  pub stands : StandsFor old xs
+  pub due : old.due ≡ Some x.request
+  pub answered : AnswersPart records x.request x.answer
+  pub head : AnswerHeadValue
+  pub waiting : old.waiting ≡ Some head.instance
+  pub spelled : IsAnswerIn bytes (record { head = head; outcome = x.answer })
+
+-- Against such answers there is no fault but that there is too much or no memory, and a walker that takes one stands for the walk with that exchange added.
+abbrev pub GoesOn : WalkState → List ℕ → Result Step WalkFault → WalkState → Type 0
+GoesOn old bytes result new =
+    (records : List Entry) (xs : List Exchange) (x : Exchange) → IsDueAnswer old bytes records xs x
+    → MatchResult result (λ step. Walk records old.count (xs ++ x ∷ []) × StandsFor new (xs ++ x ∷ [])) (λ fault. (fault ≡ TooMuch) ⊎ (fault ≡ OutOfMemory))
+
+-- The request is the one that is due in each walk that the walker stands for, and asking doesn't change which those are.
+abbrev pub AsksWhatIsDue : WalkState → ℕ → Option (List ℕ) → WalkState → Type 0
+AsksWhatIsDue old id request new =
+    (xs : List Exchange) → StandsFor old xs → (request ≡ option_map (λ r. get_pdr_request_bytes (asked_under id r)) (due_after old.count xs)) × StandsFor new xs

@@ -36,6 +36,8 @@ pub struct Walker {
     waiting: Option<InstanceId>,
     failed: bool,
     taken: usize,
+    ghost least: { 8 ≤ count },
+    ghost most: { count ≤ 4079 },
     ghost room: { max_bytes + 1 < 2 ^ 64 },
     ghost few: { failed ≡ false → taken ≤ bytes },
     ghost fewer: { taken ≤ bytes + 1 },
@@ -52,7 +54,7 @@ impl Walker {
     ghost use Rattle.pdr_repository.specs.Walks.{first_part};
     ghost use Rattle.pdr_repository.specs.Faults.{Judges};
     ghost use Rattle.pdr_repository.specs.Dues.{request_of};
-    ghost use Rattle.pdr_repository.specs.Walkers.{room_of, fresh, StandsFor, Asks, Fails, Proceeds, TakesOutcome, TakesMessage, Takes};
+    ghost use Rattle.pdr_repository.specs.Walkers.{room_of, fresh, StandsFor, Asks, AsksWhatIsDue, Fails, Proceeds, TakesOutcome, TakesMessage, Takes, Tells, GoesOn};
     ghost use Rattle.pdr_repository.specs.WalkerStates.{state_of};
 
     /// A walk that has not begun, with parts of at most `count` bytes, 8 to 4079. It collects at most `max_records`
@@ -92,7 +94,16 @@ impl Walker {
 
     /// The next request, under an instance ID. None once the walk is done or has failed. Asked again before an answer
     /// was taken it gives the same request under the new ID. It takes no memory.
+    #[tactic(auto, using(crate::proofs::Telling::asks_what_is_due))]
     pub fn next_request(&mut self, id: InstanceId) -> Option<[u8; 17]>
+        ensures asks { Asks (state_of self.old) id.value result (state_of self.new) }
+        ensures due { AsksWhatIsDue (state_of self.old) id.value result (state_of self.new) }
+    {
+        self.ask(id)
+    }
+
+    /// The request that is due, which is outstanding then.
+    fn ask(&mut self, id: InstanceId) -> Option<[u8; 17]>
         ensures { Asks (state_of self.old) id.value result (state_of self.new) }
     {
         if self.failed {
@@ -246,7 +257,18 @@ impl Walker {
     }
 
     /// Takes the bytes of an answer to the outstanding request.
+    ///
+    /// Against the answers of a terminus over a lawful list there is no fault but G09 and want of memory.
     pub fn take(&mut self, answer: &[u8]) -> Result<Step, WalkFault>
+        ensures takes { Takes (state_of self.old) answer.now result (state_of self.new) }
+        ensures tells { Tells result (state_of self.old) (state_of self.new) }
+        ensures goes_on { GoesOn (state_of self.old) answer.now result (state_of self.new) }
+    {
+        self.take_bytes(answer)
+    }
+
+    /// Takes bytes, by the tests in their order.
+    fn take_bytes(&mut self, answer: &[u8]) -> Result<Step, WalkFault>
         ensures { Takes (state_of self.old) answer.now result (state_of self.new) }
     {
         if self.failed {
