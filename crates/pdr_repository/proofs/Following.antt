@@ -16,17 +16,19 @@ use Rattle.pldm_message.specs.PdrLaws.{one_get_pdr_answer}
 use Rattle.pdr_repository.specs.Crc.{IsCrc}
 use Rattle.pdr_repository.specs.Records.{Entry, IsLawful, handle_in, handle_at, bytes_by_place}
 use Rattle.pdr_repository.specs.Parts.{PartAnswer, AnswersPart, IsPartOf}
-use Rattle.pdr_repository.specs.Walks.{Exchange, Walk, Collects, due_after, follows, data_of, flag_of, HasFlag}
+use Rattle.pdr_repository.specs.Walks.{Exchange, Walk, Collects, IsFinished, due_after, follows, data_of, flag_of, HasFlag}
 use Rattle.pdr_repository.specs.Faults.{Room, Judges, IsLast, HasWrongFlag, HasWrongSize, HasWrongCrc, HasWrongHandle, HasDoubledHandle}
 use Rattle.pdr_repository.specs.declared.walk_fault.Step.{Step}
 use Rattle.pdr_repository.specs.declared.walk_fault.WalkFault.{WalkFault}
 use Rattle.pdr_repository.specs.declared.walk_fault.WalkFault.TheVariants.{TooMuch, OutOfMemory}
-use Rattle.pdr_repository.specs.Walkers.{WalkState, StandsFor, Fails, Proceeds, state_after, completed, data_with, room_of, Takes, TakesMessage, TakesOutcome, IsAnswerIn, IsDueAnswer, GoesOn}
+use Rattle.pdr_repository.specs.Walkers.{WalkState, StandsFor, Fails, Proceeds, state_after, completed, data_with, room_of, Takes, TakesMessage, TakesOutcome, IsAnswerIn, IsDueAnswer, WalksOn, GoesOn, Tells, TellsStep}
+use Rattle.pdr_repository.specs.declared.walk_fault.Step.TheVariants.{Done}
 use Rattle.pdr_repository.proofs.Headers.{HasHeader, lawful_header}
 use Rattle.pdr_repository.proofs.Collecting.{Collected, start_more, middle_more, whole_more, end_more, one_rest, collects_once}
 use Rattle.pdr_repository.proofs.Dues.{IsDue, FlagBy, More, Complete}
-use Rattle.pdr_repository.proofs.Walks.{Within, Step as Exchanged, stands, one_step, due_push, record_there}
+use Rattle.pdr_repository.proofs.Walks.{Within, stands, one_step, due_push, record_there, every_walk_collects}
 use Rattle.pdr_repository.proofs.Judging.{judged}
+use Rattle.pdr_repository.proofs.Telling.{tells}
 
 -- a walk with one exchange more
 pub walk_push : (records : List Entry) (count : ℕ) (xs : List Exchange) (x : Exchange) → Walk records count xs → due_after count xs ≡ Some x.request → AnswersPart records x.request x.answer → Walk records count (xs ++ x ∷ [])
@@ -192,17 +194,37 @@ takes_outcome old new r m bytes result goes due waiting spelled (inr (_, inr (_,
     let Q : AnswerMessage Part → Type 0 = λ a. TakesOutcome old s a.outcome result new in
     subst P (same_Some s r (sym asked ∙ due)) (subst Q (one_get_pdr_answer n m other.0 spelled.0 (sym other.1 ∙ spelled.1)) rest)
 
-proceeds : (records : List Entry) (xs : List Exchange) (x : Exchange) (old new : WalkState) (p : Part) (result : Result Step WalkFault)
-    → Walk records old.count (xs ++ x ∷ []) → StandsFor (state_after old x.request p) (xs ++ x ∷ []) → Proceeds old x.request p result new
-    → MatchResult result (λ step. Walk records old.count (xs ++ x ∷ []) × StandsFor new (xs ++ x ∷ [])) (λ fault. (fault ≡ TooMuch) ⊎ (fault ≡ OutOfMemory))
-proceeds records xs x old new p (Ok step) walk after (_, is) = (walk, let P : WalkState → Type 0 = λ w. StandsFor w (xs ++ x ∷ []) in subst P (sym is) after)
-proceeds records xs x old new p (Err fault) walk after (is, same) = inr is
+-- a walker that stands for a walk has collected its beginning
+walks_on : (records : List Entry) (xs : List Exchange) (step : Step) (new : WalkState) → IsLawful records → 8 ≤ new.count → new.count ≤ 4079 → Walk records new.count xs → StandsFor new xs
+    → (step ≡ Done → new.due ≡ None) → WalksOn records xs step new
+walks_on records xs step new lawful least most walk stands done =
+    let all = every_walk_collects records new.count xs lawful least most walk in
+    let same = collects_once xs new.records all.collected new.under_way all.under_way stands.collects all.collects in
+    let finished : step ≡ Done → IsFinished new.count xs = λ is. sym stands.due ∙ done is in
+    record {
+      walk = walk;
+      stands = stands;
+      beginning = (all.beginning.0, ap (λ rs. rs ++ all.beginning.0) same.0 ∙ all.beginning.1);
+      whole = λ is. same.0 ∙ (all.whole (finished is)).0;
+      exact = λ is. all.exact.0 (finished is);
+    }
+
+proceeds : (records : List Entry) (xs : List Exchange) (x : Exchange) (old new : WalkState) (p : Part) (result : Result Step WalkFault) → IsLawful records → 8 ≤ old.count → old.count ≤ 4079
+    → Walk records old.count (xs ++ x ∷ []) → StandsFor (state_after old x.request p) (xs ++ x ∷ []) → Proceeds old x.request p result new → Tells result old new
+    → MatchResult result (λ step. WalksOn records (xs ++ x ∷ []) step new) (λ fault. (fault ≡ TooMuch) ⊎ (fault ≡ OutOfMemory))
+proceeds records xs x old new p (Ok step) lawful least most walk after (_, is) told =
+    let P : WalkState → Type 0 = λ w. StandsFor w (xs ++ x ∷ []) in
+    let count : new.count ≡ old.count = ap (λ (w : WalkState). w.count) is in
+    let W : ℕ → Type 0 = λ n. Walk records n (xs ++ x ∷ []) in
+    let T : Step → Type 0 = λ s. TellsStep s old new in
+    walks_on records (xs ++ x ∷ []) step new lawful (omega arith) (omega arith) (subst W (sym count) walk) (subst P (sym is) after) (λ done. (subst T done told).2)
+proceeds records xs x old new p (Err fault) lawful least most walk after (is, same) told = inr is
 
 -- the outcome of the request that is due in a walk
 goes_on_outcome : (old new : WalkState) (bytes : List ℕ) (result : Result Step WalkFault) (records : List Entry) (xs : List Exchange) (x : Exchange) → 8 ≤ old.count → old.count ≤ 4079
-    → IsDueAnswer old bytes records xs x → (w : Within records old.count xs) → TakesOutcome old x.request x.answer result new
-    → MatchResult result (λ step. Walk records old.count (xs ++ x ∷ []) × StandsFor new (xs ++ x ∷ [])) (λ fault. (fault ≡ TooMuch) ⊎ (fault ≡ OutOfMemory))
-goes_on_outcome old new bytes result records xs x least most given w takes =
+    → IsDueAnswer old bytes records xs x → (w : Within records old.count xs) → TakesOutcome old x.request x.answer result new → Tells result old new
+    → MatchResult result (λ step. WalksOn records (xs ++ x ∷ []) step new) (λ fault. (fault ≡ TooMuch) ⊎ (fault ≡ OutOfMemory))
+goes_on_outcome old new bytes result records xs x least most given w takes told =
     let asked : due_after old.count xs ≡ Some x.request = sym given.stands.due ∙ given.due in
     let request : x.request ≡ w.r = same_Some x.request w.r (sym asked ∙ w.asked) in
     let step = one_step records old.count xs w x given.lawful least most request given.answered in
@@ -233,7 +255,7 @@ goes_on_outcome old new bytes result records xs x least most given w takes =
     (double_right records w.place w.e count w.offset x.request p given.lawful w.here kind)
     judged') [
       | inl is ↦ let fails = subst P is out.2 in rw fails.0 (inl refl)
-      | inr is ↦ proceeds records xs x old new p result on after (subst P is out.2)
+      | inr is ↦ proceeds records xs x old new p result given.lawful least most on after (subst P is out.2) told
     ]
 
 pub goes_on : (old new : WalkState) (bytes : List ℕ) (result : Result Step WalkFault) → 8 ≤ old.count → old.count ≤ 4079 → Takes old bytes result new → GoesOn old bytes result new
@@ -241,6 +263,6 @@ goes_on old new bytes result least most takes records xs x given =
     let asked : due_after old.count xs ≡ Some x.request = sym given.stands.due ∙ given.due in
     let outcome = takes_outcome old new x.request (record { head = given.head; outcome = x.answer }) bytes result given.stands.goes given.due given.waiting given.spelled takes in
     elim (stands records old.count xs given.lawful least most given.walk) [
-      | inl w ↦ goes_on_outcome old new bytes result records xs x least most given w outcome
+      | inl w ↦ goes_on_outcome old new bytes result records xs x least most given w outcome (tells old new bytes result takes)
       | inr past ↦ absurd (let f : None ≡ Some x.request = sym past.asked ∙ asked in cc)
     ]

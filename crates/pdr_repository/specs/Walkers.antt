@@ -6,9 +6,9 @@ use Rattle.pldm_message.specs.declared.kind.RequestKind.TheVariants.{Request}
 use Rattle.pldm_message.specs.Headers.{HeaderValue, BeginsWith}
 use Rattle.pldm_message.specs.Messages.{RequestMessage, AnswerMessage, AnswerHeadValue}
 use Rattle.pldm_message.specs.Pdrs.{PartRequest, Part, IsGetPdrAnswer, get_pdr_request_bytes, get_pdr_answer_bytes}
-use Rattle.pdr_repository.specs.Records.{Entry, IsLawful}
+use Rattle.pdr_repository.specs.Records.{Entry, IsLawful, bytes_by_place}
 use Rattle.pdr_repository.specs.Parts.{PartAnswer, AnswersPart}
-use Rattle.pdr_repository.specs.Walks.{Exchange, Walk, Collects, follows, due_after}
+use Rattle.pdr_repository.specs.Walks.{Exchange, Walk, Collects, IsBeginning, exchanges, follows, due_after}
 use Rattle.pdr_repository.specs.Faults.{Judges, Room}
 use Rattle.pdr_repository.specs.declared.walk_fault.Step.{Step}
 use Rattle.pdr_repository.specs.declared.walk_fault.Step.TheVariants.{More, Record, Done}
@@ -141,11 +141,19 @@ pub record IsDueAnswer (old : WalkState) (bytes : List ℕ) (records : List Entr
   pub waiting : old.waiting ≡ Some head.instance
   pub spelled : IsAnswerIn bytes (record { head = head; outcome = x.answer })
 
--- Against such answers there is no fault but that there is too much or no memory, and a walker that takes one stands for the walk with that exchange added.
+-- The walker stands for these exchanges, which are a walk: it has collected a beginning of the records by place, and at the last step all of them, after exactly so many exchanges.
+pub record WalksOn (records : List Entry) (xs : List Exchange) (step : Step) (new : WalkState) : Type 0 where
+  pub walk : Walk records new.count xs
+  pub stands : StandsFor new xs
+  pub beginning : IsBeginning new.records (bytes_by_place records)
+  pub whole : step ≡ Done → new.records ≡ bytes_by_place records
+  pub exact : step ≡ Done → length xs ≡ exchanges new.count records
+
+-- Against such answers there is no fault but that there is too much or no memory, and a walker that takes one walks on.
 abbrev pub GoesOn : WalkState → List ℕ → Result Step WalkFault → WalkState → Type 0
 GoesOn old bytes result new =
     (records : List Entry) (xs : List Exchange) (x : Exchange) → IsDueAnswer old bytes records xs x
-    → MatchResult result (λ step. Walk records old.count (xs ++ x ∷ []) × StandsFor new (xs ++ x ∷ [])) (λ fault. (fault ≡ TooMuch) ⊎ (fault ≡ OutOfMemory))
+    → MatchResult result (λ step. WalksOn records (xs ++ x ∷ []) step new) (λ fault. (fault ≡ TooMuch) ⊎ (fault ≡ OutOfMemory))
 
 -- The request is the one that is due in each walk that the walker stands for, and asking doesn't change which those are.
 abbrev pub AsksWhatIsDue : WalkState → ℕ → Option (List ℕ) → WalkState → Type 0

@@ -48,10 +48,10 @@ pub struct Walker {
 }
 
 impl Walker {
-    ghost use Rattle.std.specs.Prelude.{◌⊎◌, IfOk, Ok, None, [], option_map};
+    ghost use Rattle.std.specs.Prelude.{◌⊎◌, List, IfOk, Ok, None, [], option_map};
     ghost use Rattle.pldm_message.specs.PdrValues.{part};
     ghost use Rattle.pldm_message.specs.Heads.{outcome_value};
-    ghost use Rattle.pdr_repository.specs.Walks.{first_part};
+    ghost use Rattle.pdr_repository.specs.Walks.{Exchange, Collects, first_part};
     ghost use Rattle.pdr_repository.specs.Faults.{Judges};
     ghost use Rattle.pdr_repository.specs.Dues.{request_of};
     ghost use Rattle.pdr_repository.specs.Walkers.{room_of, fresh, StandsFor, Asks, AsksWhatIsDue, Fails, Proceeds, TakesOutcome, TakesMessage, Takes, Tells, GoesOn};
@@ -288,7 +288,8 @@ impl Walker {
 
     /// The records that are complete, by place.
     pub fn records(&self) -> &[Vec<u8>]
-        ensures { map (λ v. v.items) result.now ≡ (state_of self.now).records }
+        ensures records { map (λ v. v.items) result.now ≡ (state_of self.now).records }
+        ensures collected { (xs : List Exchange) → StandsFor (state_of self.now) xs → Collects xs (map (λ v. v.items) result.now) (state_of self.now).under_way }
     {
         self.records.as_slice()
     }
