@@ -22,7 +22,7 @@ pub struct RequestHead {
 }
 
 impl RequestHead {
-    ghost use Rattle.std.specs.Prelude.{◌≡◌, List, ℕ, IfOk, IsOkAnd, None, false, length, max};
+    ghost use Rattle.std.specs.Prelude.{◌≡◌, List, ℕ, IfOk, IsOkAnd, None, false};
     ghost use Rattle.std.specs.Result.{result_err};
     ghost use Rattle.mctp_transport.specs.Wire.{Spells};
     ghost use Rattle.pldm_message.specs.Headers.{header_bytes};

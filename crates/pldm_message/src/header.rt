@@ -26,8 +26,8 @@ impl PldmType {
     }
 }
 
-/// A message's header: its first four bytes, with MCTP's message type (DSP0240, PLDM message fields). The message type is 1
-/// and the header version 0, so neither is kept.
+/// A message's header: its first four bytes, with MCTP's message type (DSP0240, PLDM message fields). The message type
+/// is 1 and the header version 0, so neither is kept.
 #[derive(Clone, Copy, Debug, PartialEq, Eq)]
 pub struct PldmHeader {
     pub kind: MessageKind,
@@ -40,9 +40,9 @@ pub struct PldmHeader {
 }
 
 impl PldmHeader {
-    ghost use Rattle.std.specs.Prelude.{◌≡◌, ◌↔◌, IsTrue, IfOk, IsOkAnd, None};
-    ghost use Rattle.pldm_message.specs.Commands.{type_of, command_byte};
+    ghost use Rattle.std.specs.Prelude.{◌≡◌, ◌↔◌, IsTrue, IfOk, IsOkAnd, None, false};
     ghost use Rattle.std.specs.Result.{result_err};
+    ghost use Rattle.pldm_message.specs.Commands.{type_of, command_byte};
     ghost use Rattle.pldm_message.specs.Headers.{HeaderValue, BeginsWith};
     ghost use Rattle.pldm_message.specs.HeaderValues.{header_value};
     ghost use Rattle.pldm_message.specs.Faults.{HeaderFault};
@@ -77,9 +77,22 @@ impl PldmHeader {
         })
     }
 
+    /// The header of the answer to a request with this header: a response with the reserved bit clear.
+    pub fn answer(&self) -> PldmHeader
+        ensures { header_value result ≡ record (header_value self.now) { kind = MessageKind.Response; reserved = false } }
+    {
+        PldmHeader {
+            kind: MessageKind::Response,
+            reserved: false,
+            instance: self.instance,
+            pldm_type: self.pldm_type,
+            command: self.command,
+        }
+    }
+
     /// Whether it has the PLDM type and command byte of this command.
     pub fn is_of(&self, command: Command) -> bool
-        ensures { IsTrue result ↔ (self.now.pldm_type.value ≡ type_of command) × (self.now.command ≡ command_byte command) }
+        ensures { IsTrue result ↔ ((self.now.pldm_type.value ≡ type_of command) × (self.now.command ≡ command_byte command)) }
     {
         self.pldm_type == command.pldm_type() && self.command == command.byte()
     }

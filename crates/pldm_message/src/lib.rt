@@ -14,6 +14,7 @@ mod header;
 mod instance;
 mod instance_ids;
 mod kind;
+mod laws;
 mod pdr_part;
 mod pldm_error;
 mod pldm_types;
@@ -32,9 +33,13 @@ pub use header::{HEADER_LENGTH, PldmHeader, PldmType};
 pub use instance::InstanceId;
 pub use instance_ids::InstanceIds;
 pub use kind::{MessageKind, RequestKind};
+pub use laws::one_fault;
 pub use pdr_part::PdrPart;
 pub use pldm_error::PldmError;
 pub use pldm_types::PldmTypes;
 pub use set_tid::{SetTid, SetTidAnswer};
 pub use tid::Tid;
 pub use transfer::{TransferFlag, TransferOperation};
+
+#[cfg(test)]
+mod tests;
