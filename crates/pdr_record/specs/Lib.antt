@@ -6,4 +6,10 @@ pub mod Records
 pub mod Values
 pub mod NumericValues
 pub mod Endings
+pub mod ListsAt
+pub mod Lists
+pub mod StateSetValues
+pub mod ListValues
+pub mod Bodies
+pub mod Faults
 pub mod Codes

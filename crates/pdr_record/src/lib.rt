@@ -1,7 +1,10 @@
 //! Platform descriptor records of PLDM (DSP0248): their fields and their bytes.
 #![tactic(auto)]
 
+mod body;
+mod entities;
 mod entity;
+mod entity_association;
 mod field;
 mod numeric_sensor;
 mod precision;
@@ -11,11 +14,16 @@ mod reading;
 mod record_error;
 mod sensor;
 mod sensor_data_size;
+mod state_sensor;
+mod state_sets;
 mod terminus_locator;
 mod timing;
 mod units;
 
+pub use body::Body;
+pub use entities::Entities;
 pub use entity::Entity;
+pub use entity_association::EntityAssociation;
 pub use field::{Field, put_fields};
 pub use numeric_sensor::NumericSensor;
 pub use precision::Precision;
@@ -25,6 +33,8 @@ pub use reading::Fields;
 pub use record_error::RecordError;
 pub use sensor::Sensor;
 pub use sensor_data_size::SensorDataSize;
+pub use state_sensor::StateSensor;
+pub use state_sets::{StateSet, StateSets};
 pub use terminus_locator::TerminusLocator;
 pub use timing::Timing;
 pub use units::Units;

@@ -1,0 +1,66 @@
+//! What follows the header of a record.
+ghost use Rattle.std.specs.Prelude.{◌≡◌, length, IfOk, IfErr};
+ghost use Rattle.pdr_record.specs.Fields.{bytes_of};
+ghost use Rattle.pdr_record.specs.Records.{BodyValue, type_of, body_fields, IsBody};
+
+use crate::entity_association::EntityAssociation;
+use crate::field::{Field, put_fields};
+use crate::numeric_sensor::NumericSensor;
+use crate::reading::Fields;
+use crate::record_error::RecordError;
+use crate::state_sensor::StateSensor;
+use crate::terminus_locator::TerminusLocator;
+
+/// What follows the header of a record: one of four layouts, or the bytes of another type.
+#[derive(Clone, Copy, Debug, PartialEq, Eq)]
+pub enum Body<'a> {
+    /// Type 1.
+    Terminus(TerminusLocator<'a>),
+    /// Type 2.
+    Numeric(NumericSensor<'a>),
+    /// Type 4.
+    State(StateSensor<'a>),
+    /// Type 15.
+    Association(EntityAssociation<'a>),
+    /// Any other type, and its bytes as they are.
+    Other { record_type: u8, bytes: &'a [u8] },
+}
+
+impl<'a> Body<'a> {
+    ghost use Rattle.pdr_record.specs.Bodies.{body_value};
+    ghost use Rattle.pdr_record.specs.Faults.{IsBodyFault};
+
+    /// The body that the bytes are under a type's number, all of them.
+    pub fn read(record_type: u8, bytes: &'a [u8]) -> Result<Body<'a>, RecordError>
+        ensures record_type { IfOk result (λ body. type_of (body_value body) ≡ record_type) }
+        ensures bytes { IfOk result (λ body. bytes.now ≡ bytes_of (body_fields (body_value body))) }
+        ensures lawful { IfOk result (λ body. IsBody (body_value body)) }
+        ensures refused { IfErr result (λ e. IsBodyFault e record_type bytes.now) }
+    {
+        let mut fields = Fields { rest: bytes };
+        let body = match record_type {
+            1 => Body::Terminus(TerminusLocator::take(&mut fields)?),
+            2 => Body::Numeric(NumericSensor::take(&mut fields)?),
+            4 => Body::State(StateSensor::take(&mut fields)?),
+            15 => Body::Association(EntityAssociation::take(&mut fields)?),
+            _ => return Ok(Body::Other { record_type, bytes }),
+        };
+        if !fields.rest.is_empty() {
+            return Err(RecordError::LeftOver);
+        }
+        Ok(body)
+    }
+
+    /// The number of the record's type.
+    pub fn record_type(&self) -> u8
+        ensures { result ≡ type_of (body_value self.now) }
+    {
+        match self {
+            Body::Terminus(_) => 1,
+            Body::Numeric(_) => 2,
+            Body::State(_) => 4,
+            Body::Association(_) => 15,
+            Body::Other { record_type, .. } => *record_type,
+        }
+    }
+}
