@@ -1,3 +1,4 @@
 pub mod Writing
 pub mod Numeric
 pub mod ListsRead
+pub mod BodyFaults

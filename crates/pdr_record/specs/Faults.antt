@@ -4,7 +4,7 @@ use Rattle.byteorder.specs.Endian.{little_number}
 use Rattle.pdr_record.specs.declared.record_error.RecordError.{RecordError}
 use Rattle.pdr_record.specs.declared.record_error.RecordError.TheVariants as error
 use Rattle.pdr_record.specs.Fields.{followed}
-use Rattle.pdr_record.specs.Records.{BodyValue, type_of, body_fields, IsBody}
+use Rattle.pdr_record.specs.Records.{BodyValue, type_of, body_fields, IsBody, IsOtherType}
 use Rattle.pdr_record.specs.Endings.{HasOtherDataSize, HasOtherFormat}
 
 -- A body of the type stands at the front of the bytes, and these follow it.
@@ -19,14 +19,23 @@ abbrev pub HasOtherCode : ℕ → List ℕ → Type 0
 HasOtherCode number bytes = (number ≡ 2) × (HasOtherDataSize bytes ⊎ HasOtherFormat bytes)
 
 -- Why bytes are no body of the type. They end before a body's last field where no body stands at their front and no
--- code is unknown; others follow it where one does.
+-- code is unknown; others follow the last field where one of the four layouts does.
 abbrev pub IsBodyFault : RecordError → ℕ → List ℕ → Type 0
 IsBodyFault error.Short number bytes = ⊥
 IsBodyFault error.Version number bytes = ⊥
 IsBodyFault error.Length number bytes = ⊥
 IsBodyFault error.Ends number bytes = ((rest : List ℕ) → ¬ StartsWithBody number bytes rest) × ¬ HasOtherCode number bytes
-IsBodyFault error.LeftOver number bytes = (rest : List ℕ) × (rest ≢ []) × StartsWithBody number bytes rest
+IsBodyFault error.LeftOver number bytes = ¬ IsOtherType number × ((rest : List ℕ) × (rest ≢ []) × StartsWithBody number bytes rest)
 IsBodyFault error.Unsupported number bytes = HasOtherCode number bytes
+
+-- why no body of the type stands at the front of bytes
+abbrev pub IsFrontFault : RecordError → ℕ → List ℕ → Type 0
+IsFrontFault error.Short number bytes = ⊥
+IsFrontFault error.Version number bytes = ⊥
+IsFrontFault error.Length number bytes = ⊥
+IsFrontFault error.Ends number bytes = ((rest : List ℕ) → ¬ StartsWithBody number bytes rest) × ¬ HasOtherCode number bytes
+IsFrontFault error.LeftOver number bytes = ⊥
+IsFrontFault error.Unsupported number bytes = HasOtherCode number bytes
 
 -- the header has all its bytes, version 1, and the right number of bytes behind it
 pub record HasHeader (bytes : List ℕ) : Type 0 where

@@ -1,7 +1,7 @@
 //! What follows the header of a record.
-ghost use Rattle.std.specs.Prelude.{◌≡◌, length, IfOk, IfErr};
-ghost use Rattle.pdr_record.specs.Fields.{bytes_of};
-ghost use Rattle.pdr_record.specs.Records.{BodyValue, type_of, body_fields, IsBody};
+ghost use Rattle.std.specs.Prelude.{◌≡◌, [], length, IfOk, IfErr};
+ghost use Rattle.pdr_record.specs.Fields.{bytes_of, followed};
+ghost use Rattle.pdr_record.specs.Records.{type_of, body_fields, IsBody, IsOtherType};
 
 use crate::entity_association::EntityAssociation;
 use crate::field::{Field, put_fields};
@@ -28,7 +28,7 @@ pub enum Body<'a> {
 
 impl<'a> Body<'a> {
     ghost use Rattle.pdr_record.specs.Bodies.{body_value};
-    ghost use Rattle.pdr_record.specs.Faults.{IsBodyFault};
+    ghost use Rattle.pdr_record.specs.Faults.{IsBodyFault, IsFrontFault};
 
     /// The body that the bytes are under a type's number, all of them.
     pub fn read(record_type: u8, bytes: &'a [u8]) -> Result<Body<'a>, RecordError>
@@ -38,17 +38,31 @@ impl<'a> Body<'a> {
         ensures refused { IfErr result (λ e. IsBodyFault e record_type bytes.now) }
     {
         let mut fields = Fields { rest: bytes };
-        let body = match record_type {
-            1 => Body::Terminus(TerminusLocator::take(&mut fields)?),
-            2 => Body::Numeric(NumericSensor::take(&mut fields)?),
-            4 => Body::State(StateSensor::take(&mut fields)?),
-            15 => Body::Association(EntityAssociation::take(&mut fields)?),
-            _ => return Ok(Body::Other { record_type, bytes }),
-        };
+        let body = Body::take(record_type, &mut fields)?;
         if !fields.rest.is_empty() {
             return Err(RecordError::LeftOver);
         }
         Ok(body)
+    }
+
+    /// The body at the front of the fields. A type without layout takes all bytes.
+    fn take(record_type: u8, fields: &mut Fields<'a>) -> Result<Body<'a>, RecordError>
+        ensures record_type { IfOk result (λ body. type_of (body_value body) ≡ record_type) }
+        ensures field { IfOk result (λ body. fields.old.rest.now ≡ followed (body_fields (body_value body)) fields.new.rest.now) }
+        ensures lawful { IfOk result (λ body. IsBody (body_value body)) }
+        ensures other { IsOtherType record_type → fields.new.rest.now ≡ [] }
+        ensures refused { IfErr result (λ e. IsFrontFault e record_type fields.old.rest.now) }
+    {
+        match record_type {
+            1 => Ok(Body::Terminus(TerminusLocator::take(fields)?)),
+            2 => Ok(Body::Numeric(NumericSensor::take(fields)?)),
+            4 => Ok(Body::State(StateSensor::take(fields)?)),
+            15 => Ok(Body::Association(EntityAssociation::take(fields)?)),
+            _ => Ok(Body::Other {
+                record_type,
+                bytes: fields.bytes(fields.rest.len()),
+            }),
+        }
     }
 
     /// The number of the record's type.
