@@ -11,7 +11,8 @@ use Rattle.pdr_record.specs.Endings.{EndsEarly, Head, Middle, Tail, HasOtherData
 use Rattle.pdr_record.specs.declared.record_error.RecordError.{RecordError}
 use Rattle.pdr_record.specs.declared.record_error.RecordError.TheVariants as error
 use Rattle.pdr_record.specs.Faults.{StartsWithBody, HasOtherCode, IsFrontFault}
-use Rattle.pdr_record.proofs.Numeric.{at_format}
+use Rattle.pdr_record.specs.ListLaws.{after_again, entities_length}
+use Rattle.pdr_record.specs.LayoutLaws.{IsNumericFront, numeric_front}
 
 -- ---- terminus locators
 
@@ -28,21 +29,6 @@ pub terminus_ends : (bytes : List ℕ) → length bytes < 8 + slice_index bytes 
 terminus_ends bytes short = (λ rest s. no_terminus s.body bytes rest s.type_is s.lawful s.front short, λ c. let one_is_two = c.0 in omega arith)
 
 -- ---- numeric sensors
-
--- what the bytes have at the places of the codes, and how many they are
-pub record IsNumericFront (n : NumericValue) (bytes rest : List ℕ) : Type 0 where
-  pub size : slice_index bytes 22 ≡ n.data_size
-  pub place : slice_index bytes (45 + 3 * width_of n.data_size) ≡ n.range_format
-  pub long : length bytes ≡ 47 + 3 * width_of n.data_size + 9 * width_of n.range_format + length rest
-
-pub numeric_front : (n : NumericValue) (bytes rest : List ℕ) → IsNumeric n → bytes ≡ followed (numeric_fields n) rest → IsNumericFront n bytes rest
-numeric_front n bytes rest h e =
-    let at = at_format n.sensor n.units n.data_size n.precision n.hysteresis n.timing n.max_readable n.min_readable (n.range_support ∷ followed (ranges_fields n.ranges) rest) bytes n.range_format
-    (width_of n.data_size) e h.hysteresis h.max_readable h.min_readable in
-    let w = h.ranges in
-    let tail : length (followed (ranges_fields n.ranges) rest) ≡ 9 * width_of n.range_format + length rest =
-        simp length-append (omega (arith, w.nominal_value, w.normal_max, w.normal_min, w.warning_high, w.warning_low, w.critical_high, w.critical_low, w.fatal_high, w.fatal_low)) in
-    record { size = at.size; place = at.place; long = omega (arith, at.long, tail) }
 
 no_end : (n : NumericValue) (bytes rest : List ℕ) → IsNumeric n → IsNumericFront n bytes rest → EndsEarly bytes → ⊥
 no_end n bytes rest h f (Head short) = omega (arith, f.long)
@@ -93,16 +79,6 @@ no_body_of_other_code number bytes rest s c = no_numeric s.body bytes rest (s.ty
 
 -- ---- state sensors
 
--- what follows the state sets that are spelled
-pub after_again : (ss : List StateSetValue) (rest : List ℕ) → after_state_sets (length ss) (followed (state_sets_fields ss) rest) ≡ Some rest
-after_again [] rest = refl
-after_again (s ∷ ss) rest =
-    let size = length s.possible_states in
-    let more = followed (state_sets_fields ss) rest in
-    let long : ltb (suc (suc (suc (length (s.possible_states ++ more))))) (3 + size) ≡ false = le-ltb _ _ (omega (arith, length-append s.possible_states more)) in
-    let behind : drop size (s.possible_states ++ more) ≡ more = drop_at s.possible_states more size refl in
-    rw (long) (ap (after_state_sets (length ss)) behind ∙ after_again ss rest)
-
 no_state : (b : BodyValue) (bytes rest : List ℕ) → type_of b ≡ 4 → IsBody b → bytes ≡ followed (body_fields b) rest → (length bytes < 13) ⊎ (after_state_sets (slice_index bytes 12) (drop 13 bytes) ≡ None) → ⊥
 no_state (State s) bytes rest k h e (inl short) = omega (arith, ap length e)
 no_state (State s) bytes rest k h e (inr none) =
@@ -117,10 +93,6 @@ pub state_ends : (bytes : List ℕ) → (length bytes < 13) ⊎ (after_state_set
 state_ends bytes f = (λ rest s. no_state s.body bytes rest s.type_is s.lawful s.front f, λ c. let four_is_two = c.0 in omega arith)
 
 -- ---- entity associations
-
-pub entities_length : (es : List EntityValue) (rest : List ℕ) → length (followed (entities_fields es) rest) ≡ 6 * length es + length rest
-entities_length [] rest = omega arith
-entities_length (e ∷ es) rest = let more = entities_length es rest in omega (arith, more)
 
 no_association : (b : BodyValue) (bytes rest : List ℕ) → type_of b ≡ 15 → IsBody b → bytes ≡ followed (body_fields b) rest → length bytes < 10 + 6 * slice_index bytes 9 → ⊥
 no_association (Association a) bytes rest k h e short =

@@ -7,7 +7,8 @@ use Rattle.byteorder.specs.Endian.{little_bytes, little_number}
 use Rattle.pdr_record.specs.Fields.{Field, followed, bytes_of, Fit}
 use Rattle.pdr_record.specs.Layouts.{EntityValue, StateSetValue, entity_fields, entities_fields, state_sets_fields}
 use Rattle.pdr_record.specs.ListsAt.{entity_at, entities_of, state_set_at, after_state_set, state_sets_of, after_state_sets}
-use Rattle.pdr_record.proofs.Writing.{followed-bytes, length-followed}
+use Rattle.pdr_record.specs.FieldLaws.{followed-bytes, length-followed}
+use Rattle.pdr_record.specs.ListLaws.{state_sets_again}
 
 abbrev pub IsBytes : List ℕ → Type 0
 IsBytes bytes = (i : ℕ) → get_or bytes i 0 < 256
@@ -99,18 +100,6 @@ state_sets_spelled (suc n) (a ∷ b ∷ c ∷ xs) rest fits e =
     let e2 : length (take c xs) ≡ c = omega (arith, length-take c xs) in
     let tail : xs ≡ take c xs ++ followed (state_sets_fields (state_sets_of n (drop c xs))) rest = sym (take-append-drop c xs) ∙ ap (λ (r : List ℕ). take c xs ++ r) later.field in
     record { field = λ i. sym e0 i ∷ sym e1 i ∷ sym e2 i ∷ tail i; fits = (two_fits bytes fits, (omega arith, (tt, later.fits))) }
-
--- what is spelled is read again
-pub state_sets_again : (ss : List StateSetValue) (rest : List ℕ) → Fit (state_sets_fields ss) → state_sets_of (length ss) (followed (state_sets_fields ss) rest) ≡ ss
-state_sets_again [] rest fits = refl
-state_sets_again (s ∷ ss) rest fits =
-    let later = state_sets_again ss rest fits.1.1.1 in
-    let more = followed (state_sets_fields ss) rest in
-    let id : little_number 2 (little_bytes 2 s.state_set_id) ≡ s.state_set_id = let h = fits.0 in omega arith in
-    let front : take (length s.possible_states) (s.possible_states ++ more) ≡ s.possible_states = take_at s.possible_states more (length s.possible_states) refl in
-    let behind : drop (length s.possible_states) (s.possible_states ++ more) ≡ more = drop_at s.possible_states more (length s.possible_states) refl in
-    let others : state_sets_of (length ss) (drop (length s.possible_states) (s.possible_states ++ more)) ≡ ss = ap (state_sets_of (length ss)) behind ∙ later in
-    λ i. record { state_set_id = id i; possible_states = front i } ∷ others i
 
 -- the state sets at the front of bytes, and their own bytes
 pub record OwnBytes (n : ℕ) (bytes own new : List ℕ) : Type 0 where

@@ -10,35 +10,7 @@ use Rattle.pdr_record.specs.declared.sensor_data_size.SensorDataSize.{SensorData
 use Rattle.pdr_record.specs.declared.sensor_data_size.SensorDataSize.TheVariants as size
 use Rattle.pdr_record.specs.declared.range_field_format.RangeFieldFormat.{RangeFieldFormat}
 use Rattle.pdr_record.specs.declared.range_field_format.RangeFieldFormat.TheVariants.{Integer, Real32}
-use Rattle.pdr_record.proofs.Writing.{followed-bytes, length-followed}
-
--- the fields before the range field format
-abbrev pub front : SensorValue → UnitsValue → ℕ → PrecisionValue → List ℕ → TimingValue → List ℕ → List ℕ → List Field
-front s u code p h t mx mn =
-    sensor_fields s ++ units_fields u ++ U8 code ∷ precision_fields p ++ Raw h ∷ timing_fields t ++ Raw mx ∷ Raw mn ∷ []
-
--- the byte behind others
-at_length : (xs ys : List ℕ) (b : ℕ) → get_or (xs ++ b ∷ ys) (length xs) 0 ≡ b
-at_length [] ys b = refl
-at_length (x ∷ xs) ys b = at_length xs ys b
-
--- what the bytes have at the places of the codes, and how many they are
-pub record AtFormat (bytes rest : List ℕ) (code format width : ℕ) : Type 0 where
-  pub size : slice_index bytes 22 ≡ code
-  pub place : slice_index bytes (45 + 3 * width) ≡ format
-  pub long : length bytes ≡ 46 + 3 * width + length rest
-
-pub at_format : (s : SensorValue) (u : UnitsValue) (code : ℕ) (p : PrecisionValue) (h : List ℕ) (t : TimingValue) (mx mn rest bytes : List ℕ) (format width : ℕ)
-    → bytes ≡ followed (front s u code p h t mx mn) (format ∷ rest) → length h ≡ width → length mx ≡ width → length mn ≡ width → AtFormat bytes rest code format width
-at_format s u code p h t mx mn rest bytes format width e eh ex en =
-    let fs = front s u code p h t mx mn in
-    let long : length (bytes_of fs) ≡ 45 + 3 * width = simp length-append (omega arith) in
-    let split : bytes ≡ bytes_of fs ++ format ∷ rest = e ∙ followed-bytes fs (format ∷ rest) in
-    record {
-      size = ap (λ (bs : List ℕ). slice_index bs 22) e;
-      place = ap (λ (bs : List ℕ). slice_index bs (45 + 3 * width)) split ∙ ap (λ (i : ℕ). slice_index (bytes_of fs ++ format ∷ rest) i) (sym long) ∙ at_length (bytes_of fs) rest format;
-      long = omega (arith, ap length e, length-followed fs (format ∷ rest), long);
-    }
+use Rattle.pdr_record.specs.LayoutLaws.{front, AtFormat, at_format}
 
 -- numbers that fit, after others that do
 pub fit-append : (fs gs : List Field) → Fit fs → Fit gs → Fit (fs ++ gs)

@@ -4,19 +4,7 @@ use Rattle.std.proofs.lemmas.List.{append-nil, take_at, drop_at, drop-drop, leng
 use Rattle.std.proofs.Math.Seq.{drop-length, drop-cons}
 use borrow.Rule.Slice.PartMut.{put_mid, mid_of, post_of}
 use Rattle.pdr_record.specs.Fields.{Field, field_bytes, followed, bytes_of}
-
--- the fields' bytes, and then the others
-pub followed-bytes : (fs : List Field) (rest : List ℕ) → followed fs rest ≡ bytes_of fs ++ rest
-followed-bytes [] rest = refl
-followed-bytes (f ∷ fs) rest = ap (λ (bs : List ℕ). field_bytes f ++ bs) (followed-bytes fs rest) ∙ sym (append_assoc (field_bytes f) (bytes_of fs) rest)
-
--- fields after fields
-pub followed-append : (fs gs : List Field) (rest : List ℕ) → followed (fs ++ gs) rest ≡ followed fs (followed gs rest)
-followed-append [] gs rest = refl
-followed-append (f ∷ fs) gs rest = ap (λ (bs : List ℕ). field_bytes f ++ bs) (followed-append fs gs rest)
-
-pub length-followed : (fs : List Field) (rest : List ℕ) → length (followed fs rest) ≡ length (bytes_of fs) + length rest
-length-followed fs rest = ap length (followed-bytes fs rest) ∙ length-append (bytes_of fs) rest
+use Rattle.pdr_record.specs.FieldLaws.{followed-bytes, followed-append}
 
 -- how many bytes the fields have, one of them taken by itself
 pub length-parts : (fs gs : List Field) (f : Field) → length (bytes_of (fs ++ f ∷ gs)) ≡ length (bytes_of fs) + length (field_bytes f) + length (bytes_of gs)

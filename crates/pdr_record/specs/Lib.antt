@@ -12,4 +12,8 @@ pub mod StateSetValues
 pub mod ListValues
 pub mod Bodies
 pub mod Faults
+pub mod FieldLaws
+pub mod ListLaws
+pub mod LayoutLaws
+pub mod RecordLaws
 pub mod Codes

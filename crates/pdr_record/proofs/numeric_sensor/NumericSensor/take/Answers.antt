@@ -4,7 +4,8 @@ use Rattle.pdr_record.specs.Fields.{Fit, followed, U8, Raw}
 use Rattle.pdr_record.specs.Layouts.{width_of, NumericValue, sensor_fields, units_fields, precision_fields, timing_fields, ranges_fields}
 use Rattle.pdr_record.specs.Numbers.{size_code, format_code}
 use Rattle.pdr_record.specs.Values.{sensor_value, units_value, precision_value, timing_value, ranges_value}
-use Rattle.pdr_record.proofs.Numeric.{front, other_format, ends_behind, numeric_fits, size_most, format_most}
+use Rattle.pdr_record.specs.LayoutLaws.{front}
+use Rattle.pdr_record.proofs.Numeric.{other_format, ends_behind, numeric_fits, size_most, format_most}
 use Rattle.pdr_record.proofs.numeric_sensor.NumericSensor.take.Goals as goal
 
 pub returns-in_err-range_field_format-clause-refused : goal.returns-in_err-range_field_format-clause-refused
