@@ -11,9 +11,11 @@ pub mod Lists
 pub mod StateSetValues
 pub mod ListValues
 pub mod Bodies
+pub mod RecordValues
 pub mod Faults
 pub mod FieldLaws
 pub mod ListLaws
 pub mod LayoutLaws
 pub mod RecordLaws
+pub mod Props
 pub mod Codes

@@ -55,6 +55,9 @@ pub record RecordValue : Type 0 where
   pub change : ℕ
   pub body : BodyValue
 
+abbrev pub record_of : ℕ → ℕ → BodyValue → RecordValue
+record_of handle change body = record { handle = handle; change = change; body = body }
+
 -- the common header, whose last field is the number of bytes that follow it
 abbrev pub header_fields : RecordValue → List Field
 header_fields r = U32 r.handle ∷ U8 1 ∷ U8 (type_of r.body) ∷ U16 r.change ∷ U16 (length (bytes_of (body_fields r.body))) ∷ []

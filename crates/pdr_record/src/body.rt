@@ -1,5 +1,5 @@
 //! What follows the header of a record.
-ghost use Rattle.std.specs.Prelude.{◌≡◌, [], length, IfOk, IfErr};
+ghost use Rattle.std.specs.Prelude.{◌≡◌, ◌≤◌, ◌++◌, [], length, drop, IfOk, IfErr};
 ghost use Rattle.pdr_record.specs.Fields.{bytes_of, followed};
 ghost use Rattle.pdr_record.specs.Records.{type_of, body_fields, IsBody, IsOtherType};
 
@@ -75,6 +75,36 @@ impl<'a> Body<'a> {
             Body::State(_) => 4,
             Body::Association(_) => 15,
             Body::Other { record_type, .. } => *record_type,
+        }
+    }
+
+    /// How many bytes the body has.
+    pub fn len(&self) -> usize
+        requires { IsBody (body_value self.now) }
+        ensures { result ≡ length (bytes_of (body_fields (body_value self.now))) }
+    {
+        match self {
+            Body::Terminus(terminus) => 8 + terminus.locator_value.len(),
+            Body::Numeric(numeric) => numeric.len(),
+            Body::State(state) => 13 + state.state_sets.bytes().len(),
+            Body::Association(association) => 10 + association.contained_entities.bytes().len(),
+            Body::Other { bytes, .. } => bytes.len(),
+        }
+    }
+
+    /// Writes the body's bytes at the front of `out`, and returns how many they are.
+    pub fn put(&self, out: &mut [u8]) -> usize
+        requires lawful { IsBody (body_value self.now) }
+        requires room { length (bytes_of (body_fields (body_value self.now))) ≤ length out.old }
+        ensures count { result ≡ length (bytes_of (body_fields (body_value self.now))) }
+        ensures front { out.new ≡ bytes_of (body_fields (body_value self.now)) ++ drop result out.old }
+    {
+        match self {
+            Body::Terminus(terminus) => put_fields(out, &terminus.fields()),
+            Body::Numeric(numeric) => put_fields(out, &numeric.fields()),
+            Body::State(state) => put_fields(out, &state.fields()),
+            Body::Association(association) => put_fields(out, &association.fields()),
+            Body::Other { bytes, .. } => put_fields(out, &[Field::Raw(bytes)]),
         }
     }
 }

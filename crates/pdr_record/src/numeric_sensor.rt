@@ -1,6 +1,6 @@
 //! Numeric sensors.
 ghost use Rattle.std.specs.Prelude.{◌≡◌, ◌<◌, ◌≤◌, ◌+◌, length, IfOk, IfErr};
-ghost use Rattle.pdr_record.specs.Fields.{followed, Fit};
+ghost use Rattle.pdr_record.specs.Fields.{bytes_of, followed, Fit};
 ghost use Rattle.pdr_record.specs.Layouts.{numeric_fields, IsNumeric};
 ghost use Rattle.pdr_record.specs.Written.{fields_of};
 ghost use Rattle.pdr_record.specs.Endings.{IsNumericFault};
@@ -73,6 +73,14 @@ impl<'a> NumericSensor<'a> {
             range_field_support: fields.u8(),
             ranges: Ranges::take(fields, width),
         })
+    }
+
+    /// How many bytes its fields have.
+    pub fn len(&self) -> usize
+        requires { IsNumeric (numeric_value self.now) }
+        ensures { result ≡ length (bytes_of (numeric_fields (numeric_value self.now))) }
+    {
+        47 + 3 * self.sensor_data_size.width() + 9 * self.range_field_format.width()
     }
 
     pub fn fields(&self) -> [Field<'a>; 41]
