@@ -1,16 +1,15 @@
 -- Where no body stands at the front of bytes.
-use Rattle.std.proofs.Common.{◌≡◌, ℕ, suc, ◌+◌, ◌*◌, ◌<◌, ◌≤◌, ◌⊎◌, inl, inr, List, [], ◌∷◌, ◌++◌, length, drop, cond, ltb, false, true, Option, Some, None, refl, sym, ap, ◌∙◌, arith, length-append}
+use Rattle.std.proofs.Common.{◌≡◌, ℕ, ◌+◌, ◌*◌, ◌<◌, ◌≤◌, ◌⊎◌, inl, inr, List, length, drop, Some, None, ap, ◌∙◌, arith, length-append}
 use Rattle.std.specs.Prelude.{slice_index}
-use Rattle.std.proofs.lemmas.Bool.{le-ltb}
-use Rattle.std.proofs.lemmas.List.{drop_at}
-use Rattle.pdr_record.specs.Fields.{followed, bytes_of}
-use Rattle.pdr_record.specs.Layouts.{width_of, EntityValue, StateSetValue, NumericValue, IsNumeric, numeric_fields, ranges_fields, entities_fields, state_sets_fields}
+use Rattle.pdr_record.specs.Fields.{followed}
+use Rattle.pdr_record.specs.Layouts.{width_of, NumericValue, IsNumeric}
 use Rattle.pdr_record.specs.ListsAt.{after_state_sets}
 use Rattle.pdr_record.specs.Records.{BodyValue, Terminus, Numeric, State, Association, Other, type_of, body_fields, IsBody}
-use Rattle.pdr_record.specs.Endings.{EndsEarly, Head, Middle, Tail, HasOtherDataSize, HasOtherFormat, IsNumericFault}
+use Rattle.pdr_record.specs.NumericCodes.{HasOtherDataSize, HasOtherFormat}
+use Rattle.pdr_record.specs.Endings.{EndsEarly, Head, Middle, Tail, IsNumericFault, IsFrontFault}
 use Rattle.pdr_record.specs.declared.record_error.RecordError.{RecordError}
 use Rattle.pdr_record.specs.declared.record_error.RecordError.TheVariants as error
-use Rattle.pdr_record.specs.Faults.{StartsWithBody, HasOtherCode, IsFrontFault}
+use Rattle.pdr_record.specs.Faults.{StartsWithBody, HasOtherCode}
 use Rattle.pdr_record.specs.ListLaws.{after_again, entities_length}
 use Rattle.pdr_record.specs.LayoutLaws.{IsNumericFront, numeric_front}
 

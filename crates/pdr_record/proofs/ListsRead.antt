@@ -2,9 +2,9 @@
 use Rattle.std.proofs.Common.{◌≡◌, ℕ, zero, suc, ◌+◌, ◌-◌, ◌*◌, ◌/◌, ◌%◌, ◌^◌, ◌<◌, ◌≤◌, Bool, true, false, cond, ltb, List, [], ◌∷◌, ◌++◌, length, get_or, take, drop, Option, Some, None, refl, sym, ap, ◌∙◌, arith, length-append}
 use Rattle.std.specs.Prelude.{slice_index}
 use Rattle.std.proofs.lemmas.Bool.{ltb-false, le-ltb, lt-ltb}
-use Rattle.std.proofs.lemmas.List.{take_at, drop_at, take-append-drop, drop-drop, length-take, length-drop, get_or-drop, nil_from_length, append-nil}
+use Rattle.std.proofs.lemmas.List.{take_at, drop_at, take-append-drop, drop-drop, length-take, length-drop, get_or-drop, nil_from_length}
 use Rattle.byteorder.specs.Endian.{little_bytes, little_number}
-use Rattle.pdr_record.specs.Fields.{Field, followed, bytes_of, Fit}
+use Rattle.pdr_record.specs.Fields.{followed, bytes_of, Fit}
 use Rattle.pdr_record.specs.Layouts.{EntityValue, StateSetValue, entity_fields, entities_fields, state_sets_fields}
 use Rattle.pdr_record.specs.ListsAt.{entity_at, entities_of, state_set_at, after_state_set, state_sets_of, after_state_sets}
 use Rattle.pdr_record.specs.FieldLaws.{followed-bytes, length-followed}
@@ -45,8 +45,8 @@ entities_spelled (suc n) bytes len fits =
     let rest = entities_spelled n (drop 6 bytes) (omega (arith, length-drop 6 bytes)) (IsBytes-drop 6 bytes fits) in
     e1
     ∙ ap (λ (r : List ℕ). little_bytes 2 (little_number 2 bytes) ++ r) (e2
-        ∙ ap (λ (r : List ℕ). little_bytes 2 (little_number 2 (drop 2 bytes)) ++ r) (drop-drop 2 2 bytes ∙ e3
-            ∙ ap (λ (r : List ℕ). little_bytes 2 (little_number 2 (drop 4 bytes)) ++ r) (drop-drop 2 4 bytes ∙ rest)))
+    ∙ ap (λ (r : List ℕ). little_bytes 2 (little_number 2 (drop 2 bytes)) ++ r) (drop-drop 2 2 bytes ∙ e3
+    ∙ ap (λ (r : List ℕ). little_bytes 2 (little_number 2 (drop 4 bytes)) ++ r) (drop-drop 2 4 bytes ∙ rest)))
 
 pub entities_fit : (n : ℕ) (bytes : List ℕ) → IsBytes bytes → Fit (entities_fields (entities_of n bytes))
 entities_fit zero bytes fits = tt
@@ -118,7 +118,7 @@ own_bytes n bytes own new rest fits e parts len =
     let is_front : own ≡ front = sym (take_at own new (length own) refl) ∙ ap (take (length own)) (sym parts ∙ split) ∙ take_at front rest (length own) (sym long) in
     let is_new : rest ≡ new = sym (drop_at front rest (length own) (sym long)) ∙ ap (drop (length own)) (sym split ∙ parts) ∙ drop_at own new (length own) refl in
     let same : state_sets_of n own ≡ sets =
-        ap (state_sets_of n) is_front ∙ ap (λ (m : ℕ). state_sets_of m (followed (state_sets_fields sets) [])) (sym (state_sets_count n bytes)) ∙ state_sets_again sets [] read.fits in
+    ap (state_sets_of n) is_front ∙ ap (λ (m : ℕ). state_sets_of m (followed (state_sets_fields sets) [])) (sym (state_sets_count n bytes)) ∙ state_sets_again sets [] read.fits in
     record {
       same = same;
       whole = ap (λ (ss : List StateSetValue). bytes_of (state_sets_fields ss)) same ∙ sym is_front;

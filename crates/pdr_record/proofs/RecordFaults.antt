@@ -1,5 +1,5 @@
 -- Bytes have one cause at most for which they are no record, and none where they are one.
-use Rattle.std.proofs.Common.{◌≡◌, ◌≢◌, ◌↔◌, ℕ, ◌+◌, ◌*◌, ◌/◌, ◌%◌, ◌^◌, ◌<◌, ◌≤◌, List, [], ◌∷◌, ◌++◌, length, drop, Result, Ok, Err, refl, sym, ap, subst, ◌∙◌, arith}
+use Rattle.std.proofs.Common.{◌≡◌, ◌↔◌, ℕ, ◌^◌, ◌<◌, List, [], ◌∷◌, length, drop, Result, Ok, Err, refl, sym, ap, subst, ◌∙◌, arith}
 use Rattle.std.specs.Prelude.{slice_index, IfOk, IfErr, IsOkAnd}
 use Rattle.byteorder.specs.Endian.{little_bytes, little_number}
 use Rattle.mctp_transport.specs.Wire.{Spells}
@@ -10,7 +10,7 @@ use Rattle.pdr_record.specs.Fields.{U8, U16, U32, followed, bytes_of}
 use Rattle.pdr_record.specs.Records.{type_of, body_fields, RecordValue, record_bytes, IsRecord}
 use Rattle.pdr_record.specs.RecordLaws.{one_front, one_record}
 use Rattle.pdr_record.specs.RecordValues.{record_value}
-use Rattle.pdr_record.specs.Faults.{StartsWithBody, HasHeader, IsBodyFault, IsFault}
+use Rattle.pdr_record.specs.Faults.{HasHeader, IsBodyFault, IsFault}
 use Rattle.pdr_record.proofs.BodyFaults.{no_body_of_other_code}
 
 one_body_fault : (e f : RecordError) (number : ℕ) (bytes : List ℕ) → IsBodyFault e number bytes → IsBodyFault f number bytes → e ≡ f

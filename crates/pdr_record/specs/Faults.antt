@@ -5,7 +5,7 @@ use Rattle.pdr_record.specs.declared.record_error.RecordError.{RecordError}
 use Rattle.pdr_record.specs.declared.record_error.RecordError.TheVariants as error
 use Rattle.pdr_record.specs.Fields.{followed}
 use Rattle.pdr_record.specs.Records.{BodyValue, type_of, body_fields, IsBody, IsOtherType}
-use Rattle.pdr_record.specs.Endings.{HasOtherDataSize, HasOtherFormat}
+use Rattle.pdr_record.specs.NumericCodes.{HasOtherDataSize, HasOtherFormat}
 
 -- A body of the type stands at the front of the bytes, and these follow it.
 pub record StartsWithBody (number : ℕ) (bytes rest : List ℕ) : Type 0 where
@@ -27,15 +27,6 @@ IsBodyFault error.Length number bytes = ⊥
 IsBodyFault error.Ends number bytes = ((rest : List ℕ) → ¬ StartsWithBody number bytes rest) × ¬ HasOtherCode number bytes
 IsBodyFault error.LeftOver number bytes = ¬ IsOtherType number × ((rest : List ℕ) × (rest ≢ []) × StartsWithBody number bytes rest)
 IsBodyFault error.Unsupported number bytes = HasOtherCode number bytes
-
--- why no body of the type stands at the front of bytes
-abbrev pub IsFrontFault : RecordError → ℕ → List ℕ → Type 0
-IsFrontFault error.Short number bytes = ⊥
-IsFrontFault error.Version number bytes = ⊥
-IsFrontFault error.Length number bytes = ⊥
-IsFrontFault error.Ends number bytes = ((rest : List ℕ) → ¬ StartsWithBody number bytes rest) × ¬ HasOtherCode number bytes
-IsFrontFault error.LeftOver number bytes = ⊥
-IsFrontFault error.Unsupported number bytes = HasOtherCode number bytes
 
 -- the header has all its bytes, version 1, and the right number of bytes behind it
 pub record HasHeader (bytes : List ℕ) : Type 0 where

@@ -1,12 +1,11 @@
 -- The bytes of a layout tell what it holds, and where it ends.
-use Rattle.std.proofs.Common.{◌≡◌, ℕ, zero, suc, ◌+◌, ◌*◌, ◌<◌, ◌≤◌, List, [], ◌∷◌, ◌++◌, length, get_or, Some, refl, sym, ap, ◌∙◌, arith, length-append}
+use Rattle.std.proofs.Common.{◌≡◌, ℕ, ◌+◌, ◌*◌, List, [], ◌∷◌, ◌++◌, length, get_or, Some, refl, sym, ap, ◌∙◌, arith, length-append}
 use Rattle.std.specs.Prelude.{slice_index}
-use Rattle.pdr_record.specs.Fields.{Field, U8, U16, U32, Raw, followed, bytes_of, Fit}
-use Rattle.pdr_record.specs.FieldLaws.{Shape, One, Two, Four, Many, shapes, one_fields, fit_parts, same_rest, number, raw, followed-bytes, length-followed}
+use Rattle.pdr_record.specs.Fields.{Field, U8, U16, Raw, followed, bytes_of, Fit}
+use Rattle.pdr_record.specs.FieldLaws.{One, Two, Many, shapes, one_fields, fit_parts, same_rest, number, raw, followed-bytes, length-followed}
 use Rattle.pdr_record.specs.ListsAt.{entities_of, state_sets_of, after_state_sets}
 use Rattle.pdr_record.specs.ListLaws.{state_sets_again, after_again, entities_again}
-use Rattle.pdr_record.specs.Endings.{HasOtherFormat, EndsEarly, Tail}
-use Rattle.pdr_record.specs.Layouts.{EntityValue, TerminusValue, SensorValue, StateValue, AssociationValue, UnitsValue, PrecisionValue, TimingValue, RangesValue, NumericValue, StateSetValue, entities_fields, terminus_fields, sensor_fields, state_sets_fields, state_fields, association_fields, units_fields, precision_fields, timing_fields, ranges_fields, numeric_fields, width_of, IsNumeric}
+use Rattle.pdr_record.specs.Layouts.{EntityValue, TerminusValue, SensorValue, StateValue, AssociationValue, UnitsValue, PrecisionValue, TimingValue, NumericValue, entities_fields, terminus_fields, sensor_fields, state_sets_fields, state_fields, association_fields, units_fields, precision_fields, timing_fields, ranges_fields, numeric_fields, width_of, IsNumeric}
 
 -- ---- terminus locators
 
@@ -41,7 +40,7 @@ one_state m n r s hm hn e =
     let same = one_fields fs gs x y fm.0 fn.0 refl e in
     let len : length m.state_sets ≡ length n.state_sets = ap (λ (fields : List Field). number fields 7) same.0 in
     let sets : m.state_sets ≡ n.state_sets =
-        sym (state_sets_again m.state_sets r fm.1) ∙ ap (state_sets_of (length m.state_sets)) same.1 ∙ ap (λ (k : ℕ). state_sets_of k y) len ∙ state_sets_again n.state_sets s fn.1 in
+    sym (state_sets_again m.state_sets r fm.1) ∙ ap (state_sets_of (length m.state_sets)) same.1 ∙ ap (λ (k : ℕ). state_sets_of k y) len ∙ state_sets_again n.state_sets s fn.1 in
     let rests : Some r ≡ Some s = sym (after_again m.state_sets r) ∙ ap (after_state_sets (length m.state_sets)) same.1 ∙ ap (λ (k : ℕ). after_state_sets k y) len ∙ after_again n.state_sets s in
     (λ i. record { sensor = sensor_in (same.0 i); state_sets = sets i }, cc)
 
@@ -61,7 +60,7 @@ one_association m n r s hm hn e =
     let same = one_fields fs gs x y fm.0 fn.0 refl e in
     let len : length m.contained_entities ≡ length n.contained_entities = ap (λ (fields : List Field). number fields 5) same.0 in
     let entities : m.contained_entities ≡ n.contained_entities =
-        sym (entities_again m.contained_entities r fm.1) ∙ ap (entities_of (length m.contained_entities)) same.1 ∙ ap (λ (k : ℕ). entities_of k y) len ∙ entities_again n.contained_entities s fn.1 in
+    sym (entities_again m.contained_entities r fm.1) ∙ ap (entities_of (length m.contained_entities)) same.1 ∙ ap (λ (k : ℕ). entities_of k y) len ∙ entities_again n.contained_entities s fn.1 in
     let rests : r ≡ s = same_rest (entities_fields m.contained_entities) r s (same.1 ∙ ap (λ (es : List EntityValue). followed (entities_fields es) s) (sym entities)) in
     (λ i. record { container_id = number (same.0 i) 0; association_type = number (same.0 i) 1; container_entity = container_in (same.0 i); contained_entities = entities i }, rests)
 
@@ -107,7 +106,7 @@ numeric_front n bytes rest h e =
     (width_of n.data_size) e h.hysteresis h.max_readable h.min_readable in
     let w = h.ranges in
     let tail : length (followed (ranges_fields n.ranges) rest) ≡ 9 * width_of n.range_format + length rest =
-        simp length-append (omega (arith, w.nominal_value, w.normal_max, w.normal_min, w.warning_high, w.warning_low, w.critical_high, w.critical_low, w.fatal_high, w.fatal_low)) in
+    simp length-append (omega (arith, w.nominal_value, w.normal_max, w.normal_min, w.warning_high, w.warning_low, w.critical_high, w.critical_low, w.fatal_high, w.fatal_low)) in
     record { size = at.size; place = at.place; long = omega (arith, at.long, tail) }
 
 abbrev numeric_in : List Field → NumericValue

@@ -1,10 +1,10 @@
 -- Lists that are spelled are read again.
-use Rattle.std.proofs.Common.{◌≡◌, ℕ, zero, suc, ◌+◌, ◌*◌, ◌<◌, ◌≤◌, false, ltb, List, [], ◌∷◌, ◌++◌, length, take, drop, Option, Some, None, refl, sym, ap, ◌∙◌, arith, length-append}
+use Rattle.std.proofs.Common.{◌≡◌, ℕ, suc, ◌+◌, ◌*◌, false, ltb, List, [], ◌∷◌, ◌++◌, length, take, drop, Some, refl, ap, ◌∙◌, arith, length-append}
 use Rattle.std.proofs.lemmas.Bool.{le-ltb}
 use Rattle.std.proofs.lemmas.List.{take_at, drop_at}
 use Rattle.byteorder.specs.Endian.{little_bytes, little_number}
 use Rattle.pdr_record.specs.Fields.{followed, Fit}
-use Rattle.pdr_record.specs.Layouts.{EntityValue, StateSetValue, entity_fields, entities_fields, state_sets_fields}
+use Rattle.pdr_record.specs.Layouts.{EntityValue, StateSetValue, entities_fields, state_sets_fields}
 use Rattle.pdr_record.specs.ListsAt.{entities_of, state_sets_of, after_state_sets}
 
 -- what is spelled is read again

@@ -1,6 +1,5 @@
 -- The lists that records hold, as their bytes spell them.
-use Rattle.std.specs.Prelude.{ℕ, zero, suc, ◌+◌, nat_lt, if◌then◌else◌, List, [], ◌∷◌, length, take, drop, slice_index, Option, Some, None}
-use Rattle.byteorder.specs.Endian.{little_number}
+use Rattle.std.specs.Prelude.{List}
 use Rattle.pdr_record.specs.declared.entities.Entities.{Entities}
 use Rattle.pdr_record.specs.declared.state_sets.StateSets.{StateSets}
 use Rattle.pdr_record.specs.ListsAt.{entities_of, state_sets_of}

@@ -1,5 +1,5 @@
 -- That a record is lawful has one proof at most, as a fact of a type has to.
-use Rattle.std.specs.Prelude.{◌≡◌, ℕ, List}
+use Rattle.std.specs.Prelude.{List}
 use Rattle.std.proofs.Props.{props}
 use Rattle.std.specs.List.{AllByRecursion-prop}
 use Rattle.pdr_record.specs.Fields.{Field, U8, U16, U32, Raw, FitsField, Fit}

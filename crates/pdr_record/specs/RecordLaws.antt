@@ -1,5 +1,5 @@
 -- The bytes of a record tell the record.
-use Rattle.std.proofs.Common.{◌≡◌, ℕ, List, [], ◌∷◌, ◌++◌, refl, sym, ap, ◌∙◌, arith}
+use Rattle.std.proofs.Common.{◌≡◌, ℕ, List, [], ◌++◌, refl, sym, ap, ◌∙◌, arith}
 use Rattle.std.proofs.lemmas.List.{append-nil}
 use Rattle.pdr_record.specs.Fields.{Field, followed, bytes_of}
 use Rattle.pdr_record.specs.FieldLaws.{one_fields, number}

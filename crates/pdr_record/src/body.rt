@@ -28,7 +28,8 @@ pub enum Body<'a> {
 
 impl<'a> Body<'a> {
     ghost use Rattle.pdr_record.specs.Bodies.{body_value};
-    ghost use Rattle.pdr_record.specs.Faults.{IsBodyFault, IsFrontFault};
+    ghost use Rattle.pdr_record.specs.Faults.{IsBodyFault};
+    ghost use Rattle.pdr_record.specs.Endings.{IsFrontFault};
 
     /// The body that the bytes are under a type's number, all of them.
     pub fn read(record_type: u8, bytes: &'a [u8]) -> Result<Body<'a>, RecordError>

@@ -20,7 +20,7 @@ pub struct Entities<'a> {
 impl<'a> Entities<'a> {
     ghost use Rattle.pdr_record.specs.Lists.{entities_value};
 
-    pub fn take(fields: &mut Fields<'a>, count: u8) -> Result<Entities<'a>, RecordError>
+    pub(crate) fn take(fields: &mut Fields<'a>, count: u8) -> Result<Entities<'a>, RecordError>
         ensures field { IfOk result (λ es. fields.old.rest.now ≡ followed (entities_fields (entities_value es)) fields.new.rest.now) }
         ensures count { IfOk result (λ es. length (entities_value es) ≡ count) }
         ensures fits { IfOk result (λ es. Fit (entities_fields (entities_value es))) }
@@ -55,7 +55,7 @@ impl<'a> Entities<'a> {
     }
 
     /// The first entity, and those after it.
-    pub fn split_first(self) -> Option<(Entity, Entities<'a>)>
+    fn split_first(self) -> Option<(Entity, Entities<'a>)>
         ensures first { IfSome result (λ parts. entities_value self.entry ≡ entity_value parts.0 ∷ entities_value parts.1) }
         ensures none { IfNone result (entities_value self.entry ≡ []) }
     {
@@ -64,5 +64,40 @@ impl<'a> Entities<'a> {
         let first = Entity::take(&mut fields);
         let bytes = fields.rest;
         Some((first, Entities { count, bytes }))
+    }
+}
+
+impl<'a> Entities<'a> {
+    ghost use Rattle.pdr_record.specs.Lists.{entities_value};
+    ghost use Rattle.pdr_record.specs.ListsLeft.{entities_left};
+
+    /// Each of them, in order.
+    pub fn iter(&self) -> EntitiesIter<'a>
+        ensures { entities_left result ≡ entities_value self.now }
+    {
+        EntitiesIter { left: *self }
+    }
+}
+
+/// What is left of a list.
+#[derive(Clone, Debug, Drop)]
+pub struct EntitiesIter<'a> {
+    left: Entities<'a>,
+}
+
+impl<'a> Iterator for EntitiesIter<'a> {
+    ghost use Rattle.std.specs.Iterator.{YieldsFirstBy, item_count};
+    ghost use Rattle.pdr_record.specs.ListsLeft.{entities_left};
+
+    type Item = Entity;
+
+    ghost next_gives = { YieldsFirstBy entity_value entities_left };
+
+    ghost remaining = { item_count entities_left };
+
+    fn next(&mut self) -> Option<Entity> {
+        let (first, left) = self.left.split_first()?;
+        self.left = left;
+        Some(first)
     }
 }

@@ -23,7 +23,7 @@ pub struct EntityAssociation<'a> {
 impl<'a> EntityAssociation<'a> {
     ghost use Rattle.pdr_record.specs.ListValues.{association_value};
 
-    pub fn take(fields: &mut Fields<'a>) -> Result<EntityAssociation<'a>, RecordError>
+    pub(crate) fn take(fields: &mut Fields<'a>) -> Result<EntityAssociation<'a>, RecordError>
         ensures field { IfOk result (λ a. fields.old.rest.now ≡ followed (association_fields (association_value a)) fields.new.rest.now) }
         ensures fits { IfOk result (λ a. Fit (association_fields (association_value a))) }
         ensures refused { IfErr result (λ e. (e ≡ RecordError.Ends) × (length fields.old.rest.now < 10 + 6 * slice_index fields.old.rest.now 9)) }
@@ -42,7 +42,7 @@ impl<'a> EntityAssociation<'a> {
         })
     }
 
-    pub fn fields(&self) -> [Field<'a>; 7]
+    pub(crate) fn fields(&self) -> [Field<'a>; 7]
         ensures { bytes_of (fields_of result) ≡ bytes_of (association_fields (association_value self.now)) }
     {
         let container = &self.container_entity;

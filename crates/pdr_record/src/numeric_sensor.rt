@@ -40,7 +40,7 @@ pub struct NumericSensor<'a> {
 impl<'a> NumericSensor<'a> {
     ghost use Rattle.pdr_record.specs.NumericValues.{numeric_value};
 
-    pub fn take(fields: &mut Fields<'a>) -> Result<NumericSensor<'a>, RecordError>
+    pub(crate) fn take(fields: &mut Fields<'a>) -> Result<NumericSensor<'a>, RecordError>
         ensures field { IfOk result (λ n. fields.old.rest.now ≡ followed (numeric_fields (numeric_value n)) fields.new.rest.now) }
         ensures fits { IfOk result (λ n. Fit (numeric_fields (numeric_value n))) }
         ensures layout { IfOk result (λ n. IsNumeric (numeric_value n)) }
@@ -83,10 +83,17 @@ impl<'a> NumericSensor<'a> {
         47 + 3 * self.sensor_data_size.width() + 9 * self.range_field_format.width()
     }
 
-    pub fn fields(&self) -> [Field<'a>; 41]
+    pub(crate) fn fields(&self) -> [Field<'a>; 41]
         ensures { fields_of result ≡ numeric_fields (numeric_value self.now) }
     {
-        let NumericSensor { sensor, units, precision, timing, ranges, .. } = self;
+        let NumericSensor {
+            sensor,
+            units,
+            precision,
+            timing,
+            ranges,
+            ..
+        } = self;
         [
             Field::U16(sensor.terminus_handle),
             Field::U16(sensor.sensor_id),

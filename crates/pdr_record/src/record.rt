@@ -94,6 +94,10 @@ impl<'a> Record<'a> {
             return Err(RecordError::Length);
         }
         let body = Body::read(record_type, fields.rest)?;
-        Ok(Record { handle, change, body })
+        Ok(Record {
+            handle,
+            change,
+            body,
+        })
     }
 }

@@ -22,7 +22,7 @@ pub struct StateSensor<'a> {
 impl<'a> StateSensor<'a> {
     ghost use Rattle.pdr_record.specs.ListValues.{state_value};
 
-    pub fn take(fields: &mut Fields<'a>) -> Result<StateSensor<'a>, RecordError>
+    pub(crate) fn take(fields: &mut Fields<'a>) -> Result<StateSensor<'a>, RecordError>
         ensures field { IfOk result (λ s. fields.old.rest.now ≡ followed (state_fields (state_value s)) fields.new.rest.now) }
         ensures fits { IfOk result (λ s. Fit (state_fields (state_value s))) }
         ensures refused { let bytes = fields.old.rest.now in
@@ -35,7 +35,7 @@ impl<'a> StateSensor<'a> {
         Ok(StateSensor { sensor, state_sets })
     }
 
-    pub fn fields(&self) -> [Field<'a>; 9]
+    pub(crate) fn fields(&self) -> [Field<'a>; 9]
         ensures { bytes_of (fields_of result) ≡ bytes_of (state_fields (state_value self.now)) }
     {
         let sensor = &self.sensor;

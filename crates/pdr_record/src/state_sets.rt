@@ -27,7 +27,7 @@ pub struct StateSets<'a> {
 impl<'a> StateSets<'a> {
     ghost use Rattle.pdr_record.specs.Lists.{state_sets_value};
 
-    pub fn take(fields: &mut Fields<'a>, count: u8) -> Result<StateSets<'a>, RecordError>
+    pub(crate) fn take(fields: &mut Fields<'a>, count: u8) -> Result<StateSets<'a>, RecordError>
         ensures field { IfOk result (λ ss. fields.old.rest.now ≡ followed (state_sets_fields (state_sets_value ss)) fields.new.rest.now) }
         ensures count { IfOk result (λ ss. length (state_sets_value ss) ≡ count) }
         ensures fits { IfOk result (λ ss. Fit (state_sets_fields (state_sets_value ss))) }
@@ -67,7 +67,7 @@ impl<'a> StateSets<'a> {
     }
 
     /// The first state set, and those after it.
-    pub fn split_first(self) -> Option<(StateSet<'a>, StateSets<'a>)>
+    fn split_first(self) -> Option<(StateSet<'a>, StateSets<'a>)>
         ensures first { IfSome result (λ parts. state_sets_value self.entry ≡ state_set_value parts.0 ∷ state_sets_value parts.1) }
         ensures none { IfNone result (state_sets_value self.entry ≡ []) }
     {
@@ -77,7 +77,48 @@ impl<'a> StateSets<'a> {
         let size = usize::from(fields.u8());
         let possible_states = fields.bytes(size);
         let bytes = fields.rest;
-        Some((StateSet { state_set_id, possible_states }, StateSets { count, bytes }))
+        Some((
+            StateSet {
+                state_set_id,
+                possible_states,
+            },
+            StateSets { count, bytes },
+        ))
+    }
+}
+
+impl<'a> StateSets<'a> {
+    ghost use Rattle.pdr_record.specs.Lists.{state_sets_value};
+    ghost use Rattle.pdr_record.specs.ListsLeft.{state_sets_left};
+
+    /// Each of them, in order.
+    pub fn iter(&self) -> StateSetsIter<'a>
+        ensures { state_sets_left result ≡ state_sets_value self.now }
+    {
+        StateSetsIter { left: *self }
+    }
+}
+
+/// What is left of a list.
+#[derive(Clone, Debug, Drop)]
+pub struct StateSetsIter<'a> {
+    left: StateSets<'a>,
+}
+
+impl<'a> Iterator for StateSetsIter<'a> {
+    ghost use Rattle.std.specs.Iterator.{YieldsFirstBy, item_count};
+    ghost use Rattle.pdr_record.specs.ListsLeft.{state_sets_left};
+
+    type Item = StateSet<'a>;
+
+    ghost next_gives = { YieldsFirstBy state_set_value state_sets_left };
+
+    ghost remaining = { item_count state_sets_left };
+
+    fn next(&mut self) -> Option<StateSet<'a>> {
+        let (first, left) = self.left.split_first()?;
+        self.left = left;
+        Some(first)
     }
 }
 

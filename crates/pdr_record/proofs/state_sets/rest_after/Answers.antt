@@ -1,5 +1,4 @@
-use Rattle.std.proofs.Common.{refl}
-use Rattle.pdr_record.proofs.ListsRead.{one_after, none_after}
+use Rattle.pdr_record.proofs.ListsRead.{one_after}
 use Rattle.pdr_record.proofs.state_sets.rest_after.Goals as goal
 
 pub loop-preserved : goal.loop-preserved

@@ -1,4 +1,4 @@
-use Rattle.std.proofs.Common.{◌∙◌, sym, arith}
+use Rattle.std.proofs.Common.{sym, arith}
 use Rattle.pdr_record.proofs.ListsRead.{entities_count, entities_spelled, entities_fit}
 use Rattle.pdr_record.proofs.entities.Entities.of.Goals as goal
 

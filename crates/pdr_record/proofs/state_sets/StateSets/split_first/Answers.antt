@@ -1,4 +1,4 @@
-use Rattle.std.proofs.Common.{◌≡◌, ◌∙◌, ◌∷◌, ◌++◌, ℕ, suc, List, sym, ap, subst, arith}
+use Rattle.std.proofs.Common.{◌≡◌, ◌∙◌, ◌∷◌, ◌++◌, ℕ, suc, List, ap, subst, arith}
 use Rattle.byteorder.specs.Endian.{little_bytes}
 use Rattle.pdr_record.specs.Fields.{bytes_of}
 use Rattle.pdr_record.specs.Layouts.{StateSetValue, state_sets_fields}
