@@ -1,44 +1,15 @@
 -- Where the range field format of a numeric sensor stands.
-use Rattle.std.proofs.Common.{◌≡◌, ℕ, zero, suc, ◌+◌, ◌*◌, ◌<◌, ◌≤◌, List, [], ◌∷◌, ◌++◌, length, get_or, refl, sym, ap, ◌∙◌, arith, length-append}
-use Rattle.std.specs.Prelude.{slice_index}
-use Rattle.std.specs.List.{AllByRecursion}
-use Rattle.pdr_record.specs.Fields.{Field, U8, Raw, followed, bytes_of, Fit}
-use Rattle.pdr_record.specs.Endings.{HasOtherFormat, EndsEarly, Tail}
+use Rattle.std.proofs.Common.{◌≡◌, ℕ, ◌+◌, ◌*◌, ◌<◌, ◌≤◌, List, [], ◌∷◌, ◌++◌, length, arith}
+use Rattle.pdr_record.specs.Fields.{Field, U8, Raw, followed, Fit}
+use Rattle.pdr_record.specs.NumericCodes.{HasOtherFormat}
+use Rattle.pdr_record.specs.Endings.{EndsEarly, Tail}
 use Rattle.pdr_record.specs.Layouts.{width_of, NumericValue, numeric_fields, ranges_fields, SensorValue, UnitsValue, PrecisionValue, TimingValue, sensor_fields, units_fields, precision_fields, timing_fields}
 use Rattle.pdr_record.specs.Numbers.{size_code, format_code}
 use Rattle.pdr_record.specs.declared.sensor_data_size.SensorDataSize.{SensorDataSize}
 use Rattle.pdr_record.specs.declared.sensor_data_size.SensorDataSize.TheVariants as size
 use Rattle.pdr_record.specs.declared.range_field_format.RangeFieldFormat.{RangeFieldFormat}
 use Rattle.pdr_record.specs.declared.range_field_format.RangeFieldFormat.TheVariants.{Integer, Real32}
-use Rattle.pdr_record.proofs.Writing.{followed-bytes, length-followed}
-
--- the fields before the range field format
-abbrev pub front : SensorValue → UnitsValue → ℕ → PrecisionValue → List ℕ → TimingValue → List ℕ → List ℕ → List Field
-front s u code p h t mx mn =
-    sensor_fields s ++ units_fields u ++ U8 code ∷ precision_fields p ++ Raw h ∷ timing_fields t ++ Raw mx ∷ Raw mn ∷ []
-
--- the byte behind others
-at_length : (xs ys : List ℕ) (b : ℕ) → get_or (xs ++ b ∷ ys) (length xs) 0 ≡ b
-at_length [] ys b = refl
-at_length (x ∷ xs) ys b = at_length xs ys b
-
--- what the bytes have at the places of the codes, and how many they are
-pub record AtFormat (bytes rest : List ℕ) (code format width : ℕ) : Type 0 where
-  pub size : slice_index bytes 22 ≡ code
-  pub place : slice_index bytes (45 + 3 * width) ≡ format
-  pub long : length bytes ≡ 46 + 3 * width + length rest
-
-pub at_format : (s : SensorValue) (u : UnitsValue) (code : ℕ) (p : PrecisionValue) (h : List ℕ) (t : TimingValue) (mx mn rest bytes : List ℕ) (format width : ℕ)
-    → bytes ≡ followed (front s u code p h t mx mn) (format ∷ rest) → length h ≡ width → length mx ≡ width → length mn ≡ width → AtFormat bytes rest code format width
-at_format s u code p h t mx mn rest bytes format width e eh ex en =
-    let fs = front s u code p h t mx mn in
-    let long : length (bytes_of fs) ≡ 45 + 3 * width = simp length-append (omega arith) in
-    let split : bytes ≡ bytes_of fs ++ format ∷ rest = e ∙ followed-bytes fs (format ∷ rest) in
-    record {
-      size = ap (λ (bs : List ℕ). slice_index bs 22) e;
-      place = ap (λ (bs : List ℕ). slice_index bs (45 + 3 * width)) split ∙ ap (λ (i : ℕ). slice_index (bytes_of fs ++ format ∷ rest) i) (sym long) ∙ at_length (bytes_of fs) rest format;
-      long = omega (arith, ap length e, length-followed fs (format ∷ rest), long);
-    }
+use Rattle.pdr_record.specs.LayoutLaws.{front, at_format}
 
 -- numbers that fit, after others that do
 pub fit-append : (fs gs : List Field) → Fit fs → Fit gs → Fit (fs ++ gs)
@@ -50,14 +21,14 @@ module _ (s : SensorValue) (u : UnitsValue) (code : ℕ) (p : PrecisionValue) (h
   -- the format is no format
   pub other_format : 6 < format → HasOtherFormat bytes
   other_format over =
-    let at = at_format s u code p h t mx mn rest bytes format (width_of code) e eh ex en in
-    rw (at.size, at.place) (known, omega (arith, at.long), over)
+      let at = at_format s u code p h t mx mn rest bytes format (width_of code) e eh ex en in
+      rw (at.size, at.place) (known, omega (arith, at.long), over)
 
   -- the bytes end behind the format
   pub ends_behind : format ≤ 6 → length rest < 1 + 9 * width_of format → EndsEarly bytes
   ends_behind within short =
-    let at = at_format s u code p h t mx mn rest bytes format (width_of code) e eh ex en in
-    Tail (rw at.size known) (rw at.size (omega (arith, at.long))) (rw (at.size, at.place) within) (rw (at.size, at.place) (omega (arith, at.long)))
+      let at = at_format s u code p h t mx mn rest bytes format (width_of code) e eh ex en in
+      Tail (rw at.size known) (rw at.size (omega (arith, at.long))) (rw (at.size, at.place) within) (rw (at.size, at.place) (omega (arith, at.long)))
 
 -- the codes of data sizes and of range field formats
 pub size_most : (size : SensorDataSize) → size_code size ≤ 5
@@ -77,11 +48,11 @@ pub numeric_fits : (n : NumericValue) → Fit (sensor_fields n.sensor) → Fit (
     → n.range_format < 256 → n.range_support < 256 → Fit (numeric_fields n)
 numeric_fits n s u d p t f r =
     let tail : Fit (Raw n.max_readable ∷ Raw n.min_readable ∷ U8 n.range_format ∷ U8 n.range_support ∷ ranges_fields n.ranges) =
-        (tt, (tt, (f, (r, (tt, (tt, (tt, (tt, (tt, (tt, (tt, (tt, (tt, tt))))))))))))) in
+    (tt, (tt, (f, (r, (tt, (tt, (tt, (tt, (tt, (tt, (tt, (tt, (tt, tt))))))))))))) in
     let fourth : Fit (Raw n.hysteresis ∷ timing_fields n.timing ++ Raw n.max_readable ∷ Raw n.min_readable ∷ U8 n.range_format ∷ U8 n.range_support ∷ ranges_fields n.ranges) =
-        (tt, fit-append (timing_fields n.timing) (Raw n.max_readable ∷ Raw n.min_readable ∷ U8 n.range_format ∷ U8 n.range_support ∷ ranges_fields n.ranges) t tail) in
+    (tt, fit-append (timing_fields n.timing) (Raw n.max_readable ∷ Raw n.min_readable ∷ U8 n.range_format ∷ U8 n.range_support ∷ ranges_fields n.ranges) t tail) in
     let third : Fit (U8 n.data_size ∷ precision_fields n.precision ++ Raw n.hysteresis ∷ timing_fields n.timing ++ Raw n.max_readable ∷ Raw n.min_readable ∷ U8 n.range_format ∷ U8 n.range_support ∷ ranges_fields n.ranges) =
-        (d, fit-append (precision_fields n.precision) (Raw n.hysteresis ∷ timing_fields n.timing ++ Raw n.max_readable ∷ Raw n.min_readable ∷ U8 n.range_format ∷ U8 n.range_support ∷ ranges_fields n.ranges) p fourth) in
+    (d, fit-append (precision_fields n.precision) (Raw n.hysteresis ∷ timing_fields n.timing ++ Raw n.max_readable ∷ Raw n.min_readable ∷ U8 n.range_format ∷ U8 n.range_support ∷ ranges_fields n.ranges) p fourth) in
     let second : Fit (units_fields n.units ++ U8 n.data_size ∷ precision_fields n.precision ++ Raw n.hysteresis ∷ timing_fields n.timing ++ Raw n.max_readable ∷ Raw n.min_readable ∷ U8 n.range_format ∷ U8 n.range_support ∷ ranges_fields n.ranges) =
-        fit-append (units_fields n.units) (U8 n.data_size ∷ precision_fields n.precision ++ Raw n.hysteresis ∷ timing_fields n.timing ++ Raw n.max_readable ∷ Raw n.min_readable ∷ U8 n.range_format ∷ U8 n.range_support ∷ ranges_fields n.ranges) u third in
+    fit-append (units_fields n.units) (U8 n.data_size ∷ precision_fields n.precision ++ Raw n.hysteresis ∷ timing_fields n.timing ++ Raw n.max_readable ∷ Raw n.min_readable ∷ U8 n.range_format ∷ U8 n.range_support ∷ ranges_fields n.ranges) u third in
     fit-append (sensor_fields n.sensor) (units_fields n.units ++ U8 n.data_size ∷ precision_fields n.precision ++ Raw n.hysteresis ∷ timing_fields n.timing ++ Raw n.max_readable ∷ Raw n.min_readable ∷ U8 n.range_format ∷ U8 n.range_support ∷ ranges_fields n.ranges) s second

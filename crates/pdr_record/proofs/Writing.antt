@@ -1,22 +1,10 @@
 -- Writing fields one after the other.
-use Rattle.std.proofs.Common.{◌≡◌, ℕ, suc, ◌+◌, ◌-◌, ◌<◌, ◌≤◌, List, [], ◌∷◌, ◌++◌, length, take, drop, get_or, map, refl, sym, ap, ◌∙◌, append_assoc, arith, length-append}
-use Rattle.std.proofs.lemmas.List.{append-nil, take_at, drop_at, drop-drop, length-drop, length-take, map-append, take_more, take-append-drop, take_all}
+use Rattle.std.proofs.Common.{◌≡◌, ℕ, suc, ◌+◌, ◌-◌, ◌<◌, ◌≤◌, List, [], ◌∷◌, ◌++◌, length, take, drop, get_or, map, sym, ap, ◌∙◌, arith, length-append}
+use Rattle.std.proofs.lemmas.List.{append-nil, take_at, drop_at, drop-drop, length-drop, map-append, take_more, take-append-drop, take_all}
 use Rattle.std.proofs.Math.Seq.{drop-length, drop-cons}
 use borrow.Rule.Slice.PartMut.{put_mid, mid_of, post_of}
 use Rattle.pdr_record.specs.Fields.{Field, field_bytes, followed, bytes_of}
-
--- the fields' bytes, and then the others
-pub followed-bytes : (fs : List Field) (rest : List ℕ) → followed fs rest ≡ bytes_of fs ++ rest
-followed-bytes [] rest = refl
-followed-bytes (f ∷ fs) rest = ap (λ (bs : List ℕ). field_bytes f ++ bs) (followed-bytes fs rest) ∙ sym (append_assoc (field_bytes f) (bytes_of fs) rest)
-
--- fields after fields
-pub followed-append : (fs gs : List Field) (rest : List ℕ) → followed (fs ++ gs) rest ≡ followed fs (followed gs rest)
-followed-append [] gs rest = refl
-followed-append (f ∷ fs) gs rest = ap (λ (bs : List ℕ). field_bytes f ++ bs) (followed-append fs gs rest)
-
-pub length-followed : (fs : List Field) (rest : List ℕ) → length (followed fs rest) ≡ length (bytes_of fs) + length rest
-length-followed fs rest = ap length (followed-bytes fs rest) ∙ length-append (bytes_of fs) rest
+use Rattle.pdr_record.specs.FieldLaws.{followed-bytes, followed-append}
 
 -- how many bytes the fields have, one of them taken by itself
 pub length-parts : (fs gs : List Field) (f : Field) → length (bytes_of (fs ++ f ∷ gs)) ≡ length (bytes_of fs) + length (field_bytes f) + length (bytes_of gs)
@@ -30,11 +18,11 @@ module _ {X : Type 0} (field : X → Field) where
   one_more xs i d h = ap (map field) (take_more xs i d h) ∙ map-append field (take i xs) (get_or xs i d ∷ [])
 
   pub room : (xs : List X) (i : ℕ) (d : X) → i < length xs
-    → length (bytes_of (map field (take i xs))) + length (field_bytes (field (get_or xs i d))) ≤ length (bytes_of (map field xs))
+      → length (bytes_of (map field (take i xs))) + length (field_bytes (field (get_or xs i d))) ≤ length (bytes_of (map field xs))
   room xs i d h =
-    let split : xs ≡ take i xs ++ (get_or xs i d ∷ drop (suc i) xs) = sym (take-append-drop i xs) ∙ ap (λ (ys : List X). take i xs ++ ys) (drop-cons xs i d h) in
-    let e : map field xs ≡ map field (take i xs) ++ (field (get_or xs i d) ∷ map field (drop (suc i) xs)) = ap (map field) split ∙ map-append field (take i xs) (get_or xs i d ∷ drop (suc i) xs) in
-    omega (arith, ap (λ (fs : List Field). length (bytes_of fs)) e, length-parts (map field (take i xs)) (map field (drop (suc i) xs)) (field (get_or xs i d)))
+      let split : xs ≡ take i xs ++ (get_or xs i d ∷ drop (suc i) xs) = sym (take-append-drop i xs) ∙ ap (λ (ys : List X). take i xs ++ ys) (drop-cons xs i d h) in
+      let e : map field xs ≡ map field (take i xs) ++ (field (get_or xs i d) ∷ map field (drop (suc i) xs)) = ap (map field) split ∙ map-append field (take i xs) (get_or xs i d ∷ drop (suc i) xs) in
+      omega (arith, ap (λ (fs : List Field). length (bytes_of fs)) e, length-parts (map field (take i xs)) (map field (drop (suc i) xs)) (field (get_or xs i d)))
 
 -- what is written after the fields so far
 pub one_written : (fs : List Field) (f : Field) (at k n : ℕ) (old out new : List ℕ) → at ≡ length (bytes_of fs) → out ≡ followed fs (drop at old) → length out ≡ length old → at ≤ length old

@@ -1,31 +1,17 @@
--- Where a numeric sensor's bytes end, or are not supported.
-use Rattle.std.specs.Prelude.{◌≡◌, ℕ, ◌<◌, ◌≤◌, ◌+◌, ◌*◌, ◌⊎◌, List, length, slice_index}
+-- What the readers of the parts of a body say of bytes that they refuse.
+use Rattle.std.specs.Prelude.{ℕ, ◌<◌, ◌≤◌, ◌+◌, ◌*◌, ◌⊎◌, List, length, slice_index}
 use Rattle.pdr_record.specs.declared.record_error.RecordError.{RecordError}
 use Rattle.pdr_record.specs.declared.record_error.RecordError.TheVariants as error
+use Rattle.pdr_record.specs.Faults.{StartsWithBody, HasOtherCode}
 use Rattle.pdr_record.specs.Layouts.{width_of}
-
--- the width that the data size, byte 22, stands for
-abbrev pub data_width : List ℕ → ℕ
-data_width bytes = width_of (slice_index bytes 22)
-
--- where the range field format stands
-abbrev pub format_place : List ℕ → ℕ
-format_place bytes = 45 + 3 * data_width bytes
-
--- byte 22 is there and no data size
-abbrev pub HasOtherDataSize : List ℕ → Type 0
-HasOtherDataSize bytes = (22 < length bytes) × (5 < slice_index bytes 22)
-
--- the data size is one, and the range field format is there and none
-abbrev pub HasOtherFormat : List ℕ → Type 0
-HasOtherFormat bytes = (slice_index bytes 22 ≤ 5) × (format_place bytes < length bytes) × (6 < slice_index bytes (format_place bytes))
+use Rattle.pdr_record.specs.NumericCodes.{data_width, format_place, HasOtherDataSize, HasOtherFormat}
 
 -- the bytes end at or before the data size, the range field format or the last value
 pub data EndsEarly (bytes : List ℕ) : Type 0 where
   Head : length bytes < 23 → EndsEarly bytes
   Middle : slice_index bytes 22 ≤ 5 → length bytes ≤ format_place bytes → EndsEarly bytes
   Tail : slice_index bytes 22 ≤ 5 → format_place bytes < length bytes → slice_index bytes (format_place bytes) ≤ 6
-    → length bytes < 47 + 3 * data_width bytes + 9 * width_of (slice_index bytes (format_place bytes)) → EndsEarly bytes
+      → length bytes < 47 + 3 * data_width bytes + 9 * width_of (slice_index bytes (format_place bytes)) → EndsEarly bytes
 
 abbrev pub IsNumericFault : RecordError → List ℕ → Type 0
 IsNumericFault error.Short bytes = ⊥
@@ -34,3 +20,12 @@ IsNumericFault error.Length bytes = ⊥
 IsNumericFault error.Ends bytes = EndsEarly bytes
 IsNumericFault error.LeftOver bytes = ⊥
 IsNumericFault error.Unsupported bytes = HasOtherDataSize bytes ⊎ HasOtherFormat bytes
+
+-- why no body of the type stands at the front of bytes
+abbrev pub IsFrontFault : RecordError → ℕ → List ℕ → Type 0
+IsFrontFault error.Short number bytes = ⊥
+IsFrontFault error.Version number bytes = ⊥
+IsFrontFault error.Length number bytes = ⊥
+IsFrontFault error.Ends number bytes = ((rest : List ℕ) → ¬ StartsWithBody number bytes rest) × ¬ HasOtherCode number bytes
+IsFrontFault error.LeftOver number bytes = ⊥
+IsFrontFault error.Unsupported number bytes = HasOtherCode number bytes

@@ -1,5 +1,5 @@
 -- What records hold, and their fields in order (DSP0248).
-use Rattle.std.specs.Prelude.{◌≡◌, ◌≢◌, ℕ, ◌<◌, ◌≤◌, nat_lt, if◌then◌else◌, List, [], ◌∷◌, ◌++◌, length}
+use Rattle.std.specs.Prelude.{◌≡◌, ℕ, ◌≤◌, nat_lt, if◌then◌else◌, List, [], ◌∷◌, ◌++◌, length}
 use Rattle.pdr_record.specs.Fields.{Field, U8, U16, U32, Raw}
 
 -- what is identified by an entity type, an instance number and the container that the entity is in

@@ -1,9 +1,8 @@
 -- Records and their bytes, and why bytes are no record (DSP0248).
-use Rattle.std.specs.Prelude.{◌≡◌, ◌≢◌, ℕ, ◌<◌, ◌≤◌, ◌+◌, ◌*◌, ◌⊎◌, List, [], ◌∷◌, ◌++◌, length, drop, slice_index, ⊤}
-use Rattle.byteorder.specs.Endian.{little_number}
+use Rattle.std.specs.Prelude.{◌≢◌, ℕ, List, [], ◌∷◌, ◌++◌, length, ⊤}
 use Rattle.mctp_transport.specs.Wire.{Spells}
 use Rattle.pdr_record.specs.Fields.{Field, U8, U16, U32, Raw, bytes_of, Fit}
-use Rattle.pdr_record.specs.Layouts.{TerminusValue, terminus_fields, NumericValue, numeric_fields, IsNumeric, width_of, StateValue, state_fields, AssociationValue, association_fields}
+use Rattle.pdr_record.specs.Layouts.{TerminusValue, terminus_fields, NumericValue, numeric_fields, IsNumeric, StateValue, state_fields, AssociationValue, association_fields}
 
 -- what follows the header of a record: one of four layouts, or bytes under another type's number
 pub data BodyValue : Type 0 where
@@ -54,6 +53,9 @@ pub record RecordValue : Type 0 where
   pub handle : ℕ
   pub change : ℕ
   pub body : BodyValue
+
+abbrev pub record_of : ℕ → ℕ → BodyValue → RecordValue
+record_of handle change body = record { handle = handle; change = change; body = body }
 
 -- the common header, whose last field is the number of bytes that follow it
 abbrev pub header_fields : RecordValue → List Field

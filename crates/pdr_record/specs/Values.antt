@@ -1,5 +1,4 @@
 -- What the records of the code stand for.
-use Rattle.std.specs.Prelude.{ℕ, List}
 use Rattle.pdr_record.specs.declared.entity.Entity.{Entity}
 use Rattle.pdr_record.specs.declared.sensor.Sensor.{Sensor}
 use Rattle.pdr_record.specs.declared.terminus_locator.TerminusLocator.{TerminusLocator}

@@ -1,5 +1,5 @@
 -- The fields that the code writes.
-use Rattle.std.specs.Prelude.{ℕ, List, map}
+use Rattle.std.specs.Prelude.{List, map}
 use Rattle.pdr_record.specs.declared.field.Field.{Field}
 use Rattle.pdr_record.specs.declared.field.Field.TheVariants as code
 use Rattle.pdr_record.specs.Fields as value

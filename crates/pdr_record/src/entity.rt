@@ -17,7 +17,7 @@ impl Entity {
     ghost use Rattle.pdr_record.specs.Values.{entity_value};
 
     /// The entity at the front of six bytes and more.
-    pub fn take(fields: &mut Fields) -> Entity
+    pub(crate) fn take(fields: &mut Fields) -> Entity
         requires { 6 ≤ length fields.old.rest.now }
         ensures field { fields.old.rest.now ≡ followed (entity_fields (entity_value result)) fields.new.rest.now }
         ensures left { length fields.old.rest.now ≡ 6 + length fields.new.rest.now }

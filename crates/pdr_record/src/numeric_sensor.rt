@@ -1,6 +1,6 @@
 //! Numeric sensors.
 ghost use Rattle.std.specs.Prelude.{◌≡◌, ◌<◌, ◌≤◌, ◌+◌, length, IfOk, IfErr};
-ghost use Rattle.pdr_record.specs.Fields.{followed, Fit};
+ghost use Rattle.pdr_record.specs.Fields.{bytes_of, followed, Fit};
 ghost use Rattle.pdr_record.specs.Layouts.{numeric_fields, IsNumeric};
 ghost use Rattle.pdr_record.specs.Written.{fields_of};
 ghost use Rattle.pdr_record.specs.Endings.{IsNumericFault};
@@ -40,7 +40,7 @@ pub struct NumericSensor<'a> {
 impl<'a> NumericSensor<'a> {
     ghost use Rattle.pdr_record.specs.NumericValues.{numeric_value};
 
-    pub fn take(fields: &mut Fields<'a>) -> Result<NumericSensor<'a>, RecordError>
+    pub(crate) fn take(fields: &mut Fields<'a>) -> Result<NumericSensor<'a>, RecordError>
         ensures field { IfOk result (λ n. fields.old.rest.now ≡ followed (numeric_fields (numeric_value n)) fields.new.rest.now) }
         ensures fits { IfOk result (λ n. Fit (numeric_fields (numeric_value n))) }
         ensures layout { IfOk result (λ n. IsNumeric (numeric_value n)) }
@@ -75,10 +75,25 @@ impl<'a> NumericSensor<'a> {
         })
     }
 
-    pub fn fields(&self) -> [Field<'a>; 41]
+    /// How many bytes its fields have.
+    pub fn len(&self) -> usize
+        requires { IsNumeric (numeric_value self.now) }
+        ensures { result ≡ length (bytes_of (numeric_fields (numeric_value self.now))) }
+    {
+        47 + 3 * self.sensor_data_size.width() + 9 * self.range_field_format.width()
+    }
+
+    pub(crate) fn fields(&self) -> [Field<'a>; 41]
         ensures { fields_of result ≡ numeric_fields (numeric_value self.now) }
     {
-        let NumericSensor { sensor, units, precision, timing, ranges, .. } = self;
+        let NumericSensor {
+            sensor,
+            units,
+            precision,
+            timing,
+            ranges,
+            ..
+        } = self;
         [
             Field::U16(sensor.terminus_handle),
             Field::U16(sensor.sensor_id),

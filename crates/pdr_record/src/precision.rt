@@ -21,7 +21,7 @@ pub struct Precision {
 impl Precision {
     ghost use Rattle.pdr_record.specs.Values.{precision_value};
 
-    pub fn take(fields: &mut Fields) -> Precision
+    pub(crate) fn take(fields: &mut Fields) -> Precision
         requires { 12 ≤ length fields.old.rest.now }
         ensures field { fields.old.rest.now ≡ followed (precision_fields (precision_value result)) fields.new.rest.now }
         ensures fits { Fit (precision_fields (precision_value result)) }

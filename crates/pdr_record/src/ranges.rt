@@ -24,7 +24,7 @@ impl<'a> Ranges<'a> {
     ghost use Rattle.pdr_record.specs.Values.{ranges_value};
 
     /// Nine values of `width` bytes each.
-    pub fn take(fields: &mut Fields<'a>, width: usize) -> Ranges<'a>
+    pub(crate) fn take(fields: &mut Fields<'a>, width: usize) -> Ranges<'a>
         requires room { 9 * width ≤ length fields.old.rest.now }
         ensures field { fields.old.rest.now ≡ followed (ranges_fields (ranges_value result)) fields.new.rest.now }
         ensures width { HaveWidth width (ranges_value result) }

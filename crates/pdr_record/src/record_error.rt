@@ -44,7 +44,8 @@ impl fmt::Display for RecordError {
         f.write_str(match self {
             RecordError::Short => "D01: fewer than 10 bytes",
             RecordError::Version => "D02: the header version is not 1",
-            RecordError::Length => "D03: the data length is not the number of bytes after the header",
+            RecordError::Length =>
+                "D03: the data length is not the number of bytes after the header",
             RecordError::Ends => "D04: the bytes end before the fields do",
             RecordError::LeftOver => "D05: bytes follow the last field",
             RecordError::Unsupported => "D06: unsupported data size or range field format",

@@ -24,7 +24,7 @@ impl Sensor {
     ghost use Rattle.pdr_record.specs.Values.{sensor_value};
 
     /// The fields at the front of twelve bytes and more.
-    pub fn take(fields: &mut Fields) -> Sensor
+    pub(crate) fn take(fields: &mut Fields) -> Sensor
         requires { 12 ≤ length fields.old.rest.now }
         ensures field { fields.old.rest.now ≡ followed (sensor_fields (sensor_value result)) fields.new.rest.now }
         ensures fits { Fit (sensor_fields (sensor_value result)) }

@@ -25,7 +25,7 @@ pub struct TerminusLocator<'a> {
 impl<'a> TerminusLocator<'a> {
     ghost use Rattle.pdr_record.specs.Values.{terminus_value};
 
-    pub fn take(fields: &mut Fields<'a>) -> Result<TerminusLocator<'a>, RecordError>
+    pub(crate) fn take(fields: &mut Fields<'a>) -> Result<TerminusLocator<'a>, RecordError>
         ensures field { IfOk result (λ t. fields.old.rest.now ≡ followed (terminus_fields (terminus_value t)) fields.new.rest.now) }
         ensures fits { IfOk result (λ t. Fit (terminus_fields (terminus_value t))) }
         ensures refused { IfErr result (λ e. (e ≡ RecordError.Ends) × (length fields.old.rest.now < 8 + slice_index fields.old.rest.now 7)) }
@@ -48,7 +48,7 @@ impl<'a> TerminusLocator<'a> {
         })
     }
 
-    pub fn fields(&self) -> [Field<'a>; 7]
+    pub(crate) fn fields(&self) -> [Field<'a>; 7]
         requires { length self.now.locator_value.now < 256 }
         ensures { fields_of result ≡ terminus_fields (terminus_value self.now) }
     {

@@ -19,7 +19,7 @@ pub struct Timing {
 impl Timing {
     ghost use Rattle.pdr_record.specs.Values.{timing_value};
 
-    pub fn take(fields: &mut Fields) -> Timing
+    pub(crate) fn take(fields: &mut Fields) -> Timing
         requires { 10 ≤ length fields.old.rest.now }
         ensures field { fields.old.rest.now ≡ followed (timing_fields (timing_value result)) fields.new.rest.now }
         ensures fits { Fit (timing_fields (timing_value result)) }

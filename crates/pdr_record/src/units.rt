@@ -25,7 +25,7 @@ pub struct Units {
 impl Units {
     ghost use Rattle.pdr_record.specs.Values.{units_value};
 
-    pub fn take(fields: &mut Fields) -> Units
+    pub(crate) fn take(fields: &mut Fields) -> Units
         requires { 10 ≤ length fields.old.rest.now }
         ensures field { fields.old.rest.now ≡ followed (units_fields (units_value result)) fields.new.rest.now }
         ensures fits { Fit (units_fields (units_value result)) }

@@ -23,5 +23,5 @@ loop-field-preserved c =
     record {
       count = omega (arith, ap (λ fs. length (bytes_of fs)) more, parts, c.put_field-at.ensures.count);
       front = one_written before here c.loop-field.at _ c.put_field-at.result c.args.out.now c.loop-field.out c.put_field-at.new.out c.loop-field.invariant.count c.loop-field.invariant.front
-      c.loop-field.auto.out (omega (arith, r)) refl c.put_field-at.ensures.count c.put_field-at.ensures.front ∙ ap (λ fs. followed fs (drop (c.loop-field.at + c.put_field-at.result) c.args.out.now)) (sym more);
+          c.loop-field.auto.out (omega (arith, r)) refl c.put_field-at.ensures.count c.put_field-at.ensures.front ∙ ap (λ fs. followed fs (drop (c.loop-field.at + c.put_field-at.result) c.args.out.now)) (sym more);
     }

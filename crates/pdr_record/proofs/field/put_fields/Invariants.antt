@@ -1,4 +1,4 @@
-use Rattle.std.specs.Prelude.{◌≡◌, ◌≤◌, length, take, drop}
+use Rattle.std.specs.Prelude.{◌≡◌, length, take, drop}
 use Rattle.pdr_record.specs.Fields.{bytes_of, followed}
 use Rattle.pdr_record.specs.Written.{fields_of}
 use Rattle.pdr_record.proofs.field.put_fields.Given as goal

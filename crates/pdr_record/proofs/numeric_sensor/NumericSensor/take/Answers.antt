@@ -1,10 +1,11 @@
-use Rattle.std.proofs.Common.{◌≡◌, ◌≤◌, ◌∙◌, sym, ap, ◌∷◌, List, [], length, ℕ, inl, inr, arith, refl}
+use Rattle.std.proofs.Common.{◌≡◌, ◌≤◌, ◌∙◌, ap, ◌∷◌, inr, arith}
 use Rattle.std.proofs.lemmas.Result.{err_from_is_err_and}
-use Rattle.pdr_record.specs.Fields.{Fit, followed, U8, Raw}
-use Rattle.pdr_record.specs.Layouts.{width_of, NumericValue, sensor_fields, units_fields, precision_fields, timing_fields, ranges_fields}
+use Rattle.pdr_record.specs.Fields.{followed}
+use Rattle.pdr_record.specs.Layouts.{width_of, NumericValue}
 use Rattle.pdr_record.specs.Numbers.{size_code, format_code}
 use Rattle.pdr_record.specs.Values.{sensor_value, units_value, precision_value, timing_value, ranges_value}
-use Rattle.pdr_record.proofs.Numeric.{front, other_format, ends_behind, numeric_fits, size_most, format_most}
+use Rattle.pdr_record.specs.LayoutLaws.{front}
+use Rattle.pdr_record.proofs.Numeric.{other_format, ends_behind, numeric_fits, size_most, format_most}
 use Rattle.pdr_record.proofs.numeric_sensor.NumericSensor.take.Goals as goal
 
 pub returns-in_err-range_field_format-clause-refused : goal.returns-in_err-range_field_format-clause-refused
@@ -13,7 +14,7 @@ returns-in_err-range_field_format-clause-refused c =
     let h = c.in_err-range_field_format.ensures.refused in
     let bytes = c.args.fields.now.rest.now in
     let e : bytes ≡ followed (front (sensor_value c.take-sensor.result) (units_value c.take-units.result) c.u8.result (precision_value c.take-precision.result) c.bytes-hysteresis.result.now
-        (timing_value c.take-timing.result) c.bytes-max_readable.result.now c.bytes-min_readable.result.now) (c.u8-2.result ∷ c.u8-2.new.self.rest.now) = cc in
+    (timing_value c.take-timing.result) c.bytes-max_readable.result.now c.bytes-min_readable.result.now) (c.u8-2.result ∷ c.u8-2.new.self.rest.now) = cc in
     let size : size_code c.in_ok-sensor_data_size.sensor_data_size ≡ c.u8.result = c.in_ok-sensor_data_size.ensures.ok in
     let width : c.width-width.result ≡ width_of c.u8.result = c.width-width.ensures ∙ ap width_of size in
     let known : c.u8.result ≤ 5 = rw (← size) (size_most c.in_ok-sensor_data_size.sensor_data_size) in
@@ -25,14 +26,14 @@ returns-in_err-want-3-clause-refused c =
     let h = c.in_err-want-3.ensures.refused in
     let bytes = c.args.fields.now.rest.now in
     let e : bytes ≡ followed (front (sensor_value c.take-sensor.result) (units_value c.take-units.result) c.u8.result (precision_value c.take-precision.result) c.bytes-hysteresis.result.now
-        (timing_value c.take-timing.result) c.bytes-max_readable.result.now c.bytes-min_readable.result.now) (c.u8-2.result ∷ c.u8-2.new.self.rest.now) = cc in
+    (timing_value c.take-timing.result) c.bytes-max_readable.result.now c.bytes-min_readable.result.now) (c.u8-2.result ∷ c.u8-2.new.self.rest.now) = cc in
     let size : size_code c.in_ok-sensor_data_size.sensor_data_size ≡ c.u8.result = c.in_ok-sensor_data_size.ensures.ok in
     let width : c.width-width.result ≡ width_of c.u8.result = c.width-width.ensures ∙ ap width_of size in
     let known : c.u8.result ≤ 5 = rw (← size) (size_most c.in_ok-sensor_data_size.sensor_data_size) in
     let format : format_code c.in_ok-range_field_format.range_field_format ≡ c.u8-2.result = c.in_ok-range_field_format.ensures.ok in
     let second : c.width-width-2.result ≡ width_of c.u8-2.result = c.width-width-2.ensures ∙ ap width_of format in
     rw (p.1, p.2, h.0) (ends_behind _ _ _ _ _ _ _ _ _ bytes _ e known (c.bytes-hysteresis.ensures.count ∙ width) (c.bytes-max_readable.ensures.count ∙ width) (c.bytes-min_readable.ensures.count ∙ width)
-        (rw (← format) (format_most c.in_ok-range_field_format.range_field_format)) (omega (arith, h.1, second)))
+    (rw (← format) (format_most c.in_ok-range_field_format.range_field_format)) (omega (arith, h.1, second)))
 
 pub returns-clause-fits : goal.returns-clause-fits
 returns-clause-fits c =
