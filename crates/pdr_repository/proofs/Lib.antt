@@ -10,3 +10,4 @@ pub mod Judging
 pub mod Taking
 pub mod Following
 pub mod Telling
+pub mod LawfulLists

@@ -31,6 +31,12 @@ pub record IsLawful (records : List Entry) : Type 0 where
   pub handles : (i : ℕ) (e : Entry) → slice_get records i ≡ Some e → e.handle ≢ 0
   pub spelled : (i : ℕ) (e : Entry) → slice_get records i ≡ Some e → IsRecordOf e.handle e.bytes
 
+-- the same of one place: the handle isn't 0 and no earlier record's, and the bytes are those of a record of that handle
+abbrev pub IsLawfulAt : List Entry → ℕ → Type 0
+IsLawfulAt records place =
+    (e : Entry) → slice_get records place ≡ Some e
+    → (e.handle ≢ 0) × ((i : ℕ) (f : Entry) → slice_get records i ≡ Some f → f.handle ≡ e.handle → place ≤ i) × IsRecordOf e.handle e.bytes
+
 -- the records that a list of handles and bytes holds
 abbrev pub entry_of : {Z : Type 0} → (ℕ × Vec ℕ Z) → Entry
 entry_of r = record { handle = r.0; bytes = r.1.items }

@@ -4,6 +4,7 @@
 
 mod answering;
 mod crc;
+mod lawful_list;
 mod laws;
 mod list_terminus;
 mod parts;
@@ -12,9 +13,13 @@ mod walk_fault;
 mod walker;
 
 pub use crc::crc8;
+pub use lawful_list::{MAX_RECORDS, is_lawful_list};
 pub use laws::{collects_once, one_check_byte, walks_collect_all};
-pub use list_terminus::{ListTerminus, MAX_RECORDS};
+pub use list_terminus::ListTerminus;
 pub use parts::MAX_PART;
 pub use terminus::{MAX_ANSWER, Terminus};
 pub use walk_fault::{Step, WalkFault};
 pub use walker::Walker;
+
+#[cfg(test)]
+mod tests;

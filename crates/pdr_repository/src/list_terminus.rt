@@ -1,9 +1,10 @@
 //! A terminus over a plain list of records.
-ghost use Rattle.std.specs.Prelude.{◌≡◌, ◌≤◌, ◌<◌, ◌+◌, ◌^◌, ◌==◌, ℕ, length, All, position, MatchOption, IfSome, option_map};
+ghost use Rattle.std.specs.Prelude.{◌≡◌, ◌≤◌, ◌<◌, ◌+◌, ◌^◌, ℕ, length, All, MatchOption, IfSome, option_map};
 ghost use Rattle.pdr_repository.specs.Records.{entries, handle_at, IsLawful, Places};
 ghost use Rattle.pdr_repository.specs.Found.{Finds};
 
 use crate::answering::{append_outcome, asked, begin_answer, check};
+use crate::lawful_list::{MAX_RECORDS, place_of};
 use crate::parts::{Found, answer_part};
 use crate::terminus::Terminus;
 use arrayvec::ArrayVec;
@@ -11,23 +12,12 @@ use mctp_transport::Wire;
 use pldm_message::{Command, ErrorCode, GetPdrRequest, HEADER_LENGTH, PldmHeader};
 use std::alloc::{AllocError, Global};
 
-/// The most records of a terminus.
-pub const MAX_RECORDS: usize = 4096;
-
 /// A terminus over a list of handles and record bytes, by place.
 #[derive(Drop)]
 pub struct ListTerminus {
     tid: u8,
     records: Vec<(u32, Vec<u8>)>,
     ghost short: { All (λ r. length r.1.items < 2 ^ 32) records.items },
-}
-
-/// The place of the first record of a handle.
-fn place_of(records: &[(u32, Vec<u8>)], handle: u32) -> Option<usize>
-    ensures place { result ≡ position (λ r. r.0 == handle) records.now }
-    ensures within { IfSome result (λ place. place < length records.now) }
-{
-    records.iter().position(|record| record.0 == handle)
 }
 
 /// The place of the record that a handle means: 0 means the first.
@@ -83,7 +73,8 @@ impl ListTerminus {
     ghost use Rattle.pdr_repository.specs.Replying.{IsAskedFor, Replies, RepliesData};
     ghost use Rattle.pdr_repository.specs.ListTermini.{list_tid, list_records};
 
-    /// A terminus of this TID over these records, by place: at most 4096 of them, a lawful list.
+    /// A terminus of this TID over these records, by place: at most 4096 of them, a lawful list, as `is_lawful_list`
+    /// tests.
     pub fn new(_alloc: Global, tid: u8, records: Vec<(u32, Vec<u8>)>) -> Result<Self, AllocError>
         requires few { length records.items ≤ MAX_RECORDS }
         requires lawful { IsLawful (entries records.items) }
