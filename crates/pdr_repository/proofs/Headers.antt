@@ -11,6 +11,7 @@ use Rattle.pdr_repository.proofs.Places.{entry_there}
 pub record HasHeader (handle : ℕ) (bytes : List ℕ) : Type 0 where
   pub whole : 10 ≤ length bytes
   pub short : length bytes < 2 ^ 17
+  pub fits : handle < 2 ^ 32
   pub names : handle_in bytes ≡ handle
   pub says : 10 + data_length_in bytes ≡ length bytes
 
@@ -19,7 +20,7 @@ of_record r is =
     let long : length (record_bytes r) ≡ 10 + length (bytes_of (body_fields r.body)) = omega arith in
     let handle = is.header.0 in
     let count = is.header.1.1.1.1.0 in
-    record { whole = omega arith; short = omega arith; names = omega arith; says = omega arith }
+    record { whole = omega arith; short = omega arith; fits = handle; names = omega arith; says = omega arith }
 
 pub record_header : (handle : ℕ) (bytes : List ℕ) → IsRecordOf handle bytes → HasHeader handle bytes
 record_header handle bytes (r, spelled, named) =

@@ -11,3 +11,4 @@ pub mod Taking
 pub mod Following
 pub mod Telling
 pub mod LawfulLists
+pub mod Meeting

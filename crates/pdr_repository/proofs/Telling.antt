@@ -91,6 +91,6 @@ asks_what_is_due old new id request (inl (over, (none, same))) xs stands =
     let P : WalkState → Type 0 = λ w. StandsFor w xs in
     let due : old.due ≡ None = elim over [ inl failed ↦ absurd (let f : true ≡ false = sym failed ∙ stands.goes in cc) | inr done ↦ done ] in
     (none ∙ ap (option_map (λ r. get_pdr_request_bytes (asked_under id r))) (sym due ∙ stands.due), subst P (sym same) stands)
-asks_what_is_due old new id request (inr (_, (r, due, is, state))) xs stands =
+asks_what_is_due old new id request (inr (_, (r, due, _, is, state))) xs stands =
     let P : WalkState → Type 0 = λ w. StandsFor w xs in
     (is ∙ ap (option_map (λ s. get_pdr_request_bytes (asked_under id s))) (sym due ∙ stands.due), subst P (sym state) (record { collects = stands.collects; due = stands.due; goes = stands.goes }))

@@ -1,13 +1,14 @@
 -- A walker, which is fed the answers to its requests one by one.
-use Rattle.std.specs.Prelude.{◌≡◌, ◌≢◌, ◌⊎◌, ℕ, ◌+◌, ◌≤◌, Bool, true, false, List, [], ◌∷◌, ◌++◌, length, map, sum_by, Option, Some, None, option_map, Result, Ok, Err, MatchOption, MatchResult, ◌==◌, if◌then◌else◌}
+use Rattle.std.specs.Prelude.{◌≡◌, ◌≢◌, ◌⊎◌, ℕ, ◌+◌, ◌<◌, ◌≤◌, Bool, true, false, List, [], ◌∷◌, ◌++◌, length, map, sum_by, Option, Some, None, option_map, Result, Ok, Err, MatchOption, MatchResult, ◌==◌, if◌then◌else◌}
 use Rattle.mctp_transport.specs.Wire.{Spells}
 use Rattle.pldm_message.specs.First.{First}
 use Rattle.pldm_message.specs.declared.kind.RequestKind.TheVariants.{Request}
 use Rattle.pldm_message.specs.Headers.{HeaderValue, BeginsWith}
 use Rattle.pldm_message.specs.Messages.{RequestMessage, AnswerMessage, AnswerHeadValue}
-use Rattle.pldm_message.specs.Pdrs.{PartRequest, Part, IsGetPdrAnswer, get_pdr_request_bytes, get_pdr_answer_bytes}
+use Rattle.pldm_message.specs.Pdrs.{PartRequest, IsPartRequest, Part, IsGetPdrAnswer, get_pdr_request_bytes, get_pdr_answer_bytes}
 use Rattle.pdr_repository.specs.Records.{Entry, IsLawful, bytes_by_place}
 use Rattle.pdr_repository.specs.Parts.{PartAnswer, AnswersPart}
+use Rattle.pdr_repository.specs.Answers.{Answers}
 use Rattle.pdr_repository.specs.Walks.{Exchange, Walk, Collects, IsBeginning, exchanges, follows, due_after}
 use Rattle.pdr_repository.specs.Faults.{Judges, Room}
 use Rattle.pdr_repository.specs.declared.walk_fault.Step.{Step}
@@ -59,7 +60,7 @@ asked_under id r = record { head = record { kind = Request; reserved = false; in
 abbrev pub Asks : WalkState → ℕ → Option (List ℕ) → WalkState → Type 0
 Asks old id request new =
     First ((old.failed ≡ true) ⊎ (old.due ≡ None)) ((request ≡ None) × (new ≡ old))
-    ((r : PartRequest) × (old.due ≡ Some r) × (request ≡ Some (get_pdr_request_bytes (asked_under id r))) × (new ≡ record old { waiting = Some id }))
+    ((r : PartRequest) × (old.due ≡ Some r) × IsPartRequest r × (request ≡ Some (get_pdr_request_bytes (asked_under id r))) × (new ≡ record old { waiting = Some id }))
 
 -- nothing changes
 abbrev pub Ignores : WalkState → WalkFault → Result Step WalkFault → WalkState → Type 0
@@ -159,3 +160,17 @@ GoesOn old bytes result new =
 abbrev pub AsksWhatIsDue : WalkState → ℕ → Option (List ℕ) → WalkState → Type 0
 AsksWhatIsDue old id request new =
     (xs : List Exchange) → StandsFor old xs → (request ≡ option_map (λ r. get_pdr_request_bytes (asked_under id r)) (due_after old.count xs)) × StandsFor new xs
+
+-- what a terminus with these records answers to a request under this instance ID is an answer to it, under the same ID
+pub record AnswersWalker (records : List Entry) (id : ℕ) (r : PartRequest) (answer : Option (List ℕ)) : Type 0 where
+  pub outcome : PartAnswer
+  pub bytes : List ℕ
+  pub is : answer ≡ Some bytes
+  pub answered : AnswersPart records r outcome
+  pub spelled : IsAnswerIn bytes (record { head = record { reserved = false; instance = id }; outcome = outcome })
+
+-- every request of a walker is answered so
+abbrev pub EveryRequestIsAnswered : Type 0
+EveryRequestIsAnswered =
+    (tid next_tid id : ℕ) (records : List Entry) (r : PartRequest) (answer : Option (List ℕ)) → IsLawful records → IsPartRequest r → id < 32
+    → Answers tid records (get_pdr_request_bytes (asked_under id r)) answer next_tid → AnswersWalker records id r answer

@@ -17,13 +17,14 @@ pub(crate) struct Due {
 
 impl Due {
     ghost use Rattle.std.specs.Prelude.{◌≡◌};
-    ghost use Rattle.pldm_message.specs.Pdrs.{get_pdr_request_bytes};
+    ghost use Rattle.pldm_message.specs.Pdrs.{IsPartRequest, get_pdr_request_bytes};
     ghost use Rattle.pdr_repository.specs.Dues.{request_of};
     ghost use Rattle.pdr_repository.specs.Walkers.{asked_under};
 
     /// The bytes of its request for at most `count` bytes, under an instance ID.
     pub(super) fn request(self, id: InstanceId, count: u16) -> [u8; REQUEST_LENGTH]
-        ensures { result ≡ get_pdr_request_bytes (asked_under id.value (request_of count self)) }
+        ensures lawful { IsPartRequest (request_of count self) }
+        ensures bytes { result ≡ get_pdr_request_bytes (asked_under id.value (request_of count self)) }
     {
         let request = GetPdrRequest {
             head: RequestHead::new(id),
