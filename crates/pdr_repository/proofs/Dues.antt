@@ -5,7 +5,7 @@ use Rattle.std.proofs.lemmas.Bool.{cases_lt}
 use Rattle.std.proofs.lemmas.Bool.Decides.{eqb_tells}
 use Rattle.std.proofs.lemmas.List.{get_or-take, length-take, length-drop, take_all}
 use Rattle.std.proofs.Common.{add-one}
-use Rattle.pdr_repository.specs.Records.{Entry, IsLawful, HasHeader, Means, change_in, handle_at}
+use Rattle.pdr_repository.specs.Records.{Entry, IsLawful, Means, change_in, handle_at}
 use Rattle.pldm_message.specs.Pdrs.{PartRequest, Part}
 use Rattle.pdr_repository.specs.Parts.{PartAnswer, AnswersPart, AnswersFrom, IsPartOf, HasChange, IsWithin, offset_of}
 use Rattle.pdr_repository.specs.Walks.{first_part, follows}

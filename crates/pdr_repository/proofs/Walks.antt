@@ -13,9 +13,10 @@ use Rattle.std.proofs.Math.Seq.{take-add}
 use Rattle.std.proofs.lemmas.Nat.{mul-le}
 use Rattle.pdr_repository.specs.Records.{Entry, IsLawful, Means, bytes_by_place, handle_in, handle_at}
 use Rattle.pldm_message.specs.Pdrs.{PartRequest, Part}
-use Rattle.pdr_repository.specs.Parts.{PartAnswer, AnswersPart}
+use Rattle.pdr_repository.specs.Parts.{PartAnswer, AnswersPart, IsPartOf}
 use Rattle.pdr_repository.specs.Walks.{Exchange, first_part, follows, due_by, due_after, Walk, IsFinished, data_of, flag_of, HasFlag, Collects, exchanges, IsBeginning, NamesTheNext, WalkPromises, EveryWalkCollects}
 use Rattle.pdr_repository.proofs.Collecting.{Collected, start_more, middle_more, whole_more, end_more}
+use Rattle.pdr_repository.proofs.Headers.{lawful_header}
 use Rattle.pdr_repository.proofs.Dues.{IsDue, DueAnswer, More, Complete, due_answer, due_means, goes_on, completes, next_is, asks_next, first_due}
 
 last_push : {X : Type 0} (o : Option X) (xs : List X) (x : X) → last_or o (xs ++ x ∷ []) ≡ Some x
@@ -61,7 +62,7 @@ record_there records i within = elim (slice_get_cases records i).1 [
 pub at_the_start : (records : List Entry) (count : ℕ) → IsLawful records → Within records count []
 at_the_start records count lawful =
     let a = record_there records 0 lawful.some in
-    let header = lawful.headers 0 a.0 a.1 in
+    let header = lawful_header records lawful 0 a.0 a.1 in
     record {
       place = 0;
       e = a.0;
@@ -176,7 +177,7 @@ on_next : (records : List Entry) (count : ℕ) (xs : List Exchange) (w : Within 
     → x.request ≡ w.r → x.answer ≡ Ok p → Complete w.e count w.offset w.r p → slice_get records (suc w.place) ≡ Some f → p.next ≡ f.handle → Within records count (xs ++ x ∷ [])
 on_next records count xs w x p f lawful least short request is complete there named =
     let some : f.handle ≢ 0 = lawful.handles (suc w.place) f there in
-    let header = lawful.headers (suc w.place) f there in
+    let header = lawful_header records lawful (suc w.place) f there in
     let now = on_complete records count xs w x p is complete in
     record {
       place = suc w.place;
@@ -212,6 +213,7 @@ on_last records count xs w x p least short request is complete past none =
 pub record Step (records : List Entry) (count : ℕ) (xs : List Exchange) (w : Within records count xs) (x : Exchange) : Type 0 where
   pub part : Part
   pub is : x.answer ≡ Ok part
+  pub of_record : IsPartOf (handle_at records (w.place + 1)) w.e.bytes w.r part
   pub kind : More w.place w.e count w.offset w.r part ⊎ Complete w.e count w.offset w.r part
   pub position : Position records count (xs ++ x ∷ [])
   pub names : NamesTheNext records x
@@ -228,12 +230,12 @@ one_step records count xs w x lawful least most request answers =
     elim (cases_lt (w.offset + count) (length w.e.bytes)) [
       | inl long ↦
           let more = goes_on (handle_at records (w.place + 1)) w.place w.e count w.offset w.r p least most long w.due part in
-          record { part = p; is = given.is; kind = inl more; position = inl (on_more records count xs w x p least long request given.is more); names = names }
+          record { part = p; is = given.is; of_record = part; kind = inl more; position = inl (on_more records count xs w x p least long request given.is more); names = names }
       | inr short ↦
           let complete = completes (handle_at records (w.place + 1)) w.place w.e count w.offset w.r p most w.within short w.due part in
           elim (next_is records w.place p.next part.follows) [
-            | inl (f, there, named) ↦ record { part = p; is = given.is; kind = inr complete; position = inl (on_next records count xs w x p f lawful least short request given.is complete there named); names = names }
-            | inr (past, none) ↦ record { part = p; is = given.is; kind = inr complete; position = inr (on_last records count xs w x p least short request given.is complete past none); names = names }
+            | inl (f, there, named) ↦ record { part = p; is = given.is; of_record = part; kind = inr complete; position = inl (on_next records count xs w x p f lawful least short request given.is complete there named); names = names }
+            | inr (past, none) ↦ record { part = p; is = given.is; of_record = part; kind = inr complete; position = inr (on_last records count xs w x p least short request given.is complete past none); names = names }
           ]
     ]
 
@@ -280,7 +282,7 @@ stands records count xs lawful least most walk =
 handle_there : (records : List Entry) → IsLawful records → (i : ℕ) (e : Entry) (d : List ℕ) → slice_get records i ≡ Some e → handle_in (get_or (bytes_by_place records) i d) ≡ e.handle
 handle_there records lawful i e d here =
     let within = slice_get_within records i e here in
-    let header = lawful.headers i e here in
+    let header = lawful_header records lawful i e here in
     ap handle_in (get_or-map (λ (f : Entry). f.bytes) records i e d within ∙ ap (λ (f : Entry). f.bytes) (get_or_from_slice_get records i e e here)) ∙ header.names
 
 -- the handles of a lawful list's bytes differ

@@ -28,9 +28,9 @@ HasWrongSize before r p =
     ⊎ (((p.flag ≡ 0) × (length p.bytes < 8))
     ⊎ (IsLast p × (10 + data_length_in (before ++ p.bytes) ≢ length (before ++ p.bytes)))))
 
--- the check byte is not the record's
+-- the check byte, which an end of several parts has, is not the record's
 abbrev pub HasWrongCrc : List ℕ → Part → Type 0
-HasWrongCrc before p = (p.flag ≡ 4) × MatchOption p.crc (Unit {0}) (λ crc. ¬ IsCrc (before ++ p.bytes) crc)
+HasWrongCrc before p = MatchOption p.crc ⊥ (λ crc. ¬ IsCrc (before ++ p.bytes) crc)
 
 -- the record's handle is 0, or not the one that was asked for by number
 abbrev pub HasWrongHandle : List ℕ → PartRequest → Part → Type 0

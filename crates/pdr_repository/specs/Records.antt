@@ -1,6 +1,7 @@
 -- The records of a terminus, by place.
-use Rattle.std.specs.Prelude.{◌≡◌, ◌≢◌, ℕ, ◌+◌, ◌<◌, ◌≤◌, List, length, map, slice_get, slice_index, Option, Some, None, Vec}
+use Rattle.std.specs.Prelude.{◌≡◌, ◌≢◌, ℕ, ◌+◌, ◌<◌, ◌≤◌, List, length, map, slice_get, slice_index, Option, Some, None, MatchOption, Vec}
 use Rattle.byteorder.specs.Endian.{little_from}
+use Rattle.pdr_record.specs.Records.{RecordValue, Spelled}
 
 -- a record with its handle
 pub record Entry : Type 0 where
@@ -19,18 +20,22 @@ change_in bytes = little_from 6 2 bytes
 abbrev pub data_length_in : List ℕ → ℕ
 data_length_in bytes = little_from 8 2 bytes
 
--- the bytes begin with the common header, and the data length is the number of bytes after it
-pub record HasHeader (handle : ℕ) (bytes : List ℕ) : Type 0 where
-  pub whole : 10 ≤ length bytes
-  pub names : handle_in bytes ≡ handle
-  pub data_length : 10 + data_length_in bytes ≡ length bytes
+-- the bytes are those of a record of this handle, all of them
+abbrev pub IsRecordOf : ℕ → List ℕ → Type 0
+IsRecordOf handle bytes = (r : RecordValue) × Spelled r bytes × (r.handle ≡ handle)
 
 -- a list of records that a terminus can have: not empty, the handles distinct and not 0, each record's bytes those of a record of its handle
 pub record IsLawful (records : List Entry) : Type 0 where
   pub some : 0 < length records
   pub distinct : (i j : ℕ) (e f : Entry) → slice_get records i ≡ Some e → slice_get records j ≡ Some f → e.handle ≡ f.handle → i ≡ j
   pub handles : (i : ℕ) (e : Entry) → slice_get records i ≡ Some e → e.handle ≢ 0
-  pub headers : (i : ℕ) (e : Entry) → slice_get records i ≡ Some e → HasHeader e.handle e.bytes
+  pub spelled : (i : ℕ) (e : Entry) → slice_get records i ≡ Some e → IsRecordOf e.handle e.bytes
+
+-- the same of one place: the handle isn't 0 and no earlier record's, and the bytes are those of a record of that handle
+abbrev pub IsLawfulAt : List Entry → ℕ → Type 0
+IsLawfulAt records place =
+    (e : Entry) → slice_get records place ≡ Some e
+    → (e.handle ≢ 0) × ((i : ℕ) (f : Entry) → slice_get records i ≡ Some f → f.handle ≡ e.handle → place ≤ i) × IsRecordOf e.handle e.bytes
 
 -- the records that a list of handles and bytes holds
 abbrev pub entry_of : {Z : Type 0} → (ℕ × Vec ℕ Z) → Entry
@@ -61,3 +66,7 @@ pub record Means (records : List Entry) (handle place : ℕ) (e : Entry) : Type 
 -- a handle means a record
 abbrev pub IsMeant : List Entry → ℕ → Type 0
 IsMeant records handle = (place : ℕ) × (e : Entry) × Means records handle place e
+
+-- the place of the record that a handle means, if it means one
+abbrev pub Places : {Z : Type 0} → List (ℕ × Vec ℕ Z) → ℕ → Option ℕ → Type 0
+Places records handle place = MatchOption place (¬ IsMeant (entries records) handle) (λ p. (e : Entry) × Means (entries records) handle p e)

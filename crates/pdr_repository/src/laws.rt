@@ -2,6 +2,7 @@
 ghost use Rattle.std.specs.Prelude.{◌≡◌, ℕ, List};
 ghost use Rattle.pdr_repository.specs.Crc.{IsCrc};
 ghost use Rattle.pdr_repository.specs.Walks.{CollectsOnce, EveryWalkCollects};
+ghost use Rattle.pdr_repository.specs.Walkers.{EveryRequestIsAnswered};
 
 /// A list of bytes has one check byte.
 pub fn one_check_byte()
@@ -17,4 +18,9 @@ pub fn collects_once()
 /// it is finished. It is finished after exactly as many exchanges as the records have parts.
 pub fn walks_collect_all()
     ensures { EveryWalkCollects }
+{}
+
+/// What a terminus answers to a request of a walker is an answer to it, under the same instance ID.
+pub fn requests_are_answered()
+    ensures { EveryRequestIsAnswered }
 {}

@@ -1,5 +1,5 @@
 //! Parts of a record, as a terminus gives them (DSP0248, section 26.2).
-ghost use Rattle.std.specs.Prelude.{◌≡◌, ◌<◌, ◌≤◌, ◌^◌, length, option_map};
+ghost use Rattle.std.specs.Prelude.{◌≡◌, ◌<◌, ◌≤◌, ◌^◌, length, option_map, IfOk};
 ghost use Rattle.pldm_message.specs.PdrValues.{part, part_request};
 ghost use Rattle.pldm_message.specs.Heads.{outcome_value};
 ghost use Rattle.pdr_repository.specs.Records.{change_in};
@@ -26,7 +26,8 @@ pub(crate) fn answer_part<'a>(
     found: Option<Found<'a>>,
     request: &GetPdrRequest,
 ) -> Result<PdrPart<'a>, ErrorCode>
-    ensures { AnswersFound (option_map (λ f. (f.next, f.bytes.now)) found.entry) (part_request request.now) (outcome_value part result) }
+    ensures most { IfOk result (λ p. length p.bytes.now ≤ 4079) }
+    ensures answers { AnswersFound (option_map (λ f. (f.next, f.bytes.now)) found.entry) (part_request request.now) (outcome_value part result) }
 {
     if request.operation.value > 1 {
         return Err(ErrorCode::INVALID_TRANSFER_OPERATION);
