@@ -21,6 +21,9 @@ pub mod ByPlace
 pub mod Kept
 pub mod Promised
 pub mod Delivered
+pub mod Records
+pub mod Told
+pub mod Whole
 pub mod Exact
 pub mod Sends
 pub mod Sent

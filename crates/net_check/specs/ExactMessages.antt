@@ -10,7 +10,8 @@ use Rattle.net_plan.specs.declared.certificate.Certificate.{Certificate}
 use Rattle.net_check.specs.Routing.{Holds}
 use Rattle.net_check.specs.Termini.{TerminusState}
 use Rattle.net_check.specs.States.{NetworkState, Flight, destination, at_start, slots, limit}
-use Rattle.net_check.specs.Events.{Entered}
+use Rattle.net_check.specs.Events.{EventValue, OutcomeValue, Entered}
+use Rattle.net_check.specs.Networks.{Step}
 use Rattle.net_check.specs.Runs.{Turn, RunFrom, PutsIn}
 
 -- no flight of the key is on its way to d, and the key isn't open at the node that holds d
@@ -66,6 +67,11 @@ pub record ComesAt (before now : NetworkState) (n : ℕ) (key : KeyValue) (messa
   pub entered : now.history n ≡ after (before.history n) (Arrived packet)
   pub of_key : key_of packet ≡ key
   pub comes : Comes slots limit (now.history n) message
+
+-- A message that comes is told by the turn with which it comes.
+abbrev pub TellsWhatComes : Plan → Type 0
+TellsWhatComes plan = (w : NetworkState) (event : EventValue) (outcome : OutcomeValue) (new : NetworkState) (n : ℕ) (key : KeyValue) (message : List ℕ)
+    → Step plan w event outcome new → ComesAt w new n key message → (number : ℕ) × (outcome ≡ Entered number n key (Whole message))
 
 -- A tidy run from the start, all in one epoch, with whose last turn the message is told.
 pub record IsTold (unit : ℕ) (plan : Plan) (cert : Certificate) (key : KeyValue) (d : ℕ) (epoch : Epoch) (message : List ℕ) : Type 0 where

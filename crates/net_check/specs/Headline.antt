@@ -13,6 +13,7 @@ use Rattle.pdr_repository.specs.Walks.{Exchange, Walk, IsFinished, Collects}
 use Rattle.net_check.specs.Routing.{Holds}
 use Rattle.net_check.specs.Ranks.{rank}
 use Rattle.net_check.specs.Repositories.{terminus_of, records_of, places_of, entry_of, records_by_place}
+use Rattle.net_check.specs.Termini.{TerminusState}
 use Rattle.net_check.specs.States.{NetworkState, Flight, destination, slots, limit}
 use Rattle.net_check.specs.Events.{Entered}
 use Rattle.net_check.specs.Runs.{Turn, Run, reached, WasPutIn}
@@ -73,7 +74,12 @@ abbrev pub WalksCollectEach : Plan → Certificate → Type 0
 WalksCollectEach plan cert = (n count : ℕ) (xs : List Exchange) → terminus_of plan n ≢ None → 8 ≤ count → count ≤ 4079
     → Walk (records_by_place plan cert n) count xs → IsFinished count xs → CollectsEach plan cert n xs
 
--- what an accepted plan and certificate promise of packets and of walks
+-- a terminus has the plan's records, in the certificate's order
+abbrev pub HasPlannedRecords : Plan → Certificate → NetworkState → Type 0
+HasPlannedRecords plan cert w = (n : ℕ) (t : TerminusState) → w.terminus n ≡ Some t → t.records ≡ records_by_place plan cert n
+
+-- what an accepted plan and certificate promise of packets, of termini and of walks
 pub record Headline (plan : Plan) (cert : Certificate) : Type 0 where
   pub packets : KeepsPackets plan cert
+  pub records : (turns : List Turn) → Run plan cert turns → HasPlannedRecords plan cert (reached plan cert turns)
   pub walks : WalksCollectEach plan cert

@@ -9,9 +9,9 @@ ghost use Rattle.net_check.specs.Termini.{TerminusState, HoldsBytes};
 ghost use Rattle.net_check.specs.States.{NetworkState};
 ghost use Rattle.net_check.specs.Events.{EventValue};
 ghost use Rattle.net_check.specs.Networks.{GoesOn};
-ghost use Rattle.net_check.specs.Headline.{WalksCollectEach};
+ghost use Rattle.net_check.specs.Headline.{Headline};
 ghost use Rattle.net_check.specs.Deliveries.{HeldAreLedOn, Delivers};
-ghost use Rattle.net_check.specs.ExactMessages.{CanBeSent, SixAreTooMany};
+ghost use Rattle.net_check.specs.ExactMessages.{TellsWhatComes, CanBeSent, SixAreTooMany};
 
 /// Whatever the event, the network has an outcome and a next state for it, where its termini hold bytes.
 #[tactic(auto, using(crate::proofs::Steps::some_step))]
@@ -27,10 +27,14 @@ pub fn held_is_delivered()
     ensures { (plan : Plan) (cert : Certificate) → Accepts plan cert → HeldAreLedOn plan → Delivers plan cert }
 {}
 
-/// Where the records of each terminus are in the certificate's order, a finished walk has collected each of them.
-#[tactic(auto, using(crate::proofs::ByPlace::walks_collect_each))]
-pub fn walks_collect_each()
-    ensures { (plan : Plan) (cert : Certificate) → RecordsHaveOrder plan cert → WalksCollectEach plan cert }
+/// Where the records of each terminus are in the certificate's order too, the whole headline holds.
+pub fn headline_holds()
+    ensures { (plan : Plan) (cert : Certificate) → Accepts plan cert → RecordsHaveOrder plan cert → Headline plan cert }
+{}
+
+/// A message that comes at a node is told by the outcome of the event with which it comes.
+pub fn what_comes_is_told()
+    ensures { (plan : Plan) → TellsWhatComes plan }
 {}
 
 /// A message of 1 to 64 packets can be sent in a tidy run so that it comes.
