@@ -1,0 +1,5 @@
+pub mod Writing
+pub mod Numeric
+pub mod ListsRead
+pub mod BodyFaults
+pub mod RecordFaults

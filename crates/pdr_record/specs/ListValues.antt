@@ -1,0 +1,17 @@
+-- What the state sensors and the entity associations of the code stand for.
+use Rattle.pdr_record.specs.declared.entity_association.EntityAssociation.{EntityAssociation}
+use Rattle.pdr_record.specs.declared.state_sensor.StateSensor.{StateSensor}
+use Rattle.pdr_record.specs.Layouts.{AssociationValue, StateValue}
+use Rattle.pdr_record.specs.Lists.{entities_value, state_sets_value}
+use Rattle.pdr_record.specs.Values.{entity_value, sensor_value}
+
+abbrev pub state_value : StateSensor → StateValue
+state_value s = record { sensor = sensor_value s.sensor; state_sets = state_sets_value s.state_sets }
+
+abbrev pub association_value : EntityAssociation → AssociationValue
+association_value a = record {
+  container_id = a.container_id;
+  association_type = a.association_type;
+  container_entity = entity_value a.container_entity;
+  contained_entities = entities_value a.contained_entities;
+}

@@ -1,0 +1,38 @@
+//! How exact a numeric sensor is.
+ghost use Rattle.std.specs.Prelude.{◌≡◌, ◌≤◌, ◌+◌, length};
+ghost use Rattle.pdr_record.specs.Fields.{followed, Fit};
+ghost use Rattle.pdr_record.specs.Layouts.{precision_fields};
+
+use crate::reading::Fields;
+
+/// How a numeric sensor's readings become values, and how exact they are (DSP0248, Numeric Sensor PDR).
+#[derive(Clone, Copy, Debug, PartialEq, Eq)]
+pub struct Precision {
+    /// The bits of a real32.
+    pub resolution: u32,
+    /// The bits of a real32.
+    pub offset: u32,
+    /// In hundredths of a percent.
+    pub accuracy: u16,
+    pub plus_tolerance: u8,
+    pub minus_tolerance: u8,
+}
+
+impl Precision {
+    ghost use Rattle.pdr_record.specs.Values.{precision_value};
+
+    pub(crate) fn take(fields: &mut Fields) -> Precision
+        requires { 12 ≤ length fields.old.rest.now }
+        ensures field { fields.old.rest.now ≡ followed (precision_fields (precision_value result)) fields.new.rest.now }
+        ensures fits { Fit (precision_fields (precision_value result)) }
+        ensures left { length fields.old.rest.now ≡ 12 + length fields.new.rest.now }
+    {
+        Precision {
+            resolution: fields.u32(),
+            offset: fields.u32(),
+            accuracy: fields.u16(),
+            plus_tolerance: fields.u8(),
+            minus_tolerance: fields.u8(),
+        }
+    }
+}

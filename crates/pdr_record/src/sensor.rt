@@ -1,0 +1,41 @@
+//! How the records of sensors begin.
+ghost use Rattle.std.specs.Prelude.{◌≡◌, ◌≤◌, ◌+◌, length};
+ghost use Rattle.pdr_record.specs.Fields.{followed, Fit};
+ghost use Rattle.pdr_record.specs.Layouts.{sensor_fields};
+
+use crate::entity::Entity;
+use crate::field::Field;
+use crate::reading::Fields;
+
+/// How the record of a numeric or a state sensor begins (DSP0248, sections 28.4 and 28.6).
+#[derive(Clone, Copy, Debug, PartialEq, Eq)]
+pub struct Sensor {
+    pub terminus_handle: u16,
+    pub sensor_id: u16,
+    /// The entity that is measured.
+    pub entity: Entity,
+    /// How the sensor is to be initialized.
+    pub sensor_init: u8,
+    /// Whether there is a record of names of the sensor.
+    pub auxiliary_names_pdr: u8,
+}
+
+impl Sensor {
+    ghost use Rattle.pdr_record.specs.Values.{sensor_value};
+
+    /// The fields at the front of twelve bytes and more.
+    pub(crate) fn take(fields: &mut Fields) -> Sensor
+        requires { 12 ≤ length fields.old.rest.now }
+        ensures field { fields.old.rest.now ≡ followed (sensor_fields (sensor_value result)) fields.new.rest.now }
+        ensures fits { Fit (sensor_fields (sensor_value result)) }
+        ensures left { length fields.old.rest.now ≡ 12 + length fields.new.rest.now }
+    {
+        Sensor {
+            terminus_handle: fields.u16(),
+            sensor_id: fields.u16(),
+            entity: Entity::take(fields),
+            sensor_init: fields.u8(),
+            auxiliary_names_pdr: fields.u8(),
+        }
+    }
+}

@@ -1,0 +1,53 @@
+//! How wide a numeric sensor's readings are.
+ghost use Rattle.std.specs.Prelude.{◌≡◌, ◌<◌, IfOk, IfErr};
+ghost use Rattle.pdr_record.specs.Layouts.{width_of};
+
+use crate::record_error::RecordError;
+
+/// A numeric sensor's data size (DSP0248, sensorDataSize); the number is its code.
+#[derive(Clone, Copy, Debug, PartialEq, Eq)]
+pub enum SensorDataSize {
+    U8 = 0,
+    S8 = 1,
+    U16 = 2,
+    S16 = 3,
+    U32 = 4,
+    S32 = 5,
+}
+
+impl SensorDataSize {
+    ghost use Rattle.pdr_record.specs.Numbers.{size_code};
+
+    /// The data size of a code. Codes from 6 on are refused.
+    pub fn of(code: u8) -> Result<SensorDataSize, RecordError>
+        ensures ok { IfOk result (λ size. size_code size ≡ code) }
+        ensures refused { IfErr result (λ e. (e ≡ RecordError.Unsupported) × (5 < code)) }
+    {
+        match code {
+            0 => Ok(SensorDataSize::U8),
+            1 => Ok(SensorDataSize::S8),
+            2 => Ok(SensorDataSize::U16),
+            3 => Ok(SensorDataSize::S16),
+            4 => Ok(SensorDataSize::U32),
+            5 => Ok(SensorDataSize::S32),
+            _ => Err(RecordError::Unsupported),
+        }
+    }
+
+    pub fn code(self) -> u8
+        ensures { result ≡ size_code self }
+    {
+        self as u8
+    }
+
+    /// The bytes of a value: 1, 2 or 4.
+    pub fn width(self) -> usize
+        ensures { result ≡ width_of (size_code self) }
+    {
+        match self {
+            SensorDataSize::U8 | SensorDataSize::S8 => 1,
+            SensorDataSize::U16 | SensorDataSize::S16 => 2,
+            SensorDataSize::U32 | SensorDataSize::S32 => 4,
+        }
+    }
+}

@@ -1,0 +1,35 @@
+//! A numeric sensor's thresholds and times.
+ghost use Rattle.std.specs.Prelude.{◌≡◌, ◌≤◌, ◌+◌, length};
+ghost use Rattle.pdr_record.specs.Fields.{followed, Fit};
+ghost use Rattle.pdr_record.specs.Layouts.{timing_fields};
+
+use crate::reading::Fields;
+
+/// Which thresholds a numeric sensor has, and how often it is updated (DSP0248, Numeric Sensor PDR).
+#[derive(Clone, Copy, Debug, PartialEq, Eq)]
+pub struct Timing {
+    pub supported_thresholds: u8,
+    pub threshold_and_hysteresis_volatility: u8,
+    /// In seconds, the bits of a real32.
+    pub state_transition_interval: u32,
+    /// In seconds, the bits of a real32.
+    pub update_interval: u32,
+}
+
+impl Timing {
+    ghost use Rattle.pdr_record.specs.Values.{timing_value};
+
+    pub(crate) fn take(fields: &mut Fields) -> Timing
+        requires { 10 ≤ length fields.old.rest.now }
+        ensures field { fields.old.rest.now ≡ followed (timing_fields (timing_value result)) fields.new.rest.now }
+        ensures fits { Fit (timing_fields (timing_value result)) }
+        ensures left { length fields.old.rest.now ≡ 10 + length fields.new.rest.now }
+    {
+        Timing {
+            supported_thresholds: fields.u8(),
+            threshold_and_hysteresis_volatility: fields.u8(),
+            state_transition_interval: fields.u32(),
+            update_interval: fields.u32(),
+        }
+    }
+}

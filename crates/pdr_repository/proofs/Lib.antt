@@ -1,0 +1,14 @@
+pub mod Crcs
+pub mod Collecting
+pub mod Headers
+pub mod Dues
+pub mod Walks
+pub mod Commands
+pub mod Places
+pub mod Handles
+pub mod Judging
+pub mod Taking
+pub mod Following
+pub mod Telling
+pub mod LawfulLists
+pub mod Meeting

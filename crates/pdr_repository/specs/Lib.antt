@@ -1,0 +1,12 @@
+pub mod Crc
+pub mod Records
+pub mod Parts
+pub mod Found
+pub mod Answers
+pub mod Replying
+pub mod ListTermini
+pub mod Walks
+pub mod Faults
+pub mod Dues
+pub mod Walkers
+pub mod WalkerStates

@@ -1,0 +1,19 @@
+-- What a walker of the code stands for.
+use Rattle.std.specs.Prelude.{ℕ, map, option_map, Option}
+use Rattle.pldm_message.specs.Pdrs.{PartRequest}
+use Rattle.pdr_repository.specs.Dues.{request_of}
+use Rattle.pdr_repository.specs.Walkers.{WalkState}
+use Rattle.pdr_repository.specs.declared.walker.Walker.{Walker}
+
+abbrev pub state_of : Walker → WalkState
+state_of w = record {
+  count = w.count;
+  max_records = w.max_records;
+  max_bytes = w.max_bytes;
+  records = map (λ v. v.items) w.records.items;
+  under_way = w.under_way.items;
+  due = option_map (request_of w.count) w.due;
+  waiting = option_map (λ id. id.value) w.waiting;
+  failed = w.failed;
+  taken = w.taken;
+}

@@ -1,0 +1,25 @@
+//! Record repositories (DSP0248, GetPDR): the check byte of a record, termini that answer requests for their records
+//! part by part, and the walk that reads all records of a terminus.
+#![tactic(auto)]
+
+mod answering;
+mod crc;
+mod lawful_list;
+mod laws;
+mod list_terminus;
+mod parts;
+mod terminus;
+mod walk_fault;
+mod walker;
+
+pub use crc::crc8;
+pub use lawful_list::{MAX_RECORDS, is_lawful_list};
+pub use laws::{collects_once, one_check_byte, requests_are_answered, walks_collect_all};
+pub use list_terminus::ListTerminus;
+pub use parts::MAX_PART;
+pub use terminus::{MAX_ANSWER, Terminus};
+pub use walk_fault::{Step, WalkFault};
+pub use walker::Walker;
+
+#[cfg(test)]
+mod tests;

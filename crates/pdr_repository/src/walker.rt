@@ -1,0 +1,305 @@
+//! A walk through the records of a terminus, fed one answer at a time.
+ghost use Rattle.std.specs.Prelude.{◌≡◌, ◌≢◌, ◌+◌, ◌<◌, ◌≤◌, ◌^◌, length, sum_by, map, true, false, Some, is_some};
+ghost use Rattle.pdr_repository.specs.declared.walker.due.Due.{Due};
+
+mod due;
+mod judging;
+mod pieces;
+
+use crate::parts::change_of;
+use crate::walk_fault::{Step, WalkFault};
+use due::Due;
+use judging::{Limits, is_last, judge};
+use mctp_transport::Wire;
+use pldm_message::{ErrorCode, GetPdrAnswer, InstanceId, PdrPart, PldmHeader, TransferOperation};
+use std::alloc::{AllocError, Global};
+use std::mem;
+
+/// A walk under way: from the first record on, each record part by part, until an answer names no next record.
+///
+/// The contracts speak of lists of exchanges, the requests and answers so far: `StandsFor` says which of them fit what
+/// a walker holds.
+#[derive(Drop)]
+pub struct Walker {
+    alloc: Global,
+    count: u16,
+    max_records: usize,
+    max_bytes: usize,
+    records: Vec<Vec<u8>>,
+    /// The parts of the record under way, joined.
+    under_way: Vec<u8>,
+    /// How many bytes are in the records and under way.
+    bytes: usize,
+    /// What is asked next, nothing once the walk is done.
+    due: Option<Due>,
+    /// The ID under which that is outstanding.
+    waiting: Option<InstanceId>,
+    failed: bool,
+    taken: usize,
+    ghost least: { 8 ≤ count },
+    ghost most: { count ≤ 4079 },
+    ghost room: { max_bytes + 1 < 2 ^ 64 },
+    ghost few: { failed ≡ false → taken ≤ bytes },
+    ghost fewer: { taken ≤ bytes + 1 },
+    ghost asked: { is_some due ≡ false → is_some waiting ≡ false },
+    ghost fresh: { (d : Due) → due ≡ Some d → d.operation.value ≡ 1 → length under_way.items ≡ 0 },
+    ghost counted: { bytes ≡ sum_by length (map (λ v. v.items) records.items) + length under_way.items },
+    ghost within: { bytes ≤ max_bytes },
+}
+
+impl Walker {
+    ghost use Rattle.std.specs.Prelude.{◌⊎◌, List, IfOk, Ok, None, [], option_map};
+    ghost use Rattle.pldm_message.specs.PdrValues.{part};
+    ghost use Rattle.pldm_message.specs.Heads.{outcome_value};
+    ghost use Rattle.pdr_repository.specs.Walks.{Exchange, Collects, first_part};
+    ghost use Rattle.pdr_repository.specs.Faults.{Judges};
+    ghost use Rattle.pdr_repository.specs.Dues.{request_of};
+    ghost use Rattle.pdr_repository.specs.Walkers.{room_of, fresh, StandsFor, Asks, AsksWhatIsDue, Fails, Proceeds, TakesOutcome, TakesMessage, Takes, Tells, GoesOn};
+    ghost use Rattle.pdr_repository.specs.WalkerStates.{state_of};
+
+    /// A walk that has not begun, with parts of at most `count` bytes, 8 to 4079. It collects at most `max_records`
+    /// records and `max_bytes` bytes, which is below `usize::MAX`.
+    #[tactic(auto, using(crate::proofs::Taking::fresh_stands))]
+    pub fn new(
+        alloc: Global,
+        count: u16,
+        max_records: usize,
+        max_bytes: usize,
+    ) -> Result<Self, AllocError>
+        requires count { (8 ≤ count) × (count ≤ 4079) }
+        requires max_bytes { max_bytes + 1 < 2 ^ 64 }
+        ensures state { IfOk result (λ walker. state_of walker ≡ fresh count max_records max_bytes) }
+        ensures stands { IfOk result (λ walker. StandsFor (state_of walker) []) }
+    {
+        let under_way = Vec::with_capacity(alloc, usize::from(count))?;
+        Ok(Walker {
+            alloc,
+            count,
+            max_records,
+            max_bytes,
+            records: Vec::new(alloc),
+            under_way,
+            bytes: 0,
+            due: Some(Due {
+                record_handle: 0,
+                transfer_handle: 0,
+                operation: TransferOperation::FIRST_PART,
+                change_number: 0,
+            }),
+            waiting: None,
+            failed: false,
+            taken: 0,
+        })
+    }
+
+    /// The next request, under an instance ID. None once the walk is done or has failed. Asked again before an answer
+    /// was taken it gives the same request under the new ID. It takes no memory.
+    #[tactic(auto, using(crate::proofs::Telling::asks_what_is_due))]
+    pub fn next_request(&mut self, id: InstanceId) -> Option<[u8; 17]>
+        ensures asks { Asks (state_of self.old) id.value result (state_of self.new) }
+        ensures due { AsksWhatIsDue (state_of self.old) id.value result (state_of self.new) }
+    {
+        self.ask(id)
+    }
+
+    /// The request that is due, which is outstanding then.
+    fn ask(&mut self, id: InstanceId) -> Option<[u8; 17]>
+        ensures { Asks (state_of self.old) id.value result (state_of self.new) }
+    {
+        if self.failed {
+            return None;
+        }
+        let due = self.due?;
+        self.waiting = Some(id);
+        Some(due.request(id, self.count))
+    }
+
+    /// Takes a part that goes on, of which no fault was found.
+    fn go_on(&mut self, due: Due, given: &PdrPart) -> Result<Step, WalkFault>
+        requires some { 0 < length given.now.bytes.now }
+        requires few { self.old.taken ≤ self.old.bytes }
+        requires fits { self.old.bytes + length given.now.bytes.now ≤ self.old.max_bytes }
+        requires goes_on { (given.now.flag.value ≡ 0) ⊎ (given.now.flag.value ≡ 1) }
+        requires starts { given.now.flag.value ≡ 0 → self.old.under_way.items ≡ [] }
+        ensures { Proceeds (state_of self.old) (request_of self.old.count due) (part given.now) result (state_of self.new) }
+    {
+        if self.under_way.extend_from_slice(given.bytes).is_err() {
+            return Err(WalkFault::OutOfMemory);
+        }
+        self.bytes += given.bytes.len();
+        self.waiting = None;
+        self.taken += 1;
+        let change_number = if given.flag.value == 0 {
+            change_of(given.bytes)
+        } else {
+            due.change_number
+        };
+        self.due = Some(Due {
+            record_handle: due.record_handle,
+            transfer_handle: given.next_transfer,
+            operation: TransferOperation::NEXT_PART,
+            change_number,
+        });
+        Ok(Step::More)
+    }
+
+    /// Takes a part that completes a record, of which no fault was found.
+    fn complete(&mut self, given: &PdrPart) -> Result<Step, WalkFault>
+        requires some { 0 < length given.now.bytes.now }
+        requires few { self.old.taken ≤ self.old.bytes }
+        requires fits { self.old.bytes + length given.now.bytes.now ≤ self.old.max_bytes }
+        requires completes { (given.now.flag.value ≡ 4) ⊎ (given.now.flag.value ≡ 5) }
+        requires starts { given.now.flag.value ≡ 5 → self.old.under_way.items ≡ [] }
+        ensures { Proceeds (state_of self.old) (first_part self.old.count 0) (part given.now) result (state_of self.new) }
+    {
+        if self.records.reserve(1).is_err()
+            || self.under_way.extend_from_slice(given.bytes).is_err()
+        {
+            return Err(WalkFault::OutOfMemory);
+        }
+        self.bytes += given.bytes.len();
+        self.waiting = None;
+        self.taken += 1;
+        let bytes = mem::replace(&mut self.under_way, Vec::new(self.alloc));
+        let _ = self.records.push(bytes);
+        if given.next_record == 0 {
+            self.due = None;
+            return Ok(Step::Done);
+        }
+        self.due = Some(Due {
+            record_handle: given.next_record,
+            transfer_handle: 0,
+            operation: TransferOperation::FIRST_PART,
+            change_number: 0,
+        });
+        Ok(Step::Record)
+    }
+
+    /// The first fault of a part.
+    fn first_fault(&self, due: &Due, given: &PdrPart) -> Option<WalkFault>
+        ensures { Judges (room_of (state_of self.now)) (state_of self.now).records (state_of self.now).under_way (request_of self.now.count due.now) (part given.now) result }
+    {
+        let records = self.records.as_slice();
+        let limits = Limits {
+            max_records: self.max_records,
+            max_bytes: self.max_bytes,
+            records: records.len(),
+            bytes: self.bytes,
+        };
+        judge(
+            &limits,
+            records,
+            self.under_way.as_slice(),
+            self.count,
+            due,
+            given,
+        )
+    }
+
+    /// Fails from now on.
+    fn fail(&mut self, fault: WalkFault) -> Result<Step, WalkFault>
+        requires { self.old.failed ≡ false }
+        ensures { Fails (state_of self.old) fault result (state_of self.new) }
+    {
+        self.taken += 1;
+        self.failed = true;
+        Err(fault)
+    }
+
+    /// Takes the part that an answer gives.
+    fn take_part(&mut self, due: Due, given: &PdrPart) -> Result<Step, WalkFault>
+        requires due { self.old.due ≡ Some due }
+        requires goes { self.old.failed ≡ false }
+        ensures { TakesOutcome (state_of self.old) (request_of self.old.count due) (Ok (part given.now)) result (state_of self.new) }
+    {
+        match self.first_fault(&due, given) {
+            Some(fault) => self.fail(fault),
+            None => {
+                if is_last(given) {
+                    self.complete(given)
+                } else {
+                    self.go_on(due, given)
+                }
+            }
+        }
+    }
+
+    /// Takes the outcome of the outstanding request.
+    fn take_outcome(
+        &mut self,
+        due: Due,
+        outcome: &Result<PdrPart, ErrorCode>,
+    ) -> Result<Step, WalkFault>
+        requires due { self.old.due ≡ Some due }
+        requires goes { self.old.failed ≡ false }
+        ensures { TakesOutcome (state_of self.old) (request_of self.old.count due) (outcome_value part outcome.now) result (state_of self.new) }
+    {
+        match outcome {
+            Err(code) => self.fail(if code.value == 0x83 {
+                WalkFault::RecordChanged
+            } else {
+                WalkFault::OtherCode
+            }),
+            Ok(given) => self.take_part(due, given),
+        }
+    }
+
+    /// Takes a message under the outstanding ID.
+    fn take_message(&mut self, due: Due, answer: &[u8]) -> Result<Step, WalkFault>
+        requires due { self.old.due ≡ Some due }
+        requires goes { self.old.failed ≡ false }
+        ensures { TakesMessage (state_of self.old) answer.now result (state_of self.new) }
+    {
+        match GetPdrAnswer::read(answer) {
+            Ok(read) => self.take_outcome(due, &read.outcome),
+            Err(_) => self.fail(WalkFault::Unreadable),
+        }
+    }
+
+    /// Takes the bytes of an answer to the outstanding request.
+    ///
+    /// Against the answers of a terminus over a lawful list there is no fault but G09 and want of memory.
+    pub fn take(&mut self, answer: &[u8]) -> Result<Step, WalkFault>
+        ensures takes { Takes (state_of self.old) answer.now result (state_of self.new) }
+        ensures tells { Tells result (state_of self.old) (state_of self.new) }
+        ensures goes_on { GoesOn (state_of self.old) answer.now result (state_of self.new) }
+    {
+        self.take_bytes(answer)
+    }
+
+    /// Takes bytes, by the tests in their order.
+    fn take_bytes(&mut self, answer: &[u8]) -> Result<Step, WalkFault>
+        ensures { Takes (state_of self.old) answer.now result (state_of self.new) }
+    {
+        if self.failed {
+            return Err(WalkFault::FailedBefore);
+        }
+        let (Some(id), Some(due)) = (self.waiting, self.due) else {
+            return Err(WalkFault::NotAsked);
+        };
+        let Ok(header) = PldmHeader::front(answer) else {
+            return self.fail(WalkFault::Unreadable);
+        };
+        if header.instance.value != id.value {
+            return Err(WalkFault::NotAsked);
+        }
+        self.take_message(due, answer)
+    }
+
+    /// The records that are complete, by place.
+    pub fn records(&self) -> &[Vec<u8>]
+        ensures records { map (λ v. v.items) result.now ≡ (state_of self.now).records }
+        ensures collected { (xs : List Exchange) → StandsFor (state_of self.now) xs → Collects xs (map (λ v. v.items) result.now) (state_of self.now).under_way }
+    {
+        self.records.as_slice()
+    }
+
+    /// How many answers were taken: all but those that were not asked for, that came after a failure or that memory
+    /// refused.
+    pub fn taken(&self) -> usize
+        ensures count { result ≡ (state_of self.now).taken }
+        ensures most { result ≤ (state_of self.now).max_bytes + 1 }
+    {
+        self.taken
+    }
+}

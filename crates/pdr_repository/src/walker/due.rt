@@ -1,0 +1,41 @@
+//! What a walker asks next.
+
+use mctp_transport::Wire;
+use pldm_message::{GetPdrRequest, InstanceId, RequestHead, TransferOperation};
+
+/// The bytes of a request for a part.
+const REQUEST_LENGTH: usize = 17;
+
+/// The part that is asked for next.
+#[derive(Clone, Copy, Debug)]
+pub(crate) struct Due {
+    pub(crate) record_handle: u32,
+    pub(crate) transfer_handle: u32,
+    pub(crate) operation: TransferOperation,
+    pub(crate) change_number: u16,
+}
+
+impl Due {
+    ghost use Rattle.std.specs.Prelude.{◌≡◌};
+    ghost use Rattle.pldm_message.specs.Pdrs.{IsPartRequest, get_pdr_request_bytes};
+    ghost use Rattle.pdr_repository.specs.Dues.{request_of};
+    ghost use Rattle.pdr_repository.specs.Walkers.{asked_under};
+
+    /// The bytes of its request for at most `count` bytes, under an instance ID.
+    pub(super) fn request(self, id: InstanceId, count: u16) -> [u8; REQUEST_LENGTH]
+        ensures lawful { IsPartRequest (request_of count self) }
+        ensures bytes { result ≡ get_pdr_request_bytes (asked_under id.value (request_of count self)) }
+    {
+        let request = GetPdrRequest {
+            head: RequestHead::new(id),
+            record_handle: self.record_handle,
+            transfer_handle: self.transfer_handle,
+            operation: self.operation,
+            count,
+            change_number: self.change_number,
+        };
+        let mut bytes = [0; REQUEST_LENGTH];
+        let _ = request.put(&mut bytes);
+        bytes
+    }
+}

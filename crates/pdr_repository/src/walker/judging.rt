@@ -1,0 +1,139 @@
+//! The tests of a part that a walker is given.
+ghost use Rattle.std.specs.Prelude.{◌≡◌, ◌≤◌, IsTrue, ◌↔◌, slice_index, map, ◌==◌};
+ghost use Rattle.std.specs.List.{list_any};
+ghost use Rattle.pldm_message.specs.PdrValues.{part};
+ghost use Rattle.pdr_repository.specs.Records.{handle_in};
+ghost use Rattle.pdr_repository.specs.Faults.{IsLast, HasWrongFlag, HasWrongSize, HasWrongCrc, HasWrongHandle, HasDoubledHandle, IsTooMuch, Judges};
+ghost use Rattle.pdr_repository.specs.Dues.{request_of, room};
+
+use super::due::Due;
+use super::pieces::{data_length_of, handle_of};
+use crate::crc::{crc8, crc8_after};
+use crate::walk_fault::WalkFault;
+use pldm_message::PdrPart;
+
+/// How much may be collected, and how much is.
+#[derive(Clone, Copy, Debug)]
+pub(super) struct Limits {
+    pub(super) max_records: usize,
+    pub(super) max_bytes: usize,
+    pub(super) records: usize,
+    pub(super) bytes: usize,
+}
+
+/// Whether the part is its record's last.
+pub(super) fn is_last(given: &PdrPart) -> bool
+    ensures { IsTrue result ↔ IsLast (part given.now) }
+{
+    given.flag.value == 4 || given.flag.value == 5
+}
+
+/// Whether the flag is not one for this request, or more is to come and the next transfer handle is 0.
+fn has_wrong_flag(due: &Due, given: &PdrPart) -> bool
+    ensures { IsTrue result ↔ HasWrongFlag (request_of 0 due.now) (part given.now) }
+{
+    let flag = given.flag.value;
+    let fits = match due.operation.value {
+        0 => flag == 1 || flag == 4,
+        1 => flag == 0 || flag == 5,
+        _ => false,
+    };
+    !fits || !is_last(given) && given.next_transfer == 0
+}
+
+/// Whether the part, or the record that it completes, has a wrong length.
+fn has_wrong_size(count: u16, before: &[u8], due: &Due, given: &PdrPart) -> bool
+    ensures { IsTrue result ↔ HasWrongSize before.now (request_of count due.now) (part given.now) }
+{
+    let len = given.bytes.len();
+    if len == 0 || len > usize::from(count) || given.flag.value == 0 && len < 8 {
+        return true;
+    }
+    is_last(given) && 10 + usize::from(data_length_of(before, given.bytes)) != before.len() + len
+}
+
+/// Whether the check byte is not the record's.
+fn has_wrong_crc(before: &[u8], given: &PdrPart) -> bool
+    ensures { IsTrue result ↔ HasWrongCrc before.now (part given.now) }
+{
+    match given.check {
+        Some(check) => check != crc8_after(crc8(before), given.bytes),
+        None => false,
+    }
+}
+
+/// Whether the record has not the handle that was asked for.
+fn has_wrong_handle(before: &[u8], due: &Due, given: &PdrPart) -> bool
+    ensures { IsTrue result ↔ HasWrongHandle before.now (request_of 0 due.now) (part given.now) }
+{
+    if !is_last(given) {
+        return false;
+    }
+    let handle = handle_of(before, given.bytes);
+    handle == 0 || due.record_handle != 0 && handle != due.record_handle
+}
+
+/// The handle in the header of a record.
+fn handle_of_record(bytes: &[u8]) -> u32
+    ensures { result ≡ handle_in bytes.now }
+{
+    handle_of(bytes, &[])
+}
+
+/// Whether a record has this handle.
+fn has_handle(records: &[Vec<u8>], handle: u32) -> bool
+    ensures { result ≡ list_any (λ v. handle_in v.items == handle) records.now }
+{
+    records
+        .iter()
+        .any(|bytes| handle_of_record(bytes) == handle)
+}
+
+/// Whether a record of that handle was collected before.
+fn has_doubled_handle(records: &[Vec<u8>], before: &[u8], given: &PdrPart) -> bool
+    ensures { IsTrue result ↔ HasDoubledHandle (map (λ v. v.items) records.now) before.now (part given.now) }
+{
+    is_last(given) && has_handle(records, handle_of(before, given.bytes))
+}
+
+/// Whether a part passes the limits.
+fn is_too_much(limits: &Limits, given: &PdrPart) -> bool
+    requires { limits.now.bytes ≤ limits.now.max_bytes }
+    ensures { IsTrue result ↔ IsTooMuch (room limits.now) (part given.now) }
+{
+    is_last(given) && limits.records >= limits.max_records
+        || given.bytes.len() > limits.max_bytes - limits.bytes
+}
+
+/// The first fault of a part.
+pub(super) fn judge(
+    limits: &Limits,
+    records: &[Vec<u8>],
+    before: &[u8],
+    count: u16,
+    due: &Due,
+    given: &PdrPart,
+) -> Option<WalkFault>
+    requires { limits.now.bytes ≤ limits.now.max_bytes }
+    ensures { Judges (room limits.now) (map (λ v. v.items) records.now) before.now (request_of count due.now) (part given.now) result }
+{
+    if has_wrong_flag(due, given) {
+        return Some(WalkFault::WrongFlag);
+    }
+    if has_wrong_size(count, before, due, given) {
+        return Some(WalkFault::WrongSize);
+    }
+    if has_wrong_crc(before, given) {
+        return Some(WalkFault::WrongCrc);
+    }
+    if has_wrong_handle(before, due, given) {
+        return Some(WalkFault::WrongHandle);
+    }
+    if has_doubled_handle(records, before, given) {
+        return Some(WalkFault::DoubledHandle);
+    }
+    if is_too_much(limits, given) {
+        return Some(WalkFault::TooMuch);
+    }
+    None
+}
