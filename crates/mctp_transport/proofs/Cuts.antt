@@ -26,7 +26,7 @@ cut_more unit p message ps c some most fills = record { whole = ap (λ xs. p ++ 
     last_at (suc i) q a e = c.last i q a (omega arith)
 
 -- the cut of what the first payload leaves
-cut_rest : (unit : ℕ) (message p q : List ℕ) (ps : List (List ℕ)) → IsCut unit message (p ∷ q ∷ ps) → IsCut unit (concat (q ∷ ps)) (q ∷ ps)
+pub cut_rest : (unit : ℕ) (message p q : List ℕ) (ps : List (List ℕ)) → IsCut unit message (p ∷ q ∷ ps) → IsCut unit (concat (q ∷ ps)) (q ∷ ps)
 cut_rest unit message p q ps c = record {
   whole = refl;
   full = λ i r a inside. c.full (suc i) r a (omega arith);

@@ -13,4 +13,9 @@ pub mod Standing
 pub mod Parts
 pub mod AssemblyLaws
 pub mod Arrivals
+pub mod Collecting
+pub mod InOrder
 pub mod Answered
+pub mod Sending
+pub mod Heard
+pub mod Spellings

@@ -46,7 +46,7 @@ same_frames (f ∷ fs) (g ∷ gs) e same =
     let more = same_frames fs gs rest (λ i x y a b. same (suc i) x y a b) in
     cc
 
-payloads_length : (fs : List Frame) → length (payloads fs) ≡ length fs
+pub payloads_length : (fs : List Frame) → length (payloads fs) ≡ length fs
 payloads_length fs = length-map fs (λ f. f.payload)
 
 pub same_packets : (unit : ℕ) (message : List ℕ) (destination : ℕ) (key : KeyValue) (start : ℕ) (fs gs : List Frame)
@@ -63,20 +63,20 @@ same_packets unit message destination key start fs gs x y =
       number = x.numbers i f a ∙ sym (y.numbers i g b);
     })
 
-payload_at : (fs : List Frame) (i : ℕ) (f : Frame) → slice_get fs i ≡ Some f → slice_get (payloads fs) i ≡ Some f.payload
+pub payload_at : (fs : List Frame) (i : ℕ) (f : Frame) → slice_get fs i ≡ Some f → slice_get (payloads fs) i ≡ Some f.payload
 payload_at [] i f a = absurd (none-some f a)
 payload_at (g ∷ fs) zero f a = ap (λ (x : Frame). Some x.payload) (same_Some g f a)
 payload_at (g ∷ fs) (suc i) f a = payload_at fs i f a
 
-joined_payloads : (fs : List Frame) → concat (payloads fs) ≡ payloads_of fs
+pub joined_payloads : (fs : List Frame) → concat (payloads fs) ≡ payloads_of fs
 joined_payloads [] = refl
 joined_payloads (f ∷ fs) = ap (λ xs. f.payload ++ xs) (joined_payloads fs)
 
-last_or_not : (i n : ℕ) → i < n → (i + 1 < n) ⊎ (i + 1 ≡ n)
+pub last_or_not : (i n : ℕ) → i < n → (i + 1 < n) ⊎ (i + 1 ≡ n)
 last_or_not i n h = grind arith
 
 -- no payload is longer than the unit
-within_unit : (unit : ℕ) (message : List ℕ) (ps : List (List ℕ)) (i : ℕ) (p : List ℕ) → IsCut unit message ps → i < length ps → slice_get ps i ≡ Some p → length p ≤ unit
+pub within_unit : (unit : ℕ) (message : List ℕ) (ps : List (List ℕ)) (i : ℕ) (p : List ℕ) → IsCut unit message ps → i < length ps → slice_get ps i ≡ Some p → length p ≤ unit
 within_unit unit message ps i p c inside a = elim (last_or_not i (length ps) inside) [
   | inl h ↦ let e = c.full i p a h in omega arith
   | inr h ↦ (c.last i p a h).1

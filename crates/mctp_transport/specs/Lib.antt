@@ -5,6 +5,7 @@ pub mod Packets
 pub mod Refusals
 pub mod Messages
 pub mod Cutting
+pub mod Sending
 pub mod PacketsLeft
 pub mod Histories
 pub mod Causes

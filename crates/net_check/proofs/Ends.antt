@@ -2,7 +2,7 @@
 use Rattle.std.proofs.Common.{◌≡◌, ℕ, zero, suc, ◌+◌, ◌<◌, ◌≤◌, List, [], ◌∷◌, Option, Some, None, refl, ap, subst, inl, inr, arith}
 use Rattle.std.specs.Prelude.{◌⊎◌, slice_get}
 use Rattle.std.proofs.lemmas.Option.{same_Some}
-use Rattle.std.proofs.lemmas.Bool.{cases_lt, cases_order}
+use Rattle.std.proofs.lemmas.Bool.{cases_lt}
 use Rattle.net_check.specs.declared.rule.Rule.TheVariants.{C10}
 use Rattle.net_plan.specs.declared.plan.Plan.{Plan}
 use Rattle.net_plan.specs.declared.nodes.Row.{Row}
@@ -12,6 +12,7 @@ use Rattle.net_check.specs.Ranks.{rank, Falls}
 use Rattle.net_check.specs.Rules.{Accepts}
 use Rattle.net_check.specs.Moves.{Leads}
 use Rattle.net_check.specs.Promises.{WayEnds, EndsWithinRank}
+use Rattle.net_check.proofs.Deciding.{same_or_not}
 
 -- along a row the rank falls
 pub move_falls : (plan : Plan) (cert : Certificate) (e n m : ℕ) → Accepts plan cert → MovesTo plan e n m → rank cert m e < rank cert n e
@@ -27,14 +28,7 @@ within plan cert accepted e n (suc moves) m (next, move, rest) =
     let later = within plan cert accepted e next moves m rest in
     omega (arith, falls, later)
 
--- two numbers are one or not
-same_or_not : (m n : ℕ) → (m ≡ n) ⊎ ¬ (m ≡ n)
-same_or_not m n = elim (cases_order m n) [
-  | inl same ↦ inl same
-  | inr different ↦ inr (λ same. elim different [ inl less ↦ omega arith | inr more ↦ omega arith ])
-]
-
-is_or_not : (o : Option ℕ) (e : ℕ) → (o ≡ Some e) ⊎ ¬ (o ≡ Some e)
+pub is_or_not : (o : Option ℕ) (e : ℕ) → (o ≡ Some e) ⊎ ¬ (o ≡ Some e)
 is_or_not None e = inr (λ is. cc)
 is_or_not (Some d) e = elim (same_or_not d e) [ inl same ↦ inl (ap Some same) | inr not ↦ inr (λ is. not (same_Some d e is)) ]
 
@@ -52,7 +46,7 @@ covers_or_not row e = elim (cases_lt e row.first.value) [
 ]
 
 -- one of the rows covers e, or none does
-one_or_none : (rows : List Row) (e : ℕ)
+pub one_or_none : (rows : List Row) (e : ℕ)
     → ((r : ℕ) × (row : Row) × (slice_get rows r ≡ Some row) × Covers row e) ⊎ ((r : ℕ) (row : Row) → slice_get rows r ≡ Some row → ¬ Covers row e)
 one_or_none [] e = inr (λ r row is. cc)
 one_or_none (row ∷ rows) e = elim (covers_or_not row e) [

@@ -2,6 +2,7 @@
 pub mod Spots
 pub mod Beyond
 -- certificates made
+pub mod Deciding
 pub mod Ends
 pub mod Pigeons
 pub mod Circling
@@ -14,6 +15,14 @@ pub mod Filters
 pub mod RankLaws
 pub mod CertificateLaws
 -- the network
+pub mod Nexts
+pub mod Fates
+pub mod ByPlace
 pub mod Kept
 pub mod Promised
+pub mod Delivered
+pub mod Exact
+pub mod Sends
+pub mod Sent
+pub mod Answering
 pub mod Steps

@@ -17,9 +17,11 @@ use Rattle.net_check.specs.Routing.{Holds}
 use Rattle.net_check.specs.Eids.{IsNewlyHeld}
 use Rattle.net_check.specs.Rules.{Accepts}
 use Rattle.net_check.specs.Decisions.{Here, Drop, Forward}
-use Rattle.net_check.specs.Networks.{NetworkState, Flight, EventValue, Put, Move, Lose, Expire, OutcomeValue, PutIn, Entered, Lost, Expired, Refused, Step, Happens, Moves, at_start, without_flight, with_made, slots, limit}
-use Rattle.net_check.specs.Runs.{Turn, Run, RunFrom, after_all, WasPutIn}
-use Rattle.net_check.specs.Promises.{AloneHolds, JoinsPackets, KeepsPackets}
+use Rattle.net_check.specs.States.{NetworkState, Flight, at_start, without_flight, with_made, slots, limit}
+use Rattle.net_check.specs.Events.{EventValue, Put, Move, Lose, Expire, AnswerAt, OutcomeValue, PutIn, Entered, Lost, Expired, Answered, Silent, Refused}
+use Rattle.net_check.specs.Networks.{Step, Happens, Moves}
+use Rattle.net_check.specs.Runs.{Turn, Run, RunFrom, after_all, reached, WasPutIn}
+use Rattle.net_check.specs.Headline.{AloneHolds, JoinsPackets, KeepsPackets}
 use Rattle.net_check.proofs.Kept.{Kept, run_keeps}
 
 -- what is said of each packet by its place holds of all
@@ -56,7 +58,7 @@ came_joins plan turns n history message comes arrived =
     )
 
 -- a run is a run up to its last turn, and that turn
-run_parts : (plan : Plan) (w : NetworkState) (earlier : List Turn) (turn : Turn) → RunFrom plan w (earlier ++ turn ∷ [])
+pub run_parts : (plan : Plan) (w : NetworkState) (earlier : List Turn) (turn : Turn) → RunFrom plan w (earlier ++ turn ∷ [])
     → RunFrom plan w earlier × Step plan (after_all w earlier) turn.event turn.outcome turn.after
 run_parts plan w [] turn (step, none) = (tt, step)
 run_parts plan w (first ∷ earlier) turn (step, rest) = let later = run_parts plan first.after earlier turn rest in ((step, later.0), later.1)
@@ -98,9 +100,13 @@ happens_tells plan w (Move number true) outcome j n key message new (f, stands, 
     moves_tell plan w (with_made w (w.made + 1)) number (w.made + 1) j f n key message new stands refl (subst P is moves)
 happens_tells plan w (Lose number) (Lost k) j n key message new h is = absurd (cc)
 happens_tells plan w (Expire node word) (Expired at was_open) j n key message new h is = absurd (cc)
+happens_tells plan w (AnswerAt node) (Silent at) j n key message new h is = absurd (cc)
+happens_tells plan w (AnswerAt node) (Answered at first last) j n key message new h is = absurd (cc)
+happens_tells plan w (AnswerAt node) _ j n key message new (t, oldest, rest, None, tid, stands, waits, answers, done) is = absurd done
+happens_tells plan w (AnswerAt node) _ j n key message new (t, oldest, rest, Some answer, tid, stands, waits, answers, done) is = absurd done
 happens_tells plan w _ _ j n key message new h is = absurd h
 
-step_tells : (plan : Plan) (w : NetworkState) (event : EventValue) (outcome : OutcomeValue) (j n : ℕ) (key : KeyValue) (message : List ℕ) (new : NetworkState)
+pub step_tells : (plan : Plan) (w : NetworkState) (event : EventValue) (outcome : OutcomeValue) (j n : ℕ) (key : KeyValue) (message : List ℕ) (new : NetworkState)
     → Step plan w event outcome new → outcome ≡ Entered j n key (Whole message) → TellsMessage plan w n key message
 step_tells plan w event (Refused why) j n key message new step is = absurd (cc)
 step_tells plan w event outcome j n key message new step is = happens_tells plan w event outcome j n key message new step.1 is
@@ -113,7 +119,7 @@ last_packet history p message comes = same_packet (snoc_same history comes.earli
     same_packet e = cc
 
 module _ (plan : Plan) (cert : Certificate) (accepted : Accepts plan cert) where
-  kept : (turns : List Turn) → Run plan turns → Kept plan cert (WasPutIn turns) (after_all at_start turns)
+  kept : (turns : List Turn) → Run plan cert turns → Kept plan cert (WasPutIn turns) (reached plan cert turns)
   kept turns run = run_keeps plan cert (WasPutIn turns) accepted turns (λ p put. put) run
 
   -- by C03 one node at most holds an EID
@@ -127,13 +133,13 @@ module _ (plan : Plan) (cert : Certificate) (accepted : Accepts plan cert) where
     ]
   ]
 
-  joins_told : (earlier : List Turn) (n : ℕ) (key : KeyValue) (message : List ℕ) → Run plan earlier
-      → TellsMessage plan (after_all at_start earlier) n key message → JoinsPackets plan earlier n key message
+  joins_told : (earlier : List Turn) (n : ℕ) (key : KeyValue) (message : List ℕ) → Run plan cert earlier
+      → TellsMessage plan (reached plan cert earlier) n key message → JoinsPackets plan earlier n key message
   joins_told earlier n key message run told =
       let known = kept earlier run in
       let P : Frame → Type 0 = λ p. Holds plan n p.destination × WasPutIn earlier p in
       let p = told.flight.packet in
-      let history = (after_all at_start earlier).history n in
+      let history = (reached plan cert earlier).history n in
       let arrived : EachArrival P (after history (Arrived p)) =
       EachArrival-append P history (Arrived p ∷ []) (known.arrivals n) ((told.holds, (known.flights told.number told.flight told.stands).1), tt) in
       let R : KeyValue → Type 0 = λ k. JoinsPackets plan earlier n k message in
@@ -144,12 +150,12 @@ module _ (plan : Plan) (cert : Certificate) (accepted : Accepts plan cert) where
   accepted_keeps = record {
     enters = λ turns run n.
         EachArrival-weaker (λ p. Holds plan n p.destination × WasPutIn turns p) (λ p. AloneHolds plan n p.destination)
-        (λ p h. (h.0, λ m there. alone n m p.destination h.0 there)) ((after_all at_start turns).history n) ((kept turns run).arrivals n);
+        (λ p h. (h.0, λ m there. alone n m p.destination h.0 there)) ((reached plan cert turns).history n) ((kept turns run).arrivals n);
     hops = λ turns run number f is. ((kept turns run).flights number f is).0;
     joins = λ turns run n message comes.
-        (key_of comes.packet, came_joins plan turns n ((after_all at_start turns).history n) message comes ((kept turns run).arrivals n));
+        (key_of comes.packet, came_joins plan turns n ((reached plan cert turns).history n) message comes ((kept turns run).arrivals n));
     tells = λ earlier turn run number n key message is.
-        let parts = run_parts plan at_start earlier turn run in
+        let parts = run_parts plan (at_start plan cert) earlier turn run in
         joins_told earlier n key message parts.0
-        (step_tells plan (after_all at_start earlier) turn.event turn.outcome number n key message turn.after parts.1 is);
+        (step_tells plan (reached plan cert earlier) turn.event turn.outcome number n key message turn.after parts.1 is);
   }

@@ -1,108 +1,261 @@
 -- Whatever the event, some step is there: the network is never stuck.
-use Rattle.std.proofs.Common.{◌≡◌, ℕ, ◌+◌, ◌<◌, true, false, Option, Some, None, refl, arith}
-use Rattle.std.specs.Prelude.{◌⊎◌}
-use Rattle.std.proofs.lemmas.Bool.{false≢true}
-use Rattle.mctp_transport.specs.Frames.{key_of}
+use Rattle.std.proofs.Common.{List, ◌≡◌, ℕ, zero, suc, ◌+◌, ◌-◌, ◌<◌, ◌≤◌, [], ◌∷◌, sym, ap, ◌∙◌, subst, true, false, Option, Some, None, refl, arith, inl, inr, length}
+use Rattle.std.specs.Prelude.{◌⊎◌, All}
+use Rattle.std.proofs.lemmas.List.Elements.{All-head}
+use Rattle.std.proofs.lemmas.Bool.{cases_lt}
+use Rattle.std.proofs.lemmas.Option.{slice_get_cases}
+use Rattle.mctp_transport.specs.Frames.{Frame, KeyValue, key_of, IsAssignable, Spelled}
 use Rattle.mctp_transport.specs.Histories.{Arrived, TimeUp}
-use Rattle.mctp_transport.proofs.Answered.{never_unheard}
+use Rattle.mctp_transport.specs.Cutting.{ArePacketsOf}
+use Rattle.mctp_transport.specs.PacketsLeft.{cut}
+use Rattle.mctp_transport.proofs.PacketLists.{all_packets}
+use Rattle.mctp_transport.proofs.Heard.{some_answer, open_or_not}
+use Rattle.mctp_transport.proofs.Spellings.{spelled_or_not}
 use Rattle.net_plan.specs.declared.plan.Plan.{Plan}
-use Rattle.net_check.specs.Routing.{Holds, Routes, IsBridge}
-use Rattle.net_check.specs.Decisions.{Decision, Here, Drop, Forward, B10, B11, B12, Decides}
-use Rattle.net_check.specs.Networks.{NetworkState, Flight, EventValue, Put, Move, Lose, Expire, Refusal, N01, N02, N03, N06, OutcomeValue, PutIn, Moved, Entered, Stopped, Lost, Expired, Refused, IsDecided, Moves, IsRefused, refusal_number, destination, with_flight, without_flight, with_made, with_input, slots, limit, IsStuck}
+use Rattle.net_plan.specs.declared.nodes.Node.{Node}
+use Rattle.net_plan.specs.declared.nodes.Kind.TheVariants.{Bridge, Endpoint}
+use Rattle.net_check.specs.Routing.{Holds, HasRow, IsBridge, node_at, eid_of, rows_of}
+use Rattle.net_check.specs.Decisions.{Decision, Here, Drop, Forward, B10, B11, B12}
+use Rattle.net_check.specs.Termini.{TerminusState, WaitingMessage, AreBytes, HoldsBytes}
+use Rattle.net_check.specs.States.{NetworkState, Flight, destination, with_flight, without_flight, with_made, with_input, with_terminus, with_packet, with_packets, with_received, unit, slots, limit}
+use Rattle.net_check.specs.Events.{EventValue, Put, Move, Lose, Expire, AnswerAt, Refusal, N01, N02, N03, N04, N05, N06, OutcomeValue, PutIn, Moved, Entered, Stopped, Lost, Expired, Answered, Silent, Refused, IsRefused, named_node, named_flight, asked_node, bytes_put, numbers_needed, refusal_number, most_flights}
+use Rattle.net_check.specs.Networks.{IsDecided, Moves, answer_key, Happens, GoesOn}
+use Rattle.pdr_repository.specs.Answers.{Answers}
+use Rattle.net_check.proofs.Answering.{SomeAnswer, some_answering}
+use Rattle.net_check.proofs.Deciding.{OrNot, both_or_not, either_or_not, less_or_not, at_most_or_not, some_and_or_not, none_or_not, empty_or_not, same_or_not}
+use Rattle.net_check.proofs.Ends.{is_or_not, one_or_none}
 
--- no refusal has a number below the first
-below_first : (P : Refusal → Type 0) (other : Refusal) → refusal_number other < 1 → ¬ P other
-below_first P N01 lt = absurd (omega arith)
-below_first P N02 lt = absurd (omega arith)
-below_first P N03 lt = absurd (omega arith)
-below_first P N06 lt = absurd (omega arith)
+-- the refusals are known by their numbers
+abbrev numbered : ℕ → Refusal
+numbered zero = N01
+numbered (suc zero) = N01
+numbered (suc (suc zero)) = N02
+numbered (suc (suc (suc zero))) = N03
+numbered (suc (suc (suc (suc zero)))) = N04
+numbered (suc (suc (suc (suc (suc zero))))) = N05
+numbered (suc (suc (suc (suc (suc (suc n)))))) = N06
 
-below_second : (P : Refusal → Type 0) → ¬ P N01 → (other : Refusal) → refusal_number other < 2 → ¬ P other
-below_second P a N01 lt = a
-below_second P a N02 lt = absurd (omega arith)
-below_second P a N03 lt = absurd (omega arith)
-below_second P a N06 lt = absurd (omega arith)
+numbered_is : (why : Refusal) → numbered (refusal_number why) ≡ why
+numbered_is N01 = refl
+numbered_is N02 = refl
+numbered_is N03 = refl
+numbered_is N04 = refl
+numbered_is N05 = refl
+numbered_is N06 = refl
 
-below_third : (P : Refusal → Type 0) → ¬ P N01 → ¬ P N02 → (other : Refusal) → refusal_number other < 3 → ¬ P other
-below_third P a b N01 lt = a
-below_third P a b N02 lt = b
-below_third P a b N03 lt = absurd (omega arith)
-below_third P a b N06 lt = absurd (omega arith)
+number_range : (why : Refusal) → (1 ≤ refusal_number why) × (refusal_number why ≤ 6)
+number_range N01 = (omega arith, omega arith)
+number_range N02 = (omega arith, omega arith)
+number_range N03 = (omega arith, omega arith)
+number_range N04 = (omega arith, omega arith)
+number_range N05 = (omega arith, omega arith)
+number_range N06 = (omega arith, omega arith)
 
-below_last : (P : Refusal → Type 0) → ¬ P N01 → ¬ P N02 → ¬ P N03 → (other : Refusal) → refusal_number other < 6 → ¬ P other
-below_last P a b c N01 lt = a
-below_last P a b c N02 lt = b
-below_last P a b c N03 lt = c
-below_last P a b c N06 lt = absurd (omega arith)
+abbrev NoneBelow : (Refusal → Type 0) → ℕ → Type 0
+NoneBelow P n = (other : Refusal) → refusal_number other < n → ¬ P other
 
-none_of : (P : Refusal → Type 0) → ¬ P N01 → ¬ P N02 → ¬ P N03 → ¬ P N06 → (why : Refusal) → ¬ P why
-none_of P a b c d N01 = a
-none_of P a b c d N02 = b
-none_of P a b c d N03 = c
-none_of P a b c d N06 = d
+one_more_below : (P : Refusal → Type 0) (why : Refusal) → NoneBelow P (refusal_number why) → ¬ P why → NoneBelow P (refusal_number why + 1)
+one_more_below P why below not other lt = elim (cases_lt (refusal_number other) (refusal_number why)) [
+  | inl earlier ↦ below other earlier
+  | inr from ↦
+      let N : Refusal → Type 0 = λ r. ¬ P r in
+      let number : refusal_number why ≡ refusal_number other = omega arith in
+      subst N (sym (numbered_is why) ∙ ap numbered number ∙ numbered_is other) not
+]
 
--- where the network is stuck, the event isn't refused
-never_refused : (plan : Plan) (w : NetworkState) (event : EventValue) → IsStuck plan w event → (why : Refusal) → ¬ IsRefused plan w event why
-never_refused plan w event stuck =
-    let P : Refusal → Type 0 = IsRefused plan w event in
-    let a : ¬ P N01 = λ r. stuck (Refused N01) w ((r, below_first P), refl) in
-    let b : ¬ P N02 = λ r. stuck (Refused N02) w ((r, below_second P a), refl) in
-    let c : ¬ P N03 = λ r. stuck (Refused N03) w ((r, below_third P a b), refl) in
-    let d : ¬ P N06 = λ r. stuck (Refused N06) w ((r, below_last P a b c), refl) in
-    none_of P a b c d
+-- where each refusal applies or not, one is the least that applies, or none applies
+least_or_none : (P : Refusal → Type 0) → ((why : Refusal) → OrNot (P why)) → ((why : Refusal) × P why × NoneBelow P (refusal_number why)) ⊎ ((why : Refusal) → ¬ P why)
+least_or_none P test =
+    test_at N01 (λ other lt. let h = number_range other in absurd (omega arith))
+    (λ a. test_at N02 a
+    (λ b. test_at N03 b
+    (λ c. test_at N04 c
+    (λ d. test_at N05 d
+    (λ e. test_at N06 e
+    (λ f. inr (λ why. let h = number_range why in f why (omega arith))))))))
+  where
+    test_at : (why : Refusal) → NoneBelow P (refusal_number why)
+        → (NoneBelow P (refusal_number why + 1) → ((other : Refusal) × P other × NoneBelow P (refusal_number other)) ⊎ ((other : Refusal) → ¬ P other))
+        → ((other : Refusal) × P other × NoneBelow P (refusal_number other)) ⊎ ((other : Refusal) → ¬ P other)
+    test_at why below rest = elim (test why) [ inl is ↦ inl (why, is, below) | inr not ↦ rest (one_more_below P why below not) ]
+
+no_packet_or_not : (bytes : List ℕ) → OrNot ((p : Frame) → ¬ Spelled unit p bytes)
+no_packet_or_not bytes = elim (spelled_or_not unit bytes) [ inl (p, is) ↦ inr (λ none. none p is) | inr none ↦ inl none ]
+
+refused_or_not : (plan : Plan) (w : NetworkState) (event : EventValue) (why : Refusal) → OrNot (IsRefused plan w event why)
+refused_or_not plan w event N01 = some_and_or_not (named_node event) _ (λ node. at_most_or_not (length plan.nodes.items) node)
+refused_or_not plan w event N02 = some_and_or_not (bytes_put event) _ no_packet_or_not
+refused_or_not plan w event N03 = some_and_or_not (named_flight event) _ (λ number. none_or_not (w.flight number))
+refused_or_not plan w event N04 = some_and_or_not (asked_node event) _ (λ node. none_or_not (w.terminus node))
+refused_or_not plan w event N05 = some_and_or_not (asked_node event) _ (λ node. some_and_or_not (w.terminus node) _ (λ t. empty_or_not t.waiting))
+refused_or_not plan w event N06 = less_or_not (most_flights - w.made) (numbers_needed event)
+
+holds_or_not : (plan : Plan) (n e : ℕ) → OrNot (Holds plan n e)
+holds_or_not plan n e = is_or_not (eid_of plan n) e
+
+has_row_or_not : (plan : Plan) (n e : ℕ) → OrNot (HasRow plan n e)
+has_row_or_not plan n e = elim (one_or_none (rows_of plan n) e) [
+  | inl (r, row, at, covers) ↦ inl (row.next, (r, row, at, covers, refl))
+  | inr none ↦ inr (λ (m, (r, row, at, covers, next)). none r row at covers)
+]
+
+bridge_or_not : (plan : Plan) (n : ℕ) → OrNot (IsBridge plan n)
+bridge_or_not plan n = by (node_at plan n) refl
+  where
+    by : (o : Option Node) → node_at plan n ≡ o → OrNot (IsBridge plan n)
+    by None is = rw is (inr (λ e. cc))
+    by (Some node) is = kind node.kind refl
+      where
+        kind : (k : _) → node.kind ≡ k → OrNot (IsBridge plan n)
+        kind Bridge same = rw (is, same) (inl refl)
+        kind Endpoint same = rw (is, same) (inr (λ e. cc))
+
+assignable_or_not : (e : ℕ) → OrNot (IsAssignable e)
+assignable_or_not e = both_or_not _ _ (at_most_or_not 8 e) (at_most_or_not e 254)
 
 -- some decision is taken
-decides_somehow : (holds forwards : Type 0) (routes : ℕ → Type 0) (e : ℕ) → ¬ ((decision : Decision) → ¬ Decides holds forwards routes e decision)
-decides_somehow holds forwards routes e none =
-    let away : ¬ holds = none Here in
-    none (Drop B10) (away, λ lies. none (Drop B12) (away, lies, λ may. none (Drop B11) (away, lies, may, λ m routed. none (Forward m) (away, lies, may, routed))))
+some_decision : (plan : Plan) (f : Flight) → (decision : Decision) × IsDecided plan f decision
+some_decision plan f = elim (holds_or_not plan f.node (destination f)) [
+  | inl here ↦ (Here, here)
+  | inr away ↦ elim (assignable_or_not (destination f)) [
+    | inr not ↦ (Drop B10, (away, not))
+    | inl may ↦ elim (either_or_not _ _ (bridge_or_not plan f.node) (same_or_not f.hops 0)) [
+      | inr no_bridge ↦ (Drop B12, (away, may, no_bridge))
+      | inl goes ↦ elim (has_row_or_not plan f.node (destination f)) [
+        | inl (next, routed) ↦ (Forward next, (away, may, goes, routed))
+        | inr none ↦ (Drop B11, (away, may, goes, λ next routed. none (next, routed)))
+      ]
+    ]
+  ]
+]
 
--- moving a flight has some outcome
-module _ (plan : Plan) (w : NetworkState) (k : ℕ) (f : Flight) (stuck : (outcome : OutcomeValue) (new : NetworkState) → ¬ Moves plan w k f outcome new) where
-  not_decided : (decision : Decision) → ¬ IsDecided plan f decision
-  not_decided Here holds = never_unheard slots limit (w.history f.node) f.packet (λ answer hears.
-      stuck (Entered k f.node (key_of f.packet) answer) (with_input w f.node (Arrived f.packet)) (Here, holds, (refl, refl, refl, hears, refl)))
-  not_decided (Drop why) decided = stuck (Stopped k why) w (Drop why, decided, (refl, refl, refl))
-  not_decided (Forward next) decided =
-      stuck (Moved k next (f.hops + 1)) (with_flight w k (record f { node = next; hops = f.hops + 1 })) (Forward next, decided, (refl, refl, refl, refl))
+-- what comes of a move, and the network then; no move is told as refused
+pub record SomeMove (plan : Plan) (w : NetworkState) (number : ℕ) (f : Flight) : Type 0 where
+  pub outcome : OutcomeValue
+  pub new : NetworkState
+  pub moves : Moves plan w number f outcome new
 
-  moves_on : ⊥
-  moves_on = decides_somehow (Holds plan f.node (destination f)) (IsBridge plan f.node ⊎ (f.hops ≡ 0)) (Routes plan f.node (destination f)) (destination f) not_decided
+some_move : (plan : Plan) (w : NetworkState) (number : ℕ) (f : Flight) → SomeMove plan w number f
+some_move plan w number f = by (some_decision plan f)
+  where
+    by : (decision : Decision) × IsDecided plan f decision → SomeMove plan w number f
+    by (Here, holds) =
+        let heard = some_answer slots limit (w.history f.node) f.packet in
+        record {
+          outcome = Entered number f.node (key_of f.packet) heard.0;
+          new = with_received (with_input w f.node (Arrived f.packet)) f.node (key_of f.packet) heard.0;
+          moves = (Here, holds, (refl, refl, refl, heard.1.hears, refl));
+        }
+    by (Drop why, decided) = record { outcome = Stopped number why; new = w; moves = (Drop why, decided, (refl, refl, refl)) }
+    by (Forward next, decided) = record {
+      outcome = Moved number next (f.hops + 1);
+      new = with_flight w number (record f { node = next; hops = f.hops + 1 });
+      moves = (Forward next, decided, (refl, refl, refl, refl));
+    }
 
--- a flight is there, or not
-is_there : (o : Option Flight) → ¬ (o ≡ None) → ((f : Flight) → ¬ (o ≡ Some f)) → ⊥
-is_there None some none = some refl
-is_there (Some f) some none = none f refl
+-- an event that isn't refused happens
+happens_so : (plan : Plan) (w : NetworkState) (event : EventValue) (outcome : OutcomeValue) (new : NetworkState)
+    → ((why : Refusal) → ¬ IsRefused plan w event why) → Happens plan w event outcome new → GoesOn plan w event
+happens_so plan w event (Refused why) new may happens = absurd (no_refusal event happens)
+  where
+    no_refusal : (event : EventValue) → Happens plan w event (Refused why) new → ⊥
+    no_refusal (Put node bytes) h = h
+    no_refusal (Move number false) (f, stands, moves) = moves.2
+    no_refusal (Move number true) (f, stands, moves) = moves.2
+    no_refusal (Lose number) h = h
+    no_refusal (Expire node key) h = h
+    no_refusal (AnswerAt node) (t, oldest, rest, None, tid, stands, waits, answers, done) = done
+    no_refusal (AnswerAt node) (t, oldest, rest, Some answer, tid, stands, waits, answers, done) = done
+happens_so plan w event outcome new may happens = (outcome, new, (may, happens))
 
--- a flight that stands can't but move
-module _ (plan : Plan) (w : NetworkState) (number : ℕ) where
-  stuck_in : IsStuck plan w (Move number false) → ((why : Refusal) → ¬ IsRefused plan w (Move number false) why) → (f : Flight)
-      → w.flight number ≡ Some f → (outcome : OutcomeValue) (new : NetworkState) → ¬ Moves plan (without_flight w number) number f outcome new
-  stuck_in stuck may f stands (Refused why) new moves = moves.2
-  stuck_in stuck may f stands outcome new moves = stuck outcome new (may, (f, stands, moves))
+-- a node of the plan holds an EID
+holds_some : (plan : Plan) (n : ℕ) → ¬ (length plan.nodes.items ≤ n) → (e : ℕ) × Holds plan n e
+holds_some plan n within = elim (slice_get_cases plan.nodes.items n).1 [
+  | inl h ↦ (h.0.eid.value, rw h.2 refl)
+  | inr h ↦ absurd (within (omega (arith, h.0)))
+]
 
-  stuck_kept : IsStuck plan w (Move number true) → ((why : Refusal) → ¬ IsRefused plan w (Move number true) why) → (f : Flight)
-      → w.flight number ≡ Some f → (outcome : OutcomeValue) (new : NetworkState) → ¬ Moves plan (with_made w (w.made + 1)) (w.made + 1) f outcome new
-  stuck_kept stuck may f stands (Refused why) new moves = moves.2
-  stuck_kept stuck may f stands outcome new moves = stuck outcome new (may, (f, stands, moves))
+-- the packets of an answer
+some_packets : (answer : List ℕ) (destination : ℕ) (key : KeyValue) → (ps : List Frame) × ArePacketsOf unit answer destination key 0 ps
+some_packets answer destination key =
+    let f : Frame = record {
+      reserved = 0;
+      destination = destination;
+      source = key.source;
+      som = true;
+      eom = false;
+      number = 0;
+      owner = key.owner;
+      tag = key.tag;
+      payload = answer;
+    } in
+    (cut unit (length answer) f, all_packets unit f (omega arith) (omega arith) refl refl)
+
+-- the oldest message that waits at a terminus is answered, or gets no answer
+replies : (plan : Plan) (w : NetworkState) (node : ℕ) (t : TerminusState) (oldest : WaitingMessage) (rest : List WaitingMessage) → w.terminus node ≡ Some t
+    → t.waiting ≡ oldest ∷ rest → HoldsBytes t → ((why : Refusal) → ¬ IsRefused plan w (AnswerAt node) why) → GoesOn plan w (AnswerAt node)
+replies plan w node t oldest rest is waits bytes may =
+    let W : List WaitingMessage → Type 0 = λ ms. All (λ m. AreBytes m.bytes) ms in
+    by (some_answering t.tid t.records oldest.bytes bytes.0 (All-head (λ m. AreBytes m.bytes) oldest rest (subst W waits bytes.1)))
+  where
+    by : SomeAnswer t.tid t.records oldest.bytes → GoesOn plan w (AnswerAt node)
+    by s = told s.answer s.answers
+      where
+        told : (answer : Option (List ℕ)) → Answers t.tid t.records oldest.bytes answer s.tid_after → GoesOn plan w (AnswerAt node)
+        told None answers = (
+          Silent node,
+          with_terminus w node (Some (record t { tid = s.tid_after; waiting = rest })),
+          (may, (t, oldest, rest, None, s.tid_after, is, waits, answers, (refl, refl))),
+        )
+        told (Some answer) answers =
+            let v : NetworkState = with_terminus w node (Some (record t { tid = s.tid_after; waiting = rest })) in
+            let eid = holds_some plan node (may N01) in
+            let packets = some_packets answer oldest.key.source (answer_key eid.0 oldest.key) in (
+              Answered node (v.made + 1) (v.made + length packets.0),
+              with_packets v node packets.0,
+              (may, (t, oldest, rest, Some answer, s.tid_after, is, waits, answers, (eid.0, packets.0, eid.1, packets.1, refl, refl, refl, refl))),
+            )
 
 -- some step is there
-pub some_step : (plan : Plan) (w : NetworkState) (event : EventValue) → ¬ IsStuck plan w event
-some_step plan w (Put node bytes) stuck =
-    let may = never_refused plan w (Put node bytes) stuck in
-    may N02 (λ p spelled. stuck (PutIn (w.made + 1) node)
-    (with_made (with_flight w (w.made + 1) (record { packet = p; origin = node; node = node; hops = 0 })) (w.made + 1))
-    (may, (p, spelled, refl, refl, refl)))
-some_step plan w (Move number false) stuck =
-    let may = never_refused plan w (Move number false) stuck in
-    is_there (w.flight number) (λ none. may N03 none) (λ f stands.
-    moves_on plan (without_flight w number) number f (stuck_in plan w number stuck may f stands))
-some_step plan w (Move number true) stuck =
-    let may = never_refused plan w (Move number true) stuck in
-    is_there (w.flight number) (λ none. may N03 none) (λ f stands.
-    moves_on plan (with_made w (w.made + 1)) (w.made + 1) f (stuck_kept plan w number stuck may f stands))
-some_step plan w (Lose number) stuck = stuck (Lost number) (without_flight w number) (never_refused plan w (Lose number) stuck, (refl, refl))
-some_step plan w (Expire node key) stuck =
-    let may = never_refused plan w (Expire node key) stuck in
-    let new : NetworkState = with_input w node (TimeUp key) in
-    stuck (Expired node false) new (may, (refl, ((λ e. absurd (false≢true e)), (λ opened. absurd (stuck (Expired node true) new (may, (refl, ((λ _. opened), (λ _. refl)), refl))))), refl))
+pub some_step : (plan : Plan) (w : NetworkState) (event : EventValue) → ((n : ℕ) (t : TerminusState) → w.terminus n ≡ Some t → HoldsBytes t) → GoesOn plan w event
+some_step plan w event bytes = elim (least_or_none (IsRefused plan w event) (refused_or_not plan w event)) [
+  | inl (why, is, least) ↦ (Refused why, w, ((is, least), refl))
+  | inr may ↦ happens event may
+]
+  where
+    happens : (event : EventValue) → ((why : Refusal) → ¬ IsRefused plan w event why) → GoesOn plan w event
+    happens (Put node bytes) may = elim (spelled_or_not unit bytes) [
+      | inr none ↦ absurd (may N02 none)
+      | inl (p, is) ↦ (
+        PutIn (w.made + 1) node,
+        with_packet w node p,
+        (may, (p, is, refl, refl, refl)),
+      )
+    ]
+    happens (Move number false) may = there (w.flight number) refl
+      where
+        there : (o : Option Flight) → w.flight number ≡ o → GoesOn plan w (Move number false)
+        there None is = absurd (may N03 is)
+        there (Some f) is =
+            let m = some_move plan (without_flight w number) number f in
+            happens_so plan w (Move number false) m.outcome m.new may (f, is, m.moves)
+    happens (Move number true) may = there (w.flight number) refl
+      where
+        there : (o : Option Flight) → w.flight number ≡ o → GoesOn plan w (Move number true)
+        there None is = absurd (may N03 is)
+        there (Some f) is =
+            let m = some_move plan (with_made w (w.made + 1)) (w.made + 1) f in
+            happens_so plan w (Move number true) m.outcome m.new may (f, is, m.moves)
+    happens (Lose number) may = (Lost number, without_flight w number, (may, (refl, refl)))
+    happens (Expire node key) may =
+        let opened = open_or_not slots limit (w.history node) key in
+        (Expired node opened.0, with_input w node (TimeUp key), (may, (refl, opened.1, refl)))
+    happens (AnswerAt node) may = there (w.terminus node) refl
+      where
+        there : (o : Option TerminusState) → w.terminus node ≡ o → GoesOn plan w (AnswerAt node)
+        there None is = absurd (may N04 is)
+        there (Some t) is = first t.waiting refl
+          where
+            first : (messages : List WaitingMessage) → t.waiting ≡ messages → GoesOn plan w (AnswerAt node)
+            first [] none = absurd (may N05 (rw is none))
+            first (oldest ∷ rest) waits = replies plan w node t oldest rest is waits (bytes node t is) may

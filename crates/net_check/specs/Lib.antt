@@ -13,9 +13,16 @@ pub mod Errors
 -- the network
 pub mod Moves
 pub mod Decisions
+pub mod Repositories
+pub mod Termini
+pub mod States
+pub mod Events
 pub mod Networks
 pub mod Runs
 pub mod Promises
+pub mod Headline
+pub mod Deliveries
+pub mod ExactMessages
 -- certificates made
 pub mod Circles
 pub mod RoutingLoops

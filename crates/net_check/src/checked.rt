@@ -1,8 +1,12 @@
 //! `check`, and what it answers.
-ghost use Rattle.std.specs.Prelude.{◌≡◌, IfOk, OnOk, IfErr};
+ghost use Rattle.std.specs.Prelude.{◌≡◌, ℕ, IfOk, OnOk, IfErr};
 ghost use Rattle.net_check.specs.Rules.{Accepts};
 ghost use Rattle.net_check.specs.Errors.{NamesFirstFault};
-ghost use Rattle.net_check.specs.Promises.{EndsWithinRank, KeepsPackets};
+ghost use Rattle.net_check.specs.Promises.{EndsWithinRank};
+ghost use Rattle.mctp_transport.specs.Frames.{KeyValue};
+ghost use Rattle.net_check.specs.States.{NetworkState};
+ghost use Rattle.net_check.specs.Headline.{KeepsPackets};
+ghost use Rattle.net_check.specs.ExactMessages.{RunsAsSent};
 
 use crate::check_error::CheckError;
 use crate::first_fault::first_of_rule;
@@ -49,7 +53,7 @@ impl<'a> Checked<'a> {
 
 /// Whether each rule holds of the plan and the certificate. Otherwise the first fault is answered, or want of memory:
 /// it takes 256 bytes for each node.
-#[tactic(auto, using(crate::proofs::Ends::ends_within_rank, crate::proofs::Promised::accepted_keeps))]
+#[tactic(auto, using(crate::proofs::Ends::ends_within_rank, crate::proofs::Promised::accepted_keeps, crate::proofs::Exact::runs_as_sent))]
 pub fn check<'a>(
     alloc: Global,
     plan: &'a Plan,
@@ -65,6 +69,10 @@ pub fn check<'a>(
     // In every run a packet enters only the node that holds its destination, within its certified hops, and what comes
     // joins packets that were put in.
     ensures every_run { OnOk result (KeepsPackets plan.now certificate.now) }
+
+    // Where one message at a time is sent under a key to a destination, of five packets at most, what comes of it is
+    // that message.
+    ensures exact { OnOk result ((key : KeyValue) (d : ℕ) (w : NetworkState) → RunsAsSent 64 plan.now key d w) }
 {
     let trial = Trial::new(alloc, plan, certificate)?;
     for rule in RULES {

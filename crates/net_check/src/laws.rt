@@ -1,9 +1,45 @@
 //! Laws of the network of any plan. The functions do nothing: their contracts are the laws.
+ghost use Rattle.std.specs.Prelude.{◌≡◌, ℕ, Some};
+ghost use Rattle.mctp_transport.specs.Frames.{KeyValue};
 ghost use Rattle.net_plan.specs.declared.plan.Plan.{Plan};
-ghost use Rattle.net_check.specs.Networks.{NetworkState, EventValue, IsStuck};
+ghost use Rattle.net_plan.specs.declared.certificate.Certificate.{Certificate};
+ghost use Rattle.net_check.specs.Rules.{Accepts};
+ghost use Rattle.net_check.specs.Repositories.{RecordsHaveOrder};
+ghost use Rattle.net_check.specs.Termini.{TerminusState, HoldsBytes};
+ghost use Rattle.net_check.specs.States.{NetworkState};
+ghost use Rattle.net_check.specs.Events.{EventValue};
+ghost use Rattle.net_check.specs.Networks.{GoesOn};
+ghost use Rattle.net_check.specs.Headline.{WalksCollectEach};
+ghost use Rattle.net_check.specs.Deliveries.{HeldAreLedOn, Delivers};
+ghost use Rattle.net_check.specs.ExactMessages.{CanBeSent, SixAreTooMany};
 
-/// Whatever the event, the network has an outcome and a next state for it.
+/// Whatever the event, the network has an outcome and a next state for it, where its termini hold bytes.
 #[tactic(auto, using(crate::proofs::Steps::some_step))]
 pub fn never_stuck()
-    ensures { (plan : Plan) (w : NetworkState) (event : EventValue) → ¬ IsStuck plan w event }
+    ensures { (plan : Plan) (w : NetworkState) (event : EventValue)
+        → ((n : ℕ) (t : TerminusState) → w.terminus n ≡ Some t → HoldsBytes t) → GoesOn plan w event }
+{}
+
+/// Where each row leads on what is held elsewhere, a flight whose destination is held is never stopped, and enters
+/// within the certified hops of its origin and one move more.
+#[tactic(auto, using(crate::proofs::Delivered::accepted_delivers))]
+pub fn held_is_delivered()
+    ensures { (plan : Plan) (cert : Certificate) → Accepts plan cert → HeldAreLedOn plan → Delivers plan cert }
+{}
+
+/// Where the records of each terminus are in the certificate's order, a finished walk has collected each of them.
+#[tactic(auto, using(crate::proofs::ByPlace::walks_collect_each))]
+pub fn walks_collect_each()
+    ensures { (plan : Plan) (cert : Certificate) → RecordsHaveOrder plan cert → WalksCollectEach plan cert }
+{}
+
+/// A message of 1 to 64 packets can be sent in a tidy run so that it comes.
+#[tactic(auto, using(crate::proofs::Sent::can_be_sent))]
+pub fn messages_can_be_sent()
+    ensures { (plan : Plan) (cert : Certificate) → CanBeSent 64 64 plan cert }
+{}
+
+/// Of a message of six packets another message can come in a tidy run.
+pub fn six_are_too_many()
+    ensures { (plan : Plan) (cert : Certificate) → SixAreTooMany 64 plan cert }
 {}

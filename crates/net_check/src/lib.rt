@@ -21,7 +21,9 @@ pub use certifying::certify;
 pub use check_error::CheckError;
 pub use checked::{Checked, check};
 pub use fault::Fault;
-pub use laws::never_stuck;
+pub use laws::{
+    held_is_delivered, messages_can_be_sent, never_stuck, six_are_too_many, walks_collect_each,
+};
 pub use rule::Rule;
 
 #[cfg(test)]

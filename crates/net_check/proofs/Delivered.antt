@@ -1,0 +1,249 @@
+-- A flight whose destination is held moves on until it enters, within its certified hops.
+use Rattle.std.proofs.Common.{◌≡◌, ◌≢◌, ◌⊎◌, ℕ, suc, ◌+◌, ◌≤◌, Bool, true, false, not, List, [], ◌∷◌, ◌++◌, length, Some, None, sym, refl, ◌∙◌, subst, inl, inr, arith}
+use Rattle.std.specs.List.{AllByRecursion}
+use Rattle.std.proofs.lemmas.List.Elements.{recursion_from_All}
+use Rattle.std.proofs.lemmas.Option.{same_Some, none-some}
+use Rattle.mctp_transport.specs.Frames.{Frame}
+use Rattle.net_check.specs.declared.rule.Rule.TheVariants.{C02}
+use Rattle.net_plan.specs.declared.plan.Plan.{Plan}
+use Rattle.net_plan.specs.declared.certificate.Certificate.{Certificate}
+use Rattle.net_check.specs.Routing.{Holds, HasRow, IsBridge}
+use Rattle.net_check.specs.Ranks.{rank}
+use Rattle.net_check.specs.Rules.{Accepts}
+use Rattle.net_check.specs.Decisions.{Obstacle, Here, Drop, Forward, B10, B11, B12}
+use Rattle.net_check.specs.States.{NetworkState, Flight, at_start, destination, without_flight, with_made}
+use Rattle.net_check.specs.Events.{EventValue, Move, OutcomeValue, Stopped, Lost}
+use Rattle.net_check.specs.Networks.{Step, Moves, IsDecided}
+use Rattle.net_check.specs.Runs.{Turn, Run, RunFrom, after_all, reached, PutsIn}
+use Rattle.net_check.specs.Deliveries.{HeldAreLedOn, IsDeliverable, moves_of, IsNotLost, HasEntered, IsOnItsWay, Delivers}
+use Rattle.net_check.proofs.Nexts.{HasMoved, IsNew, step_is_next}
+use Rattle.net_check.proofs.Kept.{Kept, at_start_keeps, next_keeps}
+use Rattle.net_check.proofs.Fates.{counts, moved_to, step_fate}
+use Rattle.net_check.proofs.Promised.{run_parts}
+
+-- the flight is where its destination is held, or where it is forwarded along a row
+abbrev pub IsOnRoute : Plan → Flight → Type 0
+IsOnRoute plan f = Holds plan f.node (destination f) ⊎ ((IsBridge plan f.node ⊎ (f.hops ≡ 0)) × HasRow plan f.node (destination f))
+
+-- what is kept: what every run keeps, and that each flight that can be delivered is on its route
+pub record IsReady (plan : Plan) (cert : Certificate) (w : NetworkState) : Type 0 where
+  pub kept : Kept plan cert (λ p. Unit {0}) w
+  pub routed : (number : ℕ) (f : Flight) → w.flight number ≡ Some f → IsDeliverable plan f → IsOnRoute plan f
+
+start_is_ready : (plan : Plan) (cert : Certificate) → IsReady plan cert (at_start plan cert)
+start_is_ready plan cert = record { kept = at_start_keeps plan cert (λ p. Unit {0}); routed = λ number f is. absurd (cc) }
+
+module _ (plan : Plan) (cert : Certificate) (accepted : Accepts plan cert) (leads : HeldAreLedOn plan) where
+  moved_on_route : (w : NetworkState) (g : Flight) → HasMoved plan w g → IsDeliverable plan g → IsOnRoute plan g
+  moved_on_route w g moved deliverable =
+      let f = moved.flight in
+      let P : Flight → Type 0 = λ h. IsDeliverable plan h → IsOnRoute plan h in
+      let now : IsDeliverable plan (moved_to f moved.next) → IsOnRoute plan (moved_to f moved.next) = λ d.
+      let holder = d.0.0 in
+      let away : holder ≢ f.node = λ same. let H : ℕ → Type 0 = λ n. Holds plan n (destination f) in moved.decided.0 (subst H same d.0.1) in
+      elim (leads f.node (destination f) moved.next moved.decided.3 holder d.0.1 away) [
+        | inl here ↦ inl here
+        | inr (bridge, row) ↦ inr (inl bridge, row)
+      ] in
+      subst P (sym moved.is) now deliverable
+
+  new_on_route : (puts : Frame → Type 0) (g : Flight) → IsNew puts g → IsDeliverable plan g → IsOnRoute plan g
+  new_on_route puts g new deliverable =
+      let P : Flight → Type 0 = λ h. IsDeliverable plan h → IsOnRoute plan h in
+      subst P (sym new.is) (λ d. elim d.1 [ inl holds ↦ inl holds | inr row ↦ inr (inr refl, row) ]) deliverable
+
+  step_is_ready : (w : NetworkState) (turn : Turn) → IsReady plan cert w → Step plan w turn.event turn.outcome turn.after → IsReady plan cert turn.after
+  step_is_ready w turn ready step =
+      let next = step_is_next plan w turn.event turn.outcome turn.after step in
+      record {
+        kept = next_keeps plan cert (λ p. Unit {0}) accepted w (PutsIn turn) turn.after ready.kept (λ p put. tt) next;
+        routed = λ number g is deliverable. elim (next.flights number g is) [
+          | inl (older, there) ↦ ready.routed older g there deliverable
+          | inr changed ↦ elim changed [ inl moved ↦ moved_on_route w g moved deliverable | inr new ↦ new_on_route (PutsIn turn) g new deliverable ]
+        ];
+      }
+
+  run_is_ready : (w : NetworkState) (turns : List Turn) → IsReady plan cert w → RunFrom plan w turns → IsReady plan cert (after_all w turns)
+  run_is_ready w [] ready run = ready
+  run_is_ready w (turn ∷ turns) ready (step, rest) = run_is_ready turn.after turns (step_is_ready w turn ready step) rest
+
+  -- what is held can be held
+  held_is_assignable : (n e : ℕ) → Holds plan n e → (8 ≤ e) × (e ≤ 254)
+  held_is_assignable n e holds = (accepted C02 n None (Some e)).0 holds
+
+  -- no flight on its route is stopped
+  never_ends : (f : Flight) (why : Obstacle) → IsDeliverable plan f → IsOnRoute plan f → IsDecided plan f (Drop why) → ⊥
+  never_ends f B10 deliverable route (away, not) = not (held_is_assignable deliverable.0.0 (destination f) deliverable.0.1)
+  never_ends f B12 deliverable route (away, may, stays) = elim route [ inl here ↦ away here | inr goes ↦ stays goes.0 ]
+  never_ends f B11 deliverable route (away, may, goes, none) = elim route [ inl here ↦ away here | inr on ↦ none on.1.0 on.1.1 ]
+
+  -- a flight that has gone doesn't come back
+  gone_stays : (w : NetworkState) (number : ℕ) (turns : List Turn) → number ≤ w.made → w.flight number ≡ None → RunFrom plan w turns → length (moves_of number turns) ≡ 0
+  gone_stays w number [] old gone run = refl
+  gone_stays w number (turn ∷ turns) old gone (step, rest) =
+      let next = step_is_next plan w turn.event turn.outcome turn.after step in
+      let made = next.made in
+      let later : turn.after.flight number ≡ None → length (moves_of number turns) ≡ 0 = λ none. gone_stays turn.after number turns (omega arith) none rest in
+      elim (step_fate plan w number turn.event turn.outcome turn.after old step) [
+        | inl same ↦ rw same.uncounted (later (same.flight ∙ gone))
+        | inr changed ↦ elim changed [
+          | inl lost ↦ rw lost.uncounted (later lost.gone)
+          | inr moved ↦ absurd (none-some moved.flight (sym gone ∙ moved.stood))
+        ]
+      ]
+
+  -- what becomes of the flight within the turns
+  abbrev Becomes : ℕ → Flight → List Turn → NetworkState → Type 0
+  Becomes number f turns new =
+      IsOnItsWay number f turns new
+      ⊎ (HasEntered plan (destination f) number turns × (f.hops + length (moves_of number turns) ≤ rank cert f.origin (destination f) + 1))
+
+  -- the same with one turn more before
+  entered_later : (e number : ℕ) (turn : Turn) (turns : List Turn) → HasEntered plan e number turns → HasEntered plan e number (turn ∷ turns)
+  entered_later e number turn turns h = record {
+    place = suc h.place;
+    turn = h.turn;
+    there = h.there;
+    node = h.node;
+    key = h.key;
+    answer = h.answer;
+    enters = h.enters;
+    holds = h.holds;
+  }
+
+  becomes_untouched : (number : ℕ) (f : Flight) (turn : Turn) (turns : List Turn) (new : NetworkState) → counts number turn.event turn.outcome ≡ false
+      → Becomes number f turns new → Becomes number f (turn ∷ turns) new
+  becomes_untouched number f turn turns new uncounted (inl way) = inl (record {
+    flight = way.flight;
+    stands = way.stands;
+    packet = way.packet;
+    origin = way.origin;
+    hops = rw uncounted way.hops;
+  })
+  becomes_untouched number f turn turns new uncounted (inr (entered, few)) = inr (entered_later (destination f) number turn turns entered, rw uncounted few)
+
+  becomes_moved : (number next : ℕ) (f : Flight) (turn : Turn) (turns : List Turn) (new : NetworkState) → counts number turn.event turn.outcome ≡ true
+      → Becomes number (moved_to f next) turns new → Becomes number f (turn ∷ turns) new
+  becomes_moved number next f turn turns new counted (inl way) = inl (record {
+    flight = way.flight;
+    stands = way.stands;
+    packet = way.packet;
+    origin = way.origin;
+    hops = rw counted (let h = way.hops in omega arith);
+  })
+  becomes_moved number next f turn turns new counted (inr (entered, few)) = inr (entered_later (destination f) number turn turns entered, rw counted (omega arith))
+
+  track : (w : NetworkState) (turns : List Turn) (number : ℕ) (f : Flight) → IsReady plan cert w → RunFrom plan w turns → w.flight number ≡ Some f → IsDeliverable plan f
+      → AllByRecursion (λ turn. turn.outcome ≢ Lost number) turns → Becomes number f turns (after_all w turns)
+  track w [] number f ready run stands deliverable kept = inl (record { flight = f; stands = stands; packet = refl; origin = refl; hops = omega arith })
+  track w (turn ∷ turns) number f ready (step, rest) stands deliverable (not_lost, kept) =
+      let old = ready.kept.numbers number f stands in
+      let then_ready = step_is_ready w turn ready step in
+      elim (step_fate plan w number turn.event turn.outcome turn.after old step) [
+        | inl same ↦
+            becomes_untouched number f turn turns (after_all turn.after turns) same.uncounted
+            (track turn.after turns number f then_ready rest (same.flight ∙ stands) deliverable kept)
+        | inr changed ↦ elim changed [
+          | inl lost ↦ absurd (not_lost lost.lost)
+          | inr moved ↦
+              let F : Flight → Type 0 = λ g. Becomes number g (turn ∷ turns) (after_all turn.after turns) in
+              let same : f ≡ moved.flight = same_Some f moved.flight (sym stands ∙ moved.stood) in
+              let D : Flight → Type 0 = IsDeliverable plan in
+              let deliverable' : IsDeliverable plan moved.flight = subst D same deliverable in
+              let g = moved.flight in
+              subst F (sym same)
+              (elim moved.made_of_it [
+                | inl (holds, gone, (key, answer, enters)) ↦
+                    let made = (step_is_next plan w turn.event turn.outcome turn.after step).made in
+                    let none = gone_stays turn.after number turns (omega arith) gone rest in
+                    let within = (ready.kept.flights number g moved.stood).0 in
+                    inr (
+                      record {
+                        place = 0;
+                        turn = turn;
+                        there = refl;
+                        node = g.node;
+                        key = key;
+                        answer = answer;
+                        enters = enters;
+                        holds = holds;
+                      },
+                      rw moved.counted (omega (arith, none, within)),
+                    )
+                | inr other ↦ elim other [
+                  | inl (why, ends) ↦ absurd (never_ends g why deliverable' (ready.routed number g moved.stood deliverable') ends)
+                  | inr (next, decided, there) ↦
+                      becomes_moved number next g turn turns (after_all turn.after turns) moved.counted
+                      (track turn.after turns number (moved_to g next) then_ready rest there deliverable' kept)
+                ]
+              ])
+        ]
+      ]
+
+  -- a run is one up to a turn, and one from there
+  run_splits : (w : NetworkState) (earlier later : List Turn) → RunFrom plan w (earlier ++ later) → RunFrom plan w earlier × RunFrom plan (after_all w earlier) later
+  run_splits w [] later run = (tt, run)
+  run_splits w (turn ∷ earlier) later (step, rest) = let h = run_splits turn.after earlier later rest in ((step, h.0), h.1)
+
+  after_splits : (w : NetworkState) (earlier later : List Turn) → after_all w (earlier ++ later) ≡ after_all (after_all w earlier) later
+  after_splits w [] later = refl
+  after_splits w (turn ∷ earlier) later = after_splits turn.after earlier later
+
+  becomes : (earlier later : List Turn) (number : ℕ) (f : Flight) → Run plan cert (earlier ++ later) → (reached plan cert earlier).flight number ≡ Some f
+      → IsDeliverable plan f → IsNotLost number later → Becomes number f later (reached plan cert (earlier ++ later))
+  becomes earlier later number f run stands deliverable kept =
+      let parts = run_splits (at_start plan cert) earlier later run in
+      let ready = run_is_ready (at_start plan cert) earlier (start_is_ready plan cert) parts.0 in
+      let B : NetworkState → Type 0 = Becomes number f later in
+      subst B (sym (after_splits (at_start plan cert) earlier later))
+      (track (reached plan cert earlier) later number f ready parts.1 stands deliverable (recursion_from_All (λ turn. turn.outcome ≢ Lost number) later kept))
+
+  -- a flight on its way has made no more moves than it is certified
+  few_hops : (turns later : List Turn) (number : ℕ) (f : Flight) → Run plan cert turns → IsOnItsWay number f later (reached plan cert turns)
+      → f.hops + length (moves_of number later) ≤ rank cert f.origin (destination f)
+  few_hops turns later number f run way =
+      let ready = run_is_ready (at_start plan cert) turns (start_is_ready plan cert) run in
+      let within = (ready.kept.flights number way.flight way.stands).0 in
+      let R : Frame → Type 0 = λ p. way.flight.hops + rank cert way.flight.node p.destination ≤ rank cert way.flight.origin p.destination in
+      let O : ℕ → Type 0 = λ n. way.flight.hops + rank cert way.flight.node (destination f) ≤ rank cert n (destination f) in
+      let h = subst O way.origin (subst R way.packet within) in
+      let hops = way.hops in
+      omega arith
+
+  -- what a move that ends a flight has decided
+  stopped_by : (v : NetworkState) (k j : ℕ) (f : Flight) (why : Obstacle) (new : NetworkState) → Moves plan v k f (Stopped j why) new → IsDecided plan f (Drop why)
+  stopped_by v k j f why new (Here, decided, done) = absurd done
+  stopped_by v k j f why new (Drop other, decided, (same, told, is)) = let D : Obstacle → Type 0 = λ w. IsDecided plan f (Drop w) in subst D (sym told) decided
+  stopped_by v k j f why new (Forward next, decided, done) = absurd done
+
+  step_stopped : (w : NetworkState) (number : ℕ) (keep : Bool) (f : Flight) (k : ℕ) (why : Obstacle) (new : NetworkState) → w.flight number ≡ Some f
+      → Step plan w (Move number keep) (Stopped k why) new → IsDecided plan f (Drop why)
+  step_stopped w number false f k why new stands (may, (g, stood, moves)) =
+      let D : Flight → Type 0 = λ h. IsDecided plan h (Drop why) in
+      subst D (same_Some g f (sym stood ∙ stands)) (stopped_by (without_flight w number) number k g why new moves)
+  step_stopped w number true f k why new stands (may, (g, stood, moves)) =
+      let D : Flight → Type 0 = λ h. IsDecided plan h (Drop why) in
+      subst D (same_Some g f (sym stood ∙ stands)) (stopped_by (with_made w (w.made + 1)) (w.made + 1) k g why new moves)
+
+  pub accepted_delivers : Delivers plan cert
+  accepted_delivers = record {
+    stops_none = λ earlier turn number keep f k why run stands deliverable event outcome.
+        let parts = run_parts plan (at_start plan cert) earlier turn run in
+        let ready = run_is_ready (at_start plan cert) earlier (start_is_ready plan cert) parts.0 in
+        let E : EventValue → Type 0 = λ e. Step plan (reached plan cert earlier) e turn.outcome turn.after in
+        let O : OutcomeValue → Type 0 = λ o. Step plan (reached plan cert earlier) (Move number keep) o turn.after in
+        never_ends f why deliverable (ready.routed number f stands deliverable)
+        (step_stopped (reached plan cert earlier) number keep f k why turn.after stands (subst O outcome (subst E event parts.1)));
+    stays = λ earlier later number f run stands deliverable kept.
+        elim (becomes earlier later number f run stands deliverable kept) [ inl way ↦ inl way | inr (entered, few) ↦ inr entered ];
+    enters = λ earlier later number f run stands deliverable kept many.
+        elim (becomes earlier later number f run stands deliverable kept) [
+          | inl way ↦ absurd (omega (arith, few_hops (earlier ++ later) later number f run way))
+          | inr (entered, few) ↦ entered
+        ];
+    most = λ earlier later number f run stands deliverable kept.
+        elim (becomes earlier later number f run stands deliverable kept) [
+          | inl way ↦ omega (arith, few_hops (earlier ++ later) later number f run way)
+          | inr (entered, few) ↦ few
+        ];
+  }

@@ -1,0 +1,92 @@
+-- Flights whose destination is held: that they enter, and after how many moves.
+use Rattle.std.specs.Prelude.{◌≡◌, ◌≢◌, ◌⊎◌, ℕ, ◌+◌, ◌≤◌, Bool, true, false, not, ◌&&◌, ◌==◌, List, [], ◌∷◌, ◌++◌, length, filter, slice_get, Some, All}
+use Rattle.mctp_transport.specs.Frames.{KeyValue}
+use Rattle.mctp_transport.specs.Hearing.{Answer}
+use Rattle.net_plan.specs.declared.plan.Plan.{Plan}
+use Rattle.net_plan.specs.declared.certificate.Certificate.{Certificate}
+use Rattle.net_check.specs.Routing.{Holds, Routes, HasRow, IsBridge}
+use Rattle.net_check.specs.Ranks.{rank}
+use Rattle.net_check.specs.Decisions.{Obstacle}
+use Rattle.net_check.specs.States.{NetworkState, Flight, destination}
+use Rattle.net_check.specs.Events.{EventValue, Put, Move, Lose, Expire, AnswerAt, OutcomeValue, PutIn, Moved, Entered, Stopped, Lost, Expired, Answered, Silent, Refused}
+use Rattle.net_check.specs.Runs.{Turn, Run, reached}
+
+-- where a node other than n holds e, m holds it too or is a bridge that routes it
+abbrev pub IsLedOn : Plan → ℕ → ℕ → ℕ → Type 0
+IsLedOn plan n e m = (holder : ℕ) → Holds plan holder e → holder ≢ n → Holds plan m e ⊎ (IsBridge plan m × HasRow plan m e)
+
+-- each row leads on what is held elsewhere
+abbrev pub HeldAreLedOn : Plan → Type 0
+HeldAreLedOn plan = (n e m : ℕ) → Routes plan n e m → IsLedOn plan n e m
+
+-- a node holds the flight's destination, and its origin holds it or has a row for it
+abbrev pub IsDeliverable : Plan → Flight → Type 0
+IsDeliverable plan f = ((n : ℕ) × Holds plan n (destination f))
+    × (Holds plan f.origin (destination f) ⊎ HasRow plan f.origin (destination f))
+
+-- the event moves the flight itself, and not a copy of it
+abbrev pub names_itself : ℕ → EventValue → Bool
+names_itself number (Put node bytes) = false
+names_itself number (Move k true) = false
+names_itself number (Move k false) = number == k
+names_itself number (Lose k) = false
+names_itself number (Expire node key) = false
+names_itself number (AnswerAt node) = false
+
+abbrev pub is_refusal : OutcomeValue → Bool
+is_refusal (PutIn number node) = false
+is_refusal (Moved number node hops) = false
+is_refusal (Entered number node key answer) = false
+is_refusal (Stopped number why) = false
+is_refusal (Lost number) = false
+is_refusal (Expired node was_open) = false
+is_refusal (Answered node first last) = false
+is_refusal (Silent node) = false
+is_refusal (Refused why) = true
+
+-- the turns that moved the flight itself
+abbrev pub moves_of : ℕ → List Turn → List Turn
+moves_of number turns = filter (λ turn. names_itself number turn.event && not (is_refusal turn.outcome)) turns
+
+-- none of the turns loses the flight
+abbrev pub IsNotLost : ℕ → List Turn → Type 0
+IsNotLost number turns = All (λ turn. turn.outcome ≢ Lost number) turns
+
+-- with one of the turns the flight enters a node that holds e
+pub record HasEntered (plan : Plan) (e number : ℕ) (turns : List Turn) : Type 0 where
+  pub place : ℕ
+  pub turn : Turn
+  pub there : slice_get turns place ≡ Some turn
+  pub node : ℕ
+  pub key : KeyValue
+  pub answer : Answer
+  pub enters : turn.outcome ≡ Entered number node key answer
+  pub holds : Holds plan node e
+
+-- the flight is still on its way, with a hop more for each of its moves
+pub record IsOnItsWay (number : ℕ) (f : Flight) (turns : List Turn) (w : NetworkState) : Type 0 where
+  pub flight : Flight
+  pub stands : w.flight number ≡ Some flight
+  pub packet : flight.packet ≡ f.packet
+  pub origin : flight.origin ≡ f.origin
+  pub hops : flight.hops ≡ f.hops + length (moves_of number turns)
+
+-- What holds of a flight that can be delivered, in each run. The hops that it has made count as moves; a flight that has
+-- just been put in has none.
+pub record Delivers (plan : Plan) (cert : Certificate) : Type 0 where
+  -- no move ends the flight, or a copy of it, by B10, B11 or B12
+  pub stops_none : (earlier : List Turn) (turn : Turn) (number : ℕ) (keep : Bool) (f : Flight) (k : ℕ) (why : Obstacle)
+      → Run plan cert (earlier ++ turn ∷ []) → (reached plan cert earlier).flight number ≡ Some f → IsDeliverable plan f
+      → turn.event ≡ Move number keep → turn.outcome ≢ Stopped k why
+  -- where it isn't lost, it is on its way until it has entered
+  pub stays : (earlier later : List Turn) (number : ℕ) (f : Flight) → Run plan cert (earlier ++ later)
+      → (reached plan cert earlier).flight number ≡ Some f → IsDeliverable plan f → IsNotLost number later
+      → IsOnItsWay number f later (reached plan cert (earlier ++ later)) ⊎ HasEntered plan (destination f) number later
+  -- and with the move after as many as the certified hops of its origin, if not before, it has entered
+  pub enters : (earlier later : List Turn) (number : ℕ) (f : Flight) → Run plan cert (earlier ++ later)
+      → (reached plan cert earlier).flight number ≡ Some f → IsDeliverable plan f → IsNotLost number later
+      → rank cert f.origin (destination f) + 1 ≤ f.hops + length (moves_of number later) → HasEntered plan (destination f) number later
+  -- it never makes more moves
+  pub most : (earlier later : List Turn) (number : ℕ) (f : Flight) → Run plan cert (earlier ++ later)
+      → (reached plan cert earlier).flight number ≡ Some f → IsDeliverable plan f → IsNotLost number later
+      → f.hops + length (moves_of number later) ≤ rank cert f.origin (destination f) + 1
