@@ -49,7 +49,8 @@ pub fn route_entries(
 fn push_entries(entries: &mut Vec<RouteEntry>, row: &Row, next: &Neighbor) -> Result<(), AllocError>
     requires address { length next.now.address.now ≤ 8 }
     requires port { row.now.hop.port < 32 }
-    ensures { OnOk result (map entry_value entries.new.items ≡ map entry_value entries.old.items ++ row_entries row.now next.now) }
+    ensures { OnOk result
+        (map entry_value entries.new.items ≡ map entry_value entries.old.items ++ row_entries row.now next.now) }
 {
     match next.kind {
         DeviceKind::Endpoint => entries.push(run(
@@ -72,7 +73,8 @@ fn push_bridge_entries(
 ) -> Result<(), AllocError>
     requires address { length next.now.address.now ≤ 8 }
     requires port { row.now.hop.port < 32 }
-    ensures { OnOk result (map entry_value entries.new.items ≡ map entry_value entries.old.items ++ bridge_entries row.now next.now) }
+    ensures { OnOk result
+        (map entry_value entries.new.items ≡ map entry_value entries.old.items ++ bridge_entries row.now next.now) }
 {
     if next.eid.value == row.first.value {
         entries.push(run(row, next, next.eid, row.size, kind_of_own(row.size)))?;
