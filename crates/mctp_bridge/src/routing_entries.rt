@@ -1,4 +1,4 @@
-//! The entries that a bridge's rows give (DSP0236, section 12.13).
+//! The entries that a bridge's rows give (DSP0236, Get Routing Table Entries).
 ghost use Rattle.std.specs.Prelude.{◌≡◌, ◌+◌, ◌<◌, ◌≤◌, ◌++◌, length, map, All, IfOk, OnOk};
 ghost use Rattle.mctp_control.specs.RouteEntries.{entry_value};
 ghost use Rattle.mctp_bridge.specs.Entries.{run_entry, own_kind, row_entries, bridge_entries, table_entries};
