@@ -9,8 +9,8 @@ ghost use Rattle.mctpplan.specs.Answers.{stream, AreGiven, AreUnread, IsRefusedF
 use crate::refused::{Input, Refused};
 use crate::status::Status;
 use crate::texts::{self, NO_MEMORY, YES};
-use net_check::plan::{Certificate, Plan, Sink, Source, read_certificate, read_plan, write_whole};
 use net_check::{CheckError, check};
+use net_plan::{Certificate, Plan, Sink, Source, read_certificate, read_plan, write_whole};
 use std::alloc::{AllocError, Global};
 use std::borrow::CowStr;
 

@@ -11,7 +11,7 @@ mod texts;
 use command_line::{Command, words};
 use commands::{refuse, run_check};
 use files::FileAtPath;
-use net_check::plan::Counted;
+use net_plan::Counted;
 use refused::Refused;
 use status::Status;
 use std::env;

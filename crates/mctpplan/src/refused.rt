@@ -3,7 +3,7 @@ ghost use Rattle.std.specs.Prelude.{◌≡◌};
 
 use crate::status::Status;
 use clap::error::ErrorKind;
-use net_check::plan::PlanError;
+use net_plan::PlanError;
 use std::alloc::AllocError;
 use std::io;
 

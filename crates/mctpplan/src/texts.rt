@@ -5,7 +5,7 @@ ghost use Rattle.mctpplan.specs.Lines.{fault_text};
 
 use crate::refused::{Input, Refused};
 use net_check::Fault;
-use net_check::plan::Plan;
+use net_plan::Plan;
 use std::alloc::{AllocError, Global};
 use std::borrow::CowStr;
 use std::fmt;

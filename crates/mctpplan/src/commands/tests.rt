@@ -1,6 +1,6 @@
 use super::*;
 use crate::files::FileAtPath;
-use net_check::plan::{Counted, PlanError};
+use net_plan::{Counted, PlanError};
 use std::io::{self, ErrorKind, Read, Write};
 use std::process::Abort;
 use std::test::Fail;
