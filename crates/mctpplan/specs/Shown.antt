@@ -1,0 +1,50 @@
+-- The lines that show packets and records.
+use Rattle.std.specs.Prelude.{ℕ, List, ◌++◌, length, codes}
+use Rattle.std.specs.Fmt.{decimal}
+use Rattle.hex.specs.Hex.{encode_lower}
+use Rattle.mctp_transport.specs.Frames.{Frame, bit}
+use Rattle.pdr_record.specs.Fields.{bytes_of}
+use Rattle.pdr_record.specs.Layouts.{TerminusValue, NumericValue, StateValue, AssociationValue}
+use Rattle.pdr_record.specs.Records.{BodyValue, Terminus, Numeric, State, Association, Other, type_of, body_fields, RecordValue}
+
+-- the code of a cause
+abbrev pub refused_bytes : List ℕ → List ℕ
+refused_bytes code = codes "refused " ++ (code ++ codes "\n")
+
+-- the fields of a packet's header, and its payload in hex
+abbrev pub packet_bytes : Frame → List ℕ
+packet_bytes f = codes "packet reserved " ++ (decimal f.reserved ++ (codes " destination " ++ (decimal f.destination ++ (codes " source " ++ (decimal f.source
+    ++ (codes " som " ++ (decimal (bit f.som) ++ (codes " eom " ++ (decimal (bit f.eom) ++ (codes " number " ++ (decimal f.number
+    ++ (codes " owner " ++ (decimal (bit f.owner) ++ (codes " tag " ++ (decimal f.tag ++ (codes " payload " ++ (encode_lower f.payload ++ codes "\n")))))))))))))))))
+
+abbrev pub terminus_bytes : TerminusValue → List ℕ
+terminus_bytes t = codes "terminus " ++ (decimal t.terminus_handle ++ (codes " validity " ++ (decimal t.validity ++ (codes " tid " ++ (decimal t.tid
+    ++ (codes " container " ++ (decimal t.container_id ++ (codes " locator " ++ (decimal t.locator_type ++ (codes " value " ++ (encode_lower t.locator_value ++ codes "\n")))))))))))
+
+abbrev pub numeric_bytes : NumericValue → List ℕ
+numeric_bytes n = codes "numeric " ++ (decimal n.sensor.terminus_handle ++ (codes " sensor " ++ (decimal n.sensor.sensor_id ++ (codes " entity " ++ (decimal n.sensor.entity.entity_type
+    ++ (codes " instance " ++ (decimal n.sensor.entity.instance_number ++ (codes " container " ++ (decimal n.sensor.entity.container_id
+    ++ (codes " data " ++ (decimal n.data_size ++ (codes " range " ++ (decimal n.range_format ++ codes "\n")))))))))))))
+
+abbrev pub state_bytes : StateValue → List ℕ
+state_bytes s = codes "state " ++ (decimal s.sensor.terminus_handle ++ (codes " sensor " ++ (decimal s.sensor.sensor_id ++ (codes " entity " ++ (decimal s.sensor.entity.entity_type
+    ++ (codes " instance " ++ (decimal s.sensor.entity.instance_number ++ (codes " container " ++ (decimal s.sensor.entity.container_id
+    ++ (codes " sets " ++ (decimal (length s.state_sets) ++ codes "\n")))))))))))
+
+abbrev pub association_bytes : AssociationValue → List ℕ
+association_bytes a = codes "association " ++ (decimal a.container_id ++ (codes " type " ++ (decimal a.association_type ++ (codes " entity " ++ (decimal a.container_entity.entity_type
+    ++ (codes " instance " ++ (decimal a.container_entity.instance_number ++ (codes " container " ++ (decimal a.container_entity.container_id
+    ++ (codes " contained " ++ (decimal (length a.contained_entities) ++ codes "\n")))))))))))
+
+-- the line of a body, by its layout
+abbrev pub body_bytes : BodyValue → List ℕ
+body_bytes (Terminus t) = terminus_bytes t
+body_bytes (Numeric n) = numeric_bytes n
+body_bytes (State s) = state_bytes s
+body_bytes (Association a) = association_bytes a
+body_bytes (Other number bytes) = codes "other " ++ (encode_lower bytes ++ codes "\n")
+
+-- the header's line, whose length is the number of bytes after the header, and the body's
+abbrev pub record_text_bytes : RecordValue → List ℕ
+record_text_bytes r = codes "record handle " ++ (decimal r.handle ++ (codes " type " ++ (decimal (type_of r.body) ++ (codes " change " ++ (decimal r.change
+    ++ (codes " length " ++ (decimal (length (bytes_of (body_fields r.body))) ++ (codes "\n" ++ body_bytes r.body))))))))
