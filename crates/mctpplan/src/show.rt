@@ -1,5 +1,5 @@
 //! The command `show`: what bytes are, or why they are nothing.
-ghost use Rattle.std.specs.Prelude.{◌≡◌, ◌⊎◌, ◌<◌, ◌^◌, ◌-◌, IfOk, IfErr};
+ghost use Rattle.std.specs.Prelude.{◌≡◌, ◌⊎◌, ◌<◌, ◌^◌, ◌-◌, IfOk, IfErr, string_bytes};
 ghost use Rattle.mctpplan.specs.declared.refused.Refused.TheVariants.{Unwritten};
 ghost use Rattle.mctpplan.specs.declared.status.Status.TheVariants.{Yes, Fault, NoMemory};
 ghost use Rattle.mctpplan.specs.Answers.{stream};
@@ -12,7 +12,7 @@ use crate::refused::Refused;
 use crate::status::Status;
 use hex::FromHexError;
 use mctp_transport::{PacketView, Wire};
-use net_check::plan::Sink;
+use net_plan::Sink;
 use pdr_record::Record;
 use std::alloc::{AllocError, Global};
 
