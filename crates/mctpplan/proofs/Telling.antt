@@ -1,13 +1,13 @@
 -- Why a certificate is not read, by the reader's error.
 use Rattle.std.proofs.Common.{◌≡◌, ◌+◌, refl}
-use Rattle.net_check.specs.declared.plan.nodes.Plan.{Plan}
-use Rattle.net_check.specs.declared.plan.error.PlanError.{PlanError}
-use Rattle.net_check.specs.declared.plan.error.PlanError.TheVariants as error
-use Rattle.net_check.specs.CertificateText.{IsCertificateOf}
-use Rattle.net_check.specs.PlanValues.{plan_value}
-use Rattle.net_check.specs.Stream.{TakesMoreThan}
-use Rattle.net_check.specs.TextFaults.{error_count}
-use Rattle.net_check.specs.Texts.{Gave, StandsForNone, IsNoJson}
+use Rattle.net_plan.specs.declared.plan.Plan.{Plan}
+use Rattle.net_plan.specs.declared.error.PlanError.{PlanError}
+use Rattle.net_plan.specs.declared.error.PlanError.TheVariants as error
+use Rattle.net_plan.specs.CertificateText.{IsCertificateOf}
+use Rattle.net_plan.specs.PlanValues.{plan_value}
+use Rattle.net_plan.specs.Stream.{TakesMoreThan}
+use Rattle.net_plan.specs.TextFaults.{error_count}
+use Rattle.net_plan.specs.Texts.{Gave, StandsForNone, IsNoJson}
 use Rattle.mctpplan.specs.declared.refused.Input.TheVariants as input
 use Rattle.mctpplan.specs.Answers.{Stream, GavePlan, AreUnread}
 use Rattle.mctpplan.specs.Statuses.{refused_at}

@@ -2,18 +2,18 @@
 use Rattle.std.specs.Prelude.{◌≡◌, ℕ, ◌+◌, List, Option, ⊤}
 use Rattle.std.specs.Io.KnownBytes.{Appends}
 use Rattle.net_check.specs.declared.fault.Fault.{Fault}
-use Rattle.net_check.specs.declared.plan.nodes.Plan.{Plan}
-use Rattle.net_check.specs.declared.plan.certificate.Certificate.{Certificate}
-use Rattle.net_check.specs.declared.plan.error.PlanError.{PlanError}
-use Rattle.net_check.specs.declared.plan.error.PlanError.TheVariants as error
-use Rattle.net_check.specs.CertificateText.{IsCertificateOf}
-use Rattle.net_check.specs.CertificateValues.{certificate_value}
+use Rattle.net_plan.specs.declared.plan.Plan.{Plan}
+use Rattle.net_plan.specs.declared.certificate.Certificate.{Certificate}
+use Rattle.net_plan.specs.declared.error.PlanError.{PlanError}
+use Rattle.net_plan.specs.declared.error.PlanError.TheVariants as error
+use Rattle.net_plan.specs.CertificateText.{IsCertificateOf}
+use Rattle.net_plan.specs.CertificateValues.{certificate_value}
 use Rattle.net_check.specs.Faults.{IsFirstFault, place_of}
-use Rattle.net_check.specs.PlanText.{IsPlanOf}
-use Rattle.net_check.specs.PlanValues.{plan_value}
+use Rattle.net_plan.specs.PlanText.{IsPlanOf}
+use Rattle.net_plan.specs.PlanValues.{plan_value}
 use Rattle.net_check.specs.Rules.{Accepts}
-use Rattle.net_check.specs.Stream.{TakesMoreThan}
-use Rattle.net_check.specs.Texts.{Gave, StandsFor, StandsForNone, IsNoJson}
+use Rattle.net_plan.specs.Stream.{TakesMoreThan}
+use Rattle.net_plan.specs.Texts.{Gave, StandsFor, StandsForNone, IsNoJson}
 use Rattle.mctpplan.specs.declared.refused.Input.{Input}
 use Rattle.mctpplan.specs.declared.refused.Input.TheVariants as input
 use Rattle.mctpplan.specs.declared.refused.Refused.{Refused}
@@ -79,6 +79,7 @@ IsUnread input.Certificate cause plans certificates = (plan : Plan) × GavePlan 
 abbrev pub AreUnread : Refused → Stream → Stream → Type 0
 AreUnread refused.Usage plans certificates = ⊥
 AreUnread (refused.Unreadable unread cause) plans certificates = IsUnread unread cause plans certificates
+AreUnread refused.UnreadableHex plans certificates = ⊥
 AreUnread refused.Unwritten plans certificates = ⊥
 AreUnread refused.NoMemory plans certificates = ⊤
 
@@ -86,6 +87,7 @@ AreUnread refused.NoMemory plans certificates = ⊤
 abbrev pub IsRefusedFor : Refused → Stream → Stream → Stream → Type 0
 IsRefusedFor refused.Usage plans certificates output = ⊥
 IsRefusedFor (refused.Unreadable unread cause) plans certificates output = IsUnread unread cause plans certificates
+IsRefusedFor refused.UnreadableHex plans certificates output = ⊥
 IsRefusedFor refused.Unwritten plans certificates output = Fails output
 IsRefusedFor refused.NoMemory plans certificates output = ⊤
 

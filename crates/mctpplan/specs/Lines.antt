@@ -2,7 +2,7 @@
 use Rattle.std.specs.Prelude.{ℕ, List, ◌++◌, Option, Some, None, codes, unwrap_or}
 use Rattle.std.specs.Fmt.{decimal}
 use Rattle.net_check.specs.declared.fault.Fault.{Fault}
-use Rattle.net_check.specs.declared.plan.nodes.Plan.{Plan}
+use Rattle.net_plan.specs.declared.plan.Plan.{Plan}
 use Rattle.net_check.specs.Faults.{eid_number}
 use Rattle.net_check.specs.Names.{name_of}
 use Rattle.net_check.specs.Rules.{code_of}

@@ -4,8 +4,8 @@ use Rattle.mctpplan.specs.declared.status.Status.{Status}
 use Rattle.mctpplan.specs.declared.status.Status.TheVariants.{Yes, Fault, Unreadable, NoMemory}
 use Rattle.mctpplan.specs.declared.refused.Refused.{Refused}
 use Rattle.mctpplan.specs.declared.refused.Input.{Input}
-use Rattle.net_check.specs.declared.plan.error.PlanError.{PlanError}
-use Rattle.net_check.specs.declared.plan.error.PlanError.TheVariants as error
+use Rattle.net_plan.specs.declared.error.PlanError.{PlanError}
+use Rattle.net_plan.specs.declared.error.PlanError.TheVariants as error
 
 -- the exit status
 abbrev pub number_of : Status → ℕ

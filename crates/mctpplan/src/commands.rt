@@ -9,8 +9,8 @@ ghost use Rattle.mctpplan.specs.Answers.{stream, AreGiven, AreUnread, IsRefusedF
 use crate::refused::{Input, Refused};
 use crate::status::Status;
 use crate::texts::{self, NO_MEMORY, YES};
-use net_check::plan::{Certificate, Plan, Sink, Source, read_certificate, read_plan, write_whole};
 use net_check::{CheckError, check};
+use net_plan::{Certificate, Plan, Sink, Source, read_certificate, read_plan, write_whole};
 use std::alloc::{AllocError, Global};
 use std::borrow::CowStr;
 
@@ -120,7 +120,7 @@ fn read_inputs<P: Source, C: Source>(
 }
 
 /// Writes the answer.
-fn print<O: Sink>(output: &mut O, line: &str) -> Result<(), Refused>
+pub fn print<O: Sink>(output: &mut O, line: &str) -> Result<(), Refused>
     requires { O.failures output.old < 2 ^ 64 - 1 }
     ensures written { OnOk result (Appends (O.contents output.old) (O.contents output.new) line.now) }
     ensures unwritten { IfErr result (λ refused. refused ≡ Unwritten) }

@@ -5,14 +5,16 @@ mod command_line;
 mod commands;
 mod files;
 mod refused;
+mod show;
 mod status;
 mod texts;
 
 use command_line::{Command, words};
 use commands::{refuse, run_check};
 use files::FileAtPath;
-use net_check::plan::Counted;
+use net_plan::Counted;
 use refused::Refused;
+use show::run_show;
 use status::Status;
 use std::env;
 use std::process::ExitCode;
@@ -38,6 +40,7 @@ fn run(rt: &HostRuntime) -> Status {
             &mut output,
             &mut errors,
         ),
+        Ok(Command::Show { kind, hex }) => run_show(alloc, kind, hex, &mut output, &mut errors),
         Err(refused) => refuse(alloc, refused, &mut errors),
     }
 }

@@ -5,7 +5,7 @@ ghost use Rattle.mctpplan.specs.Lines.{fault_text};
 
 use crate::refused::{Input, Refused};
 use net_check::Fault;
-use net_check::plan::Plan;
+use net_plan::Plan;
 use std::alloc::{AllocError, Global};
 use std::borrow::CowStr;
 use std::fmt;
@@ -40,6 +40,7 @@ pub fn refusal_line(alloc: Global, refused: Refused) -> Result<CowStr<'static>, 
             let line = format!(in alloc; "unreadable {input}: {cause}\n")?;
             Ok(CowStr::Owned(line))
         }
+        Refused::UnreadableHex => Ok(CowStr::Borrowed("unreadable hex: J07\n")),
         Refused::Unwritten => Ok(CowStr::Borrowed("unreadable output: file\n")),
         Refused::NoMemory => Ok(CowStr::Borrowed(NO_MEMORY)),
     }

@@ -4,9 +4,9 @@ use Rattle.std.specs.Prelude.{◌⊎◌, slice_get}
 use Rattle.std.proofs.lemmas.Option.{same_Some}
 use Rattle.std.proofs.lemmas.Bool.{cases_lt, cases_order}
 use Rattle.net_check.specs.declared.rule.Rule.TheVariants.{C10}
-use Rattle.net_check.specs.declared.plan.nodes.Plan.{Plan}
-use Rattle.net_check.specs.declared.plan.nodes.Row.{Row}
-use Rattle.net_check.specs.declared.plan.certificate.Certificate.{Certificate}
+use Rattle.net_plan.specs.declared.plan.Plan.{Plan}
+use Rattle.net_plan.specs.declared.nodes.Row.{Row}
+use Rattle.net_plan.specs.declared.certificate.Certificate.{Certificate}
 use Rattle.net_check.specs.Routing.{Covers, MovesTo, rows_of, eid_of}
 use Rattle.net_check.specs.Ranks.{rank, Falls}
 use Rattle.net_check.specs.Rules.{Accepts}
@@ -69,7 +69,7 @@ one_or_none (row ∷ rows) e = elim (covers_or_not row e) [
     in_neither row rows e not none (suc r) other is = none r other is
 
 -- what is for e moves on from n, or its way ends there
-moves_or_ends : (plan : Plan) (e n : ℕ) → ((next : ℕ) × MovesTo plan e n next) ⊎ WayEnds plan e n
+pub moves_or_ends : (plan : Plan) (e n : ℕ) → ((next : ℕ) × MovesTo plan e n next) ⊎ WayEnds plan e n
 moves_or_ends plan e n = elim (is_or_not (eid_of plan n) e) [
   | inl holds ↦ inr (inl holds)
   | inr away ↦ elim (one_or_none (rows_of plan n) e) [

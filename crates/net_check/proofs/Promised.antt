@@ -11,8 +11,8 @@ use Rattle.mctp_transport.proofs.Arrivals.{EachArrival-append, EachArrival-weake
 use Rattle.mctp_transport.proofs.LastStarts.{packets_key}
 use Rattle.mctp_transport.proofs.Places.{snoc_same}
 use Rattle.net_check.specs.declared.rule.Rule.TheVariants.{C03}
-use Rattle.net_check.specs.declared.plan.nodes.Plan.{Plan}
-use Rattle.net_check.specs.declared.plan.certificate.Certificate.{Certificate}
+use Rattle.net_plan.specs.declared.plan.Plan.{Plan}
+use Rattle.net_plan.specs.declared.certificate.Certificate.{Certificate}
 use Rattle.net_check.specs.Routing.{Holds}
 use Rattle.net_check.specs.Eids.{IsNewlyHeld}
 use Rattle.net_check.specs.Rules.{Accepts}

@@ -3,8 +3,8 @@ use Rattle.std.proofs.Common.{◌≡◌, ℕ, ◌<◌, List, Option, Some, None,
 use Rattle.std.specs.Prelude.{slice_get, option_map}
 use Rattle.std.proofs.lemmas.Option.{same_Some}
 use Rattle.mctp_transport.specs.declared.address.Eid.{Eid}
-use Rattle.net_check.specs.declared.plan.nodes.Plan.{Plan}
-use Rattle.net_check.specs.declared.plan.nodes.Row.{Row}
+use Rattle.net_plan.specs.declared.plan.Plan.{Plan}
+use Rattle.net_plan.specs.declared.nodes.Row.{Row}
 use Rattle.net_check.specs.Routing.{Holds, rows_of, Covers, OfRow}
 use Rattle.net_check.specs.Rules.{AtNode, AtItsEid, AtRow, AtRowEid}
 use Rattle.net_check.specs.Search.{IsFirstSpot, SpotComesBefore, IsFirstRow, IsFirstEid}

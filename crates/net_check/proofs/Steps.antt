@@ -5,7 +5,7 @@ use Rattle.std.proofs.lemmas.Bool.{false≢true}
 use Rattle.mctp_transport.specs.Frames.{key_of}
 use Rattle.mctp_transport.specs.Histories.{Arrived, TimeUp}
 use Rattle.mctp_transport.proofs.Answered.{never_unheard}
-use Rattle.net_check.specs.declared.plan.nodes.Plan.{Plan}
+use Rattle.net_plan.specs.declared.plan.Plan.{Plan}
 use Rattle.net_check.specs.Routing.{Holds, Routes, IsBridge}
 use Rattle.net_check.specs.Decisions.{Decision, Here, Drop, Forward, B10, B11, B12, Decides}
 use Rattle.net_check.specs.Networks.{NetworkState, Flight, EventValue, Put, Move, Lose, Expire, Refusal, N01, N02, N03, N06, OutcomeValue, PutIn, Moved, Entered, Stopped, Lost, Expired, Refused, IsDecided, Moves, IsRefused, refusal_number, destination, with_flight, without_flight, with_made, with_input, slots, limit, IsStuck}

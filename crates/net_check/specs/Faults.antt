@@ -4,8 +4,8 @@ use Rattle.mctp_transport.specs.declared.address.Eid.{Eid}
 use Rattle.net_check.specs.declared.rule.Rule.{Rule}
 use Rattle.net_check.specs.declared.rule.Rule.TheVariants.{C01, C02, C03, C04, C05, C06, C10}
 use Rattle.net_check.specs.declared.fault.Fault.{Fault}
-use Rattle.net_check.specs.declared.plan.nodes.Plan.{Plan}
-use Rattle.net_check.specs.declared.plan.certificate.Certificate.{Certificate}
+use Rattle.net_plan.specs.declared.plan.Plan.{Plan}
+use Rattle.net_plan.specs.declared.certificate.Certificate.{Certificate}
 use Rattle.net_check.specs.Rules.{Demands}
 
 -- a rule and a node, with an entry and an EID where the rule speaks of them

@@ -1,19 +1,3 @@
--- plans and certificates, and their texts
-pub mod NameText
-pub mod PlanValues
-pub mod CertificateValues
-pub mod Keys
-pub mod JsonWords
-pub mod Texts
-pub mod PlanText
-pub mod CertificateText
-pub mod Stream
-pub mod TextFaults
-pub mod Reading
-pub mod Json
-pub mod Places
-pub mod PlanReading
-pub mod CertificateReading
 -- the rules
 pub mod Routing
 pub mod Names
@@ -23,6 +7,7 @@ pub mod Ranks
 pub mod RankTables
 pub mod Rules
 pub mod Faults
+pub mod PlanFaults
 pub mod Search
 pub mod Errors
 -- the network
@@ -31,3 +16,9 @@ pub mod Decisions
 pub mod Networks
 pub mod Runs
 pub mod Promises
+-- certificates made
+pub mod Circles
+pub mod RoutingLoops
+pub mod Tables
+pub mod RankRuns
+pub mod Certificates

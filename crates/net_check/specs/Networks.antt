@@ -3,7 +3,7 @@ use Rattle.std.specs.Prelude.{◌≡◌, ◌⊎◌, ◌↔◌, ℕ, ◌+◌, ◌
 use Rattle.mctp_transport.specs.Frames.{Frame, KeyValue, key_of, Spelled}
 use Rattle.mctp_transport.specs.Histories.{Input, History, Arrived, TimeUp, after, IsOpen}
 use Rattle.mctp_transport.specs.Hearing.{Answer, Hears}
-use Rattle.net_check.specs.declared.plan.nodes.Plan.{Plan}
+use Rattle.net_plan.specs.declared.plan.Plan.{Plan}
 use Rattle.net_check.specs.Routing.{Holds, Routes, IsBridge}
 use Rattle.net_check.specs.Decisions.{Decision, Obstacle, Here, Drop, Forward, Decides}
 

@@ -4,8 +4,8 @@ use Rattle.mctp_transport.specs.Frames.{Frame, KeyValue, key_of}
 use Rattle.mctp_transport.specs.Messages.{Joined}
 use Rattle.mctp_transport.specs.Histories.{EachArrival, Comes}
 use Rattle.mctp_transport.specs.Hearing.{Whole}
-use Rattle.net_check.specs.declared.plan.nodes.Plan.{Plan}
-use Rattle.net_check.specs.declared.plan.certificate.Certificate.{Certificate}
+use Rattle.net_plan.specs.declared.plan.Plan.{Plan}
+use Rattle.net_plan.specs.declared.certificate.Certificate.{Certificate}
 use Rattle.net_check.specs.Routing.{Holds, HasRow, MovesTo}
 use Rattle.net_check.specs.Ranks.{rank}
 use Rattle.net_check.specs.Moves.{Leads, IsEnd}

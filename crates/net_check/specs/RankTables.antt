@@ -1,6 +1,6 @@
 -- Ranks kept in tables of 256 a node.
 use Rattle.std.specs.Prelude.{◌≡◌, ℕ, ◌<◌, List, Option, Some, slice_get, option_and_then}
-use Rattle.net_check.specs.declared.plan.certificate.Certificate.{Certificate}
+use Rattle.net_plan.specs.declared.certificate.Certificate.{Certificate}
 use Rattle.net_check.specs.Ranks.{rank}
 
 -- the rank that the tables have, if they reach so far

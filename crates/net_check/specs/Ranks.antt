@@ -1,9 +1,9 @@
 -- The certified ranks, and that they fall along the rows.
 use Rattle.std.specs.Prelude.{ℕ, ◌+◌, ◌<◌, List, Bool, ◌&&◌, ◌==◌, option_map, unwrap_or, find, nat_lt, nat_le}
-use Rattle.net_check.specs.declared.plan.nodes.Plan.{Plan}
-use Rattle.net_check.specs.declared.plan.nodes.Row.{Row}
-use Rattle.net_check.specs.declared.plan.certificate.RankRange.{RankRange}
-use Rattle.net_check.specs.declared.plan.certificate.Certificate.{Certificate}
+use Rattle.net_plan.specs.declared.plan.Plan.{Plan}
+use Rattle.net_plan.specs.declared.nodes.Row.{Row}
+use Rattle.net_plan.specs.declared.certificate.RankRange.{RankRange}
+use Rattle.net_plan.specs.declared.certificate.Certificate.{Certificate}
 use Rattle.net_check.specs.Routing.{Holds}
 
 -- e lies in the range

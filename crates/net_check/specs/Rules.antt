@@ -3,9 +3,9 @@ use Rattle.std.specs.Prelude.{ℕ, List, Option, Some, None, ⊤, codes}
 use Rattle.mctp_transport.specs.Frames.{IsAssignable}
 use Rattle.net_check.specs.declared.rule.Rule.{Rule}
 use Rattle.net_check.specs.declared.rule.Rule.TheVariants.{C01, C02, C03, C04, C05, C06, C10}
-use Rattle.net_check.specs.declared.plan.nodes.Plan.{Plan}
-use Rattle.net_check.specs.declared.plan.nodes.Row.{Row}
-use Rattle.net_check.specs.declared.plan.certificate.Certificate.{Certificate}
+use Rattle.net_plan.specs.declared.plan.Plan.{Plan}
+use Rattle.net_plan.specs.declared.nodes.Row.{Row}
+use Rattle.net_plan.specs.declared.certificate.Certificate.{Certificate}
 use Rattle.net_check.specs.Routing.{rows_of, Holds, Covers, OfRow}
 use Rattle.net_check.specs.Names.{HasNewName}
 use Rattle.net_check.specs.Eids.{IsNewlyHeld}

@@ -1,7 +1,7 @@
 -- Runs of the network: one event after another, of any number.
 use Rattle.std.specs.Prelude.{◌⊎◌, List, [], ◌∷◌}
 use Rattle.mctp_transport.specs.Frames.{Frame, Spelled}
-use Rattle.net_check.specs.declared.plan.nodes.Plan.{Plan}
+use Rattle.net_plan.specs.declared.plan.Plan.{Plan}
 use Rattle.net_check.specs.Networks.{NetworkState, EventValue, OutcomeValue, Put, PutIn, Step, at_start, unit}
 
 -- one turn of a run: the event, what came of it, and the network after it

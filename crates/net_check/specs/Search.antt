@@ -3,9 +3,9 @@ use Rattle.std.specs.Prelude.{◌≡◌, ℕ, ◌<◌, List, [], ◌∷◌, Opti
 use Rattle.net_check.specs.declared.rule.Rule.{Rule}
 use Rattle.net_check.specs.declared.fault.Fault.{Fault}
 use Rattle.net_check.specs.declared.spot.Spot.{Spot}
-use Rattle.net_check.specs.declared.plan.nodes.Plan.{Plan}
-use Rattle.net_check.specs.declared.plan.nodes.Row.{Row}
-use Rattle.net_check.specs.declared.plan.certificate.Certificate.{Certificate}
+use Rattle.net_plan.specs.declared.plan.Plan.{Plan}
+use Rattle.net_plan.specs.declared.nodes.Row.{Row}
+use Rattle.net_plan.specs.declared.certificate.Certificate.{Certificate}
 use Rattle.net_check.specs.Routing.{OfRow, Covers}
 use Rattle.net_check.specs.Rules.{RuleHolds}
 use Rattle.net_check.specs.Faults.{Place, place_of, eid_number, order_of_number, LessByFirstDifference, ComesBefore, IsMet, IsBroken}

@@ -6,9 +6,9 @@ ghost use Rattle.net_check.specs.Promises.{EndsWithinRank, KeepsPackets};
 
 use crate::check_error::CheckError;
 use crate::first_fault::first_of_rule;
-use crate::plan::{Certificate, Plan};
 use crate::rule::RULES;
 use crate::trial::Trial;
+use net_plan::{Certificate, Plan};
 use std::alloc::Global;
 use std::marker::Model;
 
@@ -20,8 +20,8 @@ pub struct Checked<'a> {
 }
 
 impl<'a> Model for Checked<'a> {
-    ghost use Rattle.net_check.specs.declared.plan.nodes.Plan.{Plan};
-    ghost use Rattle.net_check.specs.declared.plan.certificate.Certificate.{Certificate};
+    ghost use Rattle.net_plan.specs.declared.plan.Plan.{Plan};
+    ghost use Rattle.net_plan.specs.declared.certificate.Certificate.{Certificate};
     ghost use Rattle.net_check.specs.Rules.{Accepts};
 
     ghost Value = { Plan × Certificate };

@@ -4,8 +4,9 @@ ghost use Rattle.net_check.specs.Rules.{Demands};
 ghost use Rattle.net_check.specs.Search.{IsFirstSpot, IsFirstOfRule};
 
 use crate::fault::Fault;
+use crate::plan_fault::first_of_plan_at;
 use crate::rule::Rule;
-use crate::rules::{eids, names, ranks, rows};
+use crate::rules::ranks;
 use crate::spot::Spot;
 use crate::trial::Trial;
 
@@ -32,12 +33,7 @@ fn first_at(trial: &Trial, rule: Rule, node: usize) -> Option<Spot>
     ensures { IsFirstSpot (Demands trial.now.plan.now trial.now.certificate.now rule node) result }
 {
     match rule {
-        Rule::C01 => names::repeated_name(trial.plan, node),
-        Rule::C02 => eids::unassignable_eid(trial.plan, node),
-        Rule::C03 => eids::repeated_eid(trial.plan, node),
-        Rule::C04 => rows::row_out_of_range(trial.plan, node),
-        Rule::C05 => rows::overlapping_row(trial.plan, node),
-        Rule::C06 => rows::row_without_neighbor(trial.plan, node),
         Rule::C10 => ranks::row_without_fall(trial, node),
+        rule => first_of_plan_at(trial.plan, rule, node),
     }
 }

@@ -1,5 +1,5 @@
 //! Laws of the network of any plan. The functions do nothing: their contracts are the laws.
-ghost use Rattle.net_check.specs.declared.plan.nodes.Plan.{Plan};
+ghost use Rattle.net_plan.specs.declared.plan.Plan.{Plan};
 ghost use Rattle.net_check.specs.Networks.{NetworkState, EventValue, IsStuck};
 
 /// Whatever the event, the network has an outcome and a next state for it.

@@ -1,12 +1,14 @@
 //! Whether a planned MCTP network routes its packets as it should.
 #![tactic(auto)]
 
+mod certify_error;
+mod certifying;
 mod check_error;
 mod checked;
 mod fault;
 mod first_fault;
 mod laws;
-pub mod plan;
+mod plan_fault;
 mod rank_tables;
 mod routing;
 mod rule;
@@ -14,6 +16,8 @@ mod rules;
 mod spot;
 mod trial;
 
+pub use certify_error::CertifyError;
+pub use certifying::certify;
 pub use check_error::CheckError;
 pub use checked::{Checked, check};
 pub use fault::Fault;

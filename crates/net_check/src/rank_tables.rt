@@ -3,7 +3,7 @@ ghost use Rattle.std.specs.Prelude.{◌≡◌, ℕ, ◌<◌, IfOk, Some, slice_g
 ghost use Rattle.net_check.specs.Ranks.{rank_in, rank};
 ghost use Rattle.net_check.specs.RankTables.{AreRanks, table_rank};
 
-use crate::plan::{Certificate, RankRange};
+use net_plan::{Certificate, RankRange};
 use std::alloc::{AllocError, Global};
 
 /// The ranks of one node, by endpoint ID.

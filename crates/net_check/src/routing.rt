@@ -2,8 +2,8 @@
 ghost use Rattle.std.specs.Prelude.{◌≡◌, ℕ, ◌+◌, ◌<◌, ◌↔◌, IsTrue, Any};
 ghost use Rattle.net_check.specs.Routing.{Holds, Covers, IsBridge, rows_of, ports_of};
 
-use crate::plan::{Kind, Plan, Port, Row};
 use mctp_transport::Eid;
+use net_plan::{Kind, Plan, Port, Row};
 
 /// The ports of a node, none where there is no such node.
 pub fn ports_at(plan: &Plan, node: usize) -> &[Port]

@@ -1,10 +1,12 @@
 //! The two-node network, and what is found wrong with others like it.
 ghost use Rattle.std.specs.Prelude.{◌+◌, ◌<◌, ◌≤◌, IsTrue, vec_len};
-ghost use Rattle.net_check.specs.NameText.{is_name};
+ghost use Rattle.net_plan.specs.NameText.{is_name};
 
-use crate::plan::{Bus, Certificate, Kind, Name, Node, NodeRanks, Plan, Port, RankRange, Row};
+mod certificates;
+
 use crate::{CheckError, Fault, Rule, check};
 use mctp_transport::Eid;
+use net_plan::{Bus, Certificate, Kind, Name, Node, NodeRanks, Plan, Port, RankRange, Row};
 use std::alloc::{AllocError, Global};
 use std::test::Fail;
 
@@ -46,28 +48,32 @@ fn endpoint(alloc: Global, text: &str, eid: u8, rows: Vec<Row>) -> Result<Node, 
         name: name(alloc, text)?,
         kind: Kind::Endpoint,
         eid: Eid::new(eid),
+        owner: None,
+        pool: None,
         ports: vec![in alloc; port(alloc, 0)]?,
         rows,
+        terminus: None,
     })
 }
 
-/// A plan of these nodes and one bus.
-fn network(alloc: Global, nodes: Vec<Node>) -> Result<Plan, AllocError>
-    requires { vec_len nodes ≤ 64 }
+fn bus(alloc: Global, text: &str) -> Result<Bus, AllocError>
+    requires { IsTrue (is_name text.now) }
 {
-    let bus = Bus {
-        name: name(alloc, "b")?,
+    Ok(Bus {
+        name: name(alloc, text)?,
         binding: 1,
         media: 4,
-    };
-    Ok(Plan {
-        buses: vec![in alloc; bus]?,
-        nodes,
     })
+}
+
+/// A plan of these nodes and two buses.
+fn network(alloc: Global, nodes: Vec<Node>) -> Result<Plan, Fail> {
+    let buses = vec![in alloc; bus(alloc, "b")?, bus(alloc, "c")?]?;
+    Ok(Plan::of(buses, nodes).ok_or("no lawful plan")?)
 }
 
 /// Endpoint a of endpoint ID 8 with these rows, and endpoint z with a row back.
-fn two_nodes(alloc: Global, rows: Vec<Row>, z: u8) -> Result<Plan, AllocError>
+fn two_nodes(alloc: Global, rows: Vec<Row>, z: u8) -> Result<Plan, Fail>
     requires { vec_len rows ≤ 256 }
 {
     let a = endpoint(alloc, "a", 8, rows)?;
@@ -98,6 +104,8 @@ fn ranked(alloc: Global, node: usize, eid: u8) -> Result<NodeRanks, AllocError> 
 /// Rank 1 for a and 254, and for z and 8.
 fn one_move_each(alloc: Global) -> Result<Certificate, AllocError> {
     Ok(Certificate {
+        levels: Vec::new(alloc),
+        places: Vec::new(alloc),
         ranks: vec![in alloc; ranked(alloc, 0, 254)?, ranked(alloc, 1, 8)?]?,
     })
 }
@@ -133,6 +141,8 @@ fn two_nodes_need_their_ranks(rt: HostRuntime) -> Result<(), Fail> {
     assert_eq!(rt; checked.plan().nodes.len(), 2);
     assert_eq!(rt; checked.certificate().ranks.len(), 2);
     let none = Certificate {
+        levels: Vec::new(alloc),
+        places: Vec::new(alloc),
         ranks: Vec::new(alloc),
     };
     assert_eq!(rt;
@@ -145,11 +155,10 @@ fn two_nodes_need_their_ranks(rt: HostRuntime) -> Result<(), Fail> {
 #[test]
 fn nothing_is_accepted(rt: HostRuntime) -> Result<(), Fail> {
     let alloc = rt.alloc();
-    let plan = Plan {
-        buses: Vec::new(alloc),
-        nodes: Vec::new(alloc),
-    };
+    let plan = Plan::of(Vec::new(alloc), Vec::new(alloc)).ok_or("no lawful plan")?;
     let certificate = Certificate {
+        levels: Vec::new(alloc),
+        places: Vec::new(alloc),
         ranks: Vec::new(alloc),
     };
     assert_eq!(rt; found(alloc, &plan, &certificate)?, None);
@@ -211,21 +220,27 @@ fn the_later_node_of_a_name_is_at_fault(rt: HostRuntime) -> Result<(), Fail> {
 }
 
 /// Endpoint a (8), bridge r (16) and endpoint z (18) in a line, where a has one row for 16 to 18.
-fn line(alloc: Global) -> Result<Plan, AllocError> {
+fn line(alloc: Global) -> Result<Plan, Fail> {
     let a = endpoint(alloc, "a", 8, vec![in alloc; row(16, 3, 1)]?)?;
     let r = Node {
         name: name(alloc, "r")?,
         kind: Kind::Bridge,
         eid: Eid::new(16),
+        owner: None,
+        pool: None,
         ports: vec![in alloc; port(alloc, 0), port(alloc, 1)]?,
         rows: vec![in alloc; row(8, 1, 0), row_through(1, 18, 1, 2)]?,
+        terminus: None,
     };
     let z = Node {
         name: name(alloc, "z")?,
         kind: Kind::Endpoint,
         eid: Eid::new(18),
+        owner: None,
+        pool: None,
         ports: vec![in alloc; port(alloc, 1)]?,
         rows: vec![in alloc; row(8, 9, 1)]?,
+        terminus: None,
     };
     network(alloc, vec![in alloc; a, r, z]?)
 }
@@ -247,6 +262,8 @@ fn ranks_of_the_line(alloc: Global, far: u8) -> Result<Certificate, AllocError>
         ranges: vec![in alloc; range(8, 1, 2), range(9, 8, 1)]?,
     };
     Ok(Certificate {
+        levels: Vec::new(alloc),
+        places: Vec::new(alloc),
         ranks: vec![in alloc; a, r, z]?,
     })
 }

@@ -3,8 +3,8 @@ ghost use Rattle.std.specs.Prelude.{◌≡◌, length};
 ghost use Rattle.net_check.specs.Ranks.{rank};
 ghost use Rattle.net_check.specs.RankTables.{AreRanks};
 
-use crate::plan::{Certificate, Plan};
 use crate::rank_tables::{RankTable, rank_at, rank_of, rank_tables};
+use net_plan::{Certificate, Plan};
 use std::alloc::{AllocError, Global};
 
 /// A plan and a certificate, with the ranks of the plan's nodes at hand.

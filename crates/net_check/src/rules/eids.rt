@@ -4,11 +4,11 @@ ghost use Rattle.net_check.specs.Eids.{IsNewlyHeld};
 ghost use Rattle.net_check.specs.Rules.{PlanDemands};
 ghost use Rattle.net_check.specs.Search.{IsFirstSpot};
 
-use crate::plan::Plan;
 use crate::routing::holds;
 use crate::rule::Rule;
 use crate::spot::Spot;
 use mctp_transport::Eid;
+use net_plan::Plan;
 
 /// Where the node's endpoint ID cannot be held.
 pub fn unassignable_eid(plan: &Plan, node: usize) -> Option<Spot>

@@ -4,9 +4,9 @@ ghost use Rattle.net_check.specs.Names.{HasNewName, HaveOneName};
 ghost use Rattle.net_check.specs.Rules.{PlanDemands};
 ghost use Rattle.net_check.specs.Search.{IsFirstSpot};
 
-use crate::plan::Plan;
 use crate::rule::Rule;
 use crate::spot::Spot;
+use net_plan::Plan;
 
 /// Where an earlier node has the node's name.
 pub fn repeated_name(plan: &Plan, node: usize) -> Option<Spot>

@@ -5,12 +5,12 @@ ghost use Rattle.net_check.specs.Rules.{CertificateDemands};
 ghost use Rattle.net_check.specs.Faults.{eid_number};
 ghost use Rattle.net_check.specs.Search.{IsFirstSpot, IsFirstEid};
 
-use crate::plan::Row;
 use crate::routing::{holds, row_end, rows_at};
 use crate::rule::Rule;
 use crate::spot::Spot;
 use crate::trial::Trial;
 use mctp_transport::Eid;
+use net_plan::Row;
 
 /// Where a row leads to a node of the same rank or a higher one.
 pub fn row_without_fall(trial: &Trial, node: usize) -> Option<Spot>

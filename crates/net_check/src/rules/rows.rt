@@ -5,10 +5,10 @@ ghost use Rattle.net_check.specs.Rows.{IsInRange, AreApart, IsApartFromEarlier, 
 ghost use Rattle.net_check.specs.Rules.{PlanDemands};
 ghost use Rattle.net_check.specs.Search.{IsFirstRow, IsFirstSpot};
 
-use crate::plan::{Plan, Port, Row};
 use crate::routing::{is_bridge, ports_at, row_end, rows_at};
 use crate::rule::Rule;
 use crate::spot::Spot;
+use net_plan::{Plan, Port, Row};
 
 /// Where a row is empty or reaches beyond the endpoint IDs that can be held.
 pub fn row_out_of_range(plan: &Plan, node: usize) -> Option<Spot>

@@ -1,0 +1,8 @@
+pub mod Rows
+pub mod RowFaults
+pub mod Decisions
+pub mod Entries
+pub mod ReadFaults
+pub mod Parts
+pub mod Readers
+pub mod Reads

@@ -1,0 +1,34 @@
+-- Why rows make no routing table (the order of the causes is this project's own).
+use Rattle.std.specs.Prelude.{◌≡◌, ℕ, List, [], take, Some, slice_get, All, codes}
+use Rattle.mctp_bridge.specs.declared.row.Row.{Row}
+use Rattle.mctp_bridge.specs.declared.table_fault.TableFault.{TableFault}
+use Rattle.mctp_bridge.specs.declared.table_fault.TableFault.TheVariants.{Empty, Outside, Overlap, Memory}
+use Rattle.mctp_bridge.specs.Rows.{IsEmpty, IsOutside, AreApart, AreLawful}
+
+-- there is a row at this place, and this is true of it
+abbrev pub IsAt : List Row → ℕ → (Row → Type 0) → Type 0
+IsAt rows place P = (row : Row) × (slice_get rows place ≡ Some row) × P row
+
+-- the rows before this place are lawful, and this is true of the one there
+abbrev pub IsFirstAt : List Row → ℕ → (Row → Type 0) → Type 0
+IsFirstAt rows place P = AreLawful (take place rows) × IsAt rows place P
+
+-- of these rows the one at this place is the first that shares an EID with the row
+abbrev pub IsFirstOverlap : List Row → Row → ℕ → Type 0
+IsFirstOverlap rows row place = IsAt rows place (λ other. ¬ AreApart row other) × All (AreApart row) (take place rows)
+
+-- The first row that is not lawful or shares an EID with an earlier one, and its first cause. Want of memory is told of
+-- lawful rows only.
+abbrev pub IsFirstFault : List Row → TableFault → Type 0
+IsFirstFault rows (Empty place) = IsFirstAt rows place IsEmpty
+IsFirstFault rows (Outside place) = IsFirstAt rows place (λ row. ¬ IsEmpty row × IsOutside row)
+IsFirstFault rows (Overlap place earlier) =
+    IsFirstAt rows place (λ row. ¬ IsEmpty row × ¬ IsOutside row × IsFirstOverlap (take place rows) row earlier)
+IsFirstFault rows Memory = AreLawful rows
+
+-- the code that users see
+abbrev pub table_code : TableFault → List ℕ
+table_code (Empty place) = codes "B01"
+table_code (Outside place) = codes "B02"
+table_code (Overlap place earlier) = codes "B03"
+table_code Memory = []

@@ -1,0 +1,91 @@
+//! What a node does with a packet that is there (DSP0236, section 8.5).
+ghost use Rattle.std.specs.Prelude.{◌≡◌, ◌↔◌, IsTrue};
+ghost use Rattle.mctp_bridge.specs.Decisions.{Forwards, IsDecided};
+
+use crate::range_table::RangeTable;
+use crate::row::Hop;
+use mctp_control::DeviceKind;
+use mctp_transport::{Eid, Header};
+
+/// A node as its decisions see it.
+#[derive(Clone, Copy, Debug)]
+pub struct Node<'a> {
+    pub eid: Eid,
+    pub kind: DeviceKind,
+    pub table: &'a RangeTable,
+}
+
+/// How far a packet has come.
+#[derive(Clone, Copy, Debug, PartialEq, Eq)]
+pub enum Progress {
+    /// It is at the node where it was put in, and has made no hop.
+    AtOrigin,
+    /// It has made a hop.
+    OnItsWay,
+}
+
+/// Why a packet goes no further. Where several causes apply, the first of these is told.
+#[derive(Clone, Copy, Debug, PartialEq, Eq)]
+pub enum Obstacle {
+    /// B10: its destination can't be held: it isn't one of 8 to 254.
+    Unassignable,
+    /// B12: the node is no bridge, and the packet isn't its own.
+    NoBridge,
+    /// B11: the node has no row for the destination.
+    NoRow,
+}
+
+/// What a node does with a packet.
+#[derive(Clone, Copy, Debug, PartialEq, Eq)]
+pub enum Decision {
+    /// It takes the packet: it holds the destination.
+    Here,
+    /// It drops the packet.
+    Drop(Obstacle),
+    /// It sends the packet on.
+    Forward(Hop),
+}
+
+impl Obstacle {
+    ghost use Rattle.mctp_bridge.specs.Decisions.{obstacle_code};
+
+    /// The code that users see, as `B10`.
+    pub fn code(self) -> &'static str
+        ensures { result.now ≡ obstacle_code self }
+    {
+        match self {
+            Obstacle::Unassignable => "B10",
+            Obstacle::NoBridge => "B12",
+            Obstacle::NoRow => "B11",
+        }
+    }
+}
+
+/// What the node does with a packet of this header: it takes it where it holds the destination; else it drops it where the
+/// destination can't be held, or where it is no bridge and the packet isn't its own, or where it has no row for the
+/// destination; else it sends it along that row's hop.
+pub fn decide(node: &Node, progress: Progress, header: &Header) -> Decision
+    ensures { IsDecided node.now.eid.value node.now.kind node.now.table.now progress header.now.destination.value result }
+{
+    let destination = header.destination;
+    if destination.value == node.eid.value {
+        return Decision::Here;
+    }
+    if !destination.is_assignable() {
+        return Decision::Drop(Obstacle::Unassignable);
+    }
+    if !forwards(node.kind, progress) {
+        return Decision::Drop(Obstacle::NoBridge);
+    }
+    match node.table.next(destination) {
+        Some(hop) => Decision::Forward(hop),
+        None => Decision::Drop(Obstacle::NoRow),
+    }
+}
+
+/// Whether such a node forwards such a packet at all.
+fn forwards(kind: DeviceKind, progress: Progress) -> bool
+    ensures { IsTrue result ↔ Forwards kind progress }
+{
+    kind == DeviceKind::Bridge || progress == Progress::AtOrigin
+}

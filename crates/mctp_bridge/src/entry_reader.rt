@@ -1,0 +1,119 @@
+//! Reading a bridge's routing table from its answers.
+ghost use Rattle.std.specs.Prelude.{◌≤◌, vec_len, vec_capacity};
+
+use crate::read_fault::ReadFault;
+use crate::table_part::{TablePart, append};
+use mctp_control::{Command, ControlHeader, InstanceId, Request, RouteEntry};
+use mctp_transport::Wire;
+use std::alloc::{AllocError, Global};
+
+/// The most entries that a reader holds: one for each endpoint ID from 8 to 254.
+pub const MAX_READ: usize = 247;
+
+/// The next handle of an answer after which there are no more entries.
+const NO_MORE: u8 = 0xff;
+
+/// A reader of a bridge's routing table (DSP0236, section 12.13): it asks for the entries from a handle on, takes the
+/// answer, and goes on with the handle that the answer gives. It takes memory when it is made, and none later.
+#[derive(Debug, Drop)]
+pub struct EntryReader {
+    entries: Vec<RouteEntry>,
+    /// The handle to ask for next; none once the table is complete.
+    handle: Option<u8>,
+    /// The instance ID of the request that has no answer yet.
+    waiting: Option<InstanceId>,
+    failed: bool,
+    ghost room: { 247 ≤ vec_capacity entries },
+    ghost few: { vec_len entries ≤ 247 },
+}
+
+impl EntryReader {
+    ghost use Rattle.std.specs.Prelude.{◌≡◌, map, IfOk, Ok, Err, false, None, Some, option_map};
+    ghost use Rattle.mctp_control.specs.RouteEntries.{entry_value};
+    ghost use Rattle.mctp_control.specs.Headers.{header_value};
+    ghost use Rattle.mctp_control.specs.EntriesValue.{entries_of};
+    ghost use Rattle.mctp_bridge.specs.Readers.{reader_state, new_reader, Asks, Takes, TakesPart, Fails};
+
+    /// A reader that has asked for nothing yet. It reserves room for 247 entries.
+    pub fn new(alloc: Global) -> Result<Self, AllocError>
+        ensures { IfOk result (λ reader. reader_state reader ≡ new_reader) }
+    {
+        Ok(EntryReader {
+            entries: Vec::with_capacity(alloc, MAX_READ)?,
+            handle: Some(0),
+            waiting: None,
+            failed: false,
+        })
+    }
+
+    /// The request that is due, under this instance ID; none once the table is complete or the reader has failed. Asked
+    /// again before an answer, it is the same request under the new instance ID, which the answer must then have. Its
+    /// bytes: 0x00, the Rq bit and the instance ID, 0x0A, the entry handle.
+    pub fn next_request(&mut self, id: InstanceId) -> Option<[u8; 4]>
+        ensures { Asks (reader_state self.old) id.value result (reader_state self.new) }
+    {
+        if self.failed {
+            return None;
+        }
+        match self.handle {
+            None => None,
+            Some(handle) => {
+                self.waiting = Some(id);
+                Some([0, 128 + id.value, 10, handle])
+            }
+        }
+    }
+
+    /// Takes the bytes of an answer: true where the table is complete with it.
+    pub fn take(&mut self, answer: &[u8]) -> Result<bool, ReadFault>
+        ensures { Takes (reader_state self.old) answer.now result (reader_state self.new) }
+    {
+        if self.failed {
+            return Err(ReadFault::FailedBefore);
+        }
+        let Some(id) = self.waiting else {
+            return Err(ReadFault::NotAsked);
+        };
+        let Some(part) = TablePart::read(answer) else {
+            return self.fail(ReadFault::NoSuccess);
+        };
+        if part.header.instance.value != id.value {
+            return Err(ReadFault::NotAsked);
+        }
+        self.take_part(part)
+    }
+
+    /// The entries that were taken, in their order.
+    pub fn entries(&self) -> &[RouteEntry]
+        ensures { map entry_value result.now ≡ (reader_state self.now).entries }
+    {
+        &self.entries
+    }
+
+    /// Takes a part of the table that was asked for.
+    fn take_part(&mut self, part: TablePart) -> Result<bool, ReadFault>
+        requires goes { self.old.failed ≡ false }
+        ensures { TakesPart (reader_state self.old) part.next (entries_of part.entries) result (reader_state self.new) }
+    {
+        let count = part.entries.items.len();
+        if count == 0 && part.next != NO_MORE {
+            return self.fail(ReadFault::NoEntry);
+        }
+        if count > MAX_READ - self.entries.len() {
+            return self.fail(ReadFault::TooMany);
+        }
+        append(&mut self.entries, part.entries);
+        self.waiting = None;
+        let complete = part.next == NO_MORE;
+        self.handle = if complete { None } else { Some(part.next) };
+        Ok(complete)
+    }
+
+    /// From now on the reader has failed.
+    fn fail(&mut self, fault: ReadFault) -> Result<bool, ReadFault>
+        ensures { Fails (reader_state self.old) fault result (reader_state self.new) }
+    {
+        self.failed = true;
+        Err(fault)
+    }
+}

@@ -1,0 +1,54 @@
+//! The first fault of a list of rows.
+ghost use Rattle.std.specs.Prelude.{◌<◌, ◌+◌, length, take, All, MatchOption};
+ghost use Rattle.mctp_bridge.specs.Rows.{AreApart, AreLawful};
+ghost use Rattle.mctp_bridge.specs.RowFaults.{IsFirstFault, IsFirstOverlap};
+
+use crate::row::Row;
+use crate::table_fault::TableFault;
+
+/// The first fault of the rows, in their order.
+pub(crate) fn first_fault(rows: &[Row]) -> Option<TableFault>
+    ensures { MatchOption result (AreLawful rows.now) (IsFirstFault rows.now) }
+{
+    for place in 0..rows.len() {
+        let fault = fault_at(rows, place);
+        if fault.is_some() {
+            return fault;
+        }
+    }
+    None
+}
+
+/// What is wrong with a row, where the rows before it are lawful.
+fn fault_at(rows: &[Row], place: usize) -> Option<TableFault>
+    requires within { place < length rows.now }
+    requires before { AreLawful (take place rows.now) }
+    ensures { MatchOption result (AreLawful (take (place + 1) rows.now)) (IsFirstFault rows.now) }
+{
+    let row = rows[place];
+    if row.is_empty() {
+        return Some(TableFault::Empty { row: place });
+    }
+    if row.is_outside() {
+        return Some(TableFault::Outside { row: place });
+    }
+    match first_overlap(&rows[..place], &row) {
+        Some(earlier) => Some(TableFault::Overlap {
+            row: place,
+            earlier,
+        }),
+        None => None,
+    }
+}
+
+/// The first of the rows that shares an endpoint ID with this one.
+fn first_overlap(rows: &[Row], row: &Row) -> Option<usize>
+    ensures { MatchOption result (All (AreApart row.now) rows.now) (IsFirstOverlap rows.now row.now) }
+{
+    for (place, other) in rows.iter().enumerate() {
+        if !row.is_apart_from(other) {
+            return Some(place);
+        }
+    }
+    None
+}

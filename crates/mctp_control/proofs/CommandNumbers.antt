@@ -1,0 +1,12 @@
+-- Each command has one of the four numbers.
+use Rattle.std.proofs.Common.{refl, inl, inr}
+use Rattle.mctp_control.specs.Numbers.{command_number}
+use Rattle.mctp_control.specs.Responses.{IsCommandNumber}
+use Rattle.mctp_control.specs.declared.response.CommandNumber.{CommandNumber}
+use Rattle.mctp_control.specs.declared.response.CommandNumber.TheVariants as command
+
+pub is_number : (c : CommandNumber) → IsCommandNumber (command_number c)
+is_number command.SetEndpointId = inl refl
+is_number command.GetEndpointId = inr (inl refl)
+is_number command.AllocateEndpointIds = inr (inr (inl refl))
+is_number command.GetRoutingTableEntries = inr (inr (inr refl))

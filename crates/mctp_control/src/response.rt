@@ -1,0 +1,272 @@
+//! Responses of control messages.
+ghost use Rattle.std.specs.Prelude.{◌≡◌, ◌<◌, ◌≤◌, ◌++◌, length, drop};
+
+use crate::control_error::ControlError;
+use crate::entries::{Entries, MAX_ENTRY_BYTES, byte_count, put_entries};
+use crate::header::ControlHeader;
+use crate::statuses::{EndpointStatus, PoolStatus, SetStatus};
+use mctp_transport::{Eid, Wire};
+
+/// The number of a command.
+#[derive(Clone, Copy, Debug, PartialEq, Eq)]
+pub enum CommandNumber {
+    SetEndpointId = 0x01,
+    GetEndpointId = 0x02,
+    AllocateEndpointIds = 0x08,
+    GetRoutingTableEntries = 0x0a,
+}
+
+impl CommandNumber {
+    ghost use Rattle.std.specs.Prelude.{◌↔◌, IfSome, IfNone};
+    ghost use Rattle.mctp_control.specs.Numbers.{command_number};
+    ghost use Rattle.mctp_control.specs.Refusals.{IsUnknown};
+
+    /// The command of this number.
+    fn of(number: u8) -> Option<Self>
+        ensures some { IfSome result (λ c. command_number c ≡ number) }
+        ensures none { (result ≡ None) ↔ IsUnknown number }
+    {
+        match number {
+            1 => Some(CommandNumber::SetEndpointId),
+            2 => Some(CommandNumber::GetEndpointId),
+            8 => Some(CommandNumber::AllocateEndpointIds),
+            10 => Some(CommandNumber::GetRoutingTableEntries),
+            _ => None,
+        }
+    }
+}
+
+/// A completion code other than 0x00, which is success (DSP0236, "MCTP control message completion codes"): 0x01 error, 0x02 invalid data, 0x03
+/// invalid length, 0x04 not ready, 0x05 unsupported command, and others.
+#[derive(Clone, Copy, Debug, PartialEq, Eq)]
+pub struct Failure {
+    pub code: u8,
+    pub ghost no_success: { 0 < code },
+}
+
+impl Failure {
+    pub fn new(code: u8) -> Self
+        requires { 0 < code }
+        ensures { result.code ≡ code }
+    {
+        Failure { code }
+    }
+}
+
+/// What is answered, with its data.
+#[derive(Debug, PartialEq, Eq, Drop)]
+pub enum Answer {
+    /// Success of 0x01, Set Endpoint ID. Three bytes: the status, the device's EID, the size of the pool that it wants.
+    SetEndpointId {
+        status: SetStatus,
+        eid: Eid,
+        size: u8,
+    },
+    /// Success of 0x02, Get Endpoint ID. Three bytes: the device's EID (0: none), its status, a byte for the medium.
+    GetEndpointId {
+        eid: Eid,
+        status: EndpointStatus,
+        medium: u8,
+    },
+    /// Success of 0x08, Allocate Endpoint IDs. Three bytes: the status, the size of the pool, its first EID.
+    AllocateEndpointIds {
+        status: PoolStatus,
+        size: u8,
+        first: Eid,
+    },
+    /// Success of 0x0A, Get Routing Table Entries: the next entry handle (0xFF: no more), the number of entries, the
+    /// entries.
+    GetRoutingTableEntries {
+        next: u8,
+        entries: Entries,
+    },
+    /// Another completion code than success. Nothing follows.
+    Failed {
+        command: CommandNumber,
+        failure: Failure,
+    },
+}
+
+/// A response: byte 0x00, the header with the Rq bit clear, the command's number, the completion code, the data. At
+/// most 64 bytes.
+#[derive(Debug, PartialEq, Eq, Drop)]
+pub struct Response {
+    pub header: ControlHeader,
+    pub answer: Answer,
+}
+
+impl Answer {
+    ghost use Rattle.std.specs.Prelude.{◌↔◌, ◌≢◌, ◌≤◌, ◌∷◌, ◌++◌, ℕ, List, length, drop, IfOk, IfErr, IsOkAnd, Err};
+    ghost use Rattle.mctp_control.specs.Responses.{AnswerValue, IsAnswer, answer_bytes, answer_value};
+    ghost use Rattle.mctp_control.specs.Refusals.{IsUnknown, IsAnswerData, IsTableData};
+
+    /// The answer to the command of this number with this completion code and these data.
+    fn read(number: u8, code: u8, rest: &[u8]) -> Result<Self, ControlError>
+        ensures ok { IfOk result (λ v. IsAnswer (answer_value v) × (number ∷ code ∷ rest.now ≡ answer_bytes (answer_value v))) }
+        ensures all { (m : AnswerValue) → IsAnswer m → number ∷ code ∷ rest.now ≡ answer_bytes m → IsOkAnd result (λ v. answer_value v ≡ m) }
+        ensures unknown { (result ≡ Err ControlError.UnknownCommand) ↔ IsUnknown number }
+        ensures length { (result ≡ Err ControlError.Length) ↔ (¬ IsUnknown number × ¬ IsAnswerData number code rest.now) }
+        ensures no_other { (result ≢ Err ControlError.Short) × (result ≢ Err ControlError.OtherMessage) }
+    {
+        let command = CommandNumber::of(number).ok_or(ControlError::UnknownCommand)?;
+        match (number, code, rest) {
+            (1, 0, [status, eid, size]) => Ok(Answer::SetEndpointId {
+                status: SetStatus::of(*status),
+                eid: Eid::new(*eid),
+                size: *size,
+            }),
+            (2, 0, [eid, status, medium]) => Ok(Answer::GetEndpointId {
+                eid: Eid::new(*eid),
+                status: EndpointStatus::of(*status),
+                medium: *medium,
+            }),
+            (8, 0, [status, size, first]) => Ok(Answer::AllocateEndpointIds {
+                status: PoolStatus::of(*status),
+                size: *size,
+                first: Eid::new(*first),
+            }),
+            (10, 0, [next, count, entries @ ..]) => Answer::table(*next, *count, entries),
+            (_, 1.., []) => Ok(Answer::Failed {
+                command,
+                failure: Failure::new(code),
+            }),
+            _ => Err(ControlError::Length),
+        }
+    }
+
+    /// A part of a table: so many entries, which are all of the bytes.
+    fn table(next: u8, count: u8, bytes: &[u8]) -> Result<Self, ControlError>
+        ensures ok { IfOk result (λ v. IsAnswer (answer_value v) × (10 ∷ 0 ∷ next ∷ count ∷ bytes.now ≡ answer_bytes (answer_value v))) }
+        ensures all { (m : AnswerValue) → IsAnswer m → 10 ∷ 0 ∷ next ∷ count ∷ bytes.now ≡ answer_bytes m → IsOkAnd result (λ v. answer_value v ≡ m) }
+        ensures length { (result ≡ Err ControlError.Length) ↔ ¬ IsTableData (next ∷ count ∷ bytes.now) }
+        ensures only { IfErr result (λ e. e ≡ ControlError.Length) }
+    {
+        if bytes.len() > MAX_ENTRY_BYTES {
+            return Err(ControlError::Length);
+        }
+        match Entries::read(count, bytes) {
+            Some(entries) => Ok(Answer::GetRoutingTableEntries { next, entries }),
+            None => Err(ControlError::Length),
+        }
+    }
+
+    /// How many bytes the number, the code and the data have.
+    fn len(&self) -> usize
+        ensures lawful { IsAnswer (answer_value self.now) }
+        ensures count { result ≡ length (answer_bytes (answer_value self.now)) }
+    {
+        match self {
+            Answer::SetEndpointId { size, .. } => {
+                let _size = *size;
+                5
+            }
+            Answer::GetEndpointId { medium, .. } => {
+                let _medium = *medium;
+                5
+            }
+            Answer::AllocateEndpointIds { size, .. } => {
+                let _size = *size;
+                5
+            }
+            Answer::GetRoutingTableEntries { next, entries } => {
+                let _next = *next;
+                4 + byte_count(entries.items.as_slice())
+            }
+            Answer::Failed { failure, .. } => {
+                let _code = failure.code;
+                2
+            }
+        }
+    }
+
+    /// Writes the number, the code and the data at the front.
+    fn put(&self, out: &mut [u8])
+        requires { length (answer_bytes (answer_value self.now)) ≤ length out.old }
+        ensures { out.new ≡ answer_bytes (answer_value self.now) ++ drop (length (answer_bytes (answer_value self.now))) out.old }
+    {
+        match self {
+            Answer::SetEndpointId { status, eid, size } => {
+                put_front(out, [1, 0, status.byte(), eid.value, *size]);
+            }
+            Answer::GetEndpointId {
+                eid,
+                status,
+                medium,
+            } => put_front(out, [2, 0, eid.value, status.byte(), *medium]),
+            Answer::AllocateEndpointIds {
+                status,
+                size,
+                first,
+            } => put_front(out, [8, 0, status.byte(), *size, first.value]),
+            Answer::GetRoutingTableEntries { next, entries } => {
+                put_front(out, [10, 0, *next, entries.items.len() as u8]);
+                put_entries(entries.items.as_slice(), &mut out[4..]);
+            }
+            Answer::Failed { command, failure } => {
+                put_front(out, [*command as u8, failure.code]);
+            }
+        }
+    }
+}
+
+/// Writes these bytes at the front.
+fn put_front<const N: usize>(out: &mut [u8], bytes: [u8; N])
+    requires { N ≤ length out.old }
+    ensures { out.new ≡ bytes.entry ++ drop N out.old }
+{
+    out[..N].copy_from_slice(&bytes);
+}
+
+impl<'a> Wire<'a> for Response {
+    ghost use Rattle.std.specs.Prelude.{◌≡◌, ◌↔◌, IfOk, IsOkAnd, Err};
+    ghost use Rattle.mctp_control.specs.Responses.{ResponseValue, IsResponse, SpellsResponse, response_bytes, response_value};
+    ghost use Rattle.mctp_control.specs.ResponseLaws.{one_response};
+    ghost use Rattle.mctp_control.specs.Refusals.{IsShortResponse, IsNoResponse, HasUnknownCommand, HasResponseLength};
+
+    type Error = ControlError;
+
+    ghost Meaning = { ResponseValue };
+
+    ghost meaning = { response_value };
+
+    ghost IsLawful = { IsResponse };
+
+    ghost spelling = { response_bytes };
+
+    /// The response that the bytes are.
+    fn read(bytes: &'a [u8]) -> Result<Self, ControlError>
+        ensures ok { IfOk result (λ v. SpellsResponse (response_value v) bytes.now) }
+        ensures all { (m : ResponseValue) → SpellsResponse m bytes.now → IsOkAnd result (λ v. response_value v ≡ m) }
+        ensures short { (result ≡ Err ControlError.Short) ↔ IsShortResponse bytes.now }
+        ensures other_message { (result ≡ Err ControlError.OtherMessage) ↔ (¬ IsShortResponse bytes.now × IsNoResponse bytes.now) }
+        ensures unknown_command { (result ≡ Err ControlError.UnknownCommand)
+            ↔ (¬ IsShortResponse bytes.now × ¬ IsNoResponse bytes.now × HasUnknownCommand bytes.now) }
+        ensures length { (result ≡ Err ControlError.Length)
+            ↔ (¬ IsShortResponse bytes.now × ¬ IsNoResponse bytes.now × ¬ HasUnknownCommand bytes.now × ¬ HasResponseLength bytes.now) }
+    {
+        let [first, header, number, code, rest @ ..] = bytes else {
+            return Err(ControlError::Short);
+        };
+        if *first != 0 || *header >= 128 {
+            return Err(ControlError::OtherMessage);
+        }
+        let answer = Answer::read(*number, *code, rest)?;
+        Ok(Response {
+            header: ControlHeader::of(*header),
+            answer,
+        })
+    }
+
+    fn len(&self) -> usize {
+        2 + self.answer.len()
+    }
+
+    fn put(&self, out: &mut [u8]) -> usize {
+        out[0] = 0;
+        out[1] = self.header.bits();
+        self.answer.put(&mut out[2..]);
+        self.len()
+    }
+
+    ghost one_value = { one_response };
+}

@@ -1,0 +1,177 @@
+-- The longest runs of ranks, one EID added after another.
+use Rattle.std.proofs.Common.{◌≡◌, ℕ, ◌+◌, ◌-◌, ◌<◌, ◌≤◌, ◌≢◌, List, [], ◌∷◌, ◌++◌, length, get_or, Some, sym, ◌∙◌, ap, subst, arith, inl, inr}
+use Rattle.std.specs.Prelude.{slice_get, slice_set}
+use Rattle.std.proofs.lemmas.Bool.{cases_lt, cases_eq}
+use Rattle.std.proofs.lemmas.Bool.Decides.{nat_tests}
+use Rattle.std.proofs.lemmas.Option.{slice_get_within, slice_get-get_or, get_or_from_slice_get, same_Some}
+use Rattle.std.proofs.lemmas.List.{length_push, length-set}
+use Rattle.net_plan.specs.declared.certificate.RankRange.{RankRange}
+use Rattle.net_check.specs.RankRuns.{LiesIn, IsLongestRun, AreLongestRuns, below, Precedes, Continues}
+use Rattle.net_check.proofs.Elements.{push_left, push_last, in_push, set_there, set_other, in_set}
+
+pub below_here : (bound : ℕ) (ranks : ℕ → ℕ) (e : ℕ) → e < bound → below bound ranks e ≡ ranks e
+below_here bound ranks e lt = grind (arith, nat_tests)
+
+pub below_past : (bound : ℕ) (ranks : ℕ → ℕ) (e : ℕ) → bound ≤ e → below bound ranks e ≡ 0
+below_past bound ranks e le = grind (arith, nat_tests)
+
+below_some : (bound : ℕ) (ranks : ℕ → ℕ) (e : ℕ) → 0 < below bound ranks e → e < bound
+below_some bound ranks e some = elim (cases_lt e bound) [ inl lt ↦ lt | inr le ↦ absurd (omega (arith, below_past bound ranks e le, some)) ]
+
+pub runs_same : (f g : ℕ → ℕ) (ranges : List RankRange) → ((e : ℕ) → f e ≡ g e) → AreLongestRuns f ranges → AreLongestRuns g ranges
+runs_same f g ranges same h = record {
+  runs = λ i range is. let run = h.runs i range is in record {
+    same = λ e lies. sym (same e) ∙ run.same e lies;
+    before = λ e is_before is. run.before e is_before (same e ∙ is);
+    after = λ is. run.after (same (range.first.value + range.size) ∙ is);
+  };
+  ascend = h.ascend;
+  all = λ e some. h.all e (omega (arith, same e, some));
+}
+
+-- The ranges of the EIDs below e.
+module _ (ranks : ℕ → ℕ) (e : ℕ) (ranges : List RankRange) (h : AreLongestRuns (below e ranks) ranges) where
+  ends_by : (i : ℕ) (range : RankRange) → slice_get ranges i ≡ Some range → range.first.value + range.size ≤ e
+  ends_by i range is =
+      let run = h.runs i range is in
+      let last = range.first.value + range.size - 1 in
+      let rank = run.same last (omega (arith, range.some), omega (arith, range.some)) in
+      omega (arith, range.some, below_some e ranks last (omega (arith, rank, range.ranked)))
+
+  ends_last : (i : ℕ) (range : RankRange) → slice_get ranges i ≡ Some range → range.first.value + range.size ≡ e → i ≡ length ranges - 1
+  ends_last i range is ends =
+      let within = slice_get_within ranges i range is in
+      elim (cases_lt (i + 1) (length ranges)) [
+        | inr past ↦ omega arith
+        | inl more ↦ (
+            let next = slice_get-get_or ranges (i + 1) range more in
+            let other = get_or ranges (i + 1) range in
+            absurd (omega (arith, h.ascend i (i + 1) range other (omega arith) is next, other.some, ends_by (i + 1) other next, ends)))
+      ]
+
+  pub skipped : ranks e ≡ 0 → AreLongestRuns (below (e + 1) ranks) ranges
+  skipped none = runs_same (below e ranks) (below (e + 1) ranks) ranges (λ d. elim (cases_lt d e) [
+    | inl lt ↦ below_here e ranks d lt ∙ sym (below_here (e + 1) ranks d (omega arith))
+    | inr le ↦ elim (cases_eq d e) [
+      | inl is ↦ below_past e ranks d le ∙ sym (below_here (e + 1) ranks d (omega arith) ∙ (ap ranks is ∙ none))
+      | inr other ↦ below_past e ranks d le ∙ sym (below_past (e + 1) ranks d (omega (arith, other)))
+    ]
+  ]) h
+
+  old_same : (d : ℕ) → d < e → below e ranks d ≡ below (e + 1) ranks d
+  old_same d lt = below_here e ranks d lt ∙ sym (below_here (e + 1) ranks d (omega arith))
+
+  old_run : (i : ℕ) (range : RankRange) → slice_get ranges i ≡ Some range → (range.first.value + range.size ≡ e → range.rank ≢ ranks e) → IsLongestRun (below (e + 1) ranks) range
+  old_run i range is apart =
+      let run = h.runs i range is in
+      let ends = ends_by i range is in
+      let end = range.first.value + range.size in
+      record {
+        same = λ d lies. sym (old_same d (omega (arith, lies.1, ends))) ∙ run.same d lies;
+        before = λ d is_before there. run.before d is_before (old_same d (omega (arith, ends, range.some, is_before)) ∙ there);
+        after = λ there. elim (cases_lt end e) [
+          | inl lt ↦ run.after (old_same end lt ∙ there)
+          | inr le ↦ (
+              let at : end ≡ e = omega (arith, ends, le) in
+              apart at (sym there ∙ (below_here (e + 1) ranks end (omega (arith, at)) ∙ ap ranks at)))
+        ];
+      }
+
+  -- a range of e alone is added
+  module _ (new : RankRange) (first : new.first.value ≡ e) (rank : new.rank ≡ ranks e) (size : new.size ≡ 1) (apart : ¬ Continues ranges e (ranks e)) where
+    new_run : IsLongestRun (below (e + 1) ranks) new
+    unfolding Precedes
+    new_run = record {
+      same = λ d lies. below_here (e + 1) ranks d (omega (arith, lies.1, first, size)) ∙ ((let at : d ≡ e = omega (arith, lies.0, lies.1, first, size) in ap ranks at) ∙ sym rank);
+      before = λ d is_before there.
+          let lt : d < e = omega (arith, is_before, first) in
+          let old_rank : below e ranks d ≡ ranks e = old_same d lt ∙ (there ∙ rank) in
+          let found = h.all d (omega (arith, old_rank, rank, new.ranked)) in
+          let range = found.1 in
+          let ends : range.first.value + range.size ≡ e = omega (arith, ends_by found.0 range found.2, found.3.1, is_before, first) in
+          apart (range, ap (λ k. slice_get ranges k) (sym (ends_last found.0 range found.2 ends)) ∙ found.2, (sym ((h.runs found.0 range found.2).same d found.3) ∙ old_rank, ends));
+      after = λ there. omega (arith, below_past (e + 1) ranks (new.first.value + new.size) (omega (arith, first, size)), there, new.ranked);
+    }
+
+    pub pushed : AreLongestRuns (below (e + 1) ranks) (ranges ++ new ∷ [])
+    unfolding Precedes
+    pushed = record {
+      runs = λ i range is. elim (in_push ranges new i range is) [
+        | inl old ↦ old_run i range old (λ ends same. apart (range, ap (λ k. slice_get ranges k) (sym (ends_last i range old ends)) ∙ old, (same, ends)))
+        | inr (at, same) ↦ subst (λ r. IsLongestRun (below (e + 1) ranks) r) same new_run
+      ];
+      ascend = λ i j one other lt is is'. elim (in_push ranges new i one is) [
+        | inl old ↦ elim (in_push ranges new j other is') [
+          | inl old' ↦ h.ascend i j one other lt old old'
+          | inr (at, same) ↦ omega (arith, ends_by i one old, first, ap (λ (r : RankRange). r.first.value) same)
+        ]
+        | inr (at, same) ↦ absurd (omega (arith, at, lt, slice_get_within (ranges ++ new ∷ []) j other is', length_push ranges new))
+      ];
+      all = λ d positive. elim (cases_lt d e) [
+        | inl lt ↦ (let found = h.all d (omega (arith, old_same d lt, positive)) in (found.0, found.1, push_left ranges new found.0 found.1 found.2, found.3))
+        | inr le ↦ (length ranges, new, push_last ranges new, (omega (arith, le, first), omega (arith, first, size, below_some (e + 1) ranks d positive)))
+      ];
+    }
+
+  -- the last range is made longer by e
+  module _ (last new : RankRange) (is_last : slice_get ranges (length ranges - 1) ≡ Some last) (precedes : Precedes last e (ranks e))
+      (first : new.first.value ≡ last.first.value) (rank : new.rank ≡ last.rank) (size : new.size ≡ last.size + 1) where
+    same_rank : last.rank ≡ ranks e
+    unfolding Precedes
+    same_rank = precedes.0
+
+    ends : last.first.value + last.size ≡ e
+    unfolding Precedes
+    ends = precedes.1
+
+    longer_run : IsLongestRun (below (e + 1) ranks) new
+    longer_run =
+        let run = h.runs (length ranges - 1) last is_last in
+        record {
+          same = λ d lies. elim (cases_lt d e) [
+            | inl before ↦ sym (old_same d before) ∙ (run.same d (omega (arith, lies.0, first), omega (arith, before, ends)) ∙ sym rank)
+            | inr le ↦ (let at : d ≡ e = omega (arith, lies.1, ends, first, size, le) in below_here (e + 1) ranks d (omega (arith, at)) ∙ (ap ranks at ∙ (sym same_rank ∙ sym rank)))
+          ];
+          before = λ d is_before there. run.before d (is_before ∙ first) (old_same d (omega (arith, ends, is_before, first, last.some)) ∙ (there ∙ rank));
+          after = λ there. omega (arith, below_past (e + 1) ranks (new.first.value + new.size) (omega (arith, ends, first, size)), there, new.ranked);
+        }
+
+    pub extended : AreLongestRuns (below (e + 1) ranks) (slice_set ranges (length ranges - 1) new)
+    extended =
+        let p = length ranges - 1 in
+        let lt : p < length ranges = slice_get_within ranges p last is_last in
+        record {
+          runs = λ i range is. elim (in_set ranges new p i range lt is) [
+            | inl (other, old) ↦ old_run i range old (λ at same. other (ends_last i range old at))
+            | inr (at, same) ↦ subst (λ r. IsLongestRun (below (e + 1) ranks) r) same longer_run
+          ];
+          ascend = λ i j one other less is is'. elim (in_set ranges new p i one lt is) [
+            | inl (_, old) ↦ elim (in_set ranges new p j other lt is') [
+              | inl (_, old') ↦ h.ascend i j one other less old old'
+              | inr (at, same) ↦ (
+                  let there : slice_get ranges j ≡ Some last = ap (λ k. slice_get ranges k) at ∙ is_last in
+                  omega (arith, h.ascend i j one last less old there, first, ap (λ (r : RankRange). r.first.value) same))
+            ]
+            | inr (at, same) ↦ absurd (omega (arith, at, less, slice_get_within (slice_set ranges p new) j other is', length-set ranges p new))
+          ];
+          all = λ d positive. elim (cases_lt d e) [
+            | inl before ↦ (
+                let found = h.all d (omega (arith, old_same d before, positive)) in
+                elim (cases_eq found.0 p) [
+                  | inl at ↦ (
+                      let same : found.1 ≡ last = same_Some found.1 last (sym found.2 ∙ (ap (λ k. slice_get ranges k) at ∙ is_last)) in
+                      let lies : LiesIn last d = subst (λ r. LiesIn r d) same found.3 in
+                      (p, new, set_there ranges new p lt, (omega (arith, lies.0, first), omega (arith, lies.1, first, size))))
+                  | inr other ↦ (found.0, found.1, set_other ranges new p found.0 found.1 other found.2, found.3)
+                ])
+            | inr le ↦ (p, new, set_there ranges new p lt, (omega (arith, le, ends, first), omega (arith, ends, first, size, below_some (e + 1) ranks d positive)))
+          ];
+        }
+
+pub precedes_ends : (range : RankRange) (e rank : ℕ) → Precedes range e rank → range.first.value + range.size ≡ e
+unfolding Precedes
+precedes_ends range e rank precedes = precedes.1
+
+-- what is read at the last place is the last range
+pub read_last : (ranges : List RankRange) (place : ℕ) (read last : RankRange) → read ≡ get_or ranges place read → place ≡ length ranges - 1 → slice_get ranges (length ranges - 1) ≡ Some last → read ≡ last
+read_last ranges place read last is at is_last = is ∙ get_or_from_slice_get ranges place last read (ap (λ k. slice_get ranges k) at ∙ is_last)

@@ -1,0 +1,5 @@
+use Rattle.net_check.specs.Circles.{MovesBy, AreMovesToEnds}
+use Rattle.net_check.proofs.certifying.walks.moves_to_ends.Given as goal
+
+abbrev pub invariant-loop-place : goal.invariant-loop-place
+invariant-loop-place l = AreMovesToEnds (MovesBy l.table) l.place l.counts.items

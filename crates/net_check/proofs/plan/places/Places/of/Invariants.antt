@@ -1,8 +1,0 @@
--- The names that were passed have their places.
-use Rattle.std.proofs.Common.{◌≡◌, ℕ, List, map, take}
-use Rattle.net_check.specs.Places.{find_in}
-use Rattle.net_check.specs.PlanReading.{place_of}
-use Rattle.net_check.proofs.plan.places.Places.of.Given as goal
-
-abbrev pub invariant-loop-place : goal.invariant-loop-place
-invariant-loop-place g l = (q : List ℕ) → find_in l.places q ≡ place_of (map g.T.Named.name_of (take l.place l.items)) q

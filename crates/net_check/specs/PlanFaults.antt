@@ -1,0 +1,35 @@
+-- Where a plan itself breaks a rule, whatever the certificate.
+use Rattle.std.specs.Prelude.{◌≡◌, ℕ, Option, Some, None}
+use Rattle.net_check.specs.declared.rule.Rule.{Rule}
+use Rattle.net_check.specs.declared.fault.Fault.{Fault}
+use Rattle.net_plan.specs.declared.plan.Plan.{Plan}
+use Rattle.net_check.specs.Rules.{PlanDemands}
+use Rattle.net_check.specs.Faults.{Place, place_of, ComesBefore}
+
+-- the plan meets the rule everywhere, as far as the rule speaks of the plan alone
+abbrev pub PlanMeets : Plan → Rule → Type 0
+PlanMeets plan rule = (n : ℕ) (entry eid : Option ℕ) → PlanDemands plan rule n entry eid
+
+-- and each rule
+abbrev pub PlanMeetsAll : Plan → Type 0
+PlanMeetsAll plan = (rule : Rule) → PlanMeets plan rule
+
+abbrev pub IsMetByPlan : Plan → Place → Type 0
+IsMetByPlan plan p = PlanDemands plan p.rule p.node p.entry p.eid
+
+-- The plan breaks the rule at the place, and none at a place before it.
+pub record IsFirstPlanFault (plan : Plan) (place : Place) : Type 0 where
+  pub broken : ¬ IsMetByPlan plan place
+  pub first : (other : Place) → ComesBefore other place → IsMetByPlan plan other
+
+-- what the search answers: the plan's first fault, if any
+abbrev pub IsFirstOfPlan : Plan → Option Fault → Type 0
+IsFirstOfPlan plan None = PlanMeetsAll plan
+IsFirstOfPlan plan (Some fault) = IsFirstPlanFault plan (place_of fault)
+
+-- and of one rule
+abbrev pub IsFirstOfPlanRule : Plan → Rule → Option Fault → Type 0
+IsFirstOfPlanRule plan rule None = PlanMeets plan rule
+IsFirstOfPlanRule plan rule (Some fault) =
+    (fault.rule ≡ rule) × ¬ IsMetByPlan plan (place_of fault)
+    × ((other : Place) → other.rule ≡ rule → ComesBefore other (place_of fault) → IsMetByPlan plan other)

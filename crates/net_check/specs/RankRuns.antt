@@ -1,0 +1,47 @@
+-- Ranks as ranges: the longest runs of neighboring EIDs of one rank.
+use Rattle.std.specs.Prelude.{◌≡◌, ◌≢◌, ℕ, ◌+◌, ◌-◌, ◌<◌, ◌≤◌, List, [], length, slice_get, Some, nat_lt, if◌then◌else◌}
+use Rattle.net_plan.specs.declared.certificate.RankRange.{RankRange}
+use Rattle.net_plan.specs.declared.certificate.NodeRanks.{NodeRanks}
+
+abbrev pub LiesIn : RankRange → ℕ → Type 0
+LiesIn range e = (range.first.value ≤ e) × (e < range.first.value + range.size)
+
+-- All EIDs of the range have its rank, and its neighbors on both sides have another.
+pub record IsLongestRun (ranks : ℕ → ℕ) (range : RankRange) : Type 0 where
+  pub same : (e : ℕ) → LiesIn range e → ranks e ≡ range.rank
+  pub before : (e : ℕ) → e + 1 ≡ range.first.value → ranks e ≢ range.rank
+  pub after : ranks (range.first.value + range.size) ≢ range.rank
+
+-- The ranges are the longest runs of neighboring EIDs of equal rank above 0, all of them, in order.
+pub record AreLongestRuns (ranks : ℕ → ℕ) (ranges : List RankRange) : Type 0 where
+  pub runs : (i : ℕ) (range : RankRange) → slice_get ranges i ≡ Some range → IsLongestRun ranks range
+  pub ascend : (i j : ℕ) (one other : RankRange) → i < j → slice_get ranges i ≡ Some one → slice_get ranges j ≡ Some other
+      → one.first.value + one.size ≤ other.first.value
+  pub all : (e : ℕ) → 0 < ranks e → (i : ℕ) × (range : RankRange) × (slice_get ranges i ≡ Some range) × LiesIn range e
+
+-- the ranks of the EIDs below a bound, 0 from there on
+abbrev pub below : ℕ → (ℕ → ℕ) → ℕ → ℕ
+below bound ranks e = if nat_lt e bound then ranks e else 0
+
+-- the range has the rank, and ends just before e
+unfoldable pub Precedes : RankRange → ℕ → ℕ → Type 0
+Precedes range e rank = (range.rank ≡ rank) × (range.first.value + range.size ≡ e)
+
+-- the last range has the rank, and ends just before e
+abbrev pub Continues : List RankRange → ℕ → ℕ → Type 0
+Continues ranges e rank =
+    (last : RankRange) × (slice_get ranges (length ranges - 1) ≡ Some last) × Precedes last e rank
+
+-- each of so many nodes, by its place, has no ranges
+abbrev pub AreNone : ℕ → List NodeRanks → Type 0
+AreNone count given = (length given ≡ count)
+    × ((n : ℕ) (one : NodeRanks) → slice_get given n ≡ Some one → (one.node ≡ n) × (one.ranges.items ≡ []))
+
+-- To a node's longest runs below e the rank of e was added.
+pub record IsGrown (e rank : ℕ) (old new : NodeRanks) : Type 0 where
+  pub node : new.node ≡ old.node
+  pub longest : (ranks : ℕ → ℕ) → ranks e ≡ rank → AreLongestRuns (below e ranks) old.ranges.items → AreLongestRuns (below (e + 1) ranks) new.ranges.items
+
+abbrev pub AreGrown : ℕ → List ℕ → List NodeRanks → List NodeRanks → Type 0
+AreGrown e counts old new = (length new ≡ length old)
+    × ((n rank : ℕ) (one other : NodeRanks) → slice_get counts n ≡ Some rank → slice_get old n ≡ Some one → slice_get new n ≡ Some other → IsGrown e rank one other)

@@ -1,0 +1,10 @@
+pub mod Items
+pub mod Keys
+pub mod KeysLaw
+pub mod Placed
+pub mod Names
+pub mod BusNames
+pub mod RankNames
+pub mod Telling
+pub mod PlanLaw
+pub mod CertificateLaw

@@ -1,0 +1,70 @@
+-- Names in a list, and their places.
+use Rattle.std.proofs.Common.{◌≡◌, ℕ, suc, ◌+◌, ◌-◌, ◌<◌, drop, length-drop, List, [], ◌∷◌, ◌++◌, length, map, take, get_or, Bool, true, false, cond, if◌then◌else◌, Option, Some, None, option_map, is_some, refl, sym, ap, ◌∙◌, arith, add-one, true≢false}
+use Rattle.std.proofs.lemmas.List.{take_more, map-append, length-map, length-take-le}
+use Rattle.std.proofs.Math.Seq.{take-length}
+use Rattle.std.specs.List.{list_any}
+use Rattle.std.specs.Option.{option_or}
+use Rattle.std.specs.Str.{bytes_eq}
+use Rattle.std.proofs.lemmas.Slice.Eq.{bytes_eq-Decides}
+use Rattle.net_plan.specs.PlanReading.{place_of, names_differ}
+use Rattle.net_plan.proofs.Keys.{list_any-map}
+
+pub named_again : {T : Type 0} (f : T → List ℕ) (x : T) (rest : List T) → list_any (λ item. bytes_eq (f x) (f item)) rest ≡ true → names_differ (map f (x ∷ rest)) ≡ false
+named_again f x rest e = rw (list_any-map (bytes_eq (f x)) f rest, e) refl
+
+pub not_named_again : {T : Type 0} (f : T → List ℕ) (x : T) (rest : List T) → list_any (λ item. bytes_eq (f x) (f item)) rest ≡ false → names_differ (map f (x ∷ rest)) ≡ names_differ (map f rest)
+not_named_again f x rest e = rw (list_any-map (bytes_eq (f x)) f rest, e) refl
+
+later : (o : Option ℕ) (b : Bool) (n : ℕ) → option_map suc (option_or o (cond b (Some n) None)) ≡ option_or (option_map suc o) (cond b (Some (suc n)) None)
+later None true n = refl
+later None false n = refl
+later (Some p) b n = refl
+
+pushed : (here : Bool) (all first : Option ℕ) (b : Bool) (n : ℕ) → all ≡ option_or first (cond b (Some n) None)
+    → cond here (Some 0) (option_map suc all) ≡ option_or (cond here (Some 0) (option_map suc first)) (cond b (Some (suc n)) None)
+pushed true all first b n e = refl
+pushed false all first b n e = ap (option_map suc) e ∙ later first b n
+
+-- one more name has its place, if it had none
+pub place_of-push : (ns : List (List ℕ)) (n q : List ℕ) → place_of (ns ++ n ∷ []) q ≡ option_or (place_of ns q) (if bytes_eq q n then Some (length ns) else None)
+place_of-push [] n q = refl
+place_of-push (m ∷ ns) n q = pushed (bytes_eq q m) _ _ (bytes_eq q n) (length ns) (place_of-push ns n q)
+
+pub place_of-take : {T : Type 0} (f : T → List ℕ) (items : List T) (i : ℕ) (x : T) (q : List ℕ) → i < length items → x ≡ get_or items i x
+    → place_of (map f (take (i + 1) items)) q ≡ option_or (place_of (map f (take i items)) q) (if bytes_eq q (f x) then Some i else None)
+place_of-take f items i x q within is =
+    let few : length (map f (take i items)) ≡ i = length-map (take i items) f ∙ length-take-le i items (omega arith) in
+    let more : map f (take (i + 1) items) ≡ map f (take i items) ++ f x ∷ [] = ap (map f) (take_more items i x within ∙ ap (λ y. take i items ++ y ∷ []) (sym is)) ∙ map-append f (take i items) (x ∷ []) in
+    ap (λ ns. place_of ns q) more ∙ place_of-push (map f (take i items)) (f x) q ∙ ap (λ n. option_or (place_of (map f (take i items)) q) (if bytes_eq q (f x) then Some n else None)) few
+
+-- a name that has a place keeps it
+pub noted_before : (find : List ℕ → Option ℕ) (name : List ℕ) (place : ℕ) (q : List ℕ) → is_some (find name) ≡ true → find q ≡ option_or (find q) (if bytes_eq q name then Some place else None)
+noted_before find name place q there = by (find q) (bytes_eq q name) refl refl
+  where
+    by : (o : Option ℕ) (b : Bool) → find q ≡ o → bytes_eq q name ≡ b → o ≡ option_or o (cond b (Some place) None)
+    by (Some p) b e d = refl
+    by None false e d = refl
+    by None true e d = absurd (true≢false (sym there ∙ ap (λ s. is_some (find s)) (sym ((bytes_eq-Decides q name).0 d)) ∙ ap is_some e))
+
+swapped : (b : Bool) (a c : List ℕ) → bytes_eq a c ≡ b → bytes_eq c a ≡ b
+swapped true a c e = (bytes_eq-Decides c a).1 (sym ((bytes_eq-Decides a c).0 e))
+swapped false a c e = by (bytes_eq c a) refl
+  where
+    by : (d : Bool) → bytes_eq c a ≡ d → d ≡ false
+    by false h = refl
+    by true h = absurd (true≢false (sym ((bytes_eq-Decides a c).1 (sym ((bytes_eq-Decides c a).0 h))) ∙ e))
+
+-- a name that has no place is given one
+pub noted_now : (find after : List ℕ → Option ℕ) (name : List ℕ) (place : ℕ) (q : List ℕ) → is_some (find name) ≡ false → after q ≡ cond (bytes_eq name q) (Some place) (find q)
+    → after q ≡ option_or (find q) (if bytes_eq q name then Some place else None)
+noted_now find after name place q none e = e ∙ by (bytes_eq name q) (find q) refl refl
+  where
+    by : (b : Bool) (o : Option ℕ) → bytes_eq name q ≡ b → find q ≡ o → cond b (Some place) o ≡ option_or o (if bytes_eq q name then Some place else None)
+    by true None d h = rw (swapped true name q d) refl
+    by true (Some p) d h = absurd (true≢false (sym (ap is_some h) ∙ ap (λ s. is_some (find s)) (sym ((bytes_eq-Decides name q).0 d)) ∙ none))
+    by false None d h = rw (swapped false name q d) refl
+    by false (Some p) d h = refl
+
+-- what a range to the end gives
+pub rest_of : {T : Type 0} (items : List T) (i : ℕ) → take (length items - (i + 1)) (drop (i + 1) items) ≡ drop (suc i) items
+rest_of items i = ap (λ n. take n (drop (i + 1) items)) (sym (length-drop (i + 1) items)) ∙ take-length (drop (i + 1) items) ∙ ap (λ j. drop j items) (add-one i)

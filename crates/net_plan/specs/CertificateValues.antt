@@ -1,0 +1,48 @@
+-- A certificate as plain lists and numbers.
+use Rattle.std.specs.Prelude.{ℕ, List, map}
+use Rattle.net_plan.specs.declared.certificate.Certificate.{Certificate}
+use Rattle.net_plan.specs.declared.certificate.NodeLevel.{NodeLevel}
+use Rattle.net_plan.specs.declared.certificate.NodePlaces.{NodePlaces}
+use Rattle.net_plan.specs.declared.certificate.NodeRanks.{NodeRanks}
+use Rattle.net_plan.specs.declared.certificate.RankRange.{RankRange}
+
+-- `node` is the place of the node in the plan's list
+pub record LevelValue : Type 0 where
+  pub level : ℕ
+  pub node : ℕ
+
+-- the places of a node's records along the next handles, in the order of the node's list
+pub record PlacesValue : Type 0 where
+  pub node : ℕ
+  pub places : List ℕ
+
+-- `size` endpoint IDs from the first on, all of one rank
+pub record RangeValue : Type 0 where
+  pub first : ℕ
+  pub rank : ℕ
+  pub size : ℕ
+
+-- `node` is the place of the node in the plan's list
+pub record NodeRanksValue : Type 0 where
+  pub node : ℕ
+  pub ranges : List RangeValue
+
+pub record CertificateValue : Type 0 where
+  pub levels : List LevelValue
+  pub places : List PlacesValue
+  pub ranks : List NodeRanksValue
+
+abbrev pub level_value : NodeLevel → LevelValue
+level_value l = record { level = l.level; node = l.node }
+
+abbrev pub places_value : NodePlaces → PlacesValue
+places_value p = record { node = p.node; places = map (λ place. place.value) p.places.items }
+
+abbrev pub range_value : RankRange → RangeValue
+range_value r = record { first = r.first.value; rank = r.rank; size = r.size }
+
+abbrev pub node_ranks_value : NodeRanks → NodeRanksValue
+node_ranks_value r = record { node = r.node; ranges = map range_value r.ranges.items }
+
+abbrev pub certificate_value : Certificate → CertificateValue
+certificate_value c = record { levels = map level_value c.levels.items; places = map places_value c.places.items; ranks = map node_ranks_value c.ranks.items }

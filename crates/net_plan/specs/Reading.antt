@@ -1,0 +1,20 @@
+-- What the reader of one JSON value answers.
+use Rattle.std.specs.Prelude.{◌≡◌, ◌≢◌, Result, Ok, Err, MatchResult}
+use Rattle.net_plan.specs.declared.error.Fault.{Fault}
+use Rattle.net_plan.specs.declared.error.Fault.TheVariants.{OutOfRange, OutOfMemory}
+use Rattle.net_plan.specs.declared.error.PlanError.{PlanError}
+use Rattle.net_plan.specs.declared.error.PlanError.TheVariants as errors
+
+-- what the user is told
+abbrev pub error_of : Fault → PlanError
+error_of OutOfRange = errors.OutOfRange
+error_of OutOfMemory = errors.OutOfMemory
+
+-- the next reading, where this one gave a value
+abbrev pub then_with : {A B : Type 0} → Result A Fault → (A → Result B Fault) → Result B Fault
+then_with (Ok a) f = f a
+then_with (Err e) f = Err e
+
+-- the result is what the JSON value says, seen by `see`, or memory ran out
+abbrev pub IsReadOf : {A B : Type 0} → (A → B) → Result B Fault → Result A Fault → Type 0
+IsReadOf see said r = MatchResult r (λ a. said ≡ Ok (see a)) (λ e. e ≢ OutOfMemory → said ≡ Err e)
