@@ -92,19 +92,15 @@ fn append<'a, W: Wire<'a>>(value: &W, out: &mut ArrayVec<u8, MAX_ANSWER>)
 pub(crate) fn begin_answer(header: &PldmHeader, out: &mut ArrayVec<u8, MAX_ANSWER>)
     ensures { out.new.items ≡ header_bytes (reply_header (header_value header.now)) }
 {
-    let reply = PldmHeader {
-        kind: MessageKind::Response,
-        reserved: false,
-        instance: header.instance,
-        pldm_type: header.pldm_type,
-        command: header.command,
-    };
     out.clear();
-    append(&reply, out);
+    append(&header.answer(), out);
 }
 
 /// Appends the completion code 0 and a part, or another completion code.
-pub(crate) fn append_outcome(outcome: Result<PdrPart, ErrorCode>, out: &mut ArrayVec<u8, MAX_ANSWER>)
+pub(crate) fn append_outcome(
+    outcome: Result<PdrPart, ErrorCode>,
+    out: &mut ArrayVec<u8, MAX_ANSWER>,
+)
     requires room { array_vec_len out.old ≡ 4 }
     requires most { IfOk outcome (λ p. length p.bytes.now ≤ 4079) }
     ensures { out.new.items ≡ out.old.items ++ outcome_bytes part_bytes (outcome_value part outcome.entry) }

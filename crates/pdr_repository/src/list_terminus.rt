@@ -9,13 +9,13 @@ use crate::parts::{Found, answer_part};
 use crate::terminus::{MAX_ANSWER, Terminus};
 use arrayvec::ArrayVec;
 use mctp_transport::Wire;
-use pldm_message::{Command, ErrorCode, GetPdrRequest, HEADER_LENGTH, PldmHeader};
+use pldm_message::{Command, ErrorCode, GetPdrRequest, HEADER_LENGTH, PldmHeader, Tid};
 use std::alloc::{AllocError, Global};
 
 /// A terminus over a list of handles and record bytes, by place.
 #[derive(Drop)]
 pub struct ListTerminus {
-    tid: u8,
+    tid: Tid,
     records: Vec<(u32, Vec<u8>)>,
     ghost short: { All (λ r. length r.1.items < 2 ^ 32) records.items },
 }
@@ -75,10 +75,10 @@ impl ListTerminus {
 
     /// A terminus of this TID over these records, by place: at most 4096 of them, a lawful list, as `is_lawful_list`
     /// tests.
-    pub fn new(_alloc: Global, tid: u8, records: Vec<(u32, Vec<u8>)>) -> Result<Self, AllocError>
+    pub fn new(_alloc: Global, tid: Tid, records: Vec<(u32, Vec<u8>)>) -> Result<Self, AllocError>
         requires few { length records.items ≤ MAX_RECORDS }
         requires lawful { IsLawful (entries records.items) }
-        ensures tid { IfOk result (λ terminus. list_tid terminus ≡ tid) }
+        ensures tid { IfOk result (λ terminus. list_tid terminus ≡ tid.value) }
         ensures records { IfOk result (λ terminus. list_records terminus ≡ entries records.items) }
     {
         Ok(ListTerminus { tid, records })
@@ -94,12 +94,12 @@ impl ListTerminus {
     }
 
     /// Appends the outcome of a request to set the TID, and sets it.
-    fn set_tid(&mut self, tid: u8, out: &mut ArrayVec<u8, MAX_ANSWER>)
+    fn set_tid(&mut self, tid: Tid, out: &mut ArrayVec<u8, MAX_ANSWER>)
         requires { array_vec_len out.old ≡ 4 }
         ensures kept { list_records self.new ≡ list_records self.old }
-        ensures replies { RepliesData command.SetTid (list_tid self.old) (list_records self.old) (tid ∷ []) out.old.items out.new.items (list_tid self.new) }
+        ensures replies { RepliesData command.SetTid (list_tid self.old) (list_records self.old) (tid.value ∷ []) out.old.items out.new.items (list_tid self.new) }
     {
-        if tid == 0 || tid == 255 {
+        if !tid.is_assignable() {
             out.push(ErrorCode::INVALID_DATA.value);
             return;
         }
@@ -126,10 +126,10 @@ impl ListTerminus {
         ensures replies { RepliesData command (list_tid self.old) (list_records self.old) (drop 4 request.now) out.old.items out.new.items (list_tid self.new) }
     {
         match command {
-            Command::SetTid => self.set_tid(request[HEADER_LENGTH], out),
+            Command::SetTid => self.set_tid(Tid::new(request[HEADER_LENGTH]), out),
             Command::GetTid => {
                 out.push(0);
-                out.push(self.tid);
+                out.push(self.tid.value);
             }
             Command::GetPldmTypes => {
                 let _ = out.try_extend_from_slice(&[0, 5, 0, 0, 0, 0, 0, 0, 0]);
