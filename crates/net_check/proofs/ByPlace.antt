@@ -12,7 +12,7 @@ use Rattle.mctp_transport.proofs.Slots.{position-none, position-some}
 use Rattle.net_plan.specs.declared.plan.Plan.{Plan}
 use Rattle.net_plan.specs.declared.certificate.Certificate.{Certificate}
 use Rattle.net_plan.specs.declared.terminus.Record.{Record}
-use Rattle.pdr_repository.specs.Records.{Entry, HasHeader, IsLawful, Means, handle_at, handle_of, handle_in}
+use Rattle.pdr_repository.specs.Records.{Entry, IsRecordOf, IsLawful, Means, handle_at, handle_of, handle_in}
 use Rattle.pdr_repository.specs.Walks.{Exchange, Collects, NamesTheNext}
 use Rattle.pdr_repository.proofs.Walks.{every_walk_collects}
 use Rattle.net_check.specs.Repositories.{records_of, places_of, entry_of, record_at, by_place, records_by_place, HaveOrder, RecordsHaveOrder}
@@ -236,10 +236,10 @@ module _ (records : List Record) (places : List ℕ) (order : HaveOrder records 
     handles = λ i e a.
         let x = stands_at i e a in
         λ none. (order.handles x.j x.found x.listed).0 (ap (λ (z : Entry). z.handle) (sym x.is) ∙ none);
-    headers = λ i e a.
+    spelled = λ i e a.
         let x = stands_at i e a in
-        let H : Entry → Type 0 = λ z. HasHeader z.handle z.bytes in
-        subst H (sym x.is) (order.headers x.j x.found x.listed);
+        let H : Entry → Type 0 = λ z. IsRecordOf z.handle z.bytes in
+        subst H (sym x.is) (order.spelled x.j x.found x.listed);
   }
 
   -- the handle at the place after a record's is the next that the record names

@@ -7,10 +7,14 @@ use Rattle.mctp_transport.specs.Frames.{Frame}
 use Rattle.net_check.specs.declared.rule.Rule.TheVariants.{C02}
 use Rattle.net_plan.specs.declared.plan.Plan.{Plan}
 use Rattle.net_plan.specs.declared.certificate.Certificate.{Certificate}
-use Rattle.net_check.specs.Routing.{Holds, HasRow, IsBridge}
+use Rattle.net_check.specs.Routing.{Holds, HasRow, IsBridge, rows_of}
+use Rattle.net_check.proofs.TableLaws.{routed, named}
 use Rattle.net_check.specs.Ranks.{rank}
 use Rattle.net_check.specs.Rules.{Accepts}
-use Rattle.net_check.specs.Decisions.{Obstacle, Here, Drop, Forward, B10, B11, B12}
+use Rattle.mctp_bridge.specs.declared.row.Hop.{Hop}
+use Rattle.mctp_bridge.specs.declared.decision.Obstacle.{Obstacle}
+use Rattle.mctp_bridge.specs.declared.decision.Obstacle.TheVariants.{Unassignable, NoBridge, NoRow}
+use Rattle.mctp_bridge.specs.declared.decision.Decision.TheVariants.{Here, Drop, Forward}
 use Rattle.net_check.specs.States.{NetworkState, Flight, at_start, destination, without_flight, with_made}
 use Rattle.net_check.specs.Events.{EventValue, Move, OutcomeValue, Stopped, Lost}
 use Rattle.net_check.specs.Networks.{Step, Moves, IsDecided}
@@ -38,10 +42,10 @@ module _ (plan : Plan) (cert : Certificate) (accepted : Accepts plan cert) (lead
   moved_on_route w g moved deliverable =
       let f = moved.flight in
       let P : Flight → Type 0 = λ h. IsDeliverable plan h → IsOnRoute plan h in
-      let now : IsDeliverable plan (moved_to f moved.next) → IsOnRoute plan (moved_to f moved.next) = λ d.
+      let now : IsDeliverable plan (moved_to f moved.hop) → IsOnRoute plan (moved_to f moved.hop) = λ d.
       let holder = d.0.0 in
       let away : holder ≢ f.node = λ same. let H : ℕ → Type 0 = λ n. Holds plan n (destination f) in moved.decided.0 (subst H same d.0.1) in
-      elim (leads f.node (destination f) moved.next moved.decided.3 holder d.0.1 away) [
+      elim (leads f.node (destination f) moved.hop.next (named (rows_of plan f.node) (destination f) moved.hop moved.decided.3) holder d.0.1 away) [
         | inl here ↦ inl here
         | inr (bridge, row) ↦ inr (inl bridge, row)
       ] in
@@ -73,9 +77,9 @@ module _ (plan : Plan) (cert : Certificate) (accepted : Accepts plan cert) (lead
 
   -- no flight on its route is stopped
   never_ends : (f : Flight) (why : Obstacle) → IsDeliverable plan f → IsOnRoute plan f → IsDecided plan f (Drop why) → ⊥
-  never_ends f B10 deliverable route (away, not) = not (held_is_assignable deliverable.0.0 (destination f) deliverable.0.1)
-  never_ends f B12 deliverable route (away, may, stays) = elim route [ inl here ↦ away here | inr goes ↦ stays goes.0 ]
-  never_ends f B11 deliverable route (away, may, goes, none) = elim route [ inl here ↦ away here | inr on ↦ none on.1.0 on.1.1 ]
+  never_ends f Unassignable deliverable route (away, not) = not (held_is_assignable deliverable.0.0 (destination f) deliverable.0.1)
+  never_ends f NoBridge deliverable route (away, may, stays) = elim route [ inl here ↦ away here | inr goes ↦ stays goes.0 ]
+  never_ends f NoRow deliverable route (away, may, goes, none) = elim route [ inl here ↦ away here | inr on ↦ let h = routed (rows_of plan f.node) (destination f) on.1.0 on.1.1 in none h.0 h.1 ]
 
   -- a flight that has gone doesn't come back
   gone_stays : (w : NetworkState) (number : ℕ) (turns : List Turn) → number ≤ w.made → w.flight number ≡ None → RunFrom plan w turns → length (moves_of number turns) ≡ 0
@@ -122,7 +126,7 @@ module _ (plan : Plan) (cert : Certificate) (accepted : Accepts plan cert) (lead
   })
   becomes_untouched number f turn turns new uncounted (inr (entered, few)) = inr (entered_later (destination f) number turn turns entered, rw uncounted few)
 
-  becomes_moved : (number next : ℕ) (f : Flight) (turn : Turn) (turns : List Turn) (new : NetworkState) → counts number turn.event turn.outcome ≡ true
+  becomes_moved : (number : ℕ) (next : Hop) (f : Flight) (turn : Turn) (turns : List Turn) (new : NetworkState) → counts number turn.event turn.outcome ≡ true
       → Becomes number (moved_to f next) turns new → Becomes number f (turn ∷ turns) new
   becomes_moved number next f turn turns new counted (inl way) = inl (record {
     flight = way.flight;
@@ -214,7 +218,7 @@ module _ (plan : Plan) (cert : Certificate) (accepted : Accepts plan cert) (lead
   stopped_by : (v : NetworkState) (k j : ℕ) (f : Flight) (why : Obstacle) (new : NetworkState) → Moves plan v k f (Stopped j why) new → IsDecided plan f (Drop why)
   stopped_by v k j f why new (Here, decided, done) = absurd done
   stopped_by v k j f why new (Drop other, decided, (same, told, is)) = let D : Obstacle → Type 0 = λ w. IsDecided plan f (Drop w) in subst D (sym told) decided
-  stopped_by v k j f why new (Forward next, decided, done) = absurd done
+  stopped_by v k j f why new (Forward hop, decided, done) = absurd done
 
   step_stopped : (w : NetworkState) (number : ℕ) (keep : Bool) (f : Flight) (k : ℕ) (why : Obstacle) (new : NetworkState) → w.flight number ≡ Some f
       → Step plan w (Move number keep) (Stopped k why) new → IsDecided plan f (Drop why)

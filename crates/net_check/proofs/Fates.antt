@@ -6,7 +6,9 @@ use Rattle.mctp_transport.specs.Histories.{Arrived}
 use Rattle.mctp_transport.specs.Hearing.{Answer}
 use Rattle.net_plan.specs.declared.plan.Plan.{Plan}
 use Rattle.net_check.specs.Routing.{Holds}
-use Rattle.net_check.specs.Decisions.{Obstacle, Here, Drop, Forward}
+use Rattle.mctp_bridge.specs.declared.row.Hop.{Hop}
+use Rattle.mctp_bridge.specs.declared.decision.Obstacle.{Obstacle}
+use Rattle.mctp_bridge.specs.declared.decision.Decision.TheVariants.{Here, Drop, Forward}
 use Rattle.net_check.specs.States.{NetworkState, Flight, destination, without_flight, with_made, with_input, with_terminus}
 use Rattle.net_check.specs.Events.{EventValue, Put, Move, Lose, Expire, AnswerAt, OutcomeValue, PutIn, Moved, Entered, Stopped, Lost, Expired, Answered, Silent, Refused}
 use Rattle.net_check.specs.Networks.{Step, Happens, Moves, IsDecided}
@@ -28,8 +30,8 @@ pub record IsLostNow (number : ℕ) (event : EventValue) (outcome : OutcomeValue
   pub gone : new.flight number ≡ None
   pub uncounted : counts number event outcome ≡ false
 
-abbrev pub moved_to : Flight → ℕ → Flight
-moved_to f next = record f { node = next; hops = f.hops + 1 }
+abbrev pub moved_to : Flight → Hop → Flight
+moved_to f hop = record f { node = hop.next; hops = f.hops + 1 }
 
 -- what a move of the flight itself makes of it: it enters, ends, or is at the next node
 abbrev pub IsEntering : Plan → Flight → ℕ → OutcomeValue → NetworkState → Type 0
@@ -40,7 +42,7 @@ abbrev pub IsEnding : Plan → Flight → Type 0
 IsEnding plan f = (why : Obstacle) × IsDecided plan f (Drop why)
 
 abbrev pub IsMoving : Plan → Flight → ℕ → NetworkState → Type 0
-IsMoving plan f number new = (next : ℕ) × IsDecided plan f (Forward next) × (new.flight number ≡ Some (moved_to f next))
+IsMoving plan f number new = (hop : Hop) × IsDecided plan f (Forward hop) × (new.flight number ≡ Some (moved_to f hop))
 
 pub record IsMoved (plan : Plan) (w : NetworkState) (number : ℕ) (event : EventValue) (outcome : OutcomeValue) (new : NetworkState) : Type 0 where
   pub flight : Flight
@@ -66,7 +68,7 @@ moves_other plan v k f (Entered j node key answer) new number other (Here, holds
     let entered : NetworkState = with_input v f.node (Arrived f.packet) in
     ap (λ (u : NetworkState). u.flight number) is ∙ ap (λ flight. flight number) (received_same entered f.node key answer).flight
 moves_other plan v k f (Stopped j told) new number other (Drop why, decided, (same, said, is)) = ap (λ (u : NetworkState). u.flight number) is
-moves_other plan v k f (Moved j node hops) new number other (Forward next, decided, (same, at, more, is)) =
+moves_other plan v k f (Moved j node hops) new number other (Forward hop, decided, (same, at, more, is)) =
     ap (λ (u : NetworkState). u.flight number) is ∙ other_flight k number (Some (record f { node = node; hops = hops })) (v.flight number) other
 moves_other plan v k f _ new number other (_, decided, done) = absurd done
 
@@ -80,11 +82,11 @@ moves_this plan w number f (Entered j node key answer) new (Here, holds, (same, 
     ∙ this_flight number None (w.flight number) in
     (refl, inl (holds, gone, (key, answer, λ i. Entered (same i) (at i) key answer)))
 moves_this plan w number f (Stopped j told) new (Drop why, decided, done) = (refl, inr (inl (why, decided)))
-moves_this plan w number f (Moved j node hops) new (Forward next, decided, (same, at, more, is)) =
-    let changed : record f { node = node; hops = hops } ≡ moved_to f next = λ i. record f { node = at i; hops = more i } in (
+moves_this plan w number f (Moved j node hops) new (Forward hop, decided, (same, at, more, is)) =
+    let changed : record f { node = node; hops = hops } ≡ moved_to f hop = λ i. record f { node = at i; hops = more i } in (
       refl,
       inr (inr (
-        next,
+        hop,
         decided,
         ap (λ (u : NetworkState). u.flight number) is
             ∙ this_flight number (Some (record f { node = node; hops = hops })) ((without_flight w number).flight number) ∙ ap Some changed,

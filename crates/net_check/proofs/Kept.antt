@@ -5,7 +5,8 @@ use Rattle.mctp_transport.specs.Histories.{Input, Arrived, TimeUp, History, Each
 use Rattle.mctp_transport.proofs.Arrivals.{EachArrival-append}
 use Rattle.net_plan.specs.declared.plan.Plan.{Plan}
 use Rattle.net_plan.specs.declared.certificate.Certificate.{Certificate}
-use Rattle.net_check.specs.Routing.{Holds}
+use Rattle.net_check.specs.Routing.{Holds, rows_of}
+use Rattle.net_check.proofs.TableLaws.{named}
 use Rattle.net_check.specs.Ranks.{rank}
 use Rattle.net_check.specs.Rules.{Accepts}
 use Rattle.net_check.specs.States.{NetworkState, Flight, at_start, destination}
@@ -32,7 +33,7 @@ module _ (plan : Plan) (cert : Certificate) (Known : Frame → Type 0) (accepted
       let f = moved.flight in
       let before = kept.flights moved.there.0 f moved.there.1 in
       let within = before.0 in
-      let falls = move_falls plan cert (destination f) f.node moved.next accepted (moved.decided.0, moved.decided.3) in
+      let falls = move_falls plan cert (destination f) f.node moved.hop.next accepted (moved.decided.0, named (rows_of plan f.node) (destination f) moved.hop moved.decided.3) in
       subst P (sym moved.is) (omega (arith, falls, within), before.1)
 
   new_keeps : (puts : Frame → Type 0) (g : Flight) → ((p : Frame) → puts p → Known p) → IsNew puts g → IsWithinHops cert g × Known g.packet

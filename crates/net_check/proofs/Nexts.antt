@@ -8,7 +8,8 @@ use Rattle.mctp_transport.specs.Histories.{Input, Arrived, TimeUp, after}
 use Rattle.mctp_transport.specs.Hearing.{Answer, Whole, Held, Dropped}
 use Rattle.net_plan.specs.declared.plan.Plan.{Plan}
 use Rattle.net_check.specs.Routing.{Holds}
-use Rattle.net_check.specs.Decisions.{Here, Drop, Forward}
+use Rattle.mctp_bridge.specs.declared.row.Hop.{Hop}
+use Rattle.mctp_bridge.specs.declared.decision.Decision.TheVariants.{Here, Drop, Forward}
 use Rattle.net_check.specs.Termini.{WaitingMessage, with_waiting}
 use Rattle.net_check.specs.States.{NetworkState, Flight, with_flight, without_flight, with_made, with_input, with_terminus, with_packet, with_packets, with_received}
 use Rattle.net_check.specs.Events.{EventValue, Put, Move, Lose, Expire, AnswerAt, OutcomeValue, PutIn, Moved, Entered, Stopped, Lost, Expired, Answered, Silent, Refused}
@@ -25,10 +26,10 @@ IsThere w f = (number : ℕ) × (w.flight number ≡ Some f)
 -- a flight that was there has moved on along a row
 pub record HasMoved (plan : Plan) (w : NetworkState) (g : Flight) : Type 0 where
   pub flight : Flight
-  pub next : ℕ
+  pub hop : Hop
   pub there : IsThere w flight
-  pub decided : IsDecided plan flight (Forward next)
-  pub is : g ≡ record flight { node = next; hops = flight.hops + 1 }
+  pub decided : IsDecided plan flight (Forward hop)
+  pub is : g ≡ record flight { node = hop.next; hops = flight.hops + 1 }
 
 abbrev pub new_flight : ℕ → Frame → Flight
 new_flight node p = record { packet = p; origin = node; node = node; hops = 0 }
@@ -162,11 +163,11 @@ module _ (plan : Plan) (w : NetworkState) (puts : Frame → Type 0) where
       (input_is_next v f.node (Arrived f.packet) within (holds, (f, there, refl))))
   moves_is_next v k f (Stopped j told) new within there small (Drop why, decided, (number, same, is)) =
       let P : NetworkState → Type 0 = IsNext plan w puts in subst P (sym is) (within_is_next v within)
-  moves_is_next v k f (Moved j node hops) new within there small (Forward next, decided, (number, at, more, is)) =
+  moves_is_next v k f (Moved j node hops) new within there small (Forward hop, decided, (number, at, more, is)) =
       let P : NetworkState → Type 0 = IsNext plan w puts in
       subst P (sym is) (flight_is_next v k (record f { node = node; hops = hops }) within (record {
         flight = f;
-        next = next;
+        hop = hop;
         there = there;
         decided = decided;
         is = λ i. record f { node = at i; hops = more i };

@@ -16,7 +16,7 @@ use Rattle.net_plan.specs.declared.certificate.Certificate.{Certificate}
 use Rattle.net_check.specs.Routing.{Holds}
 use Rattle.net_check.specs.Eids.{IsNewlyHeld}
 use Rattle.net_check.specs.Rules.{Accepts}
-use Rattle.net_check.specs.Decisions.{Here, Drop, Forward}
+use Rattle.mctp_bridge.specs.declared.decision.Decision.TheVariants.{Here, Drop, Forward}
 use Rattle.net_check.specs.States.{NetworkState, Flight, at_start, without_flight, with_made, slots, limit}
 use Rattle.net_check.specs.Events.{EventValue, Put, Move, Lose, Expire, AnswerAt, OutcomeValue, PutIn, Entered, Lost, Expired, Answered, Silent, Refused}
 use Rattle.net_check.specs.Networks.{Step, Happens, Moves}

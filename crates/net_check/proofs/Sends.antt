@@ -14,7 +14,7 @@ use Rattle.mctp_transport.proofs.InOrder.{arrivals, comes_in_order}
 use Rattle.net_plan.specs.declared.plan.Plan.{Plan}
 use Rattle.net_plan.specs.declared.certificate.Certificate.{Certificate}
 use Rattle.net_check.specs.Routing.{Holds}
-use Rattle.net_check.specs.Decisions.{Here}
+use Rattle.mctp_bridge.specs.declared.decision.Decision.TheVariants.{Here}
 use Rattle.net_check.specs.States.{NetworkState, at_start, without_flight, with_input, with_packet, with_received, unit, slots, limit}
 use Rattle.net_check.specs.Events.{Put, Move, Refusal, N01, N02, N03, N04, N05, N06, PutIn, Entered, IsRefused, most_flights}
 use Rattle.net_check.specs.Networks.{Step}

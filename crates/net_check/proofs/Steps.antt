@@ -15,13 +15,16 @@ use Rattle.net_plan.specs.declared.plan.Plan.{Plan}
 use Rattle.net_plan.specs.declared.nodes.Node.{Node}
 use Rattle.net_plan.specs.declared.nodes.Kind.TheVariants.{Bridge, Endpoint}
 use Rattle.net_check.specs.Routing.{Holds, HasRow, IsBridge, node_at, eid_of, rows_of}
-use Rattle.net_check.specs.Decisions.{Decision, Here, Drop, Forward, B10, B11, B12}
+use Rattle.mctp_bridge.specs.declared.decision.Decision.{Decision}
+use Rattle.mctp_bridge.specs.declared.decision.Obstacle.TheVariants.{Unassignable, NoBridge, NoRow}
+use Rattle.mctp_bridge.specs.declared.decision.Decision.TheVariants.{Here, Drop, Forward}
 use Rattle.net_check.specs.Termini.{TerminusState, WaitingMessage, AreBytes, HoldsBytes}
 use Rattle.net_check.specs.States.{NetworkState, Flight, destination, with_flight, without_flight, with_made, with_input, with_terminus, with_packet, with_packets, with_received, unit, slots, limit}
 use Rattle.net_check.specs.Events.{EventValue, Put, Move, Lose, Expire, AnswerAt, Refusal, N01, N02, N03, N04, N05, N06, OutcomeValue, PutIn, Moved, Entered, Stopped, Lost, Expired, Answered, Silent, Refused, IsRefused, named_node, named_flight, asked_node, bytes_put, numbers_needed, refusal_number, most_flights}
 use Rattle.net_check.specs.Networks.{IsDecided, Moves, answer_key, Happens, GoesOn}
 use Rattle.pdr_repository.specs.Answers.{Answers}
 use Rattle.net_check.proofs.Answering.{SomeAnswer, some_answering}
+use Rattle.net_check.proofs.TableLaws.{routed, named}
 use Rattle.net_check.proofs.Deciding.{OrNot, both_or_not, either_or_not, less_or_not, at_most_or_not, some_and_or_not, none_or_not, empty_or_not, same_or_not}
 use Rattle.net_check.proofs.Ends.{is_or_not, one_or_none}
 
@@ -118,12 +121,14 @@ some_decision : (plan : Plan) (f : Flight) → (decision : Decision) × IsDecide
 some_decision plan f = elim (holds_or_not plan f.node (destination f)) [
   | inl here ↦ (Here, here)
   | inr away ↦ elim (assignable_or_not (destination f)) [
-    | inr not ↦ (Drop B10, (away, not))
+    | inr not ↦ (Drop Unassignable, (away, not))
     | inl may ↦ elim (either_or_not _ _ (bridge_or_not plan f.node) (same_or_not f.hops 0)) [
-      | inr no_bridge ↦ (Drop B12, (away, may, no_bridge))
+      | inr no_bridge ↦ (Drop NoBridge, (away, may, no_bridge))
       | inl goes ↦ elim (has_row_or_not plan f.node (destination f)) [
-        | inl (next, routed) ↦ (Forward next, (away, may, goes, routed))
-        | inr none ↦ (Drop B11, (away, may, goes, λ next routed. none (next, routed)))
+        | inl (next, row) ↦
+            let h = routed (rows_of plan f.node) (destination f) next row in
+            (Forward h.0, (away, may, goes, h.1))
+        | inr none ↦ (Drop NoRow, (away, may, goes, λ hop routes. none (hop.next, named (rows_of plan f.node) (destination f) hop routes)))
       ]
     ]
   ]
@@ -147,10 +152,10 @@ some_move plan w number f = by (some_decision plan f)
           moves = (Here, holds, (refl, refl, refl, heard.1.hears, refl));
         }
     by (Drop why, decided) = record { outcome = Stopped number why; new = w; moves = (Drop why, decided, (refl, refl, refl)) }
-    by (Forward next, decided) = record {
-      outcome = Moved number next (f.hops + 1);
-      new = with_flight w number (record f { node = next; hops = f.hops + 1 });
-      moves = (Forward next, decided, (refl, refl, refl, refl));
+    by (Forward hop, decided) = record {
+      outcome = Moved number hop.next (f.hops + 1);
+      new = with_flight w number (record f { node = hop.next; hops = f.hops + 1 });
+      moves = (Forward hop, decided, (refl, refl, refl, refl));
     }
 
 -- an event that isn't refused happens

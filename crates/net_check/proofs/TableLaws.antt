@@ -75,11 +75,11 @@ no_fault rows Memory rows_lawful fault = refl
 
 -- ---- and the table sends what the rows send
 
-routed : (rows : List Row) (e m : ℕ) → NamesFor rows e m → (hop : Hop) × rule.Routes (map table_row rows) e hop
+pub routed : (rows : List Row) (e m : ℕ) → NamesFor rows e m → (hop : Hop) × rule.Routes (map table_row rows) e hop
 routed rows e m (r, row, is, covers, next) =
     ((table_row row).hop, (r, table_row row, omega (arith, length-map rows table_row, slice_get_within rows r row is), row_at rows r (table_row row) row is, (covers, refl)))
 
-named : (rows : List Row) (e : ℕ) (hop : Hop) → rule.Routes (map table_row rows) e hop → NamesFor rows e hop.next
+pub named : (rows : List Row) (e : ℕ) (hop : Hop) → rule.Routes (map table_row rows) e hop → NamesFor rows e hop.next
 named rows e hop (k, x, lt, at, (covers, goes)) =
     let row = element rows k (omega (arith, lt, length-map rows table_row)) in
     let same : table_row row.0 ≡ x = sym (row_at rows k x row.0 row.1) ∙ at in

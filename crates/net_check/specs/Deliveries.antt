@@ -6,7 +6,7 @@ use Rattle.net_plan.specs.declared.plan.Plan.{Plan}
 use Rattle.net_plan.specs.declared.certificate.Certificate.{Certificate}
 use Rattle.net_check.specs.Routing.{Holds, Routes, HasRow, IsBridge}
 use Rattle.net_check.specs.Ranks.{rank}
-use Rattle.net_check.specs.Decisions.{Obstacle}
+use Rattle.mctp_bridge.specs.declared.decision.Obstacle.{Obstacle}
 use Rattle.net_check.specs.States.{NetworkState, Flight, destination}
 use Rattle.net_check.specs.Events.{EventValue, Put, Move, Lose, Expire, AnswerAt, OutcomeValue, PutIn, Moved, Entered, Stopped, Lost, Expired, Answered, Silent, Refused}
 use Rattle.net_check.specs.Runs.{Turn, Run, reached}

@@ -3,7 +3,7 @@ use Rattle.std.specs.Prelude.{ℕ, ◌≡◌, ◌-◌, ◌<◌, ◌≤◌, List,
 use Rattle.mctp_transport.specs.Frames.{Frame, KeyValue, Spelled}
 use Rattle.mctp_transport.specs.Hearing.{Answer}
 use Rattle.net_plan.specs.declared.plan.Plan.{Plan}
-use Rattle.net_check.specs.Decisions.{Obstacle}
+use Rattle.mctp_bridge.specs.declared.decision.Obstacle.{Obstacle}
 use Rattle.net_check.specs.States.{NetworkState, unit}
 
 pub data EventValue : Type 0 where

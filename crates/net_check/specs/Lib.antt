@@ -12,7 +12,6 @@ pub mod Search
 pub mod Errors
 -- the network
 pub mod Moves
-pub mod Decisions
 pub mod Repositories
 pub mod Termini
 pub mod States

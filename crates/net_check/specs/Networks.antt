@@ -1,13 +1,17 @@
 -- One step of the network of a plan: an event, what comes of it, and the network after it.
-use Rattle.std.specs.Prelude.{◌≡◌, ◌⊎◌, ◌↔◌, ℕ, ◌+◌, List, ◌∷◌, length, true, false, Option, Some, None}
+use Rattle.std.specs.Prelude.{◌≡◌, ◌⊎◌, ◌↔◌, ℕ, ◌+◌, List, ◌∷◌, length, map, true, false, Option, Some, None}
 use Rattle.mctp_transport.specs.Frames.{Frame, KeyValue, key_of, Spelled}
 use Rattle.mctp_transport.specs.Cutting.{ArePacketsOf}
 use Rattle.mctp_transport.specs.Histories.{Arrived, TimeUp, IsOpen}
 use Rattle.mctp_transport.specs.Hearing.{Hears}
 use Rattle.net_plan.specs.declared.plan.Plan.{Plan}
 use Rattle.pdr_repository.specs.Answers.{Answers}
-use Rattle.net_check.specs.Routing.{Holds, Routes, IsBridge}
-use Rattle.net_check.specs.Decisions.{Decision, Here, Drop, Forward, Decides}
+use Rattle.mctp_bridge.specs.declared.decision.Decision.{Decision}
+use Rattle.mctp_bridge.specs.declared.decision.Decision.TheVariants.{Here, Drop, Forward}
+use Rattle.mctp_bridge.specs.Decisions.{Decides}
+use Rattle.mctp_bridge.specs.Rows.{Routes}
+use Rattle.net_check.specs.Routing.{Holds, IsBridge, rows_of}
+use Rattle.net_check.specs.Tables.{table_row}
 use Rattle.net_check.specs.Termini.{TerminusState, WaitingMessage}
 use Rattle.net_check.specs.States.{NetworkState, Flight, destination, with_flight, without_flight, with_made, with_input, with_terminus, with_packet, with_packets, with_received, unit, slots, limit}
 use Rattle.net_check.specs.Events.{EventValue, Put, Move, Lose, Expire, AnswerAt, OutcomeValue, PutIn, Moved, Entered, Stopped, Lost, Expired, Answered, Silent, Refused, Refusal, IsRefused, IsFirstRefusal}
@@ -15,7 +19,7 @@ use Rattle.net_check.specs.Events.{EventValue, Put, Move, Lose, Expire, AnswerAt
 -- what the node where the flight is decides on its packet; at its origin an endpoint sends its own
 abbrev pub IsDecided : Plan → Flight → Decision → Type 0
 IsDecided plan f decision = Decides (Holds plan f.node (destination f)) (IsBridge plan f.node ⊎ (f.hops ≡ 0))
-    (Routes plan f.node (destination f)) (destination f) decision
+    (Routes (map table_row (rows_of plan f.node)) (destination f)) (destination f) decision
 
 -- What comes of the decision on a flight, which has this number and isn't in the network: its packet enters the node,
 -- it ends, or it is at the next node with one hop more.
@@ -24,7 +28,7 @@ IsDone w number f (Entered k node key answer) Here new =
     (k ≡ number) × (node ≡ f.node) × (key ≡ key_of f.packet) × Hears slots limit (w.history f.node) f.packet answer
     × (new ≡ with_received (with_input w f.node (Arrived f.packet)) f.node key answer)
 IsDone w number f (Stopped k told) (Drop why) new = (k ≡ number) × (told ≡ why) × (new ≡ w)
-IsDone w number f (Moved k node hops) (Forward next) new = (k ≡ number) × (node ≡ next) × (hops ≡ f.hops + 1)
+IsDone w number f (Moved k node hops) (Forward hop) new = (k ≡ number) × (node ≡ hop.next) × (hops ≡ f.hops + 1)
     × (new ≡ with_flight w number (record f { node = node; hops = hops }))
 IsDone w number f _ _ new = ⊥
 

@@ -6,7 +6,7 @@ use Rattle.net_plan.specs.declared.plan.Plan.{Plan}
 use Rattle.net_plan.specs.declared.certificate.Certificate.{Certificate}
 use Rattle.net_plan.specs.declared.terminus.Terminus.{Terminus}
 use Rattle.net_plan.specs.declared.terminus.Record.{Record}
-use Rattle.pdr_repository.specs.Records.{Entry, HasHeader}
+use Rattle.pdr_repository.specs.Records.{Entry, IsRecordOf}
 use Rattle.net_check.specs.Routing.{node_at}
 
 abbrev pub terminus_of : Plan → ℕ → Option Terminus
@@ -52,11 +52,12 @@ pub record IsChained (records : List Record) (places : List ℕ) (j : ℕ) (r : 
       × (slice_get places k ≡ Some (place + 1)) × (r.next ≡ s.handle)
   pub last : place + 1 ≡ length records → r.next ≡ 0
 
--- The records are some, each with a new handle, with that handle in its header, and chained to the next.
+-- The records are some, each with a new handle, with bytes that are those of a record of that handle, and chained to the
+-- next.
 pub record HaveOrder (records : List Record) (places : List ℕ) : Type 0 where
   pub some : 0 < length records
   pub handles : (j : ℕ) (r : Record) → slice_get records j ≡ Some r → HasNewHandle records j r
-  pub headers : (j : ℕ) (r : Record) → slice_get records j ≡ Some r → HasHeader r.handle r.bytes.items
+  pub spelled : (j : ℕ) (r : Record) → slice_get records j ≡ Some r → IsRecordOf r.handle r.bytes.items
   pub chained : (j : ℕ) (r : Record) → slice_get records j ≡ Some r → IsChained records places j r
 
 -- each terminus has such records
