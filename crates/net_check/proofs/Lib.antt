@@ -13,6 +13,7 @@ pub mod RankRunLaws
 pub mod Filters
 pub mod RankLaws
 pub mod CertificateLaws
+pub mod OneCertificate
 -- the network
 pub mod Kept
 pub mod Promised
