@@ -3,8 +3,8 @@ use Rattle.std.specs.Prelude.{◌≡◌, ◌⊎◌, ℕ, List, codes}
 use Rattle.mctp_transport.specs.Frames.{IsAssignable}
 use Rattle.mctp_bridge.specs.declared.row.Row.{Row}
 use Rattle.mctp_bridge.specs.declared.row.Hop.{Hop}
-use Rattle.mctp_bridge.specs.declared.decision.Kind.{Kind}
-use Rattle.mctp_bridge.specs.declared.decision.Kind.TheVariants.{Bridge}
+use Rattle.mctp_control.specs.declared.device.DeviceKind.{DeviceKind}
+use Rattle.mctp_control.specs.declared.device.DeviceKind.TheVariants.{Bridge}
 use Rattle.mctp_bridge.specs.declared.decision.Progress.{Progress}
 use Rattle.mctp_bridge.specs.declared.decision.Progress.TheVariants.{AtOrigin}
 use Rattle.mctp_bridge.specs.declared.decision.Obstacle.{Obstacle}
@@ -23,11 +23,11 @@ Decides holds forwards routes e (Drop NoRow) = ¬ holds × IsAssignable e × for
 Decides holds forwards routes e (Forward hop) = ¬ holds × IsAssignable e × forwards × routes hop
 
 -- a bridge forwards the packets of others; each node sends its own
-abbrev pub Forwards : Kind → Progress → Type 0
+abbrev pub Forwards : DeviceKind → Progress → Type 0
 Forwards kind progress = (kind ≡ Bridge) ⊎ (progress ≡ AtOrigin)
 
 -- what a node of this EID, kind and rows decides on a packet for e
-abbrev pub IsDecided : ℕ → Kind → List Row → Progress → ℕ → Decision → Type 0
+abbrev pub IsDecided : ℕ → DeviceKind → List Row → Progress → ℕ → Decision → Type 0
 IsDecided eid kind rows progress e decision = Decides (e ≡ eid) (Forwards kind progress) (Routes rows e) e decision
 
 -- the code that users see

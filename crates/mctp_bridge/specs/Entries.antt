@@ -6,8 +6,8 @@ use Rattle.mctp_control.specs.Codes.{kind_number}
 use Rattle.mctp_control.specs.declared.route_entry.EntryKind.{EntryKind}
 use Rattle.mctp_control.specs.declared.route_entry.EntryKind.TheVariants as kind
 use Rattle.mctp_bridge.specs.declared.row.Row.{Row}
-use Rattle.mctp_bridge.specs.declared.decision.Kind.{Kind}
-use Rattle.mctp_bridge.specs.declared.decision.Kind.TheVariants.{Bridge, Endpoint}
+use Rattle.mctp_control.specs.declared.device.DeviceKind.{DeviceKind}
+use Rattle.mctp_control.specs.declared.device.DeviceKind.TheVariants.{Bridge, Endpoint}
 use Rattle.mctp_bridge.specs.declared.routing_entries.Neighbor.{Neighbor}
 
 -- the entry of so many EIDs from the first on, along the row's port to the neighbor
@@ -43,7 +43,7 @@ bridge_entries row next =
     else if nat_lt row.first.value next.eid.value && nat_lt next.eid.value (row.first.value + row.size) then entry_before row next ∷ own_entry row next ∷ []
     else run_entry row next row.first.value row.size kind.Range ∷ []
 
-abbrev pub entries_to : Kind → Row → Neighbor → List EntryValue
+abbrev pub entries_to : DeviceKind → Row → Neighbor → List EntryValue
 entries_to Endpoint row next = run_entry row next row.first.value row.size kind.Endpoint ∷ []
 entries_to Bridge row next = bridge_entries row next
 

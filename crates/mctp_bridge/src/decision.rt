@@ -4,22 +4,14 @@ ghost use Rattle.mctp_bridge.specs.Decisions.{Forwards, IsDecided};
 
 use crate::range_table::RangeTable;
 use crate::row::Hop;
+use mctp_control::DeviceKind;
 use mctp_transport::{Eid, Header};
-
-/// Whether a node forwards the packets of others.
-#[derive(Clone, Copy, Debug, PartialEq, Eq)]
-pub enum Kind {
-    /// It forwards packets by its rows.
-    Bridge,
-    /// It only sends its own.
-    Endpoint,
-}
 
 /// A node as its decisions see it.
 #[derive(Clone, Copy, Debug)]
 pub struct Node<'a> {
     pub eid: Eid,
-    pub kind: Kind,
+    pub kind: DeviceKind,
     pub table: &'a RangeTable,
 }
 
@@ -92,8 +84,8 @@ pub fn decide(node: &Node, progress: Progress, header: &Header) -> Decision
 }
 
 /// Whether such a node forwards such a packet at all.
-fn forwards(kind: Kind, progress: Progress) -> bool
+fn forwards(kind: DeviceKind, progress: Progress) -> bool
     ensures { IsTrue result ↔ Forwards kind progress }
 {
-    kind == Kind::Bridge || progress == Progress::AtOrigin
+    kind == DeviceKind::Bridge || progress == Progress::AtOrigin
 }

@@ -4,19 +4,21 @@
 
 mod decision;
 mod entry_reader;
+mod laws;
 mod range_table;
-mod routing_entries;
 mod read_fault;
+mod routing_entries;
 mod row;
 mod row_faults;
 mod table_fault;
 mod table_part;
 
-pub use decision::{Decision, Kind, Node, Obstacle, Progress, decide};
+pub use decision::{Decision, Node, Obstacle, Progress, decide};
 pub use entry_reader::{EntryReader, MAX_READ};
+pub use laws::{asks_what_is_due, every_reply_is_taken, readings_collect_all};
 pub use range_table::RangeTable;
-pub use routing_entries::{Neighbor, route_entries};
 pub use read_fault::ReadFault;
+pub use routing_entries::{Neighbor, route_entries};
 pub use row::{Hop, Row};
 pub use table_fault::TableFault;
 

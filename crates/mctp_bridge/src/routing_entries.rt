@@ -3,17 +3,16 @@ ghost use Rattle.std.specs.Prelude.{◌≡◌, ◌+◌, ◌<◌, ◌≤◌, ◌+
 ghost use Rattle.mctp_control.specs.RouteEntries.{entry_value};
 ghost use Rattle.mctp_bridge.specs.Entries.{run_entry, own_kind, row_entries, bridge_entries, table_entries};
 
-use crate::decision::Kind;
 use crate::range_table::RangeTable;
 use crate::row::Row;
-use mctp_control::{EntryKind, Port, RouteEntry};
+use mctp_control::{DeviceKind, EntryKind, Port, RouteEntry};
 use mctp_transport::Eid;
 use std::alloc::{AllocError, Global};
 
 /// What a routing table entry tells of the node that a row names, and of the bus that leads there.
 #[derive(Clone, Copy, Debug)]
 pub struct Neighbor<'a> {
-    pub kind: Kind,
+    pub kind: DeviceKind,
     /// The endpoint ID that the node holds.
     pub eid: Eid,
     /// The number of the bus's transport binding.
@@ -53,8 +52,14 @@ fn push_entries(entries: &mut Vec<RouteEntry>, row: &Row, next: &Neighbor) -> Re
     ensures { OnOk result (map entry_value entries.new.items ≡ map entry_value entries.old.items ++ row_entries row.now next.now) }
 {
     match next.kind {
-        Kind::Endpoint => entries.push(run(row, next, row.first, row.size, EntryKind::Endpoint))?,
-        Kind::Bridge => push_bridge_entries(entries, row, next)?,
+        DeviceKind::Endpoint => entries.push(run(
+            row,
+            next,
+            row.first,
+            row.size,
+            EntryKind::Endpoint,
+        ))?,
+        DeviceKind::Bridge => push_bridge_entries(entries, row, next)?,
     }
     Ok(())
 }

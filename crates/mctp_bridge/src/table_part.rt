@@ -23,10 +23,12 @@ impl TablePart {
         ensures { MatchOption result (TellsNothing answer.now) (λ part. Tells (header_value part.header) part.next (entries_of part.entries) answer.now) }
     {
         match Response::read(answer) {
-            Ok(Response {
-                header,
-                answer: Answer::GetRoutingTableEntries { next, entries },
-            }) => Some(TablePart {
+            Ok(
+                Response {
+                    header,
+                    answer: Answer::GetRoutingTableEntries { next, entries },
+                },
+            ) => Some(TablePart {
                 header,
                 next,
                 entries,

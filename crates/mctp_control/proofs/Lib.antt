@@ -1,3 +1,5 @@
 pub mod EntryReading
 pub mod EntryTaking
 pub mod CommandNumbers
+pub mod PoolLaws
+pub mod EntryFitting

@@ -1,3 +1,5 @@
+pub mod Ranges
+pub mod Pools
 pub mod Codes
 pub mod Numbers
 pub mod Digits
@@ -12,3 +14,6 @@ pub mod Requests
 pub mod RequestLaws
 pub mod Responses
 pub mod ResponseLaws
+pub mod Devices
+pub mod Replies
+pub mod Outcomes

@@ -1,4 +1,4 @@
--- A request as plain numbers, and its bytes (DSP0236, sections 12.3, 12.4, 12.9 and 12.13).
+-- A request as plain numbers, and its bytes (DSP0236, the commands of these names).
 use Rattle.std.specs.Prelude.{ℕ, ◌+◌, ◌*◌, ◌<◌, Bool, List, [], ◌∷◌}
 use Rattle.mctp_transport.specs.Wire.{Spells}
 use Rattle.mctp_control.specs.Headers.{HeaderValue, header_value, header_byte}

@@ -1,20 +1,28 @@
-//! MCTP control messages (DSP0236, section 12): the four commands that give out endpoint IDs and routes, the devices
+//! MCTP control messages (DSP0236, "MCTP control messages"): the four commands that give out endpoint IDs and routes, the devices
 //! that answer them, and pools of endpoint IDs.
 #![tactic(auto)]
 
 mod control_error;
+mod device;
+mod eid_pool;
+mod eid_range;
 mod entries;
 mod header;
 mod operations;
+mod replies;
 mod request;
 mod response;
 mod route_entry;
 mod statuses;
 
 pub use control_error::ControlError;
+pub use device::{Device, DeviceKind};
+pub use eid_pool::EidPool;
+pub use eid_range::EidRange;
 pub use entries::{Entries, MAX_ENTRIES, MAX_ENTRY_BYTES};
 pub use header::{ControlHeader, InstanceId};
 pub use operations::{AllocateOperation, Reserved, SetOperation};
+pub use replies::MAX_BODY;
 pub use request::{Command, Request};
 pub use response::{Answer, CommandNumber, Failure, Response};
 pub use route_entry::{EntryKind, MAX_ADDRESS, Port, RouteEntry};
@@ -22,3 +30,6 @@ pub use statuses::{
     Acceptance, Allocation, EidType, EndpointStatus, EndpointType, PoolStatus, ReservedPair,
     SetStatus,
 };
+
+#[cfg(test)]
+mod tests;

@@ -6,18 +6,18 @@ use crate::header::ControlHeader;
 use crate::operations::{AllocateOperation, Reserved, SetOperation};
 use mctp_transport::{Eid, Wire};
 
-/// What is asked, with its data.
+/// What is asked, with its data (DSP0236, the command of the same name).
 #[derive(Clone, Copy, Debug, PartialEq, Eq)]
 pub enum Command {
-    /// 0x01: give the device an EID (DSP0236, section 12.3). Two bytes: the operation, the EID.
+    /// 0x01: give the device an EID. Two bytes: the operation, the EID.
     SetEndpointId {
         operation: SetOperation,
         reserved: Reserved,
         eid: Eid,
     },
-    /// 0x02: tell the EID and the kind of the device (DSP0236, section 12.4). No bytes.
+    /// 0x02: tell the EID and the kind of the device. No bytes.
     GetEndpointId,
-    /// 0x08: give a bridge its pool of EIDs (DSP0236, section 12.9). Three bytes: the operation, the number of EIDs,
+    /// 0x08: give a bridge its pool of EIDs. Three bytes: the operation, the number of EIDs,
     /// the first EID.
     AllocateEndpointIds {
         operation: AllocateOperation,
@@ -25,7 +25,7 @@ pub enum Command {
         size: u8,
         first: Eid,
     },
-    /// 0x0A: tell the entries of the routing table from this one on (DSP0236, section 12.13). One byte: the entry
+    /// 0x0A: tell the entries of the routing table from this one on. One byte: the entry
     /// handle, 0 for the first.
     GetRoutingTableEntries {
         handle: u8,
@@ -45,14 +45,14 @@ impl Command {
     ghost use Rattle.mctp_control.specs.Refusals.{IsUnknown, IsCommandLength};
 
     /// The command of this number with these data.
-    fn read(number: u8, data: &[u8]) -> Result<Self, ControlError>
-        ensures ok { IfOk result (λ v. number ∷ data.now ≡ command_bytes (command_value v)) }
-        ensures all { (m : CommandValue) → IsCommand m → number ∷ data.now ≡ command_bytes m → IsOkAnd result (λ v. command_value v ≡ m) }
+    fn read(number: u8, rest: &[u8]) -> Result<Self, ControlError>
+        ensures ok { IfOk result (λ v. number ∷ rest.now ≡ command_bytes (command_value v)) }
+        ensures all { (m : CommandValue) → IsCommand m → number ∷ rest.now ≡ command_bytes m → IsOkAnd result (λ v. command_value v ≡ m) }
         ensures unknown { (result ≡ Err ControlError.UnknownCommand) ↔ IsUnknown number }
-        ensures length { (result ≡ Err ControlError.Length) ↔ (¬ IsUnknown number × ¬ IsCommandLength number (length data.now)) }
+        ensures length { (result ≡ Err ControlError.Length) ↔ (¬ IsUnknown number × ¬ IsCommandLength number (length rest.now)) }
         ensures no_other { (result ≢ Err ControlError.Short) × (result ≢ Err ControlError.OtherMessage) }
     {
-        match (number, data) {
+        match (number, rest) {
             (1, [operation, eid]) => Ok(Command::SetEndpointId {
                 operation: SetOperation::from_number(operation % 4),
                 reserved: Reserved::new(operation / 4),
@@ -146,13 +146,13 @@ impl<'a> Wire<'a> for Request {
         ensures length { (result ≡ Err ControlError.Length)
             ↔ (¬ IsShortRequest bytes.now × ¬ IsNoRequest bytes.now × ¬ HasUnknownCommand bytes.now × ¬ HasRequestLength bytes.now) }
     {
-        let [first, header, number, data @ ..] = bytes else {
+        let [first, header, number, rest @ ..] = bytes else {
             return Err(ControlError::Short);
         };
         if *first != 0 || *header < 128 {
             return Err(ControlError::OtherMessage);
         }
-        let command = Command::read(*number, data)?;
+        let command = Command::read(*number, rest)?;
         Ok(Request {
             header: ControlHeader::of(header % 128),
             command,

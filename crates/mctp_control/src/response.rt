@@ -36,7 +36,7 @@ impl CommandNumber {
     }
 }
 
-/// A completion code other than 0x00, which is success (DSP0236, section 12.2): 0x01 error, 0x02 invalid data, 0x03
+/// A completion code other than 0x00, which is success (DSP0236, "MCTP control message completion codes"): 0x01 error, 0x02 invalid data, 0x03
 /// invalid length, 0x04 not ready, 0x05 unsupported command, and others.
 #[derive(Clone, Copy, Debug, PartialEq, Eq)]
 pub struct Failure {
@@ -101,15 +101,15 @@ impl Answer {
     ghost use Rattle.mctp_control.specs.Refusals.{IsUnknown, IsAnswerData, IsTableData};
 
     /// The answer to the command of this number with this completion code and these data.
-    fn read(number: u8, code: u8, data: &[u8]) -> Result<Self, ControlError>
-        ensures ok { IfOk result (λ v. IsAnswer (answer_value v) × (number ∷ code ∷ data.now ≡ answer_bytes (answer_value v))) }
-        ensures all { (m : AnswerValue) → IsAnswer m → number ∷ code ∷ data.now ≡ answer_bytes m → IsOkAnd result (λ v. answer_value v ≡ m) }
+    fn read(number: u8, code: u8, rest: &[u8]) -> Result<Self, ControlError>
+        ensures ok { IfOk result (λ v. IsAnswer (answer_value v) × (number ∷ code ∷ rest.now ≡ answer_bytes (answer_value v))) }
+        ensures all { (m : AnswerValue) → IsAnswer m → number ∷ code ∷ rest.now ≡ answer_bytes m → IsOkAnd result (λ v. answer_value v ≡ m) }
         ensures unknown { (result ≡ Err ControlError.UnknownCommand) ↔ IsUnknown number }
-        ensures length { (result ≡ Err ControlError.Length) ↔ (¬ IsUnknown number × ¬ IsAnswerData number code data.now) }
+        ensures length { (result ≡ Err ControlError.Length) ↔ (¬ IsUnknown number × ¬ IsAnswerData number code rest.now) }
         ensures no_other { (result ≢ Err ControlError.Short) × (result ≢ Err ControlError.OtherMessage) }
     {
         let command = CommandNumber::of(number).ok_or(ControlError::UnknownCommand)?;
-        match (number, code, data) {
+        match (number, code, rest) {
             (1, 0, [status, eid, size]) => Ok(Answer::SetEndpointId {
                 status: SetStatus::of(*status),
                 eid: Eid::new(*eid),
@@ -244,13 +244,13 @@ impl<'a> Wire<'a> for Response {
         ensures length { (result ≡ Err ControlError.Length)
             ↔ (¬ IsShortResponse bytes.now × ¬ IsNoResponse bytes.now × ¬ HasUnknownCommand bytes.now × ¬ HasResponseLength bytes.now) }
     {
-        let [first, header, number, code, data @ ..] = bytes else {
+        let [first, header, number, code, rest @ ..] = bytes else {
             return Err(ControlError::Short);
         };
         if *first != 0 || *header >= 128 {
             return Err(ControlError::OtherMessage);
         }
-        let answer = Answer::read(*number, *code, data)?;
+        let answer = Answer::read(*number, *code, rest)?;
         Ok(Response {
             header: ControlHeader::of(*header),
             answer,

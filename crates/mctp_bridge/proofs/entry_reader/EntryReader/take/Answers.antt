@@ -18,9 +18,17 @@ returns-then-part-id c =
     let asked = ap (option_map (λ (id : InstanceId). id.value)) c.in-Some.is in
     let waits = is_there _ _ asked in
     let other : (reader_state c.args.self.now).waiting ≢ Some (part.header.instance.value) =
-        λ h. c.if-part-id.true (sym (same_Some _ _ (sym asked ∙ h))) in
-    inr (going, inr (waits, inr ((λ nothing. nothing _ _ _ c.in-Some-read.ensures),
-      (header_value part.header, part.next, entries_of part.entries, c.in-Some-read.ensures, inl (other, (refl, refl))))))
+    λ h. c.if-part-id.true (sym (same_Some _ _ (sym asked ∙ h))) in
+    inr (
+      going,
+      inr (
+        waits,
+        inr (
+          (λ nothing. nothing _ _ _ c.in-Some-read.ensures),
+          (header_value part.header, part.next, entries_of part.entries, c.in-Some-read.ensures, inl (other, (refl, refl))),
+        ),
+      ),
+    )
 
 pub returns : goal.returns
 returns c =
@@ -29,6 +37,14 @@ returns c =
     let asked = ap (option_map (λ (id : InstanceId). id.value)) c.in-Some.is in
     let waits = is_there _ _ asked in
     let same : ¬ ((reader_state c.args.self.now).waiting ≢ Some (part.header.instance.value)) =
-        λ h. h (asked ∙ ap Some (sym c.if-part-id.false)) in
-    inr (going, inr (waits, inr ((λ nothing. nothing _ _ _ c.in-Some-read.ensures),
-      (header_value part.header, part.next, entries_of part.entries, c.in-Some-read.ensures, inr (same, c.take_part.ensures)))))
+    λ h. h (asked ∙ ap Some (sym c.if-part-id.false)) in
+    inr (
+      going,
+      inr (
+        waits,
+        inr (
+          (λ nothing. nothing _ _ _ c.in-Some-read.ensures),
+          (header_value part.header, part.next, entries_of part.entries, c.in-Some-read.ensures, inr (same, c.take_part.ensures)),
+        ),
+      ),
+    )

@@ -1,0 +1,303 @@
+//! Devices, and how they answer requests.
+ghost use Rattle.std.specs.Prelude.{◌≡◌, ◌<◌, ◌≤◌, ℕ, List, length};
+ghost use Rattle.mctp_control.specs.EntryLists.{values_of};
+ghost use Rattle.mctp_control.specs.Replies.{reply_bytes};
+ghost use Rattle.mctp_control.specs.Outcomes.{content_of};
+
+use crate::eid_range::EidRange;
+use crate::operations::{AllocateOperation, SetOperation};
+use crate::replies::{MAX_BODY, Refusal, concluded, framed, tell_entries};
+use crate::request::{Command, Request};
+use crate::route_entry::RouteEntry;
+use arrayvec::ArrayVec;
+use mctp_transport::{Eid, Wire};
+
+/// What a device is.
+#[derive(Clone, Copy, Debug, PartialEq, Eq)]
+pub enum DeviceKind {
+    Endpoint,
+    Bridge,
+}
+
+/// An EID that is held, and the bus that gave it; None where the device was configured with it.
+#[derive(Clone, Copy, Debug, PartialEq, Eq)]
+struct HeldEid {
+    eid: Eid,
+    giver: Option<u8>,
+}
+
+/// A pool that is held, and the bus that gave it; None where the device was configured with it.
+#[derive(Clone, Copy, Debug, PartialEq, Eq)]
+struct HeldPool {
+    range: EidRange,
+    giver: Option<u8>,
+}
+
+/// A device that answers requests: what it is, the EID that it holds, the size of the pool that it wants, and the
+/// pool that it holds. None of its calls takes memory.
+#[derive(Clone, Copy, Debug, PartialEq, Eq)]
+pub struct Device {
+    kind: DeviceKind,
+    eid: Option<HeldEid>,
+    wants: u8,
+    pool: Option<HeldPool>,
+}
+
+impl Device {
+    ghost use Rattle.std.specs.Prelude.{◌↔◌, ◌∷◌, ◌<◌, ℕ, List, [], length, slice_index, IsTrue, Some, IsSomeAnd, option_map};
+    ghost use Rattle.mctp_transport.specs.Frames.{IsAssignable};
+    ghost use Rattle.mctp_control.specs.Numbers.{set_number, allocate_number};
+    ghost use Rattle.mctp_control.specs.Requests.{command_value};
+    ghost use Rattle.mctp_control.specs.Devices.{device_value, configured_pool, size_of, present_eid, present_size, present_first, MayGiveEid, MayGivePool, allocation_of, pool_wanted, endpoint_type};
+    ghost use Rattle.mctp_control.specs.Replies.{Replies, SetReplies, GetReplies, AllocateReplies, CommandReplies, Supports};
+
+    /// An endpoint that holds no EID.
+    pub fn endpoint() -> Self
+        ensures { device_value result ≡ record { kind = DeviceKind.Endpoint; eid = None; wants = 0; pool = None } }
+    {
+        Device {
+            kind: DeviceKind::Endpoint,
+            eid: None,
+            wants: 0,
+            pool: None,
+        }
+    }
+
+    /// A bridge that holds no EID and wants a pool of so many EIDs.
+    pub fn bridge(wants: u8) -> Self
+        ensures { device_value result ≡ record { kind = DeviceKind.Bridge; eid = None; wants = wants; pool = None } }
+    {
+        Device {
+            kind: DeviceKind::Bridge,
+            eid: None,
+            wants,
+            pool: None,
+        }
+    }
+
+    /// A device that was configured with an EID in 8 to 254 and, a bridge alone, with a pool, and wants that pool's size.
+    /// No bus gave them, so set and allocate are rejected, and force is accepted.
+    pub fn configured(kind: DeviceKind, eid: Eid, pool: Option<EidRange>) -> Self
+        requires assignable { IsAssignable eid.value }
+        requires pool { kind ≡ DeviceKind.Endpoint → pool ≡ None }
+        ensures { device_value result
+            ≡ record { kind = kind; eid = Some (record { eid = eid.value; giver = None }); wants = size_of pool; pool = configured_pool pool } }
+    {
+        Device {
+            kind,
+            eid: Some(HeldEid { eid, giver: None }),
+            wants: pool.map_or(0, |range| range.size),
+            pool: pool.map(|range| HeldPool { range, giver: None }),
+        }
+    }
+
+    /// The EID that the device holds, if any.
+    pub fn eid(&self) -> Option<Eid>
+        ensures { option_map (λ e. e.value) result ≡ option_map (λ h. h.eid) (device_value self.now).eid }
+    {
+        self.eid.map(|held| held.eid)
+    }
+
+    /// The pool that the device holds, if any.
+    pub fn pool(&self) -> Option<EidRange>
+        ensures { option_map {U = ℕ × ℕ} (λ r. (r.first.value, r.size)) result
+            ≡ option_map {U = ℕ × ℕ} (λ h. (h.first, h.size)) (device_value self.now).pool }
+    {
+        self.pool.map(|held| held.range)
+    }
+
+    /// The size of the pool that the device wants; an endpoint wants none.
+    fn pool_wanted(&self) -> u8
+        ensures { result ≡ pool_wanted self.now.kind self.now.wants }
+    {
+        match self.kind {
+            DeviceKind::Endpoint => 0,
+            DeviceKind::Bridge => self.wants,
+        }
+    }
+
+    /// The allocation status of Set Endpoint ID: 0, 1 or 2.
+    fn allocation(&self) -> u8
+        ensures value { result ≡ allocation_of (pool_wanted self.now.kind self.now.wants) (device_value self.now).pool }
+        ensures most { result ≤ 2 }
+    {
+        match (self.pool_wanted(), self.pool) {
+            (0, _) => 0,
+            (_, None) => 1,
+            (_, Some(_)) => 2,
+        }
+    }
+
+    /// The EID that is held, 0 for none.
+    fn present_eid(&self) -> u8
+        ensures { result ≡ present_eid (device_value self.now).eid }
+    {
+        self.eid.map_or(0, |held| held.eid.value)
+    }
+
+    /// The size and the first EID of the pool that is held, 0 and 0 for none.
+    fn present_pool(&self) -> (u8, u8)
+        ensures size { result.0 ≡ present_size (device_value self.now).pool }
+        ensures first { result.1 ≡ present_first (device_value self.now).pool }
+    {
+        match self.pool {
+            Some(held) => (held.range.size, held.range.first.value),
+            None => (0, 0),
+        }
+    }
+
+    /// Whether the bus may give an EID: none is held, or the same bus gave it.
+    fn may_give_eid(&self, bus: u8) -> bool
+        ensures { IsTrue result ↔ MayGiveEid (device_value self.now).eid bus }
+    {
+        match self.eid {
+            Some(held) => held.giver == Some(bus),
+            None => true,
+        }
+    }
+
+    /// Whether the bus may give a pool: none is held, or the same bus gave it.
+    fn may_give_pool(&self, bus: u8) -> bool
+        ensures { IsTrue result ↔ MayGivePool (device_value self.now).pool bus }
+    {
+        match self.pool {
+            Some(held) => held.giver == Some(bus),
+            None => true,
+        }
+    }
+
+    /// Set Endpoint ID.
+    fn set_eid(&mut self, bus: u8, operation: SetOperation, eid: Eid) -> Result<[u8; 3], Refusal>
+        ensures { SetReplies (device_value self.old) bus (set_number operation) eid.value (content_of result) (device_value self.new) }
+    {
+        if !eid.is_assignable() {
+            return Err(Refusal::InvalidData);
+        }
+        let accepted = match operation {
+            SetOperation::Set => self.may_give_eid(bus),
+            SetOperation::Force => true,
+            SetOperation::Reset | SetOperation::SetDiscovered => {
+                return Err(Refusal::InvalidData);
+            }
+        };
+        if !accepted {
+            return Ok([
+                16 + self.allocation(),
+                self.present_eid(),
+                self.pool_wanted(),
+            ]);
+        }
+        self.eid = Some(HeldEid {
+            eid,
+            giver: Some(bus),
+        });
+        Ok([self.allocation(), eid.value, self.pool_wanted()])
+    }
+
+    /// Get Endpoint ID.
+    fn get_eid(&self) -> [u8; 3]
+        ensures { 0 ∷ result ≡ 0 ∷ present_eid (device_value self.now).eid ∷ endpoint_type self.now.kind ∷ 0 ∷ [] }
+    {
+        let endpoint_type = match self.kind {
+            DeviceKind::Endpoint => 0x00,
+            DeviceKind::Bridge => 0x10,
+        };
+        [self.present_eid(), endpoint_type, 0]
+    }
+
+    /// Allocate Endpoint IDs.
+    fn allocate(
+        &mut self,
+        bus: u8,
+        operation: AllocateOperation,
+        first: Eid,
+        size: u8,
+    ) -> Result<[u8; 3], Refusal>
+        ensures { AllocateReplies (device_value self.old) bus (allocate_number operation) size first.value (content_of result) (device_value self.new) }
+    {
+        let (held_size, held_first) = self.present_pool();
+        let force = match operation {
+            AllocateOperation::Allocate => false,
+            AllocateOperation::Force => true,
+            AllocateOperation::GetInformation => return Ok([0, held_size, held_first]),
+            AllocateOperation::Reserved => return Err(Refusal::InvalidData),
+        };
+        let range = EidRange::of(first, size).ok_or(Refusal::InvalidData)?;
+        if !force && !self.may_give_pool(bus) {
+            return Ok([1, held_size, held_first]);
+        }
+        self.pool = Some(HeldPool {
+            range,
+            giver: Some(bus),
+        });
+        Ok([0, size, first.value])
+    }
+
+    /// Whether the device knows the command.
+    fn supports(&self, number: u8) -> bool
+        ensures { IsTrue result ↔ Supports self.now.kind number }
+    {
+        match self.kind {
+            DeviceKind::Endpoint => number == 0x01 || number == 0x02,
+            DeviceKind::Bridge => number == 0x01
+                || number == 0x02
+                || number == 0x08
+                || number == 0x0a,
+        }
+    }
+
+    /// What the device answers to the body of a control message that comes over the bus, with the entries of its
+    /// routing table in order. None, and nothing changed, where the body has fewer than 3 bytes, byte 0 is not 0x00,
+    /// the Rq bit is clear or the D bit set: it asks for no response. The table has at most 254 entries.
+    pub fn answer(
+        &mut self,
+        bus: u8,
+        table: &[RouteEntry],
+        body: &[u8],
+    ) -> Option<ArrayVec<u8, MAX_BODY>>
+        requires { length table.now < 255 }
+        ensures { Replies (device_value self.old) bus (values_of table.now) body.now (option_map (λ r. r.items) result) (device_value self.new) }
+    {
+        let [0, header, number, ..] = body else {
+            return None;
+        };
+        if header / 64 != 2 {
+            return None;
+        }
+        if !self.supports(*number) {
+            return Some(framed(body, &[Refusal::UnsupportedCommand as u8]));
+        }
+        match Request::read(body) {
+            Ok(request) => Some(self.respond(bus, table, body, request.command)),
+            Err(_) => Some(framed(body, &[Refusal::InvalidLength as u8])),
+        }
+    }
+
+    /// The reply to a command that the device supports.
+    fn respond(
+        &mut self,
+        bus: u8,
+        table: &[RouteEntry],
+        body: &[u8],
+        command: Command,
+    ) -> ArrayVec<u8, MAX_BODY>
+        requires body { 3 ≤ length body.now }
+        requires table { length table.now < 255 }
+        ensures { (content : List ℕ) × (result.items ≡ reply_bytes body.now content)
+            × CommandReplies (device_value self.old) bus (values_of table.now) (command_value command) content (device_value self.new) }
+    {
+        match command {
+            Command::SetEndpointId { operation, eid, .. } => {
+                concluded(body, self.set_eid(bus, operation, eid))
+            }
+            Command::GetEndpointId => concluded(body, Ok(self.get_eid())),
+            Command::AllocateEndpointIds {
+                operation,
+                size,
+                first,
+                ..
+            } => concluded(body, self.allocate(bus, operation, first, size)),
+            Command::GetRoutingTableEntries { handle } => tell_entries(body, table, handle),
+        }
+    }
+}

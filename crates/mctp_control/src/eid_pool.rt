@@ -1,0 +1,105 @@
+//! Pools of EIDs that are given out and come back.
+ghost use Rattle.std.specs.Prelude.{◌≡◌, ◌<◌, ◌≤◌, ◌+◌, ◌↔◌, ℕ, IfSome, IfNone, IsTrue};
+
+use crate::eid_range::EidRange;
+use mctp_transport::Eid;
+
+/// EIDs that are given out and come back. None of its calls takes memory.
+#[derive(Clone, Debug, Drop)]
+pub struct EidPool {
+    range: EidRange,
+    /// By EID, whether it is out.
+    out: [bool; 256],
+}
+
+impl EidPool {
+    ghost use Rattle.mctp_control.specs.Ranges.{IsAssignableRange};
+    ghost use Rattle.mctp_control.specs.Pools.{pool_value, IsOut, IsFree, IsFreeRun, IsLowestFree, IsLowestRun, GoesOut, ComesBack};
+
+    /// A pool of so many EIDs from this one on, none of which is out. `EidRange::of` says whether they can be a pool.
+    pub fn new(first: Eid, size: u8) -> Self
+        requires { IsAssignableRange first.value size }
+        ensures first { (pool_value result).first ≡ first.value }
+        ensures size { (pool_value result).size ≡ size }
+        ensures none_out { (eid : ℕ) → ¬ IsOut (pool_value result) eid }
+    {
+        EidPool {
+            range: EidRange { first, size },
+            out: [false; 256],
+        }
+    }
+
+    /// Gives out the lowest EID that is free, if there is one.
+    pub fn take(&mut self) -> Option<Eid>
+        ensures some { IfSome result (λ eid. IsLowestFree (pool_value self.old) eid.value × GoesOut (pool_value self.old) (pool_value self.new) eid.value 1) }
+        ensures none { (result ≡ None) ↔ ((eid : ℕ) → ¬ IsFree (pool_value self.old) eid) }
+        ensures unchanged { IfNone result (pool_value self.new ≡ pool_value self.old) }
+    {
+        self.take_block(1)
+    }
+
+    /// Gives out the lowest run of so many free EIDs, if there is one, and answers its first EID.
+    pub fn take_block(&mut self, count: u8) -> Option<Eid>
+        requires { 0 < count }
+        ensures some { IfSome result (λ eid. IsLowestRun (pool_value self.old) count eid.value × GoesOut (pool_value self.old) (pool_value self.new) eid.value count) }
+        ensures none { (result ≡ None) ↔ ((eid : ℕ) → ¬ IsFreeRun (pool_value self.old) count eid) }
+        ensures unchanged { IfNone result (pool_value self.new ≡ pool_value self.old) }
+    {
+        let first = self.lowest_run(count)?;
+        self.mark(first, count);
+        Some(first)
+    }
+
+    /// Takes an EID back, and says whether it was out.
+    pub fn give_back(&mut self, eid: Eid) -> bool
+        ensures was_out { IsTrue result ↔ IsOut (pool_value self.old) eid.value }
+        ensures back { ComesBack (pool_value self.old) (pool_value self.new) eid.value }
+    {
+        let place = eid.value as usize;
+        let was_out = self.range.contains(eid) && self.out[place];
+        self.out[place] = false;
+        was_out
+    }
+
+    /// The first EID of the lowest run of so many free ones.
+    fn lowest_run(&self, count: u8) -> Option<Eid>
+        requires { 0 < count }
+        ensures some { IfSome result (λ eid. IsLowestRun (pool_value self.now) count eid.value) }
+        ensures none { (result ≡ None) ↔ ((eid : ℕ) → ¬ IsFreeRun (pool_value self.now) count eid) }
+    {
+        for first in self.range.first.value..self.range.end() {
+            if self.is_free_run(first, count) {
+                return Some(Eid::new(first));
+            }
+        }
+        None
+    }
+
+    /// Whether so many EIDs from this one on are free.
+    fn is_free_run(&self, first: u8, count: u8) -> bool
+        requires some { 0 < count }
+        requires within { (pool_value self.now).first ≤ first }
+        ensures { IsTrue result ↔ IsFreeRun (pool_value self.now) count first }
+    {
+        let end = self.range.end();
+        if end < first || end - first < count {
+            return false;
+        }
+        for eid in first..first + count {
+            if self.out[eid as usize] {
+                return false;
+            }
+        }
+        true
+    }
+
+    /// Marks these EIDs of the pool as out.
+    fn mark(&mut self, first: Eid, count: u8)
+        requires { IsFreeRun (pool_value self.old) count first.value }
+        ensures { GoesOut (pool_value self.old) (pool_value self.new) first.value count }
+    {
+        for eid in first.value..first.value + count {
+            self.out[eid as usize] = true;
+        }
+    }
+}

@@ -1,0 +1,17 @@
+pub mod First
+pub mod Headers
+pub mod HeaderLaws
+pub mod HeaderValues
+pub mod Commands
+pub mod Faults
+pub mod Messages
+pub mod MessageLaws
+pub mod Heads
+pub mod Pdrs
+pub mod PdrLaws
+pub mod PdrValues
+pub mod BaseCommands
+pub mod BaseCommandLaws
+pub mod BaseCommandValues
+pub mod InstanceIds
+pub mod InstanceIdValues

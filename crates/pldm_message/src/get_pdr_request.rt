@@ -1,0 +1,98 @@
+//! Requests for parts of platform descriptor records.
+ghost use Rattle.std.specs.Prelude.{◌<◌, ◌^◌};
+
+use crate::command::Command;
+use crate::fields::{split_u16, split_u32};
+use crate::head::RequestHead;
+use crate::header::HEADER_LENGTH;
+use crate::pldm_error::PldmError;
+use crate::transfer::TransferOperation;
+use byteorder::{ByteOrder, LittleEndian};
+use mctp_transport::Wire;
+
+/// A request for a part of a record: 17 bytes. Behind the header stand the record handle (4 bytes), the data transfer
+/// handle (4), the transfer operation flag (1), the most bytes that the part may have (2) and the record change number
+/// (2), each with its lowest byte first (DSP0248, GetPDR).
+#[derive(Clone, Copy, Debug, PartialEq, Eq)]
+pub struct GetPdrRequest {
+    pub head: RequestHead,
+    /// The record's handle, 0 for the first record.
+    pub record_handle: u32,
+    /// Where the part begins. Of no meaning for a first part.
+    pub transfer_handle: u32,
+    pub operation: TransferOperation,
+    /// How many bytes of the record the answer may have at most.
+    pub count: u16,
+    /// The change number that the record's first part had. Of no meaning for a first part.
+    pub change_number: u16,
+    pub ghost record_in_range: { record_handle < 2 ^ 32 },
+    pub ghost transfer_in_range: { transfer_handle < 2 ^ 32 },
+    pub ghost count_in_range: { count < 2 ^ 16 },
+    pub ghost change_in_range: { change_number < 2 ^ 16 },
+}
+
+impl<'a> Wire<'a> for GetPdrRequest {
+    ghost use Rattle.std.specs.Prelude.{◌≡◌, ◌++◌, ℕ, List, length, drop, IfOk, IsOkAnd};
+    ghost use Rattle.std.specs.Result.{result_err};
+    ghost use Rattle.mctp_transport.specs.Wire.{Spells};
+    ghost use Rattle.pldm_message.specs.declared.command.Command.TheVariants as command;
+    ghost use Rattle.pldm_message.specs.Messages.{RequestMessage};
+    ghost use Rattle.pldm_message.specs.Pdrs.{PartRequest, IsGetPdrRequest, get_pdr_request_bytes};
+    ghost use Rattle.pldm_message.specs.PdrLaws.{one_get_pdr_request};
+    ghost use Rattle.pldm_message.specs.PdrValues.{get_pdr_request};
+    ghost use Rattle.pldm_message.specs.Faults.{MessageFault, IsRequestOf};
+
+    type Error = PldmError;
+
+    ghost Meaning = { RequestMessage PartRequest };
+
+    ghost meaning = { get_pdr_request };
+
+    ghost IsLawful = { IsGetPdrRequest };
+
+    ghost spelling = { get_pdr_request_bytes };
+
+    /// The request that the bytes are, all of them.
+    #[tactic(auto, using(crate::specs::PdrLaws::one_get_pdr_request))]
+    fn read(bytes: &'a [u8]) -> Result<Self, PldmError>
+        ensures ok { IfOk result (λ r. Spells IsGetPdrRequest get_pdr_request_bytes (get_pdr_request r) bytes.now) }
+        ensures all { (m : RequestMessage PartRequest) → Spells IsGetPdrRequest get_pdr_request_bytes m bytes.now → IsOkAnd result (λ r. get_pdr_request r ≡ m) }
+        ensures fault { MessageFault (IsRequestOf command.GetPdr bytes.now) 17 bytes.now (result_err result) }
+    {
+        let (head, data) = RequestHead::read(bytes, Command::GetPdr)?;
+        let (record_handle, data) = split_u32(data)?;
+        let (transfer_handle, data) = split_u32(data)?;
+        let [operation, data @ ..] = data else {
+            return Err(PldmError::Length);
+        };
+        let (count, data) = split_u16(data)?;
+        let (change_number, data) = split_u16(data)?;
+        if !data.is_empty() {
+            return Err(PldmError::Length);
+        }
+        Ok(GetPdrRequest {
+            head,
+            record_handle,
+            transfer_handle,
+            operation: TransferOperation::new(*operation),
+            count,
+            change_number,
+        })
+    }
+
+    fn len(&self) -> usize {
+        HEADER_LENGTH + 13
+    }
+
+    fn put(&self, out: &mut [u8]) -> usize {
+        self.head.put(Command::GetPdr, out);
+        LittleEndian::write_u32(&mut out[4..], self.record_handle);
+        LittleEndian::write_u32(&mut out[8..], self.transfer_handle);
+        out[12] = self.operation.value;
+        LittleEndian::write_u16(&mut out[13..], self.count);
+        LittleEndian::write_u16(&mut out[15..], self.change_number);
+        HEADER_LENGTH + 13
+    }
+
+    ghost one_value = { one_get_pdr_request };
+}

@@ -1,0 +1,134 @@
+//! Requests for a terminus ID, and their answers.
+
+use crate::command::Command;
+use crate::error_code::{ErrorCode, SUCCESS};
+use crate::head::{AnswerHead, OUTCOME_LENGTH, RequestHead};
+use crate::header::HEADER_LENGTH;
+use crate::pldm_error::PldmError;
+use crate::tid::Tid;
+use mctp_transport::Wire;
+
+/// A request for a terminus's ID: the header alone, 4 bytes (DSP0240, GetTID).
+#[derive(Clone, Copy, Debug, PartialEq, Eq)]
+pub struct GetTid {
+    pub head: RequestHead,
+}
+
+impl<'a> Wire<'a> for GetTid {
+    ghost use Rattle.std.specs.Prelude.{◌≡◌, ◌++◌, ℕ, List, length, drop, IfOk, IsOkAnd};
+    ghost use Rattle.std.specs.Result.{result_err};
+    ghost use Rattle.mctp_transport.specs.Wire.{Spells};
+    ghost use Rattle.pldm_message.specs.declared.command.Command.TheVariants as command;
+    ghost use Rattle.pldm_message.specs.Messages.{RequestMessage};
+    ghost use Rattle.pldm_message.specs.BaseCommands.{IsGetTid, get_tid_bytes};
+    ghost use Rattle.pldm_message.specs.BaseCommandLaws.{one_get_tid};
+    ghost use Rattle.pldm_message.specs.BaseCommandValues.{get_tid};
+    ghost use Rattle.pldm_message.specs.Faults.{MessageFault, IsRequestOf};
+
+    type Error = PldmError;
+
+    ghost Meaning = { RequestMessage (Unit {0}) };
+
+    ghost meaning = { get_tid };
+
+    ghost IsLawful = { IsGetTid };
+
+    ghost spelling = { get_tid_bytes };
+
+    /// The request that the bytes are, all of them.
+    fn read(bytes: &'a [u8]) -> Result<Self, PldmError>
+        ensures ok { IfOk result (λ r. Spells IsGetTid get_tid_bytes (get_tid r) bytes.now) }
+        ensures all { (m : RequestMessage (Unit {0})) → Spells IsGetTid get_tid_bytes m bytes.now → IsOkAnd result (λ r. get_tid r ≡ m) }
+        ensures fault { MessageFault (IsRequestOf command.GetTid bytes.now) 4 bytes.now (result_err result) }
+    {
+        let (head, data) = RequestHead::read(bytes, Command::GetTid)?;
+        if !data.is_empty() {
+            return Err(PldmError::Length);
+        }
+        Ok(GetTid { head })
+    }
+
+    fn len(&self) -> usize {
+        HEADER_LENGTH
+    }
+
+    fn put(&self, out: &mut [u8]) -> usize {
+        self.head.put(Command::GetTid, out);
+        HEADER_LENGTH
+    }
+
+    ghost one_value = { one_get_tid };
+}
+
+/// The answer to a request for a terminus ID: the header, the completion code 0 and the ID, 6 bytes; or another
+/// completion code alone, 5 bytes (DSP0240, GetTID).
+#[derive(Clone, Copy, Debug, PartialEq, Eq)]
+pub struct GetTidAnswer {
+    pub head: AnswerHead,
+    pub outcome: Result<Tid, ErrorCode>,
+}
+
+impl<'a> Wire<'a> for GetTidAnswer {
+    ghost use Rattle.std.specs.Prelude.{◌≡◌, ◌++◌, ℕ, List, length, drop, IfOk, IsOkAnd};
+    ghost use Rattle.std.specs.Result.{result_err};
+    ghost use Rattle.mctp_transport.specs.Wire.{Spells};
+    ghost use Rattle.pldm_message.specs.declared.command.Command.TheVariants as command;
+    ghost use Rattle.pldm_message.specs.Messages.{AnswerMessage};
+    ghost use Rattle.pldm_message.specs.BaseCommands.{IsGetTidAnswer, get_tid_answer_bytes};
+    ghost use Rattle.pldm_message.specs.BaseCommandLaws.{one_get_tid_answer};
+    ghost use Rattle.pldm_message.specs.BaseCommandValues.{get_tid_answer};
+    ghost use Rattle.pldm_message.specs.Faults.{MessageFault, IsAnswerOf, answer_length};
+
+    type Error = PldmError;
+
+    ghost Meaning = { AnswerMessage ℕ };
+
+    ghost meaning = { get_tid_answer };
+
+    ghost IsLawful = { IsGetTidAnswer };
+
+    ghost spelling = { get_tid_answer_bytes };
+
+    /// The answer that the bytes are, all of them.
+    fn read(bytes: &'a [u8]) -> Result<Self, PldmError>
+        ensures ok { IfOk result (λ a. Spells IsGetTidAnswer get_tid_answer_bytes (get_tid_answer a) bytes.now) }
+        ensures all { (m : AnswerMessage ℕ) → Spells IsGetTidAnswer get_tid_answer_bytes m bytes.now → IsOkAnd result (λ a. get_tid_answer a ≡ m) }
+        ensures fault { MessageFault (IsAnswerOf command.GetTid bytes.now) (answer_length 6 bytes.now) bytes.now (result_err result) }
+    {
+        let (head, outcome) = AnswerHead::read(bytes, Command::GetTid)?;
+        match outcome {
+            Err(code) => Ok(GetTidAnswer {
+                head,
+                outcome: Err(code),
+            }),
+            Ok([tid]) => Ok(GetTidAnswer {
+                head,
+                outcome: Ok(Tid::new(*tid)),
+            }),
+            Ok(_) => Err(PldmError::Length),
+        }
+    }
+
+    fn len(&self) -> usize {
+        match &self.outcome {
+            Ok(_) => OUTCOME_LENGTH + 1,
+            Err(_) => OUTCOME_LENGTH,
+        }
+    }
+
+    fn put(&self, out: &mut [u8]) -> usize {
+        match &self.outcome {
+            Ok(tid) => {
+                self.head.put(Command::GetTid, SUCCESS, out);
+                out[OUTCOME_LENGTH] = tid.value;
+                OUTCOME_LENGTH + 1
+            }
+            Err(code) => {
+                self.head.put(Command::GetTid, code.value, out);
+                OUTCOME_LENGTH
+            }
+        }
+    }
+
+    ghost one_value = { one_get_tid_answer };
+}

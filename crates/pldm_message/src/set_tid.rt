@@ -1,0 +1,128 @@
+//! Requests to set a terminus ID, and their answers.
+
+use crate::command::Command;
+use crate::error_code::{ErrorCode, SUCCESS};
+use crate::head::{AnswerHead, OUTCOME_LENGTH, RequestHead};
+use crate::header::HEADER_LENGTH;
+use crate::pldm_error::PldmError;
+use crate::tid::Tid;
+use mctp_transport::Wire;
+
+/// A request that a terminus takes this ID: the header and the ID, 5 bytes (DSP0240, SetTID).
+#[derive(Clone, Copy, Debug, PartialEq, Eq)]
+pub struct SetTid {
+    pub head: RequestHead,
+    /// Any byte: a terminus refuses those that it cannot take.
+    pub tid: Tid,
+}
+
+impl<'a> Wire<'a> for SetTid {
+    ghost use Rattle.std.specs.Prelude.{◌≡◌, ◌++◌, ℕ, List, length, drop, IfOk, IsOkAnd};
+    ghost use Rattle.std.specs.Result.{result_err};
+    ghost use Rattle.mctp_transport.specs.Wire.{Spells};
+    ghost use Rattle.pldm_message.specs.declared.command.Command.TheVariants as command;
+    ghost use Rattle.pldm_message.specs.Messages.{RequestMessage};
+    ghost use Rattle.pldm_message.specs.BaseCommands.{IsSetTid, set_tid_bytes};
+    ghost use Rattle.pldm_message.specs.BaseCommandLaws.{one_set_tid};
+    ghost use Rattle.pldm_message.specs.BaseCommandValues.{set_tid};
+    ghost use Rattle.pldm_message.specs.Faults.{MessageFault, IsRequestOf};
+
+    type Error = PldmError;
+
+    ghost Meaning = { RequestMessage ℕ };
+
+    ghost meaning = { set_tid };
+
+    ghost IsLawful = { IsSetTid };
+
+    ghost spelling = { set_tid_bytes };
+
+    /// The request that the bytes are, all of them.
+    fn read(bytes: &'a [u8]) -> Result<Self, PldmError>
+        ensures ok { IfOk result (λ r. Spells IsSetTid set_tid_bytes (set_tid r) bytes.now) }
+        ensures all { (m : RequestMessage ℕ) → Spells IsSetTid set_tid_bytes m bytes.now → IsOkAnd result (λ r. set_tid r ≡ m) }
+        ensures fault { MessageFault (IsRequestOf command.SetTid bytes.now) 5 bytes.now (result_err result) }
+    {
+        let (head, data) = RequestHead::read(bytes, Command::SetTid)?;
+        let [tid] = data else {
+            return Err(PldmError::Length);
+        };
+        let tid = Tid::new(*tid);
+        Ok(SetTid { head, tid })
+    }
+
+    fn len(&self) -> usize {
+        HEADER_LENGTH + 1
+    }
+
+    fn put(&self, out: &mut [u8]) -> usize {
+        self.head.put(Command::SetTid, out);
+        out[HEADER_LENGTH] = self.tid.value;
+        HEADER_LENGTH + 1
+    }
+
+    ghost one_value = { one_set_tid };
+}
+
+/// The answer to a request to set a terminus ID: the header and a completion code, 5 bytes (DSP0240, SetTID).
+#[derive(Clone, Copy, Debug, PartialEq, Eq)]
+pub struct SetTidAnswer {
+    pub head: AnswerHead,
+    pub outcome: Result<(), ErrorCode>,
+}
+
+impl<'a> Wire<'a> for SetTidAnswer {
+    ghost use Rattle.std.specs.Prelude.{◌≡◌, ◌++◌, ℕ, List, length, drop, IfOk, IsOkAnd};
+    ghost use Rattle.std.specs.Result.{result_err};
+    ghost use Rattle.mctp_transport.specs.Wire.{Spells};
+    ghost use Rattle.pldm_message.specs.declared.command.Command.TheVariants as command;
+    ghost use Rattle.pldm_message.specs.Messages.{AnswerMessage};
+    ghost use Rattle.pldm_message.specs.BaseCommands.{IsSetTidAnswer, set_tid_answer_bytes};
+    ghost use Rattle.pldm_message.specs.BaseCommandLaws.{one_set_tid_answer};
+    ghost use Rattle.pldm_message.specs.BaseCommandValues.{set_tid_answer};
+    ghost use Rattle.pldm_message.specs.Faults.{MessageFault, IsAnswerOf, answer_length};
+
+    type Error = PldmError;
+
+    ghost Meaning = { AnswerMessage (Unit {0}) };
+
+    ghost meaning = { set_tid_answer };
+
+    ghost IsLawful = { IsSetTidAnswer };
+
+    ghost spelling = { set_tid_answer_bytes };
+
+    /// The answer that the bytes are, all of them.
+    fn read(bytes: &'a [u8]) -> Result<Self, PldmError>
+        ensures ok { IfOk result (λ a. Spells IsSetTidAnswer set_tid_answer_bytes (set_tid_answer a) bytes.now) }
+        ensures all { (m : AnswerMessage (Unit {0})) → Spells IsSetTidAnswer set_tid_answer_bytes m bytes.now → IsOkAnd result (λ a. set_tid_answer a ≡ m) }
+        ensures fault { MessageFault (IsAnswerOf command.SetTid bytes.now) (answer_length 5 bytes.now) bytes.now (result_err result) }
+    {
+        let (head, outcome) = AnswerHead::read(bytes, Command::SetTid)?;
+        match outcome {
+            Err(code) => Ok(SetTidAnswer {
+                head,
+                outcome: Err(code),
+            }),
+            Ok([]) => Ok(SetTidAnswer {
+                head,
+                outcome: Ok(()),
+            }),
+            Ok(_) => Err(PldmError::Length),
+        }
+    }
+
+    fn len(&self) -> usize {
+        OUTCOME_LENGTH
+    }
+
+    fn put(&self, out: &mut [u8]) -> usize {
+        match &self.outcome {
+            Ok(()) => self.head.put(Command::SetTid, SUCCESS, out),
+            Err(code) => self.head.put(Command::SetTid, code.value, out),
+        }
+        OUTCOME_LENGTH
+    }
+
+    ghost one_value = { one_set_tid_answer };
+}
