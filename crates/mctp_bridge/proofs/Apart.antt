@@ -1,16 +1,16 @@
 -- Rows that lie apart still do in another order, and in the order of their first endpoint IDs each lies below all later ones.
-use Rattle.std.proofs.Common.{◌≡◌, ◌≢◌, ℕ, ◌+◌, ◌<◌, ◌≤◌, List, length, get_or, cond, true, false, refl, sym, ap, subst, ◌∙◌, inl, inr, arith}
+use Rattle.std.proofs.Common.{◌≡◌, ◌≢◌, ℕ, ◌+◌, ◌<◌, ◌≤◌, List, length, get_or, cond, refl, ap, ◌∙◌, inl, inr, arith}
 use Rattle.std.proofs.Math.Dec.{eqb}
 use Rattle.std.proofs.lemmas.Bool.Decides.{nat_tests, eqb_tells}
 use Rattle.std.proofs.lemmas.Bool.{cases_lt}
-use Rattle.std.specs.Prelude.{◌↔◌, ◌⊎◌, All, AllPairs, Any, Contains}
+use Rattle.std.specs.Prelude.{All, AllPairs}
 use Rattle.std.specs.List.{swap}
 use Rattle.std.specs.List.Sorted.{IsPermutation, IsNonDecreasingBy}
 use Rattle.std.proofs.lemmas.List.Edits.{swapped_from_swap, length-swap}
-use Rattle.std.proofs.lemmas.List.Sorted.{IsPermutation-keeps, IsPermutation-sym, All-permutation, Contains-permutation, length_permutation}
+use Rattle.std.proofs.lemmas.List.Sorted.{IsPermutation-keeps, IsPermutation-sym, All-permutation, Contains-permutation}
 use Rattle.mctp_bridge.specs.declared.row.Row.{Row}
 use Rattle.mctp_bridge.specs.declared.row.Hop.{Hop}
-use Rattle.mctp_bridge.specs.Rows.{Covers, AreApart, IsLawful, AreLawful, Routes, HasSameRoutes, LiesBelow, IsTable}
+use Rattle.mctp_bridge.specs.Rows.{AreApart, IsLawful, AreLawful, Routes, HasSameRoutes, LiesBelow, IsTable}
 
 -- the place in the list before a and b changed places
 place : ℕ → ℕ → ℕ → ℕ

@@ -1,11 +1,10 @@
 -- An entry reader that is fed a bridge's answers.
-use Rattle.std.proofs.Common.{◌≡◌, ◌≢◌, ℕ, ◌+◌, ◌<◌, ◌≤◌, Bool, true, false, List, [], ◌∷◌, ◌++◌, length, take, Option, None, Some, refl, sym, ap, subst, ◌∙◌, inl, inr, arith, length-append, length-take}
+use Rattle.std.proofs.Common.{◌≡◌, ◌≢◌, ℕ, ◌+◌, ◌<◌, Bool, true, List, [], ◌++◌, length, Option, None, Some, sym, ap, subst, ◌∙◌, inl, inr, arith, length-append, length-take}
 use Rattle.std.specs.Prelude.{Result, Ok, option_map, if◌then◌else◌, MatchOption, is_some}
 use Rattle.std.proofs.lemmas.Bool.{cases_lt, false≢true}
-use Rattle.std.proofs.lemmas.Option.{same_Some}
 use Rattle.mctp_control.specs.Headers.{HeaderValue}
 use Rattle.mctp_control.specs.RouteEntries.{EntryValue}
-use Rattle.mctp_control.specs.Responses.{AnswerValue, EntriesTold, ResponseValue}
+use Rattle.mctp_control.specs.Responses.{EntriesTold, ResponseValue}
 use Rattle.mctp_control.specs.ResponseLaws.{one_response}
 use Rattle.mctp_bridge.specs.declared.read_fault.ReadFault.{ReadFault}
 use Rattle.mctp_bridge.specs.declared.read_fault.ReadFault.TheVariants.{NotAsked}

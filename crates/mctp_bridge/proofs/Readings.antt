@@ -1,15 +1,13 @@
 -- What a reading of a table has collected.
-use Rattle.std.proofs.Common.{◌≡◌, ◌≢◌, ℕ, suc, ◌+◌, ◌<◌, ◌≤◌, Bool, true, false, List, [], ◌∷◌, ◌++◌, length, get_or, take, drop, Option, None, Some, refl, sym, ap, subst, ◌∙◌, inl, inr, append_assoc, arith, length-append, length-take, length-drop}
-use Rattle.std.specs.Prelude.{All, slice_index_or}
+use Rattle.std.proofs.Common.{◌≡◌, ℕ, ◌+◌, ◌<◌, ◌≤◌, false, List, [], ◌∷◌, ◌++◌, length, get_or, take, drop, Option, None, Some, refl, sym, ap, subst, ◌∙◌, inl, inr, append_assoc, arith, length-drop}
 use Rattle.std.proofs.Math.Seq.{drop-cons}
-use Rattle.std.proofs.lemmas.Bool.{cases_lt, false≢true}
+use Rattle.std.proofs.lemmas.Bool.{cases_lt}
 use Rattle.std.proofs.lemmas.Bool.Decides.{eqb_tells}
 use Rattle.std.proofs.lemmas.List.{take_all, append-nil, take-append-drop, take-take, drop-take}
-use Rattle.std.specs.List.{flat_map}
-use Rattle.mctp_control.specs.RouteEntries.{EntryValue, entry_bytes}
+use Rattle.mctp_control.specs.RouteEntries.{EntryValue}
 use Rattle.mctp_control.specs.EntryLists.{entries_bytes}
 use Rattle.mctp_control.specs.Replies.{handle_after as next_handle}
-use Rattle.mctp_bridge.specs.Readers.{handle_after, is_last}
+use Rattle.mctp_bridge.specs.Readers.{handle_after}
 use Rattle.mctp_bridge.specs.Reads.{Exchange, IsTold, IsTablePart, ReadsFrom, Reads, due_from, due_after, collected, IsReadUpTo}
 
 take_two : (h n : ℕ) (xs : List EntryValue) → take (h + n) xs ≡ take h xs ++ take n (drop h xs)

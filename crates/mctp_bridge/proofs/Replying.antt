@@ -1,7 +1,6 @@
 -- What a bridge replies to a reader's request.
-use Rattle.std.proofs.Common.{◌≡◌, ℕ, ◌+◌, ◌*◌, ◌/◌, ◌%◌, ◌<◌, ◌≤◌, Bool, false, List, [], ◌∷◌, length, take, drop, Option, Some, refl, sym, ap, subst, ◌∙◌, inl, inr, arith, length-take, length-drop}
-use Rattle.std.specs.Prelude.{◌⊎◌, Result, IsSomeAnd, slice_index}
-use Rattle.std.specs.List.{AllByRecursion}
+use Rattle.std.proofs.Common.{◌≡◌, ℕ, ◌+◌, ◌%◌, ◌<◌, ◌≤◌, false, List, ◌∷◌, length, take, drop, Option, refl, sym, ap, subst, ◌∙◌, inl, inr, arith}
+use Rattle.std.specs.Prelude.{◌⊎◌, IsSomeAnd}
 use Rattle.std.proofs.lemmas.Bool.{cases_lt}
 use Rattle.std.proofs.lemmas.List.{length-take-le}
 use Rattle.std.proofs.lemmas.List.Elements.{All-from_recursion, recursion_from_All, All-take, All-drop}
@@ -9,15 +8,13 @@ use Rattle.mctp_control.specs.Headers.{HeaderValue}
 use Rattle.mctp_control.specs.RouteEntries.{EntryValue, IsEntry}
 use Rattle.mctp_control.specs.EntryLists.{entries_bytes}
 use Rattle.mctp_control.specs.Requests.{RequestValue, GetsEntries, SpellsRequest}
-use Rattle.mctp_control.specs.Responses.{EntriesTold}
 use Rattle.mctp_control.specs.Devices.{DeviceValue}
-use Rattle.mctp_control.specs.Replies.{IsAsked, Supports, Replies, EntriesReplies, IsMost, reply_bytes, handle_after as next_handle}
+use Rattle.mctp_control.specs.Replies.{IsAsked, Supports, Replies, IsMost, reply_bytes, handle_after as next_handle}
 use Rattle.mctp_control.specs.declared.device.DeviceKind.{DeviceKind}
 use Rattle.mctp_control.specs.declared.device.DeviceKind.TheVariants.{Bridge}
-use Rattle.mctp_bridge.specs.declared.read_fault.ReadFault.{ReadFault}
 use Rattle.mctp_bridge.specs.Parts.{Tells}
-use Rattle.mctp_bridge.specs.Readers.{ReaderState, asking, Takes}
-use Rattle.mctp_bridge.specs.Reads.{Exchange, IsTold, IsTablePart, Reads, StandsFor, IsTaken, IsReadUpTo, due_after, collected}
+use Rattle.mctp_bridge.specs.Readers.{ReaderState, asking}
+use Rattle.mctp_bridge.specs.Reads.{Exchange, IsTold, IsTablePart, Reads, HasAsked, TakesAsAnswer, IsReadUpTo, collected}
 use Rattle.mctp_bridge.proofs.Readings.{reading_collects, next_before, next_last, ends_within}
 use Rattle.mctp_bridge.proofs.ReaderLaws.{answer_taken}
 
@@ -75,22 +72,25 @@ module _ (table : List EntryValue) (told : IsTold table) (id handle : ℕ) (smal
       )
 
 -- the reader takes what the bridge replies to its request
-pub reply_taken : (d after : DeviceValue) (bus id handle : ℕ) (table : List EntryValue) (xs : List Exchange) (old : ReaderState) (reply : Option (List ℕ))
-    → IsTold table → d.kind ≡ Bridge → Reads table xs → StandsFor old xs → old.handle ≡ Some handle → old.waiting ≡ Some id → id < 32
-    → Replies d bus table (asking id handle) reply after
-    → IsSomeAnd reply (λ bytes. (result : Result Bool ReadFault) (new : ReaderState) → Takes old bytes result new → (x : Exchange) × IsTaken table xs x result new)
-reply_taken d after bus id handle table xs old reply told bridge reads stands due waits small replies =
+pub reply_taken : (d after : DeviceValue) (bus id handle : ℕ) (table : List EntryValue) (xs : List Exchange) (reader : ReaderState) (reply : Option (List ℕ))
+    → IsTold table → d.kind ≡ Bridge → Reads table xs → HasAsked reader xs id handle → Replies d bus table (asking id handle) reply after
+    → IsSomeAnd reply (TakesAsAnswer table xs reader)
+reply_taken d after bus id handle table xs reader reply told bridge reads asked replies =
     let P : Option ℕ → Type 0 = λ due. IsReadUpTo table due (collected xs) in
-    let known = (subst P (sym stands.handle ∙ due) (reading_collects table told xs reads)).1 in
+    let known = (subst P (sym asked.stands.handle ∙ asked.due) (reading_collects table told xs reads)).1 in
     let body = asking id handle in
     let K : DeviceKind → Type 0 = λ kind. Supports kind 10 in
     let supported : Supports d.kind 10 = subst K (sym bridge) (λ unknown. unknown.3 refl) in
-    let answered = replies.answered (request id handle) (asks table told id handle small known) supported (spells table told id handle small known) in
+    let answered = replies.answered (request id handle) (asks table told id handle asked.small known) supported
+    (spells table told id handle asked.small known) in
     let brought = answered.2.0.told known in
     let count = brought.0 in
-    let x = exchange table told id handle small known count in
+    let x = exchange table told id handle asked.small known count in
     let T : List ℕ → Type 0 = λ content. Tells (header id) x.next x.entries (reply_bytes body content) in
-    let tells = subst T (sym brought.2) (tells_of table told id handle small known count brought.1) in
-    let A : Option (List ℕ) → Type 0 = λ reply. IsSomeAnd reply (λ bytes. (result : Result Bool ReadFault) (new : ReaderState) → Takes old bytes result new → (x : Exchange) × IsTaken table xs x result new) in
-    subst A (sym answered.1) (λ result new takes.
-    (x, answer_taken table told xs x reads (part_of table told id handle small known count brought.1) old stands due (header id) (reply_bytes body answered.0) result new tells waits takes))
+    let tells = subst T (sym brought.2) (tells_of table told id handle asked.small known count brought.1) in
+    let part = part_of table told id handle asked.small known count brought.1 in
+    let A : Option (List ℕ) → Type 0 = λ reply. IsSomeAnd reply (TakesAsAnswer table xs reader) in
+    subst A (sym answered.1) (λ result new takes. (
+      x,
+      answer_taken table told xs x reads part reader asked.stands asked.due (header id) (reply_bytes body answered.0) result new tells asked.waits takes,
+    ))

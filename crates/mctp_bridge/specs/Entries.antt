@@ -1,5 +1,5 @@
--- The routing table entries of a bridge's rows (DSP0236, section 12.13; how rows are cut is this project's own).
-use Rattle.std.specs.Prelude.{ℕ, ◌+◌, ◌-◌, List, [], ◌∷◌, false, if◌then◌else◌, ◌==◌, ◌&&◌, nat_lt}
+-- The routing table entries of a bridge's rows (DSP0236, Get Routing Table Entries; how rows are cut is this project's own).
+use Rattle.std.specs.Prelude.{ℕ, ◌+◌, ◌-◌, Bool, List, [], ◌∷◌, false, if◌then◌else◌, ◌==◌, ◌&&◌, nat_lt}
 use Rattle.std.specs.List.{flat_map, zip}
 use Rattle.mctp_control.specs.RouteEntries.{EntryValue}
 use Rattle.mctp_control.specs.Codes.{kind_number}
@@ -36,11 +36,15 @@ own_entry row next =
 abbrev pub entry_before : Row → Neighbor → EntryValue
 entry_before row next = run_entry row next row.first.value (next.eid.value - row.first.value) kind.Range
 
+-- the EID is one of the row's after its first
+abbrev pub lies_later : ℕ → Row → Bool
+lies_later e row = nat_lt row.first.value e && nat_lt e (row.first.value + row.size)
+
 -- the row is cut before the bridge's own EID, if that lies in it
 abbrev pub bridge_entries : Row → Neighbor → List EntryValue
 bridge_entries row next =
     if next.eid.value == row.first.value then own_entry row next ∷ []
-    else if nat_lt row.first.value next.eid.value && nat_lt next.eid.value (row.first.value + row.size) then entry_before row next ∷ own_entry row next ∷ []
+    else if lies_later next.eid.value row then entry_before row next ∷ own_entry row next ∷ []
     else run_entry row next row.first.value row.size kind.Range ∷ []
 
 abbrev pub entries_to : DeviceKind → Row → Neighbor → List EntryValue

@@ -1,4 +1,4 @@
--- What an answer to Get Routing Table Entries brings (DSP0236, section 12.13).
+-- What an answer to Get Routing Table Entries brings (DSP0236).
 use Rattle.std.specs.Prelude.{ℕ, List}
 use Rattle.mctp_control.specs.Headers.{HeaderValue}
 use Rattle.mctp_control.specs.RouteEntries.{EntryValue}

@@ -1,5 +1,5 @@
 -- An entry reader is fed the answers to its requests, one by one.
-use Rattle.std.specs.Prelude.{◌≡◌, ◌≢◌, ◌⊎◌, ℕ, ◌+◌, ◌<◌, Bool, true, false, List, [], ◌∷◌, ◌++◌, length, map, Option, Some, None, option_map, Result, Ok, Err, MatchOption, ◌==◌, if◌then◌else◌}
+use Rattle.std.specs.Prelude.{◌≡◌, ◌≢◌, ◌⊎◌, ℕ, ◌+◌, ◌<◌, Bool, true, false, List, [], ◌++◌, length, map, Option, Some, None, option_map, Result, Ok, Err, MatchOption, ◌==◌, if◌then◌else◌}
 use Rattle.mctp_control.specs.Headers.{HeaderValue}
 use Rattle.mctp_control.specs.RouteEntries.{EntryValue, entry_value}
 use Rattle.mctp_control.specs.Requests.{request_bytes, GetsEntries}
@@ -34,7 +34,9 @@ First cause follows rest = (cause × follows) ⊎ (¬ cause × rest)
 
 -- the bytes of a request for the entries from a handle on, under an instance ID
 abbrev pub asking : (id handle : ℕ) → List ℕ
-asking id handle = request_bytes (record { header = record { datagram = false; reserved = false; instance = id }; command = GetsEntries handle })
+asking id handle =
+    let header : HeaderValue = record { datagram = false; reserved = false; instance = id } in
+    request_bytes (record { header = header; command = GetsEntries handle })
 
 -- no request, and nothing has changed
 abbrev pub AsksNothing : ReaderState → Option (List ℕ) → ReaderState → Type 0
@@ -45,7 +47,8 @@ AsksNothing old request new = (request ≡ None) × (new ≡ old)
 abbrev pub Asks : ReaderState → ℕ → Option (List ℕ) → ReaderState → Type 0
 Asks old id request new =
     First (old.failed ≡ true) (AsksNothing old request new)
-    (MatchOption old.handle (AsksNothing old request new) (λ handle. (request ≡ Some (asking id handle)) × (new ≡ record old { waiting = Some id })))
+    (MatchOption old.handle (AsksNothing old request new)
+    (λ handle. (request ≡ Some (asking id handle)) × (new ≡ record old { waiting = Some id })))
 
 -- the answer is refused, and nothing has changed
 abbrev pub Ignores : ReaderState → ReadFault → Result Bool ReadFault → ReaderState → Type 0
@@ -75,12 +78,17 @@ TakesPart old next entries result new =
     (First (247 < length old.entries + length entries) (Fails old TooMany result new)
     ((result ≡ Ok (is_last next)) × (new ≡ state_after old next entries)))
 
--- What is done with bytes, in the order of the tests: failed before, nothing asked, no success answer, another instance ID;
--- then by the part of the table that they bring.
+-- what is done with a success answer of this instance ID: it is ignored if that isn't the request's
+abbrev pub TakesAnswer : ReaderState → (id next : ℕ) → List EntryValue → Result Bool ReadFault → ReaderState → Type 0
+TakesAnswer old id next entries result new =
+    First (old.waiting ≢ Some id) (Ignores old NotAsked result new) (TakesPart old next entries result new)
+
+-- What is done with bytes, in the order of the tests: failed before, nothing asked, no success answer; then by the
+-- answer.
 abbrev pub Takes : ReaderState → List ℕ → Result Bool ReadFault → ReaderState → Type 0
 Takes old bytes result new =
     First (old.failed ≡ true) (Ignores old FailedBefore result new)
     (First (old.waiting ≡ None) (Ignores old NotAsked result new)
     (First (TellsNothing bytes) (Fails old NoSuccess result new)
     ((header : HeaderValue) × (next : ℕ) × (entries : List EntryValue) × Tells header next entries bytes
-    × First (old.waiting ≢ Some header.instance) (Ignores old NotAsked result new) (TakesPart old next entries result new))))
+    × TakesAnswer old header.instance next entries result new)))

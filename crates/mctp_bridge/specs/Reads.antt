@@ -1,5 +1,5 @@
 -- Reading a bridge's routing table: a list of requests and answers, instance IDs left aside.
-use Rattle.std.specs.Prelude.{◌≡◌, ◌⊎◌, ℕ, ◌+◌, ◌<◌, ◌≤◌, Bool, true, false, List, [], ◌∷◌, ◌++◌, length, take, drop, All, Option, Some, None, IsSomeAnd, option_map, Result, Ok, ◌==◌, if◌then◌else◌}
+use Rattle.std.specs.Prelude.{◌≡◌, ◌⊎◌, ℕ, ◌+◌, ◌<◌, ◌≤◌, Bool, true, false, List, [], ◌∷◌, ◌++◌, length, take, drop, All, Option, Some, None, IsSomeAnd, option_map, Result, Ok}
 use Rattle.std.specs.List.{flat_map, AllByRecursion}
 use Rattle.mctp_control.specs.RouteEntries.{EntryValue, IsEntry}
 use Rattle.mctp_control.specs.Devices.{DeviceValue}
@@ -58,7 +58,8 @@ IsReadUpTo table (Some handle) entries = (entries ≡ take handle table) × ((ha
 
 -- What a reading has collected is a beginning of the table; once it is finished, it is the table.
 abbrev pub EveryReadingCollects : Type 0
-EveryReadingCollects = (table : List EntryValue) (xs : List Exchange) → IsTold table → Reads table xs → IsReadUpTo table (due_after xs) (collected xs)
+EveryReadingCollects = (table : List EntryValue) (xs : List Exchange)
+    → IsTold table → Reads table xs → IsReadUpTo table (due_after xs) (collected xs)
 
 -- the reader has what these exchanges brought
 pub record StandsFor (reader : ReaderState) (xs : List Exchange) : Type 0 where
@@ -68,20 +69,32 @@ pub record StandsFor (reader : ReaderState) (xs : List Exchange) : Type 0 where
 
 -- A reader asks for what is due, and nothing else about it changes; once all is read it asks for nothing.
 abbrev pub AsksWhatIsDue : Type 0
-AsksWhatIsDue = (old new : ReaderState) (xs : List Exchange) (id : ℕ) (request : Option (List ℕ)) → StandsFor old xs → Asks old id request new
-    → (request ≡ option_map (asking id) (due_after xs)) × StandsFor new xs
+AsksWhatIsDue = (old new : ReaderState) (xs : List Exchange) (id : ℕ) (request : Option (List ℕ))
+    → StandsFor old xs → Asks old id request new → (request ≡ option_map (asking id) (due_after xs)) × StandsFor new xs
 
--- The reader takes an answer without a fault, and told to be the last exactly where its next handle
--- is 255; the reader then stands for the reading with it, and where it was the last has the table.
-pub record IsTaken (table : List EntryValue) (xs : List Exchange) (x : Exchange) (result : Result Bool ReadFault) (new : ReaderState) : Type 0 where
+-- The reader takes an answer without a fault, and tells it to be the last exactly where its next handle is 255. It then stands
+-- for the reading with that answer, and where it was the last has the table.
+pub record IsTaken (table : List EntryValue) (xs : List Exchange) (x : Exchange) (result : Result Bool ReadFault) (new : ReaderState)
+    : Type 0 where
   pub told : result ≡ Ok (is_last x.next)
   pub reads : Reads table (xs ++ x ∷ [])
   pub stands : StandsFor new (xs ++ x ∷ [])
   pub whole : is_last x.next ≡ true → new.entries ≡ table
 
--- A bridge replies to each request of the reader, and whatever the reader does with the reply, it takes it.
+-- the reader stands for these exchanges, and has asked under this instance ID for the entries from the handle that is due
+pub record HasAsked (reader : ReaderState) (xs : List Exchange) (id handle : ℕ) : Type 0 where
+  pub stands : StandsFor reader xs
+  pub due : reader.handle ≡ Some handle
+  pub waits : reader.waiting ≡ Some id
+  pub small : id < 32
+
+-- whatever the reader does with these bytes, it takes them as the next answer of a reading of the table
+abbrev pub TakesAsAnswer : List EntryValue → List Exchange → ReaderState → List ℕ → Type 0
+TakesAsAnswer table xs old bytes = (result : Result Bool ReadFault) (new : ReaderState)
+    → Takes old bytes result new → (x : Exchange) × IsTaken table xs x result new
+
+-- A bridge replies to each request of the reader, and the reader takes the reply.
 abbrev pub EveryReplyIsTaken : Type 0
-EveryReplyIsTaken = (d after : DeviceValue) (bus id handle : ℕ) (table : List EntryValue) (xs : List Exchange) (old : ReaderState) (reply : Option (List ℕ))
-    → IsTold table → d.kind ≡ Bridge → Reads table xs → StandsFor old xs → old.handle ≡ Some handle → old.waiting ≡ Some id → id < 32
-    → Replies d bus table (asking id handle) reply after
-    → IsSomeAnd reply (λ bytes. (result : Result Bool ReadFault) (new : ReaderState) → Takes old bytes result new → (x : Exchange) × IsTaken table xs x result new)
+EveryReplyIsTaken = (d after : DeviceValue) (bus id handle : ℕ) (table : List EntryValue) (xs : List Exchange) (reader : ReaderState)
+    (reply : Option (List ℕ)) → IsTold table → d.kind ≡ Bridge → Reads table xs → HasAsked reader xs id handle
+    → Replies d bus table (asking id handle) reply after → IsSomeAnd reply (TakesAsAnswer table xs reader)

@@ -1,5 +1,5 @@
 -- Why rows make no routing table (the order of the causes is this project's own).
-use Rattle.std.specs.Prelude.{◌≡◌, ℕ, List, [], take, Some, slice_get, All, codes}
+use Rattle.std.specs.Prelude.{◌≡◌, ℕ, List, take, Option, Some, None, slice_get, All, codes}
 use Rattle.mctp_bridge.specs.declared.row.Row.{Row}
 use Rattle.mctp_bridge.specs.declared.table_fault.TableFault.{TableFault}
 use Rattle.mctp_bridge.specs.declared.table_fault.TableFault.TheVariants.{Empty, Outside, Overlap, Memory}
@@ -26,9 +26,9 @@ IsFirstFault rows (Overlap place earlier) =
     IsFirstAt rows place (λ row. ¬ IsEmpty row × ¬ IsOutside row × IsFirstOverlap (take place rows) row earlier)
 IsFirstFault rows Memory = AreLawful rows
 
--- the code that users see
-abbrev pub table_code : TableFault → List ℕ
-table_code (Empty place) = codes "B01"
-table_code (Outside place) = codes "B02"
-table_code (Overlap place earlier) = codes "B03"
-table_code Memory = []
+-- the code that users see; want of memory has none
+abbrev pub table_code : TableFault → Option (List ℕ)
+table_code (Empty place) = Some (codes "B01")
+table_code (Outside place) = Some (codes "B02")
+table_code (Overlap place earlier) = Some (codes "B03")
+table_code Memory = None

@@ -1,4 +1,4 @@
--- The rows of a routing table (DSP0236, section 8.5): which endpoint IDs each covers, and which rows make a table.
+-- The rows of a routing table (DSP0236, bridging): which endpoint IDs each covers, and which rows make a table.
 use Rattle.std.specs.Prelude.{◌≡◌, ◌⊎◌, ◌↔◌, ℕ, ◌+◌, ◌<◌, ◌≤◌, List, Option, Some, None, All, Any, AllPairs}
 use Rattle.mctp_bridge.specs.declared.row.Row.{Row}
 use Rattle.mctp_bridge.specs.declared.row.Hop.{Hop}

@@ -1,4 +1,4 @@
-//! What a node does with a packet that is there (DSP0236, section 8.5).
+//! What a node does with a packet that is there (DSP0236, bridging).
 ghost use Rattle.std.specs.Prelude.{◌≡◌, ◌↔◌, IsTrue};
 ghost use Rattle.mctp_bridge.specs.Decisions.{Forwards, IsDecided};
 

@@ -13,8 +13,8 @@ pub const MAX_READ: usize = 247;
 /// The next handle of an answer after which there are no more entries.
 const NO_MORE: u8 = 0xff;
 
-/// A reader of a bridge's routing table (DSP0236, section 12.13): it asks for the entries from a handle on, takes the
-/// answer, and goes on with the handle that the answer gives. It takes memory when it is made, and none later.
+/// A reader of a bridge's routing table (DSP0236, Get Routing Table Entries): it asks for the entries from a handle on,
+/// takes the answer, and goes on with the handle that the answer gives. It takes memory when it is made, and none later.
 #[derive(Debug, Drop)]
 pub struct EntryReader {
     entries: Vec<RouteEntry>,
@@ -32,7 +32,7 @@ impl EntryReader {
     ghost use Rattle.mctp_control.specs.RouteEntries.{entry_value};
     ghost use Rattle.mctp_control.specs.Headers.{header_value};
     ghost use Rattle.mctp_control.specs.EntriesValue.{entries_of};
-    ghost use Rattle.mctp_bridge.specs.Readers.{reader_state, new_reader, Asks, Takes, TakesPart, Fails};
+    ghost use Rattle.mctp_bridge.specs.Readers.{reader_state, new_reader, Asks, Takes, TakesAnswer, TakesPart, Fails};
 
     /// A reader that has asked for nothing yet. It reserves room for 247 entries.
     pub fn new(alloc: Global) -> Result<Self, AllocError>
@@ -77,10 +77,7 @@ impl EntryReader {
         let Some(part) = TablePart::read(answer) else {
             return self.fail(ReadFault::NoSuccess);
         };
-        if part.header.instance.value != id.value {
-            return Err(ReadFault::NotAsked);
-        }
-        self.take_part(part)
+        self.take_answer(id, part)
     }
 
     /// The entries that were taken, in their order.
@@ -88,6 +85,19 @@ impl EntryReader {
         ensures { map entry_value result.now ≡ (reader_state self.now).entries }
     {
         &self.entries
+    }
+
+    /// Takes a success answer, where a request waits under this instance ID.
+    fn take_answer(&mut self, id: InstanceId, part: TablePart) -> Result<bool, ReadFault>
+        requires goes { self.old.failed ≡ false }
+        requires waits { self.old.waiting ≡ Some id }
+        ensures { TakesAnswer (reader_state self.old) part.header.instance.value part.next (entries_of part.entries) result
+            (reader_state self.new) }
+    {
+        if part.header.instance.value != id.value {
+            return Err(ReadFault::NotAsked);
+        }
+        self.take_part(part)
     }
 
     /// Takes a part of the table that was asked for.

@@ -1,4 +1,4 @@
-//! The entries that a bridge's rows give (DSP0236, section 12.13).
+//! The entries that a bridge's rows give (DSP0236, Get Routing Table Entries).
 ghost use Rattle.std.specs.Prelude.{◌≡◌, ◌+◌, ◌<◌, ◌≤◌, ◌++◌, length, map, All, IfOk, OnOk};
 ghost use Rattle.mctp_control.specs.RouteEntries.{entry_value};
 ghost use Rattle.mctp_bridge.specs.Entries.{run_entry, own_kind, row_entries, bridge_entries, table_entries};
@@ -49,7 +49,8 @@ pub fn route_entries(
 fn push_entries(entries: &mut Vec<RouteEntry>, row: &Row, next: &Neighbor) -> Result<(), AllocError>
     requires address { length next.now.address.now ≤ 8 }
     requires port { row.now.hop.port < 32 }
-    ensures { OnOk result (map entry_value entries.new.items ≡ map entry_value entries.old.items ++ row_entries row.now next.now) }
+    ensures { OnOk result
+        (map entry_value entries.new.items ≡ map entry_value entries.old.items ++ row_entries row.now next.now) }
 {
     match next.kind {
         DeviceKind::Endpoint => entries.push(run(
@@ -72,7 +73,8 @@ fn push_bridge_entries(
 ) -> Result<(), AllocError>
     requires address { length next.now.address.now ≤ 8 }
     requires port { row.now.hop.port < 32 }
-    ensures { OnOk result (map entry_value entries.new.items ≡ map entry_value entries.old.items ++ bridge_entries row.now next.now) }
+    ensures { OnOk result
+        (map entry_value entries.new.items ≡ map entry_value entries.old.items ++ bridge_entries row.now next.now) }
 {
     if next.eid.value == row.first.value {
         entries.push(run(row, next, next.eid, row.size, kind_of_own(row.size)))?;

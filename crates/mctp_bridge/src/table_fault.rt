@@ -29,13 +29,12 @@ impl From<AllocError> for TableFault {
 }
 
 impl TableFault {
-    ghost use Rattle.std.specs.Prelude.{◌≡◌, MatchOption};
-    ghost use Rattle.mctp_bridge.specs.declared.table_fault.TableFault.TheVariants.{Memory};
+    ghost use Rattle.std.specs.Prelude.{◌≡◌, option_map};
     ghost use Rattle.mctp_bridge.specs.RowFaults.{table_code};
 
     /// The code that users see, as `B01`; none for want of memory.
     pub fn code(self) -> Option<&'static str>
-        ensures { MatchOption result (self ≡ Memory) (λ code. code.now ≡ table_code self) }
+        ensures { option_map (λ code. code.now) result ≡ table_code self }
     {
         match self {
             TableFault::Empty { .. } => Some("B01"),

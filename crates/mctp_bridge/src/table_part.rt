@@ -20,7 +20,8 @@ pub(crate) struct TablePart {
 impl TablePart {
     /// The part that the bytes of an answer bring.
     pub(crate) fn read(answer: &[u8]) -> Option<Self>
-        ensures { MatchOption result (TellsNothing answer.now) (λ part. Tells (header_value part.header) part.next (entries_of part.entries) answer.now) }
+        ensures { MatchOption result (TellsNothing answer.now)
+            (λ part. Tells (header_value part.header) part.next (entries_of part.entries) answer.now) }
     {
         match Response::read(answer) {
             Ok(

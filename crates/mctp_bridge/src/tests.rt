@@ -225,3 +225,13 @@ fn a_reader_takes_247_entries(rt: HostRuntime) -> Result<(), Fail> {
     assert_eq!(rt; reader.entries().len(), 240);
     Ok(())
 }
+
+#[test]
+fn faults_are_told_in_words(rt: HostRuntime) -> Result<(), Fail> {
+    let overlap = TableFault::Overlap { row: 1, earlier: 0 };
+    let text = format!(in rt.alloc(); "{overlap}")?;
+    assert_eq!(rt; text.as_str(), "B03: row 1 overlaps row 0");
+    let text = format!(in rt.alloc(); "{}", ReadFault::TooMany)?;
+    assert_eq!(rt; text.as_str(), "E04: more than 247 entries");
+    Ok(())
+}

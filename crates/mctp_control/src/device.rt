@@ -9,6 +9,7 @@ use crate::operations::{AllocateOperation, SetOperation};
 use crate::replies::{MAX_BODY, Refusal, concluded, framed, tell_entries};
 use crate::request::{Command, Request};
 use crate::route_entry::RouteEntry;
+use crate::statuses::{Acceptance, Allocation, EndpointType};
 use arrayvec::ArrayVec;
 use mctp_transport::{Eid, Wire};
 
@@ -46,7 +47,7 @@ pub struct Device {
 impl Device {
     ghost use Rattle.std.specs.Prelude.{◌↔◌, ◌∷◌, ◌<◌, ℕ, List, [], length, slice_index, IsTrue, Some, IsSomeAnd, option_map};
     ghost use Rattle.mctp_transport.specs.Frames.{IsAssignable};
-    ghost use Rattle.mctp_control.specs.Numbers.{set_number, allocate_number};
+    ghost use Rattle.mctp_control.specs.Numbers.{set_number, allocate_number, allocation_number};
     ghost use Rattle.mctp_control.specs.Requests.{command_value};
     ghost use Rattle.mctp_control.specs.Devices.{device_value, configured_pool, size_of, present_eid, present_size, present_first, MayGiveEid, MayGivePool, allocation_of, pool_wanted, endpoint_type};
     ghost use Rattle.mctp_control.specs.Replies.{Replies, SetReplies, GetReplies, AllocateReplies, CommandReplies, Supports};
@@ -116,15 +117,14 @@ impl Device {
         }
     }
 
-    /// The allocation status of Set Endpoint ID: 0, 1 or 2.
-    fn allocation(&self) -> u8
-        ensures value { result ≡ allocation_of (pool_wanted self.now.kind self.now.wants) (device_value self.now).pool }
-        ensures most { result ≤ 2 }
+    /// The allocation status of Set Endpoint ID.
+    fn allocation(&self) -> Allocation
+        ensures { allocation_number result ≡ allocation_of (pool_wanted self.now.kind self.now.wants) (device_value self.now).pool }
     {
         match (self.pool_wanted(), self.pool) {
-            (0, _) => 0,
-            (_, None) => 1,
-            (_, Some(_)) => 2,
+            (0, _) => Allocation::NoPool,
+            (_, None) => Allocation::Required,
+            (_, Some(_)) => Allocation::Received,
         }
     }
 
@@ -181,17 +181,14 @@ impl Device {
             }
         };
         if !accepted {
-            return Ok([
-                16 + self.allocation(),
-                self.present_eid(),
-                self.pool_wanted(),
-            ]);
+            let status = 16 * (Acceptance::Rejected as u8) + self.allocation() as u8;
+            return Ok([status, self.present_eid(), self.pool_wanted()]);
         }
         self.eid = Some(HeldEid {
             eid,
             giver: Some(bus),
         });
-        Ok([self.allocation(), eid.value, self.pool_wanted()])
+        Ok([self.allocation() as u8, eid.value, self.pool_wanted()])
     }
 
     /// Get Endpoint ID.
@@ -199,10 +196,10 @@ impl Device {
         ensures { 0 ∷ result ≡ 0 ∷ present_eid (device_value self.now).eid ∷ endpoint_type self.now.kind ∷ 0 ∷ [] }
     {
         let endpoint_type = match self.kind {
-            DeviceKind::Endpoint => 0x00,
-            DeviceKind::Bridge => 0x10,
+            DeviceKind::Endpoint => EndpointType::Simple,
+            DeviceKind::Bridge => EndpointType::Bridge,
         };
-        [self.present_eid(), endpoint_type, 0]
+        [self.present_eid(), 16 * (endpoint_type as u8), 0]
     }
 
     /// Allocate Endpoint IDs.
@@ -219,18 +216,20 @@ impl Device {
         let force = match operation {
             AllocateOperation::Allocate => false,
             AllocateOperation::Force => true,
-            AllocateOperation::GetInformation => return Ok([0, held_size, held_first]),
+            AllocateOperation::GetInformation => {
+                return Ok([Acceptance::Accepted as u8, held_size, held_first]);
+            }
             AllocateOperation::Reserved => return Err(Refusal::InvalidData),
         };
         let range = EidRange::of(first, size).ok_or(Refusal::InvalidData)?;
         if !force && !self.may_give_pool(bus) {
-            return Ok([1, held_size, held_first]);
+            return Ok([Acceptance::Rejected as u8, held_size, held_first]);
         }
         self.pool = Some(HeldPool {
             range,
             giver: Some(bus),
         });
-        Ok([0, size, first.value])
+        Ok([Acceptance::Accepted as u8, size, first.value])
     }
 
     /// Whether the device knows the command.

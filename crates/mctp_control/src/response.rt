@@ -155,6 +155,7 @@ impl Answer {
         ensures lawful { IsAnswer (answer_value self.now) }
         ensures count { result ≡ length (answer_bytes (answer_value self.now)) }
     {
+        // What is read here is known to be a byte.
         match self {
             Answer::SetEndpointId { size, .. } => {
                 let _size = *size;

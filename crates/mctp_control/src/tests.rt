@@ -227,3 +227,11 @@ fn refuses_by_code(rt: HostRuntime) {
         assert_eq!(rt; refused.map_or("read", |error| error.code()), code);
     }
 }
+
+#[test]
+fn prints_codes_with_their_causes(rt: HostRuntime) -> Result<(), Fail> {
+    let alloc = rt.alloc();
+    let shown = format!(in alloc; "{}", ControlError::UnknownCommand)?;
+    assert_eq!(rt; shown.as_str(), "K04: unknown command");
+    Ok(())
+}

@@ -79,6 +79,7 @@ IsUnread input.Certificate cause plans certificates = (plan : Plan) × GavePlan 
 abbrev pub AreUnread : Refused → Stream → Stream → Type 0
 AreUnread refused.Usage plans certificates = ⊥
 AreUnread (refused.Unreadable unread cause) plans certificates = IsUnread unread cause plans certificates
+AreUnread refused.UnreadableHex plans certificates = ⊥
 AreUnread refused.Unwritten plans certificates = ⊥
 AreUnread refused.NoMemory plans certificates = ⊤
 
@@ -86,6 +87,7 @@ AreUnread refused.NoMemory plans certificates = ⊤
 abbrev pub IsRefusedFor : Refused → Stream → Stream → Stream → Type 0
 IsRefusedFor refused.Usage plans certificates output = ⊥
 IsRefusedFor (refused.Unreadable unread cause) plans certificates output = IsUnread unread cause plans certificates
+IsRefusedFor refused.UnreadableHex plans certificates output = ⊥
 IsRefusedFor refused.Unwritten plans certificates output = Fails output
 IsRefusedFor refused.NoMemory plans certificates output = ⊤
 

@@ -1,3 +1,5 @@
 pub mod Statuses
 pub mod Lines
 pub mod Answers
+pub mod Shown
+pub mod Show

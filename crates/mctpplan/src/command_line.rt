@@ -1,5 +1,6 @@
 //! The program's command line.
 use crate::refused::Refused;
+use crate::show::Kind;
 use clap::{Arg, ArgAction, ArgMatches};
 use std::alloc::{AllocError, Global};
 
@@ -8,6 +9,8 @@ use std::alloc::{AllocError, Global};
 pub enum Command<'a> {
     /// Does the certificate in one file fit the plan in another?
     Check { plan: &'a str, certificate: &'a str },
+    /// What are the bytes of a hex text?
+    Show { kind: Kind, hex: &'a str },
 }
 
 /// The command that a list of words stands for. The first word is the program's name.
@@ -20,7 +23,8 @@ pub fn words<'a>(alloc: Global, list: &'a [String]) -> Result<Command<'a>, Refus
 fn grammar<'a>(alloc: Global) -> Result<clap::Command<'a>, AllocError> {
     clap::Command::new(alloc, "mctpplan")
         .subcommand_required(true)
-        .subcommand(with_arguments(alloc, "check", &["plan", "certificate"])?)
+        .subcommand(with_arguments(alloc, "check", &["plan", "certificate"])?)?
+        .subcommand(with_arguments(alloc, "show", &["kind", "hex"])?)
 }
 
 /// A command whose arguments are all required and stand in this order.
@@ -43,6 +47,18 @@ fn chosen<'a>(matches: &ArgMatches<'a>) -> Option<Command<'a>> {
             plan: arguments.get_str("plan")?,
             certificate: arguments.get_str("certificate")?,
         }),
+        "show" => Some(Command::Show {
+            kind: kind_of(arguments.get_str("kind")?)?,
+            hex: arguments.get_str("hex")?,
+        }),
+        _ => None,
+    }
+}
+
+fn kind_of(word: &str) -> Option<Kind> {
+    match word {
+        "packet" => Some(Kind::Packet),
+        "record" => Some(Kind::Record),
         _ => None,
     }
 }

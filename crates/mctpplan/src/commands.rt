@@ -120,7 +120,7 @@ fn read_inputs<P: Source, C: Source>(
 }
 
 /// Writes the answer.
-fn print<O: Sink>(output: &mut O, line: &str) -> Result<(), Refused>
+pub fn print<O: Sink>(output: &mut O, line: &str) -> Result<(), Refused>
     requires { O.failures output.old < 2 ^ 64 - 1 }
     ensures written { OnOk result (Appends (O.contents output.old) (O.contents output.new) line.now) }
     ensures unwritten { IfErr result (λ refused. refused ≡ Unwritten) }

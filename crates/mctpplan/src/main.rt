@@ -5,6 +5,7 @@ mod command_line;
 mod commands;
 mod files;
 mod refused;
+mod show;
 mod status;
 mod texts;
 
@@ -13,6 +14,7 @@ use commands::{refuse, run_check};
 use files::FileAtPath;
 use net_plan::Counted;
 use refused::Refused;
+use show::run_show;
 use status::Status;
 use std::env;
 use std::process::ExitCode;
@@ -38,6 +40,7 @@ fn run(rt: &HostRuntime) -> Status {
             &mut output,
             &mut errors,
         ),
+        Ok(Command::Show { kind, hex }) => run_show(alloc, kind, hex, &mut output, &mut errors),
         Err(refused) => refuse(alloc, refused, &mut errors),
     }
 }

@@ -21,6 +21,8 @@ pub enum Refused {
     Usage,
     /// A file can't be read. The cause is not want of memory, which `NoMemory` tells.
     Unreadable { input: Input, cause: PlanError },
+    /// A hex text is no hex: an odd number of digits, or a character that is none.
+    UnreadableHex,
     /// Standard output failed; a beginning of the answer may be out.
     Unwritten,
     /// There is too little memory to tell.
@@ -49,7 +51,10 @@ impl Refused {
         ensures { result ≡ status_of self }
     {
         match self {
-            Refused::Usage | Refused::Unreadable { .. } | Refused::Unwritten => Status::Unreadable,
+            Refused::Usage
+            | Refused::Unreadable { .. }
+            | Refused::UnreadableHex
+            | Refused::Unwritten => Status::Unreadable,
             Refused::NoMemory => Status::NoMemory,
         }
     }

@@ -40,6 +40,7 @@ pub fn refusal_line(alloc: Global, refused: Refused) -> Result<CowStr<'static>, 
             let line = format!(in alloc; "unreadable {input}: {cause}\n")?;
             Ok(CowStr::Owned(line))
         }
+        Refused::UnreadableHex => Ok(CowStr::Borrowed("unreadable hex: J07\n")),
         Refused::Unwritten => Ok(CowStr::Borrowed("unreadable output: file\n")),
         Refused::NoMemory => Ok(CowStr::Borrowed(NO_MEMORY)),
     }

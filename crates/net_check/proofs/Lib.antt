@@ -14,6 +14,7 @@ pub mod RankRunLaws
 pub mod Filters
 pub mod RankLaws
 pub mod CertificateLaws
+pub mod OneCertificate
 -- the network
 pub mod Nexts
 pub mod Fates

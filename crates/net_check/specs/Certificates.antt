@@ -1,5 +1,5 @@
 -- The certificate of a plan, and why there is none.
-use Rattle.std.specs.Prelude.{◌≡◌, ℕ, ◌<◌, List, [], length, slice_get, Some, Bool, nat_lt}
+use Rattle.std.specs.Prelude.{◌≡◌, ℕ, ◌<◌, List, [], length, slice_get, Some, Bool, nat_lt, map}
 use Rattle.net_check.specs.declared.certify_error.CertifyError.{CertifyError}
 use Rattle.net_check.specs.declared.certify_error.CertifyError.TheVariants as error
 use Rattle.net_check.specs.declared.certifying.routes.Routed.{Routed}
@@ -7,6 +7,7 @@ use Rattle.net_check.specs.declared.certifying.routes.Routed.TheVariants.{Ranked
 use Rattle.net_plan.specs.declared.plan.Plan.{Plan}
 use Rattle.net_plan.specs.declared.certificate.Certificate.{Certificate}
 use Rattle.net_plan.specs.declared.certificate.NodeRanks.{NodeRanks}
+use Rattle.net_plan.specs.CertificateValues.{node_ranks_value}
 use Rattle.net_check.specs.Routing.{MovesTo}
 use Rattle.net_check.specs.Ranks.{rank}
 use Rattle.net_check.specs.Rules.{Accepts}
@@ -25,6 +26,10 @@ pub record HasExactRanks (plan : Plan) (cert : Certificate) : Type 0 where
   pub within : (i : ℕ) (one : NodeRanks) → slice_get cert.ranks.items i ≡ Some one → one.node < length plan.nodes.items
   pub ascend : (i j : ℕ) (one other : NodeRanks) → i < j → slice_get cert.ranks.items i ≡ Some one → slice_get cert.ranks.items j ≡ Some other
       → one.node < other.node
+
+-- every certificate of the plan's exact ranks gives the same ranks, range by range
+abbrev pub HasOnlyRanks : Plan → Certificate → Type 0
+HasOnlyRanks plan cert = (other : Certificate) → HasExactRanks plan other → map node_ranks_value other.ranks.items ≡ map node_ranks_value cert.ranks.items
 
 -- the certificate has no levels and no places
 abbrev pub HasRanksAlone : Certificate → Type 0

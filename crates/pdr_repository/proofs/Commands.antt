@@ -1,11 +1,11 @@
 -- The commands of headers.
-use Rattle.std.proofs.Common.{ℕ, ◌≡◌, ◌++◌, List, length, Result, Ok, Err, refl, sym, ap, ◌∙◌, subst, inl, inr}
+use Rattle.std.proofs.Common.{ℕ, ◌≡◌, List, length, Result, Ok, refl, subst, inl, inr}
 use Rattle.std.proofs.lemmas.Bool.{cases_eq}
 use Rattle.pldm_message.specs.declared.command.Command.{Command}
 use Rattle.pldm_message.specs.declared.command.Command.TheVariants.{SetTid, GetTid, GetPldmTypes, GetPdr}
 use Rattle.pldm_message.specs.Headers.{HeaderValue}
 use Rattle.pdr_repository.specs.Records.{Entry}
-use Rattle.pdr_repository.specs.Answers.{AnswersData, IsOf, request_length}
+use Rattle.pdr_repository.specs.Answers.{IsOf, request_length}
 use Rattle.pdr_repository.specs.Replying.{Checks, Replies, RepliesData}
 
 -- a header that is of none of the four is of no command

@@ -1,16 +1,13 @@
 -- A walker that stands for a walk takes what it is given there.
-use Rattle.std.proofs.Common.{false, true, ◌≡◌, ◌≢◌, ◌⊎◌, inl, inr, ℕ, suc, ◌+◌, ◌-◌, ◌<◌, ◌≤◌, min, List, [], ◌∷◌, ◌++◌, length, take, drop, get_or, slice_get, Option, Some, None, Result, Ok, Err, option_map, refl, ap, sym, ◌∙◌, subst, arith}
+use Rattle.std.proofs.Common.{false, true, ◌≡◌, ◌≢◌, ◌⊎◌, inl, inr, ℕ, ◌+◌, ◌<◌, ◌≤◌, min, List, [], ◌∷◌, ◌++◌, length, take, slice_get, Option, Some, None, Result, Ok, Err, refl, ap, sym, ◌∙◌, subst, arith}
 use Rattle.std.specs.Prelude.{MatchOption, MatchResult}
-use Rattle.std.specs.List.{last_or}
 use Rattle.std.proofs.lemmas.Option.{same_Some, slice_get_within, slice_get_cases, get_or_from_slice_get}
 use Rattle.std.proofs.lemmas.Bool.{cases_lt}
 use Rattle.std.proofs.lemmas.List.{append-nil, length-map, length-take, length_push, get_or-take, get_or-map, get_or_push, get_or_append_left, take-append-drop, take-append-le, take_at}
-use Rattle.mctp_transport.specs.Wire.{Spells}
-use Rattle.pldm_message.specs.First.{First}
 use Rattle.pldm_message.specs.declared.command.Command.TheVariants.{GetPdr}
 use Rattle.pldm_message.specs.Headers.{HeaderValue, BeginsWith, IsHeader, header_bytes}
 use Rattle.pldm_message.specs.HeaderLaws.{one_header}
-use Rattle.pldm_message.specs.Messages.{AnswerMessage, AnswerHeadValue, answer_header}
+use Rattle.pldm_message.specs.Messages.{AnswerMessage, answer_header}
 use Rattle.pldm_message.specs.Pdrs.{PartRequest, Part}
 use Rattle.pldm_message.specs.PdrLaws.{one_get_pdr_answer}
 use Rattle.pdr_repository.specs.Crc.{IsCrc}
@@ -21,10 +18,10 @@ use Rattle.pdr_repository.specs.Faults.{Room, Judges, IsLast, HasWrongFlag, HasW
 use Rattle.pdr_repository.specs.declared.walk_fault.Step.{Step}
 use Rattle.pdr_repository.specs.declared.walk_fault.WalkFault.{WalkFault}
 use Rattle.pdr_repository.specs.declared.walk_fault.WalkFault.TheVariants.{TooMuch, OutOfMemory}
-use Rattle.pdr_repository.specs.Walkers.{WalkState, StandsFor, Fails, Proceeds, state_after, completed, data_with, room_of, Takes, TakesMessage, TakesOutcome, IsAnswerIn, IsDueAnswer, WalksOn, GoesOn, Tells, TellsStep}
+use Rattle.pdr_repository.specs.Walkers.{WalkState, StandsFor, Fails, Proceeds, state_after, completed, data_with, room_of, Takes, TakesOutcome, IsAnswerIn, IsDueAnswer, WalksOn, GoesOn, Tells, TellsStep}
 use Rattle.pdr_repository.specs.declared.walk_fault.Step.TheVariants.{Done}
 use Rattle.pdr_repository.proofs.Headers.{HasHeader, lawful_header}
-use Rattle.pdr_repository.proofs.Collecting.{Collected, start_more, middle_more, whole_more, end_more, one_rest, collects_once}
+use Rattle.pdr_repository.proofs.Collecting.{start_more, middle_more, whole_more, end_more, one_rest, collects_once}
 use Rattle.pdr_repository.proofs.Dues.{IsDue, FlagBy, More, Complete}
 use Rattle.pdr_repository.proofs.Walks.{Within, stands, one_step, due_push, record_there, every_walk_collects}
 use Rattle.pdr_repository.proofs.Judging.{judged}

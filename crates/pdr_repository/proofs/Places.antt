@@ -1,13 +1,13 @@
 -- The place of the record that a handle means.
-use Rattle.std.proofs.Common.{◌≡◌, ◌≢◌, ℕ, ◌+◌, ◌<◌, ◌≤◌, List, length, get_or, slice_get, nat_eq, nat_lt, cond, Bool, true, false, Option, Some, None, Err, option_map, refl, sym, ap, ◌∙◌, subst, arith, inl, inr}
+use Rattle.std.proofs.Common.{◌≡◌, ◌≢◌, ℕ, ◌+◌, ◌<◌, List, length, slice_get, nat_eq, nat_lt, Bool, false, Option, Some, None, Err, option_map, refl, sym, ap, ◌∙◌, subst, arith, inl, inr}
 use Rattle.std.specs.Prelude.{MatchOption, Vec, position, ◌==◌}
 use Rattle.std.specs.List.{position_or_len}
 use Rattle.std.proofs.lemmas.Bool.{cases_lt, lt-ltb, le-ltb, eqb-true, cond-true, cond-false}
 use Rattle.std.proofs.lemmas.Bool.Decides.{nat_tests}
 use Rattle.std.proofs.lemmas.List.{length-map}
 use Rattle.std.proofs.lemmas.List.Sums.{passes_at_first, fails_before_first}
-use Rattle.std.proofs.lemmas.Option.{slice_get-map, slice_get_within, slice_get_cases, same_Some, get_or_from_slice_get}
-use Rattle.pdr_repository.specs.Records.{Entry, entries, entry_of, Means, IsMeant, Places, handle_at}
+use Rattle.std.proofs.lemmas.Option.{slice_get-map, slice_get_within, slice_get_cases, same_Some}
+use Rattle.pdr_repository.specs.Records.{Entry, entries, entry_of, Places, handle_at}
 use Rattle.pldm_message.specs.Pdrs.{PartRequest}
 use Rattle.pdr_repository.specs.Parts.{PartAnswer, AnswersPart, AnswersFrom}
 use Rattle.pdr_repository.specs.Found.{Finds, IsFound, AnswersFound}

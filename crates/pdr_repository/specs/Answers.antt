@@ -1,5 +1,5 @@
 -- What a terminus answers (DSP0240, section 8; DSP0248, section 26.2).
-use Rattle.std.specs.Prelude.{◌≡◌, ◌≢◌, ◌⊎◌, ℕ, Bool, true, false, List, [], ◌∷◌, ◌++◌, length, drop, Option, Some, None}
+use Rattle.std.specs.Prelude.{◌≡◌, ◌≢◌, ℕ, Bool, true, false, List, [], ◌∷◌, ◌++◌, length, drop, Option, Some, None}
 use Rattle.pldm_message.specs.First.{First}
 use Rattle.pldm_message.specs.declared.kind.MessageKind.TheVariants.{Request, Response}
 use Rattle.pldm_message.specs.declared.command.Command.{Command}
@@ -7,6 +7,7 @@ use Rattle.pldm_message.specs.declared.command.Command.TheVariants.{SetTid, GetT
 use Rattle.pldm_message.specs.Commands.{type_of, command_byte}
 use Rattle.pldm_message.specs.Headers.{HeaderValue, BeginsWith, header_bytes}
 use Rattle.pldm_message.specs.Messages.{outcome_bytes}
+use Rattle.pldm_message.specs.BaseCommands.{IsAssignableTid}
 use Rattle.pldm_message.specs.Pdrs.{PartRequest, IsPartRequest, part_request_bytes, part_bytes}
 use Rattle.pdr_repository.specs.Records.{Entry}
 use Rattle.pdr_repository.specs.Parts.{PartAnswer, AnswersPart}
@@ -23,10 +24,6 @@ reply_header h = record { kind = Response; reserved = false; instance = h.instan
 abbrev pub AnswersCode : ℕ → ℕ → List ℕ → ℕ → Type 0
 AnswersCode code tid reply next_tid = (reply ≡ code ∷ []) × (next_tid ≡ tid)
 
--- the TIDs that can not be set: 0 and 255 are reserved
-abbrev pub IsReservedTid : ℕ → Type 0
-IsReservedTid tid = (tid ≡ 0) ⊎ (tid ≡ 255)
-
 -- a bit for each PLDM type, of which types 0 and 2 are known
 abbrev pub known_types : List ℕ
 known_types = 5 ∷ 0 ∷ 0 ∷ 0 ∷ 0 ∷ 0 ∷ 0 ∷ 0 ∷ []
@@ -41,7 +38,7 @@ request_length GetPdr = 13
 -- what follows the header of the answer to a request with this command, whose data have the right length, and the TID afterwards
 abbrev pub AnswersData : Command → ℕ → List Entry → List ℕ → List ℕ → ℕ → Type 0
 AnswersData SetTid tid records asked reply next_tid =
-    (wanted : ℕ) × (asked ≡ wanted ∷ []) × First (IsReservedTid wanted) (AnswersCode 0x02 tid reply next_tid) ((reply ≡ 0 ∷ []) × (next_tid ≡ wanted))
+    (wanted : ℕ) × (asked ≡ wanted ∷ []) × First (¬ IsAssignableTid wanted) (AnswersCode 0x02 tid reply next_tid) ((reply ≡ 0 ∷ []) × (next_tid ≡ wanted))
 AnswersData GetTid tid records asked reply next_tid = (reply ≡ 0 ∷ tid ∷ []) × (next_tid ≡ tid)
 AnswersData GetPldmTypes tid records asked reply next_tid = (reply ≡ 0 ∷ known_types) × (next_tid ≡ tid)
 AnswersData GetPdr tid records asked reply next_tid =

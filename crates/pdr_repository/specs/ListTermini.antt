@@ -4,7 +4,7 @@ use Rattle.pdr_repository.specs.declared.list_terminus.ListTerminus.{ListTerminu
 use Rattle.pdr_repository.specs.Records.{Entry, entries}
 
 abbrev pub list_tid : ListTerminus → ℕ
-list_tid t = t.tid
+list_tid t = t.tid.value
 
 abbrev pub list_records : ListTerminus → List Entry
 list_records t = entries t.records.items

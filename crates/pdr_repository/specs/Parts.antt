@@ -1,5 +1,5 @@
 -- Reading a record in parts (DSP0248, GetPDR): requests, and what a terminus answers.
-use Rattle.std.specs.Prelude.{◌≡◌, ◌≢◌, ℕ, ◌+◌, ◌<◌, ◌≤◌, min, List, length, take, drop, Option, Result, Ok, Err, MatchOption, ◌==◌, if◌then◌else◌}
+use Rattle.std.specs.Prelude.{◌≡◌, ◌≢◌, ℕ, ◌+◌, ◌<◌, ◌≤◌, min, List, length, take, drop, Result, Ok, Err, MatchOption, ◌==◌, if◌then◌else◌}
 use Rattle.pdr_repository.specs.Crc.{IsCrc}
 use Rattle.pldm_message.specs.First.{First}
 use Rattle.pldm_message.specs.Pdrs.{PartRequest, Part}

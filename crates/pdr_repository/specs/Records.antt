@@ -1,5 +1,5 @@
 -- The records of a terminus, by place.
-use Rattle.std.specs.Prelude.{◌≡◌, ◌≢◌, ℕ, ◌+◌, ◌<◌, ◌≤◌, List, length, map, slice_get, slice_index, Option, Some, None, MatchOption, Vec}
+use Rattle.std.specs.Prelude.{◌≡◌, ◌≢◌, ℕ, ◌<◌, ◌≤◌, List, length, map, slice_get, Option, Some, None, MatchOption, Vec}
 use Rattle.byteorder.specs.Endian.{little_from}
 use Rattle.pdr_record.specs.Records.{RecordValue, Spelled}
 

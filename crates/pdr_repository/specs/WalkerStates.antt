@@ -1,6 +1,5 @@
 -- What a walker of the code stands for.
-use Rattle.std.specs.Prelude.{ℕ, map, option_map, Option}
-use Rattle.pldm_message.specs.Pdrs.{PartRequest}
+use Rattle.std.specs.Prelude.{map, option_map}
 use Rattle.pdr_repository.specs.Dues.{request_of}
 use Rattle.pdr_repository.specs.Walkers.{WalkState}
 use Rattle.pdr_repository.specs.declared.walker.Walker.{Walker}

@@ -11,6 +11,7 @@ ghost use Rattle.pldm_message.specs.PdrValues.{part};
 ghost use Rattle.pdr_repository.specs.Answers.{IsAsked, IsOf, reply_header, request_length};
 ghost use Rattle.pdr_repository.specs.Replying.{Checks};
 
+use crate::terminus::MAX_ANSWER;
 use arrayvec::ArrayVec;
 use mctp_transport::Wire;
 use pldm_message::{Command, ErrorCode, MessageKind, PdrPart, PldmHeader};
@@ -78,32 +79,28 @@ pub(crate) fn check(header: &PldmHeader, tail: &[u8]) -> Result<Command, ErrorCo
 }
 
 /// Appends a value's bytes.
-fn append<'a, W: Wire<'a>>(value: &W, out: &mut ArrayVec<u8, 4096>)
+fn append<'a, W: Wire<'a>>(value: &W, out: &mut ArrayVec<u8, MAX_ANSWER>)
     requires { array_vec_len out.old + length (W.spelling (W.meaning value.now)) ≤ 4096 }
     ensures { out.new.items ≡ out.old.items ++ W.spelling (W.meaning value.now) }
 {
-    let mut bytes = [0; 4096];
+    let mut bytes = [0; MAX_ANSWER];
     let len = value.put(&mut bytes);
     let _ = out.try_extend_from_slice(&bytes[..len]);
 }
 
 /// Begins an answer with its header: that of the request, as a response.
-pub(crate) fn begin_answer(header: &PldmHeader, out: &mut ArrayVec<u8, 4096>)
+pub(crate) fn begin_answer(header: &PldmHeader, out: &mut ArrayVec<u8, MAX_ANSWER>)
     ensures { out.new.items ≡ header_bytes (reply_header (header_value header.now)) }
 {
-    let reply = PldmHeader {
-        kind: MessageKind::Response,
-        reserved: false,
-        instance: header.instance,
-        pldm_type: header.pldm_type,
-        command: header.command,
-    };
     out.clear();
-    append(&reply, out);
+    append(&header.answer(), out);
 }
 
 /// Appends the completion code 0 and a part, or another completion code.
-pub(crate) fn append_outcome(outcome: Result<PdrPart, ErrorCode>, out: &mut ArrayVec<u8, 4096>)
+pub(crate) fn append_outcome(
+    outcome: Result<PdrPart, ErrorCode>,
+    out: &mut ArrayVec<u8, MAX_ANSWER>,
+)
     requires room { array_vec_len out.old ≡ 4 }
     requires most { IfOk outcome (λ p. length p.bytes.now ≤ 4079) }
     ensures { out.new.items ≡ out.old.items ++ outcome_bytes part_bytes (outcome_value part outcome.entry) }

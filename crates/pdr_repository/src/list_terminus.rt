@@ -6,16 +6,16 @@ ghost use Rattle.pdr_repository.specs.Found.{Finds};
 use crate::answering::{append_outcome, asked, begin_answer, check};
 use crate::lawful_list::{MAX_RECORDS, place_of};
 use crate::parts::{Found, answer_part};
-use crate::terminus::Terminus;
+use crate::terminus::{MAX_ANSWER, Terminus};
 use arrayvec::ArrayVec;
 use mctp_transport::Wire;
-use pldm_message::{Command, ErrorCode, GetPdrRequest, HEADER_LENGTH, PldmHeader};
+use pldm_message::{Command, ErrorCode, GetPdrRequest, HEADER_LENGTH, PldmHeader, Tid};
 use std::alloc::{AllocError, Global};
 
 /// A terminus over a list of handles and record bytes, by place.
 #[derive(Drop)]
 pub struct ListTerminus {
-    tid: u8,
+    tid: Tid,
     records: Vec<(u32, Vec<u8>)>,
     ghost short: { All (λ r. length r.1.items < 2 ^ 32) records.items },
 }
@@ -75,17 +75,17 @@ impl ListTerminus {
 
     /// A terminus of this TID over these records, by place: at most 4096 of them, a lawful list, as `is_lawful_list`
     /// tests.
-    pub fn new(_alloc: Global, tid: u8, records: Vec<(u32, Vec<u8>)>) -> Result<Self, AllocError>
+    pub fn new(_alloc: Global, tid: Tid, records: Vec<(u32, Vec<u8>)>) -> Result<Self, AllocError>
         requires few { length records.items ≤ MAX_RECORDS }
         requires lawful { IsLawful (entries records.items) }
-        ensures tid { IfOk result (λ terminus. list_tid terminus ≡ tid) }
+        ensures tid { IfOk result (λ terminus. list_tid terminus ≡ tid.value) }
         ensures records { IfOk result (λ terminus. list_records terminus ≡ entries records.items) }
     {
         Ok(ListTerminus { tid, records })
     }
 
     /// Appends the outcome of a request for a part.
-    fn give_part(&self, request: &GetPdrRequest, out: &mut ArrayVec<u8, 4096>)
+    fn give_part(&self, request: &GetPdrRequest, out: &mut ArrayVec<u8, MAX_ANSWER>)
         requires { array_vec_len out.old ≡ 4 }
         ensures { (a : PartAnswer) × (out.new.items ≡ out.old.items ++ outcome_bytes part_bytes a) × AnswersPart (list_records self.now) (part_request request.now) a }
     {
@@ -94,12 +94,12 @@ impl ListTerminus {
     }
 
     /// Appends the outcome of a request to set the TID, and sets it.
-    fn set_tid(&mut self, tid: u8, out: &mut ArrayVec<u8, 4096>)
+    fn set_tid(&mut self, tid: Tid, out: &mut ArrayVec<u8, MAX_ANSWER>)
         requires { array_vec_len out.old ≡ 4 }
         ensures kept { list_records self.new ≡ list_records self.old }
-        ensures replies { RepliesData command.SetTid (list_tid self.old) (list_records self.old) (tid ∷ []) out.old.items out.new.items (list_tid self.new) }
+        ensures replies { RepliesData command.SetTid (list_tid self.old) (list_records self.old) (tid.value ∷ []) out.old.items out.new.items (list_tid self.new) }
     {
-        if tid == 0 || tid == 255 {
+        if !tid.is_assignable() {
             out.push(ErrorCode::INVALID_DATA.value);
             return;
         }
@@ -108,7 +108,7 @@ impl ListTerminus {
     }
 
     /// Appends the answer to a GetPDR request.
-    fn reply_part(&self, request: &[u8], out: &mut ArrayVec<u8, 4096>)
+    fn reply_part(&self, request: &[u8], out: &mut ArrayVec<u8, MAX_ANSWER>)
         requires asked { IsAskedFor command.GetPdr request.now }
         requires room { array_vec_len out.old ≡ 4 }
         ensures { RepliesData command.GetPdr (list_tid self.now) (list_records self.now) (drop 4 request.now) out.old.items out.new.items (list_tid self.now) }
@@ -119,17 +119,17 @@ impl ListTerminus {
     }
 
     /// Appends the answer to a request of which command and length are right, and carries it out.
-    fn reply_data(&mut self, command: Command, request: &[u8], out: &mut ArrayVec<u8, 4096>)
+    fn reply_data(&mut self, command: Command, request: &[u8], out: &mut ArrayVec<u8, MAX_ANSWER>)
         requires asked { IsAskedFor command request.now }
         requires room { array_vec_len out.old ≡ 4 }
         ensures kept { list_records self.new ≡ list_records self.old }
         ensures replies { RepliesData command (list_tid self.old) (list_records self.old) (drop 4 request.now) out.old.items out.new.items (list_tid self.new) }
     {
         match command {
-            Command::SetTid => self.set_tid(request[HEADER_LENGTH], out),
+            Command::SetTid => self.set_tid(Tid::new(request[HEADER_LENGTH]), out),
             Command::GetTid => {
                 out.push(0);
-                out.push(self.tid);
+                out.push(self.tid.value);
             }
             Command::GetPldmTypes => {
                 let _ = out.try_extend_from_slice(&[0, 5, 0, 0, 0, 0, 0, 0, 0]);
@@ -139,7 +139,7 @@ impl ListTerminus {
     }
 
     /// Appends what follows the header of the answer.
-    fn reply(&mut self, header: &PldmHeader, request: &[u8], out: &mut ArrayVec<u8, 4096>)
+    fn reply(&mut self, header: &PldmHeader, request: &[u8], out: &mut ArrayVec<u8, MAX_ANSWER>)
         requires begins { BeginsWith (header_value header.now) request.now }
         requires asked { header.now.kind ≡ kind.Request }
         requires room { array_vec_len out.old ≡ 4 }
@@ -160,7 +160,7 @@ impl Terminus for ListTerminus {
 
     ghost records = { list_records };
 
-    fn answer(&mut self, request: &[u8], out: &mut ArrayVec<u8, 4096>) -> bool {
+    fn answer(&mut self, request: &[u8], out: &mut ArrayVec<u8, MAX_ANSWER>) -> bool {
         let Some(header) = asked(request) else {
             out.clear();
             return false;

@@ -20,7 +20,7 @@ pub trait Terminus: Drop {
     ///
     /// Known are SetTID, GetTID and GetPLDMTypes (DSP0240) and GetPDR (DSP0248). Only SetTID changes the TID, and
     /// nothing changes the records.
-    fn answer(&mut self, request: &[u8], out: &mut ArrayVec<u8, 4096>) -> bool
+    fn answer(&mut self, request: &[u8], out: &mut ArrayVec<u8, MAX_ANSWER>) -> bool
         ensures answered { Answers (tid self.old) (records self.old) request.now (answer_of result out.new.items) (tid self.new) }
         ensures silent { result ≡ false → out.new.items ≡ [] }
         ensures kept { records self.new ≡ records self.old };

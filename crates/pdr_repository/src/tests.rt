@@ -1,6 +1,6 @@
 use super::*;
 use arrayvec::ArrayVec;
-use pldm_message::{InstanceId, InstanceIds};
+use pldm_message::{InstanceId, InstanceIds, Tid};
 use std::alloc::{AllocError, Global};
 use std::test::Fail;
 
@@ -27,7 +27,7 @@ fn terminus_over(
     if !is_lawful_list(&records) {
         return Ok(None);
     }
-    Ok(Some(ListTerminus::new(alloc, 1, records)?))
+    Ok(Some(ListTerminus::new(alloc, Tid::new(1), records)?))
 }
 
 /// A terminus over the one record.

@@ -1,5 +1,5 @@
 -- The first fault of bytes is one.
-use Rattle.std.proofs.Common.{◌≡◌, ℕ, List, Option, Some, None, inl, inr, sym, ◌∙◌}
+use Rattle.std.proofs.Common.{◌≡◌, ℕ, List, Option, inl, inr, sym, ◌∙◌}
 use Rattle.pldm_message.specs.declared.pldm_error.PldmError.{PldmError}
 use Rattle.pldm_message.specs.First.{First}
 use Rattle.pldm_message.specs.Faults.{MessageFault}

@@ -1,7 +1,7 @@
 -- Going round the 32 instance IDs.
-use Rattle.std.proofs.Common.{◌≡◌, ℕ, zero, suc, ◌+◌, ◌-◌, ◌%◌, ◌<◌, ◌≤◌, ◌⊎◌, inl, inr, Bool, true, false, refl, sym, ap, ◌∙◌, subst, arith, get_or, replicate}
+use Rattle.std.proofs.Common.{◌≡◌, ℕ, zero, suc, ◌+◌, ◌%◌, ◌<◌, inl, inr, true, false, refl, sym, ◌∙◌, subst, arith, get_or, replicate}
 use Rattle.std.proofs.lemmas.Bool.{cases_lt}
-use Rattle.pldm_message.specs.InstanceIds.{IdSet, IsFree, IsNextFree, AreAllOut, first_place, steps_to}
+use Rattle.pldm_message.specs.InstanceIds.{IdSet, IsNextFree, AreAllOut, first_place, steps_to}
 
 -- at first no ID is out
 pub all_false : (n i : ℕ) → get_or (replicate n false) i false ≡ false

@@ -1,5 +1,5 @@
 -- No two messages of these commands have the same bytes.
-use Rattle.std.specs.Prelude.{◌≡◌, ℕ, List, refl}
+use Rattle.std.specs.Prelude.{refl}
 use Rattle.pldm_message.specs.declared.command.Command.TheVariants as command
 use Rattle.pldm_message.specs.MessageLaws.{IsOneValue, one_request, one_answer}
 use Rattle.pldm_message.specs.BaseCommands.{IsNothing, nothing, IsByte, one_byte, AreTypes, type_bits, IsSetTid, set_tid_bytes, IsSetTidAnswer, set_tid_answer_bytes, IsGetTid, get_tid_bytes, IsGetTidAnswer, get_tid_answer_bytes, IsGetPldmTypes, get_pldm_types_bytes, IsGetPldmTypesAnswer, get_pldm_types_answer_bytes}

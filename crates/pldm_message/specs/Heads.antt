@@ -1,5 +1,5 @@
 -- What the heads and outcomes of the code stand for.
-use Rattle.std.specs.Prelude.{ℕ, List, Result, Ok, Err}
+use Rattle.std.specs.Prelude.{ℕ, Result, Ok, Err}
 use Rattle.pldm_message.specs.declared.head.RequestHead.{RequestHead}
 use Rattle.pldm_message.specs.declared.head.AnswerHead.{AnswerHead}
 use Rattle.pldm_message.specs.declared.error_code.ErrorCode.{ErrorCode}

@@ -1,5 +1,5 @@
 -- No two messages of a command have the same bytes, where no two of their data have.
-use Rattle.std.specs.Prelude.{◌≡◌, ℕ, ◌<◌, ◌+◌, ◌*◌, Bool, List, ◌∷◌, Result, Ok, Err, refl}
+use Rattle.std.specs.Prelude.{◌≡◌, ℕ, List, Result, Ok, Err, refl}
 use Rattle.std.proofs.Common.{arith, ap}
 use Rattle.mctp_transport.specs.Frames.{bit}
 use Rattle.pldm_message.specs.declared.kind.RequestKind.{RequestKind}

@@ -1,5 +1,5 @@
 -- Requests and answers as plain values, and their bytes (DSP0240, PLDM message fields).
-use Rattle.std.specs.Prelude.{◌≡◌, ℕ, ◌<◌, Bool, List, [], ◌∷◌, ◌++◌, Result, Ok, Err}
+use Rattle.std.specs.Prelude.{ℕ, ◌<◌, Bool, List, [], ◌∷◌, ◌++◌, Result, Ok, Err}
 use Rattle.pldm_message.specs.declared.kind.MessageKind.{MessageKind}
 use Rattle.pldm_message.specs.declared.kind.MessageKind.TheVariants as message
 use Rattle.pldm_message.specs.declared.kind.RequestKind.{RequestKind}

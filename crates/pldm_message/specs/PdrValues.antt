@@ -1,5 +1,4 @@
 -- What the messages for parts of records stand for.
-use Rattle.std.specs.Prelude.{ℕ}
 use Rattle.pldm_message.specs.declared.get_pdr_request.GetPdrRequest.{GetPdrRequest}
 use Rattle.pldm_message.specs.declared.pdr_part.PdrPart.{PdrPart}
 use Rattle.pldm_message.specs.declared.get_pdr_answer.GetPdrAnswer.{GetPdrAnswer}

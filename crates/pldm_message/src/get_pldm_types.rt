@@ -1,4 +1,13 @@
 //! Requests for the PLDM types of a terminus, and their answers.
+ghost use Rattle.std.specs.Prelude.{◌≡◌, ◌++◌, ℕ, List, length, drop, IfOk, IsOkAnd};
+ghost use Rattle.std.specs.Result.{result_err};
+ghost use Rattle.mctp_transport.specs.Wire.{Spells};
+ghost use Rattle.pldm_message.specs.declared.command.Command.TheVariants as command;
+ghost use Rattle.pldm_message.specs.Messages.{RequestMessage, AnswerMessage};
+ghost use Rattle.pldm_message.specs.BaseCommands.{IsGetPldmTypes, get_pldm_types_bytes, IsGetPldmTypesAnswer, get_pldm_types_answer_bytes};
+ghost use Rattle.pldm_message.specs.BaseCommandLaws.{one_get_pldm_types, one_get_pldm_types_answer};
+ghost use Rattle.pldm_message.specs.BaseCommandValues.{get_pldm_types, get_pldm_types_answer};
+ghost use Rattle.pldm_message.specs.Faults.{MessageFault, IsRequestOf, IsAnswerOf, answer_length};
 
 use crate::command::Command;
 use crate::error_code::{ErrorCode, SUCCESS};
@@ -15,16 +24,6 @@ pub struct GetPldmTypes {
 }
 
 impl<'a> Wire<'a> for GetPldmTypes {
-    ghost use Rattle.std.specs.Prelude.{◌≡◌, ◌++◌, ℕ, List, length, drop, IfOk, IsOkAnd};
-    ghost use Rattle.std.specs.Result.{result_err};
-    ghost use Rattle.mctp_transport.specs.Wire.{Spells};
-    ghost use Rattle.pldm_message.specs.declared.command.Command.TheVariants as command;
-    ghost use Rattle.pldm_message.specs.Messages.{RequestMessage};
-    ghost use Rattle.pldm_message.specs.BaseCommands.{IsGetPldmTypes, get_pldm_types_bytes};
-    ghost use Rattle.pldm_message.specs.BaseCommandLaws.{one_get_pldm_types};
-    ghost use Rattle.pldm_message.specs.BaseCommandValues.{get_pldm_types};
-    ghost use Rattle.pldm_message.specs.Faults.{MessageFault, IsRequestOf};
-
     type Error = PldmError;
 
     ghost Meaning = { RequestMessage (Unit {0}) };
@@ -70,16 +69,6 @@ pub struct GetPldmTypesAnswer {
 }
 
 impl<'a> Wire<'a> for GetPldmTypesAnswer {
-    ghost use Rattle.std.specs.Prelude.{◌≡◌, ◌++◌, ℕ, List, length, drop, IfOk, IsOkAnd};
-    ghost use Rattle.std.specs.Result.{result_err};
-    ghost use Rattle.mctp_transport.specs.Wire.{Spells};
-    ghost use Rattle.pldm_message.specs.declared.command.Command.TheVariants as command;
-    ghost use Rattle.pldm_message.specs.Messages.{AnswerMessage};
-    ghost use Rattle.pldm_message.specs.BaseCommands.{IsGetPldmTypesAnswer, get_pldm_types_answer_bytes};
-    ghost use Rattle.pldm_message.specs.BaseCommandLaws.{one_get_pldm_types_answer};
-    ghost use Rattle.pldm_message.specs.BaseCommandValues.{get_pldm_types_answer};
-    ghost use Rattle.pldm_message.specs.Faults.{MessageFault, IsAnswerOf, answer_length};
-
     type Error = PldmError;
 
     ghost Meaning = { AnswerMessage (List ℕ) };

@@ -1,4 +1,13 @@
 //! Requests for a terminus ID, and their answers.
+ghost use Rattle.std.specs.Prelude.{◌≡◌, ◌++◌, ℕ, List, length, drop, IfOk, IsOkAnd};
+ghost use Rattle.std.specs.Result.{result_err};
+ghost use Rattle.mctp_transport.specs.Wire.{Spells};
+ghost use Rattle.pldm_message.specs.declared.command.Command.TheVariants as command;
+ghost use Rattle.pldm_message.specs.Messages.{RequestMessage, AnswerMessage};
+ghost use Rattle.pldm_message.specs.BaseCommands.{IsGetTid, get_tid_bytes, IsGetTidAnswer, get_tid_answer_bytes};
+ghost use Rattle.pldm_message.specs.BaseCommandLaws.{one_get_tid, one_get_tid_answer};
+ghost use Rattle.pldm_message.specs.BaseCommandValues.{get_tid, get_tid_answer};
+ghost use Rattle.pldm_message.specs.Faults.{MessageFault, IsRequestOf, IsAnswerOf, answer_length};
 
 use crate::command::Command;
 use crate::error_code::{ErrorCode, SUCCESS};
@@ -15,16 +24,6 @@ pub struct GetTid {
 }
 
 impl<'a> Wire<'a> for GetTid {
-    ghost use Rattle.std.specs.Prelude.{◌≡◌, ◌++◌, ℕ, List, length, drop, IfOk, IsOkAnd};
-    ghost use Rattle.std.specs.Result.{result_err};
-    ghost use Rattle.mctp_transport.specs.Wire.{Spells};
-    ghost use Rattle.pldm_message.specs.declared.command.Command.TheVariants as command;
-    ghost use Rattle.pldm_message.specs.Messages.{RequestMessage};
-    ghost use Rattle.pldm_message.specs.BaseCommands.{IsGetTid, get_tid_bytes};
-    ghost use Rattle.pldm_message.specs.BaseCommandLaws.{one_get_tid};
-    ghost use Rattle.pldm_message.specs.BaseCommandValues.{get_tid};
-    ghost use Rattle.pldm_message.specs.Faults.{MessageFault, IsRequestOf};
-
     type Error = PldmError;
 
     ghost Meaning = { RequestMessage (Unit {0}) };
@@ -69,16 +68,6 @@ pub struct GetTidAnswer {
 }
 
 impl<'a> Wire<'a> for GetTidAnswer {
-    ghost use Rattle.std.specs.Prelude.{◌≡◌, ◌++◌, ℕ, List, length, drop, IfOk, IsOkAnd};
-    ghost use Rattle.std.specs.Result.{result_err};
-    ghost use Rattle.mctp_transport.specs.Wire.{Spells};
-    ghost use Rattle.pldm_message.specs.declared.command.Command.TheVariants as command;
-    ghost use Rattle.pldm_message.specs.Messages.{AnswerMessage};
-    ghost use Rattle.pldm_message.specs.BaseCommands.{IsGetTidAnswer, get_tid_answer_bytes};
-    ghost use Rattle.pldm_message.specs.BaseCommandLaws.{one_get_tid_answer};
-    ghost use Rattle.pldm_message.specs.BaseCommandValues.{get_tid_answer};
-    ghost use Rattle.pldm_message.specs.Faults.{MessageFault, IsAnswerOf, answer_length};
-
     type Error = PldmError;
 
     ghost Meaning = { AnswerMessage ℕ };

@@ -1,4 +1,13 @@
 //! Requests to set a terminus ID, and their answers.
+ghost use Rattle.std.specs.Prelude.{◌≡◌, ◌++◌, ℕ, List, length, drop, IfOk, IsOkAnd};
+ghost use Rattle.std.specs.Result.{result_err};
+ghost use Rattle.mctp_transport.specs.Wire.{Spells};
+ghost use Rattle.pldm_message.specs.declared.command.Command.TheVariants as command;
+ghost use Rattle.pldm_message.specs.Messages.{RequestMessage, AnswerMessage};
+ghost use Rattle.pldm_message.specs.BaseCommands.{IsSetTid, set_tid_bytes, IsSetTidAnswer, set_tid_answer_bytes};
+ghost use Rattle.pldm_message.specs.BaseCommandLaws.{one_set_tid, one_set_tid_answer};
+ghost use Rattle.pldm_message.specs.BaseCommandValues.{set_tid, set_tid_answer};
+ghost use Rattle.pldm_message.specs.Faults.{MessageFault, IsRequestOf, IsAnswerOf, answer_length};
 
 use crate::command::Command;
 use crate::error_code::{ErrorCode, SUCCESS};
@@ -17,16 +26,6 @@ pub struct SetTid {
 }
 
 impl<'a> Wire<'a> for SetTid {
-    ghost use Rattle.std.specs.Prelude.{◌≡◌, ◌++◌, ℕ, List, length, drop, IfOk, IsOkAnd};
-    ghost use Rattle.std.specs.Result.{result_err};
-    ghost use Rattle.mctp_transport.specs.Wire.{Spells};
-    ghost use Rattle.pldm_message.specs.declared.command.Command.TheVariants as command;
-    ghost use Rattle.pldm_message.specs.Messages.{RequestMessage};
-    ghost use Rattle.pldm_message.specs.BaseCommands.{IsSetTid, set_tid_bytes};
-    ghost use Rattle.pldm_message.specs.BaseCommandLaws.{one_set_tid};
-    ghost use Rattle.pldm_message.specs.BaseCommandValues.{set_tid};
-    ghost use Rattle.pldm_message.specs.Faults.{MessageFault, IsRequestOf};
-
     type Error = PldmError;
 
     ghost Meaning = { RequestMessage ℕ };
@@ -72,16 +71,6 @@ pub struct SetTidAnswer {
 }
 
 impl<'a> Wire<'a> for SetTidAnswer {
-    ghost use Rattle.std.specs.Prelude.{◌≡◌, ◌++◌, ℕ, List, length, drop, IfOk, IsOkAnd};
-    ghost use Rattle.std.specs.Result.{result_err};
-    ghost use Rattle.mctp_transport.specs.Wire.{Spells};
-    ghost use Rattle.pldm_message.specs.declared.command.Command.TheVariants as command;
-    ghost use Rattle.pldm_message.specs.Messages.{AnswerMessage};
-    ghost use Rattle.pldm_message.specs.BaseCommands.{IsSetTidAnswer, set_tid_answer_bytes};
-    ghost use Rattle.pldm_message.specs.BaseCommandLaws.{one_set_tid_answer};
-    ghost use Rattle.pldm_message.specs.BaseCommandValues.{set_tid_answer};
-    ghost use Rattle.pldm_message.specs.Faults.{MessageFault, IsAnswerOf, answer_length};
-
     type Error = PldmError;
 
     ghost Meaning = { AnswerMessage (Unit {0}) };

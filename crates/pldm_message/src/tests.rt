@@ -165,6 +165,25 @@ fn reads_and_writes_base_commands(rt: HostRuntime) -> Result<(), Fail> {
 }
 
 #[test]
+fn names_completion_codes(rt: HostRuntime) {
+    let rows = [
+        (ErrorCode::ERROR, 0x01),
+        (ErrorCode::INVALID_DATA, 0x02),
+        (ErrorCode::INVALID_LENGTH, 0x03),
+        (ErrorCode::NOT_READY, 0x04),
+        (ErrorCode::UNSUPPORTED_COMMAND, 0x05),
+        (ErrorCode::INVALID_PLDM_TYPE, 0x20),
+        (ErrorCode::INVALID_TRANSFER_HANDLE, 0x80),
+        (ErrorCode::INVALID_TRANSFER_OPERATION, 0x81),
+        (ErrorCode::INVALID_RECORD_HANDLE, 0x82),
+        (ErrorCode::INVALID_CHANGE_NUMBER, 0x83),
+    ];
+    for (code, want) in rows {
+        assert_eq!(rt; code.value, want);
+    }
+}
+
+#[test]
 fn keeps_the_reserved_bit_and_answers_headers(rt: HostRuntime) -> Result<(), Fail> {
     let header = PldmHeader::read(&[0x01, 0xff, 0x3f, 0x7e])?;
     assert_eq!(rt; header.kind, MessageKind::Datagram);

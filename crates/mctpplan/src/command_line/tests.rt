@@ -7,8 +7,25 @@ fn gives_the_command_or_usage(rt: HostRuntime) -> Result<(), Fail> {
         plan: "a",
         certificate: "b",
     };
-    let rows: [(&[&str], Result<Command, Refused>); 10] = [
+    let packet = Command::Show {
+        kind: Kind::Packet,
+        hex: "01",
+    };
+    let record = Command::Show {
+        kind: Kind::Record,
+        hex: "",
+    };
+    let rows: [(&[&str], Result<Command, Refused>); 16] = [
         (&["mctpplan", "check", "a", "b"], Ok(check)),
+        (&["mctpplan", "show", "packet", "01"], Ok(packet)),
+        (&["mctpplan", "show", "record", ""], Ok(record)),
+        (&["mctpplan", "show", "frame", "01"], Err(Refused::Usage)),
+        (&["mctpplan", "show", "packet"], Err(Refused::Usage)),
+        (
+            &["mctpplan", "show", "packet", "01", "02"],
+            Err(Refused::Usage),
+        ),
+        (&["mctpplan", "show", "Packet", "01"], Err(Refused::Usage)),
         (&[], Err(Refused::Usage)),
         (&["mctpplan"], Err(Refused::Usage)),
         (&["mctpplan", "check"], Err(Refused::Usage)),

@@ -211,6 +211,7 @@ fn tells_each_refusal(rt: HostRuntime) {
     let out_of_memory = Refused::at_input(Input::Plan, PlanError::OutOfMemory);
     let rows = [
         (Refused::Usage, 2, "usage\n"),
+        (Refused::UnreadableHex, 2, "unreadable hex: J07\n"),
         (Refused::Unwritten, 2, "unreadable output: file\n"),
         (Refused::NoMemory, 3, "no memory\n"),
         (over_limit, 2, "unreadable plan: J08\n"),

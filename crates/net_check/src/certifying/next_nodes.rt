@@ -1,5 +1,5 @@
 //! Where what is for an endpoint ID goes on to from each node.
-ghost use Rattle.std.specs.Prelude.{◌≡◌, ℕ, ◌<◌, length, IfOk};
+ghost use Rattle.std.specs.Prelude.{length, IfOk};
 ghost use Rattle.net_check.specs.Routing.{MovesTo, rows_of};
 ghost use Rattle.net_check.specs.RoutingLoops.{IsNext, AreNexts, RowsAreApart};
 ghost use Rattle.net_check.specs.Tables.{SendsAs, AreTables};

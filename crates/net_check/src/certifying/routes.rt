@@ -1,5 +1,5 @@
 //! The ranks of a plan, or its first routing loop.
-ghost use Rattle.std.specs.Prelude.{◌≡◌, ℕ, ◌+◌, ◌<◌, length, IfOk, filter};
+ghost use Rattle.std.specs.Prelude.{◌≡◌, IfOk, filter};
 ghost use Rattle.net_check.specs.RoutingLoops.{RowsAreApart, RowsAreInRange};
 ghost use Rattle.net_check.specs.Certificates.{IsRouted, has_ranges};
 

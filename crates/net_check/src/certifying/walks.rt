@@ -1,5 +1,5 @@
 //! Where moves from place to place lead, by a table of next places.
-ghost use Rattle.std.specs.Prelude.{◌≡◌, ℕ, ◌+◌, ◌<◌, ◌≤◌, ◌↔◌, length, IsTrue, IfOk, Some, slice_get, MatchOption};
+ghost use Rattle.std.specs.Prelude.{◌≡◌, ◌↔◌, length, IsTrue, IfOk, MatchOption};
 ghost use Rattle.net_check.specs.Circles.{next_in, MovesBy, IsOnCircle, IsLeastOnCircle, HasNoCircle, IsLoopFrom, EndsAfter, AreMovesToEnds, IsWalked};
 
 use std::alloc::{AllocError, Global};
@@ -9,7 +9,7 @@ use std::alloc::{AllocError, Global};
 pub enum Walked {
     /// To an end from each place, after so many moves.
     Ended(Vec<usize>),
-    /// Round a circle.
+    /// Round a circle: its places, from the least one that is on any circle back to itself.
     Circled(Vec<usize>),
 }
 

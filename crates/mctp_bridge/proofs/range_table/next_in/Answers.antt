@@ -1,4 +1,4 @@
-use Rattle.std.proofs.Common.{◌≡◌, ℕ, ◌+◌, ◌-◌, ◌<◌, ◌≤◌, length, refl, arith}
+use Rattle.std.proofs.Common.{◌-◌, ◌<◌, length, refl, arith}
 use Rattle.mctp_bridge.proofs.Fronts.{refuted}
 use Rattle.mctp_bridge.proofs.Halving.{no_row, not_the_last, begins_low, row_routes}
 use Rattle.mctp_bridge.proofs.range_table.next_in.Goals as goal

@@ -1,4 +1,4 @@
-use Rattle.std.proofs.Common.{refl, subst, sym, take, ◌≤◌, length, arith, All}
+use Rattle.std.proofs.Common.{refl, subst, sym}
 use Rattle.std.proofs.lemmas.List.{take_all}
 use Rattle.std.proofs.lemmas.List.Elements.{All-more, All-same}
 use Rattle.mctp_bridge.specs.Rows.{AreApart}

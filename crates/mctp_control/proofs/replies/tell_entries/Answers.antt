@@ -1,4 +1,4 @@
-use Rattle.std.proofs.Common.{inl, inr, arith, drop, length}
+use Rattle.std.proofs.Common.{inl, inr, arith, drop}
 use Rattle.std.proofs.lemmas.List.{take-map}
 use Rattle.mctp_control.specs.EntryLists.{values_of}
 use Rattle.mctp_control.specs.Replies.{IsMost}

@@ -1,4 +1,4 @@
-use Rattle.std.proofs.Common.{◌≡◌, ◌++◌, ◌∷◌, [], refl, sym, arith}
+use Rattle.std.proofs.Common.{◌++◌, ◌∷◌, [], refl, sym, arith}
 use Rattle.pldm_message.specs.declared.command.Command.TheVariants as command
 use Rattle.pldm_message.specs.Headers.{header_bytes}
 use Rattle.pldm_message.specs.Messages.{answer_header}

@@ -1,4 +1,4 @@
-use Rattle.std.proofs.Common.{◌≡◌, ◌++◌, refl, sym, arith}
+use Rattle.std.proofs.Common.{◌++◌, refl, sym, arith}
 use Rattle.std.specs.Option.{option_to_list}
 use Rattle.pldm_message.specs.Pdrs.{part_numbers}
 use Rattle.pldm_message.specs.PdrValues.{part}
