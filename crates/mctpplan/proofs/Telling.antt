@@ -1,25 +1,60 @@
--- Why a certificate is not read, by the reader's error.
-use Rattle.std.proofs.Common.{◌≡◌, ◌+◌, refl}
+-- Why an input is not read, by the reader's error.
+use Rattle.std.proofs.Common.{◌≡◌, ◌+◌, ℕ, List, Option}
 use Rattle.net_plan.specs.declared.plan.Plan.{Plan}
 use Rattle.net_plan.specs.declared.error.PlanError.{PlanError}
 use Rattle.net_plan.specs.declared.error.PlanError.TheVariants as error
-use Rattle.net_plan.specs.CertificateText.{IsCertificateOf}
 use Rattle.net_plan.specs.PlanValues.{plan_value}
-use Rattle.net_plan.specs.Stream.{TakesMoreThan}
 use Rattle.net_plan.specs.TextFaults.{error_count}
-use Rattle.net_plan.specs.Texts.{Gave, StandsForNone, IsNoJson}
+use Rattle.net_plan.specs.Unread.{GaveNoPlan, GaveNoCertificate}
 use Rattle.mctpplan.specs.declared.refused.Input.TheVariants as input
-use Rattle.mctpplan.specs.Answers.{Stream, GavePlan, AreUnread}
+use Rattle.mctpplan.specs.Answers.{Stream, GavePlan, GaveNothing, AreUnread}
 use Rattle.mctpplan.specs.Statuses.{refused_at}
 
-pub certificate_unread : (e : PlanError) (plan : Plan) (plans certificates : Stream) → GavePlan plans plan
-    → (e ≡ error.OutOfRange → Gave 16777216 certificates.before certificates.after (λ text. StandsForNone (IsCertificateOf (plan_value plan)) text))
-    → (e ≡ error.NotJson → Gave 16777216 certificates.before certificates.after IsNoJson)
-    → (e ≡ error.OverLimit → TakesMoreThan 16777216 certificates.before certificates.after)
-    → certificates.failures_after ≡ certificates.failures_before + error_count e
-    → AreUnread (refused_at input.Certificate e) plans certificates
-certificate_unread error.NotJson plan plans certificates given r n o d = (plan, given, n refl)
-certificate_unread error.OutOfRange plan plans certificates given r n o d = (plan, given, r refl)
-certificate_unread error.OverLimit plan plans certificates given r n o d = (plan, given, o refl)
-certificate_unread error.Device plan plans certificates given r n o d = (plan, given, d)
-certificate_unread error.OutOfMemory plan plans certificates given r n o d = tt
+gave_nothing : (GaveNone : Option (List ℕ) → Option (List ℕ) → PlanError → Type 0) (stream : Stream) (e : PlanError) → GaveNone stream.before stream.after e
+    → stream.failures_after ≡ stream.failures_before + error_count e → GaveNothing GaveNone stream e
+gave_nothing GaveNone stream error.Device gave counted = counted
+gave_nothing GaveNone stream error.NotJson gave counted = gave
+gave_nothing GaveNone stream error.WrongKind gave counted = gave
+gave_nothing GaveNone stream error.MissingKey gave counted = gave
+gave_nothing GaveNone stream error.UnknownKey gave counted = gave
+gave_nothing GaveNone stream error.OutOfRange gave counted = gave
+gave_nothing GaveNone stream error.UnknownName gave counted = gave
+gave_nothing GaveNone stream error.BadHex gave counted = gave
+gave_nothing GaveNone stream error.OverLimit gave counted = gave
+gave_nothing GaveNone stream error.Doubled gave counted = gave
+gave_nothing GaveNone stream error.OutOfMemory gave counted = gave
+
+pub plan_unread : (e : PlanError) (plans certificates : Stream) → GaveNoPlan plans.before plans.after e → plans.failures_after ≡ plans.failures_before + error_count e
+    → AreUnread (refused_at input.Plan e) plans certificates
+plan_unread e plans certificates gave counted = told e (gave_nothing GaveNoPlan plans e gave counted)
+  where
+    told : (e : PlanError) → GaveNothing GaveNoPlan plans e → AreUnread (refused_at input.Plan e) plans certificates
+    told error.OutOfMemory gave = tt
+    told error.Device gave = gave
+    told error.NotJson gave = gave
+    told error.WrongKind gave = gave
+    told error.MissingKey gave = gave
+    told error.UnknownKey gave = gave
+    told error.OutOfRange gave = gave
+    told error.UnknownName gave = gave
+    told error.BadHex gave = gave
+    told error.OverLimit gave = gave
+    told error.Doubled gave = gave
+
+pub certificate_unread : (e : PlanError) (p : Plan) (plans certificates : Stream) → GavePlan plans p
+    → GaveNoCertificate (plan_value p) certificates.before certificates.after e
+    → certificates.failures_after ≡ certificates.failures_before + error_count e → AreUnread (refused_at input.Certificate e) plans certificates
+certificate_unread e p plans certificates given gave counted = told e (gave_nothing (GaveNoCertificate (plan_value p)) certificates e gave counted)
+  where
+    told : (e : PlanError) → GaveNothing (GaveNoCertificate (plan_value p)) certificates e → AreUnread (refused_at input.Certificate e) plans certificates
+    told error.OutOfMemory gave = tt
+    told error.Device gave = (p, given, gave)
+    told error.NotJson gave = (p, given, gave)
+    told error.WrongKind gave = (p, given, gave)
+    told error.MissingKey gave = (p, given, gave)
+    told error.UnknownKey gave = (p, given, gave)
+    told error.OutOfRange gave = (p, given, gave)
+    told error.UnknownName gave = (p, given, gave)
+    told error.BadHex gave = (p, given, gave)
+    told error.OverLimit gave = (p, given, gave)
+    told error.Doubled gave = (p, given, gave)

@@ -12,8 +12,8 @@ use Rattle.net_check.specs.Faults.{IsFirstFault, place_of}
 use Rattle.net_plan.specs.PlanText.{IsPlanOf}
 use Rattle.net_plan.specs.PlanValues.{plan_value}
 use Rattle.net_check.specs.Rules.{Accepts}
-use Rattle.net_plan.specs.Stream.{TakesMoreThan}
-use Rattle.net_plan.specs.Texts.{Gave, StandsFor, StandsForNone, IsNoJson}
+use Rattle.net_plan.specs.Unread.{GaveNoPlan, GaveNoCertificate}
+use Rattle.net_plan.specs.Texts.{Gave, StandsFor}
 use Rattle.mctpplan.specs.declared.refused.Input.{Input}
 use Rattle.mctpplan.specs.declared.refused.Input.TheVariants as input
 use Rattle.mctpplan.specs.declared.refused.Refused.{Refused}
@@ -45,13 +45,10 @@ GavePlan stream plan = Gave 16777216 stream.before stream.after (λ text. Stands
 abbrev pub GaveCertificate : Plan → Stream → Certificate → Type 0
 GaveCertificate plan stream certificate = Gave 16777216 stream.before stream.after (λ text. StandsFor (IsCertificateOf (plan_value plan)) text (certificate_value certificate))
 
--- Why a source gave nothing, by the error: it failed, it gave too many bytes, it gave no JSON, or JSON of no such value.
-abbrev pub GaveNothing : (List ℕ → Type 0) → Stream → PlanError → Type 0
-GaveNothing StandsForNothing stream error.Device = Fails stream
-GaveNothing StandsForNothing stream error.OverLimit = TakesMoreThan 16777216 stream.before stream.after
-GaveNothing StandsForNothing stream error.NotJson = Gave 16777216 stream.before stream.after IsNoJson
-GaveNothing StandsForNothing stream error.OutOfRange = Gave 16777216 stream.before stream.after StandsForNothing
-GaveNothing StandsForNothing stream error.OutOfMemory = ⊤
+-- Why a source gave nothing, by the error: it failed, it gave too many bytes, it gave no JSON, or JSON at whose first fault the reader stops.
+abbrev pub GaveNothing : (Option (List ℕ) → Option (List ℕ) → PlanError → Type 0) → Stream → PlanError → Type 0
+GaveNothing GaveNone stream error.Device = Fails stream
+GaveNothing GaveNone stream e = GaveNone stream.before stream.after e
 
 -- one source gave the plan, the other the certificate
 pub record AreGiven (plans certificates : Stream) (plan : Plan) (certificate : Certificate) : Type 0 where
@@ -71,9 +68,9 @@ TellsFault plans certificates output = (plan : Plan) × (certificate : Certifica
 
 -- why an input can't be read; a certificate is read only where the plan was given
 abbrev pub IsUnread : Input → PlanError → Stream → Stream → Type 0
-IsUnread input.Plan cause plans certificates = GaveNothing (λ text. StandsForNone IsPlanOf text) plans cause
+IsUnread input.Plan cause plans certificates = GaveNothing GaveNoPlan plans cause
 IsUnread input.Certificate cause plans certificates = (plan : Plan) × GavePlan plans plan
-    × GaveNothing (λ text. StandsForNone (IsCertificateOf (plan_value plan)) text) certificates cause
+    × GaveNothing (GaveNoCertificate (plan_value plan)) certificates cause
 
 -- why the inputs were not read
 abbrev pub AreUnread : Refused → Stream → Stream → Type 0

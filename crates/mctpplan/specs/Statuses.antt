@@ -22,10 +22,7 @@ status_of _ = Unreadable
 -- why there is no answer, where reading an input ended in an error
 abbrev pub refused_at : Input → PlanError → Refused
 refused_at unread error.OutOfMemory = Refused.NoMemory
-refused_at unread error.NotJson = Refused.Unreadable unread error.NotJson
-refused_at unread error.OutOfRange = Refused.Unreadable unread error.OutOfRange
-refused_at unread error.OverLimit = Refused.Unreadable unread error.OverLimit
-refused_at unread error.Device = Refused.Unreadable unread error.Device
+refused_at unread e = Refused.Unreadable unread e
 
 -- the line that tells that a certificate fits its plan
 abbrev pub yes_line : List ℕ

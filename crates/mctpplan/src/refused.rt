@@ -38,11 +38,7 @@ impl Refused {
     {
         match error {
             PlanError::OutOfMemory => Refused::NoMemory,
-            PlanError::NotJson | PlanError::OutOfRange | PlanError::OverLimit | PlanError::Device =>
-                Refused::Unreadable {
-                    input,
-                    cause: error,
-                },
+            cause => Refused::Unreadable { input, cause },
         }
     }
 

@@ -1,8 +1,13 @@
 -- The names of buses and nodes, and what finds their places.
-use Rattle.std.proofs.Common.{◌≡◌, ℕ, List, [], ◌∷◌, map, Option, Ok, refl, ap, ◌∙◌}
+use Rattle.std.proofs.Common.{◌≡◌, ℕ, List, [], ◌∷◌, map, refl, ap}
 use Rattle.serde_json.specs.Data.{Data}
+use Rattle.serde_json.specs.View.{view, items_view}
+use Rattle.serde_json.specs.declared.value.Value.{Value}
+use Rattle.net_plan.specs.CertificateReading.{entries}
+use Rattle.net_plan.specs.EventReading.{event}
 use Rattle.net_plan.specs.Json.{list_within}
-use Rattle.net_plan.specs.PlanReading.{node, node_name, nodes_among, place_of}
+use Rattle.net_plan.specs.Names.{place_among, text_at, each_text_at}
+use Rattle.net_plan.specs.PlanReading.{node}
 use Rattle.net_plan.specs.PlanValues.{name_bytes, bus_value, bus_names, node_value, node_names}
 use Rattle.net_plan.specs.declared.nodes.Bus.{Bus}
 use Rattle.net_plan.specs.declared.nodes.Node.{Node}
@@ -15,10 +20,19 @@ pub node_names_of : (ns : List Node) → map (λ n. name_bytes n.name) ns ≡ no
 node_names_of [] = refl
 node_names_of (n ∷ ns) = ap (λ rest. name_bytes n.name ∷ rest) (node_names_of ns)
 
+pub texts_of : (key : List ℕ) (vs : List Value) → map (λ v. text_at key (view v)) vs ≡ each_text_at key (items_view vs)
+texts_of key [] = refl
+texts_of key (v ∷ vs) = ap (λ rest. text_at key (view v) ∷ rest) (texts_of key vs)
+
 -- nodes read by what finds the places of these names
-pub nodes_found : (buses names : List (List ℕ)) (find_bus find_node : List ℕ → Option ℕ) (d : Data) → list_within 64 node_name d ≡ Ok names
-    → ((q : List ℕ) → find_bus q ≡ place_of buses q) → ((q : List ℕ) → find_node q ≡ place_of names q)
-    → list_within 64 (node find_bus find_node) d ≡ nodes_among buses d
-nodes_found buses names find_bus find_node d e b n =
-    let found : list_within 64 (node find_bus find_node) d ≡ list_within 64 (node (place_of buses) (place_of names)) d = λ i. list_within 64 (node (λ q. b q i) (λ q. n q i)) d in
-    found ∙ rw e refl
+pub nodes_found : (buses names : List (List ℕ)) (find_bus find_node : List ℕ → ℕ) (d : Data) → ((q : List ℕ) → find_bus q ≡ place_among buses q) → ((q : List ℕ) → find_node q ≡ place_among names q)
+    → list_within 64 (node find_bus find_node) d ≡ list_within 64 (node (place_among buses) (place_among names)) d
+nodes_found buses names find_bus find_node d b n = λ i. list_within 64 (node (λ q. b q i) (λ q. n q i)) d
+
+-- entries read by what finds the places of these names
+pub entries_found : (names : List (List ℕ)) (find : List ℕ → ℕ) (d : Data) → ((q : List ℕ) → find q ≡ place_among names q) → entries find d ≡ entries (place_among names) d
+entries_found names find d n = λ i. entries (λ q. n q i) d
+
+-- events read by what finds the places of these names
+pub events_found : (names : List (List ℕ)) (find : List ℕ → ℕ) (d : Data) → ((q : List ℕ) → find q ≡ place_among names q) → list_within 100000 (event find) d ≡ list_within 100000 (event (place_among names)) d
+events_found names find d n = λ i. list_within 100000 (event (λ q. n q i)) d

@@ -1,5 +1,5 @@
 -- That an object has exactly some keys.
-use Rattle.std.proofs.Common.{◌≡◌, ℕ, zero, suc, ◌<◌, arith, List, [], ◌∷◌, length, Bool, true, false, not, ◌&&◌, ◌||◌, Some, is_some, Ok, Ordering, Less, Equal, Greater, refl, sym, ap, ◌∙◌, true≢false, Contains, IsSome, slice_index_or}
+use Rattle.std.proofs.Common.{◌≡◌, ℕ, zero, suc, ◌<◌, arith, List, [], ◌∷◌, length, Bool, true, false, not, ◌||◌, Some, is_some, Ok, Ordering, Less, Equal, Greater, refl, sym, ap, ◌∙◌, true≢false, Contains, IsSome, slice_index_or}
 use Rattle.std.proofs.lemmas.Map.Text.{is_eq-slice_cmp}
 use Rattle.std.proofs.lemmas.Slice.Eq.{bytes_eq-Decides}
 use Rattle.std.proofs.lemmas.Map.Views.{Contains-from_any}
@@ -12,7 +12,9 @@ use Rattle.serde_json.specs.Data.{Data, null, boolean, number, string, array, ob
 use Rattle.serde_json.specs.Find.{get_member}
 use Rattle.net_plan.specs.Json.{is_among, has_unknown_key, lacks_key, keyed, demand}
 use Rattle.net_plan.specs.JsonWords.{HasKeys}
-use Rattle.net_plan.proofs.Telling.{no_value, demanded}
+use Rattle.net_plan.specs.Reading.{then_with}
+use Rattle.net_plan.specs.declared.error.Fault.TheVariants.{UnknownKey, MissingKey}
+use Rattle.net_plan.proofs.Telling.{no_value, then_Ok, demanded}
 
 among_Contains : (keys : List (List ℕ)) (k : List ℕ) → is_among keys k ≡ true → Contains keys k
 among_Contains keys k e = Contains-from_any (λ x y. (bytes_eq-Decides x y).0) k keys e
@@ -78,16 +80,18 @@ not_false : (b : Bool) → not b ≡ false → b ≡ true
 not_false true e = refl
 not_false false e = absurd (true≢false e)
 
-keys_sound_at : (keys : List (List ℕ)) (ms : Members) → (not (has_unknown_key keys ms) && not (lacks_key keys ms)) ≡ true → HasKeys keys (object ms)
-keys_sound_at keys ms e = by (has_unknown_key keys ms) (lacks_key keys ms) refl refl e
-  where
-    by : (b c : Bool) → has_unknown_key keys ms ≡ b → lacks_key keys ms ≡ c → (not b && not c) ≡ true → HasKeys keys (object ms)
-    by false false unknown lacked e = (ms, refl, λ k. (λ there. among_Contains keys k (known keys ms unknown k there), λ among. not_false (is_some (get_member k ms)) (any_false (λ key. not (is_some (get_member key ms))) keys lacked k among)))
-    by true c unknown lacked e = absurd (true≢false (sym e))
-    by false true unknown lacked e = absurd (true≢false (sym e))
+keys_sound_at : (keys : List (List ℕ)) (ms : Members) → has_unknown_key keys ms ≡ false → lacks_key keys ms ≡ false → HasKeys keys (object ms)
+keys_sound_at keys ms unknown lacked =
+    (ms, refl, λ k. (λ there. among_Contains keys k (known keys ms unknown k there), λ among. not_false (is_some (get_member k ms)) (any_false (λ key. not (is_some (get_member key ms))) keys lacked k among)))
+
+not_true : (b : Bool) → not b ≡ true → b ≡ false
+not_true false e = refl
+not_true true e = absurd (true≢false (sym e))
 
 pub keys_sound : (keys : List (List ℕ)) (d : Data) (u : Unit {0}) → keyed keys d ≡ Ok u → HasKeys keys d
-keys_sound keys (object ms) u e = keys_sound_at keys ms (demanded (not (has_unknown_key keys ms) && not (lacks_key keys ms)) u e)
+keys_sound keys (object ms) u e =
+    let p = then_Ok (demand UnknownKey (not (has_unknown_key keys ms))) (λ _. demand MissingKey (not (lacks_key keys ms))) u e in
+    keys_sound_at keys ms (not_true (has_unknown_key keys ms) (demanded UnknownKey (not (has_unknown_key keys ms)) p.0 p.1)) (not_true (lacks_key keys ms) (demanded MissingKey (not (lacks_key keys ms)) u p.2))
 keys_sound keys null u e = absurd (no_value e)
 keys_sound keys (boolean b) u e = absurd (no_value e)
 keys_sound keys (number n) u e = absurd (no_value e)
@@ -99,4 +103,4 @@ keys_whole keys d h =
     let ms = h.0 in
     let unknown : has_unknown_key keys ms ≡ false = none_unknown keys ms (λ k there. Contains_among keys k ((h.2 k).0 there)) in
     let lacked : lacks_key keys ms ≡ false = all_false (λ key. not (is_some (get_member key ms))) keys (λ k among. ap not ((h.2 k).1 (among_Contains keys k among))) in
-    ap (keyed keys) h.1 ∙ ap (λ b. demand (not b && not (lacks_key keys ms))) unknown ∙ ap (λ b. demand (not b)) lacked
+    ap (keyed keys) h.1 ∙ ap (λ b. then_with (demand UnknownKey (not b)) (λ _. demand MissingKey (not (lacks_key keys ms)))) unknown ∙ ap (λ b. demand MissingKey (not b)) lacked

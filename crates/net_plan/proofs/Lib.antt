@@ -4,7 +4,11 @@ pub mod KeysLaw
 pub mod Placed
 pub mod Names
 pub mod BusNames
-pub mod RankNames
+pub mod ReadExactly
 pub mod Telling
+pub mod Differing
 pub mod PlanLaw
+pub mod OneEach
 pub mod CertificateLaw
+pub mod EventLaw
+pub mod Refusing

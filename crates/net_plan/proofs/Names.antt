@@ -1,19 +1,11 @@
 -- Names in a list, and their places.
-use Rattle.std.proofs.Common.{◌≡◌, ℕ, suc, ◌+◌, ◌-◌, ◌<◌, drop, length-drop, List, [], ◌∷◌, ◌++◌, length, map, take, get_or, Bool, true, false, cond, if◌then◌else◌, Option, Some, None, option_map, is_some, refl, sym, ap, ◌∙◌, arith, add-one, true≢false}
+use Rattle.std.proofs.Common.{◌≡◌, ℕ, suc, ◌+◌, ◌<◌, ◌||◌, drop, drop-cons, unwrap_or, List, [], ◌∷◌, ◌++◌, length, map, take, get_or, Bool, true, false, cond, if◌then◌else◌, Option, Some, None, option_map, is_some, refl, sym, ap, ◌∙◌, arith, add-one, true≢false}
 use Rattle.std.proofs.lemmas.List.{take_more, map-append, length-map, length-take-le}
-use Rattle.std.proofs.Math.Seq.{take-length}
-use Rattle.std.specs.List.{list_any}
 use Rattle.std.specs.Option.{option_or}
 use Rattle.std.specs.Str.{bytes_eq}
 use Rattle.std.proofs.lemmas.Slice.Eq.{bytes_eq-Decides}
-use Rattle.net_plan.specs.PlanReading.{place_of, names_differ}
-use Rattle.net_plan.proofs.Keys.{list_any-map}
-
-pub named_again : {T : Type 0} (f : T → List ℕ) (x : T) (rest : List T) → list_any (λ item. bytes_eq (f x) (f item)) rest ≡ true → names_differ (map f (x ∷ rest)) ≡ false
-named_again f x rest e = rw (list_any-map (bytes_eq (f x)) f rest, e) refl
-
-pub not_named_again : {T : Type 0} (f : T → List ℕ) (x : T) (rest : List T) → list_any (λ item. bytes_eq (f x) (f item)) rest ≡ false → names_differ (map f (x ∷ rest)) ≡ names_differ (map f rest)
-not_named_again f x rest e = rw (list_any-map (bytes_eq (f x)) f rest, e) refl
+use Rattle.net_plan.specs.Json.{is_among}
+use Rattle.net_plan.specs.Names.{place_of, place_among, are_new}
 
 later : (o : Option ℕ) (b : Bool) (n : ℕ) → option_map suc (option_or o (cond b (Some n) None)) ≡ option_or (option_map suc o) (cond b (Some (suc n)) None)
 later None true n = refl
@@ -65,6 +57,36 @@ noted_now find after name place q none e = e ∙ by (bytes_eq name q) (find q) r
     by false None d h = rw (swapped false name q d) refl
     by false (Some p) d h = refl
 
--- what a range to the end gives
-pub rest_of : {T : Type 0} (items : List T) (i : ℕ) → take (length items - (i + 1)) (drop (i + 1) items) ≡ drop (suc i) items
-rest_of items i = ap (λ n. take n (drop (i + 1) items)) (sym (length-drop (i + 1) items)) ∙ take-length (drop (i + 1) items) ∙ ap (λ j. drop j items) (add-one i)
+-- the place that was noted, or the length of the list
+pub place_among-of : (ns : List (List ℕ)) (q : List ℕ) → unwrap_or (place_of ns q) (length ns) ≡ place_among ns q
+place_among-of [] q = refl
+place_among-of (n ∷ ns) q = by (bytes_eq q n) (place_of ns q) (place_among-of ns q)
+  where
+    by : (b : Bool) (o : Option ℕ) → unwrap_or o (length ns) ≡ place_among ns q → unwrap_or (cond b (Some 0) (option_map suc o)) (suc (length ns)) ≡ cond b 0 (suc (place_among ns q))
+    by true o e = refl
+    by false None e = ap suc e
+    by false (Some p) e = ap suc e
+
+-- a name has a place where it stands in the list
+pub place_of-among : (ns : List (List ℕ)) (q : List ℕ) → is_some (place_of ns q) ≡ is_among ns q
+place_of-among [] q = refl
+place_of-among (n ∷ ns) q = by (bytes_eq q n) (place_of ns q) (place_of-among ns q)
+  where
+    by : (b : Bool) (o : Option ℕ) → is_some o ≡ is_among ns q → is_some (cond b (Some 0) (option_map suc o)) ≡ (b || is_among ns q)
+    by true o e = refl
+    by false None e = e
+    by false (Some p) e = e
+
+-- one more name is not new
+pub not_new : (seen : List (List ℕ)) (n : List ℕ) (ns : List (List ℕ)) → is_among seen n ≡ true → are_new seen (n ∷ ns) ≡ false
+not_new seen n ns e = rw e refl
+
+-- one more name is new
+pub one_new : (seen : List (List ℕ)) (n : List ℕ) (ns : List (List ℕ)) → is_among seen n ≡ false → are_new seen (n ∷ ns) ≡ are_new (seen ++ n ∷ []) ns
+one_new seen n ns e = rw e refl
+
+pub names_take : {T : Type 0} (f : T → List ℕ) (items : List T) (i : ℕ) (x : T) → i < length items → x ≡ get_or items i x → map f (take (i + 1) items) ≡ map f (take i items) ++ f x ∷ []
+names_take f items i x within is = ap (map f) (take_more items i x within ∙ ap (λ y. take i items ++ y ∷ []) (sym is)) ∙ map-append f (take i items) (x ∷ [])
+
+pub names_drop : {T : Type 0} (f : T → List ℕ) (items : List T) (i : ℕ) (x : T) → i < length items → x ≡ get_or items i x → map f (drop i items) ≡ f x ∷ map f (drop (i + 1) items)
+names_drop f items i x within is = ap (map f) (drop-cons items i x within ∙ ap (λ y. y ∷ drop (suc i) items) (sym is)) ∙ ap (λ j. f x ∷ map f (drop j items)) (sym (add-one i))

@@ -1,38 +1,56 @@
--- The certificate that a JSON value stands for, by functions.
-use Rattle.std.specs.Prelude.{ℕ, ◌+◌, ◌&&◌, codes, List, [], ◌∷◌, Bool, true, nat_le, Option, Result, Ok}
+-- The certificate that a JSON value stands for, or its first fault in the order of tests, by functions.
+use Rattle.std.specs.Prelude.{ℕ, ◌+◌, ◌&&◌, codes, List, [], ◌∷◌, length, Bool, true, nat_le, nat_lt, ⊤, Result, Ok}
+use Rattle.std.specs.List.{list_all}
 use Rattle.serde_json.specs.Data.{Data}
-use Rattle.net_plan.specs.CertificateValues.{RangeValue, NodeRanksValue, CertificateValue}
-use Rattle.net_plan.specs.Json.{keyed, at_key, all_of, demand, name_text, whole_number, no_entries}
-use Rattle.net_plan.specs.Keys.{certificate_keys, ranks_keys, range_keys}
-use Rattle.net_plan.specs.PlanReading.{place_of, place_text, names_differ}
+use Rattle.net_plan.specs.CertificateValues.{LevelValue, PlacesValue, RangeValue, NodeRanksValue, CertificateValue}
+use Rattle.net_plan.specs.Json.{keyed, at_key, all_of, demand, reference, whole_number}
+use Rattle.net_plan.specs.Keys.{certificate_keys, level_keys, places_keys, ranks_keys, range_keys}
+use Rattle.net_plan.specs.Names.{place_among, names_differ, texts_at}
+use Rattle.net_plan.specs.PlanReading.{byte}
 use Rattle.net_plan.specs.Reading.{then_with}
 use Rattle.net_plan.specs.declared.error.Fault.{Fault}
+use Rattle.net_plan.specs.declared.error.Fault.TheVariants.{OutOfRange, UnknownName, Doubled}
+
+abbrev pub level : (List ℕ → ℕ) → Data → Result LevelValue Fault
+level find d = then_with (keyed level_keys d) (λ _. then_with (at_key (codes "level") (whole_number 1 63) d) (λ l. then_with (at_key (codes "node") (reference find) d) (λ n.
+    Ok (record { level = l; node = n }))))
+
+abbrev pub node_places : (List ℕ → ℕ) → Data → Result PlacesValue Fault
+node_places find d = then_with (keyed places_keys d) (λ _. then_with (at_key (codes "node") (reference find) d) (λ n.
+    then_with (at_key (codes "places") (all_of (whole_number 0 4095)) d) (λ ps. Ok (record { node = n; places = ps }))))
 
 abbrev pub range : Data → Result RangeValue Fault
-range d = then_with (keyed range_keys d) (λ _. then_with (at_key (codes "first") (whole_number 0 255) d) (λ f. then_with (at_key (codes "rank") (whole_number 1 255) d) (λ r.
-    then_with (at_key (codes "size") (whole_number 1 255) d) (λ s. then_with (demand (nat_le (f + s) 256)) (λ _.
+range d = then_with (keyed range_keys d) (λ _. then_with (at_key (codes "first") byte d) (λ f. then_with (at_key (codes "rank") (whole_number 1 255) d) (λ r.
+    then_with (at_key (codes "size") (whole_number 1 255) d) (λ s. then_with (demand OutOfRange (nat_le (f + s) 256)) (λ _.
     Ok (record { first = f; rank = r; size = s }))))))
+
+abbrev pub node_ranks : (List ℕ → ℕ) → Data → Result NodeRanksValue Fault
+node_ranks find d = then_with (keyed ranks_keys d) (λ _. then_with (at_key (codes "node") (reference find) d) (λ n. then_with (at_key (codes "ranges") (all_of range) d) (λ rs.
+    Ok (record { node = n; ranges = rs }))))
+
+-- no two entries of a list name one node
+abbrev pub nodes_differ : Data → Result ⊤ Fault
+nodes_differ d = demand Doubled (names_differ (texts_at (codes "node") d))
 
 -- each range begins where the one before has ended, or later
 abbrev pub ascends : ℕ → List RangeValue → Bool
 ascends end [] = true
 ascends end (r ∷ rs) = nat_le end r.first && ascends (r.first + r.size) rs
 
-abbrev pub ranges : Data → Result (List RangeValue) Fault
-ranges d = then_with (all_of range d) (λ rs. then_with (demand (ascends 0 rs)) (λ _. Ok rs))
+-- all entries are of one of so many nodes
+abbrev pub are_known : ℕ → CertificateValue → Bool
+are_known nodes c = list_all (λ l. nat_lt l.node nodes) c.levels && (list_all (λ p. nat_lt p.node nodes) c.places && list_all (λ r. nat_lt r.node nodes) c.ranks)
 
-abbrev pub ranks_name : Data → Result (List ℕ) Fault
-ranks_name d = at_key (codes "node") name_text d
+-- the three lists, by what finds the places of nodes
+unfoldable pub entries : (List ℕ → ℕ) → Data → Result CertificateValue Fault
+entries find d = then_with (at_key (codes "levels") (all_of (level find)) d) (λ ls. then_with (at_key (codes "places") (all_of (node_places find)) d) (λ ps.
+    then_with (at_key (codes "ranks") (all_of (node_ranks find)) d) (λ rs. Ok (record { levels = ls; places = ps; ranks = rs }))))
 
-abbrev pub node_ranks : (List ℕ → Option ℕ) → Data → Result NodeRanksValue Fault
-node_ranks find d = then_with (keyed ranks_keys d) (λ _. then_with (at_key (codes "node") (place_text find) d) (λ n. then_with (at_key (codes "ranges") ranges d) (λ rs.
-    Ok (record { node = n; ranges = rs }))))
-
--- the ranks of nodes that have these names, no node twice
-abbrev pub ranks_among : List (List ℕ) → Data → Result (List NodeRanksValue) Fault
-ranks_among nodes d = then_with (all_of ranks_name d) (λ names. then_with (demand (names_differ names)) (λ _. all_of (node_ranks (place_of nodes)) d))
+-- no list names a node twice
+unfoldable pub entries_differ : Data → Result ⊤ Fault
+entries_differ d = then_with (at_key (codes "levels") nodes_differ d) (λ _. then_with (at_key (codes "places") nodes_differ d) (λ _. at_key (codes "ranks") nodes_differ d))
 
 abbrev pub certificate : List (List ℕ) → Data → Result CertificateValue Fault
-certificate nodes d = then_with (keyed certificate_keys d) (λ _. then_with (at_key (codes "format") (whole_number 1 1) d) (λ _. then_with (at_key (codes "levels") no_entries d) (λ _.
-    then_with (at_key (codes "places") no_entries d) (λ _. then_with (at_key (codes "ranks") (ranks_among nodes) d) (λ rs.
-    Ok (record { levels = []; places = []; ranks = rs }))))))
+certificate nodes d = then_with (keyed certificate_keys d) (λ _. then_with (at_key (codes "format") (whole_number 1 1) d) (λ _. then_with (entries (place_among nodes) d) (λ c.
+    then_with (entries_differ d) (λ _. then_with (demand Doubled (list_all (λ r. ascends 0 r.ranges) c.ranks)) (λ _.
+    then_with (demand UnknownName (are_known (length nodes) c)) (λ _. Ok c))))))

@@ -1,15 +1,15 @@
--- What a JSON value says, by functions: the value that it stands for, or why it stands for none.
+-- What a JSON value says, by functions: the value that it stands for, or its first fault in the order of tests.
 use Rattle.std.specs.Prelude.{ℕ, suc, ⊤, is_some, ◌&&◌, ◌||◌, List, [], ◌∷◌, length, Bool, true, false, not, nat_le, if◌then◌else◌, Option, Some, None, Result, Ok, Err}
 use Rattle.std.specs.List.{list_any}
 use Rattle.std.specs.Str.{bytes_eq}
 use Rattle.hex.specs.Hex.{decode_of}
 use Rattle.hex.specs.declared.error.FromHexError.{FromHexError}
-use Rattle.serde_json.specs.Data.{Data, null, number, string, array, object, Items, no_items, item, Members, no_members, member}
+use Rattle.serde_json.specs.Data.{Data, null, boolean, number, string, array, object, Items, no_items, item, Members, no_members, member}
 use Rattle.serde_json.specs.Find.{get, get_member, as_u64}
 use Rattle.net_plan.specs.NameText.{is_name}
 use Rattle.net_plan.specs.Reading.{then_with}
 use Rattle.net_plan.specs.declared.error.Fault.{Fault}
-use Rattle.net_plan.specs.declared.error.Fault.TheVariants.{OutOfRange}
+use Rattle.net_plan.specs.declared.error.Fault.TheVariants.{WrongKind, MissingKey, UnknownKey, OutOfRange, BadHex, OverLimit}
 
 -- each item, one after another
 abbrev pub each : {A : Type 0} → (Data → Result A Fault) → Items → Result (List A) Fault
@@ -23,20 +23,25 @@ items_count (item d ds) = suc (items_count ds)
 -- a list, however long
 abbrev pub all_of : {A : Type 0} → (Data → Result A Fault) → Data → Result (List A) Fault
 all_of f (array ds) = each f ds
-all_of f _ = Err OutOfRange
+all_of f _ = Err WrongKind
 
 -- a list of at most so many items
 abbrev pub list_within : {A : Type 0} → ℕ → (Data → Result A Fault) → Data → Result (List A) Fault
-list_within most f (array ds) = if nat_le (items_count ds) most then each f ds else Err OutOfRange
-list_within most f _ = Err OutOfRange
+list_within most f (array ds) = if nat_le (items_count ds) most then each f ds else Err OverLimit
+list_within most f _ = Err WrongKind
 
-abbrev pub demand : Bool → Result ⊤ Fault
-demand true = Ok tt
-demand false = Err OutOfRange
+-- `null`, or what f reads
+abbrev pub optional : {A : Type 0} → (Data → Result A Fault) → Data → Result (Option A) Fault
+optional f null = Ok None
+optional f d = then_with (f d) (λ a. Ok (Some a))
+
+abbrev pub demand : Fault → Bool → Result ⊤ Fault
+demand fault true = Ok tt
+demand fault false = Err fault
 
 abbrev pub found : {A : Type 0} → Option A → Result A Fault
 found (Some a) = Ok a
-found None = Err OutOfRange
+found None = Err MissingKey
 
 -- what an object has at a key
 abbrev pub at_key : {A : Type 0} → List ℕ → (Data → Result A Fault) → Data → Result A Fault
@@ -53,10 +58,24 @@ has_unknown_key keys (member key d ms) = not (is_among keys key) || has_unknown_
 abbrev pub lacks_key : List (List ℕ) → Members → Bool
 lacks_key keys ms = list_any (λ key. not (is_some (get_member key ms))) keys
 
+-- an object with no other keys than these
+abbrev pub known_keys : List (List ℕ) → Data → Result ⊤ Fault
+known_keys keys (object ms) = demand UnknownKey (not (has_unknown_key keys ms))
+known_keys keys _ = Err WrongKind
+
+-- an object with all these keys
+abbrev pub given_keys : List (List ℕ) → Data → Result ⊤ Fault
+given_keys keys (object ms) = demand MissingKey (not (lacks_key keys ms))
+given_keys keys _ = Err WrongKind
+
 -- an object with exactly these keys
 abbrev pub keyed : List (List ℕ) → Data → Result ⊤ Fault
-keyed keys (object ms) = demand (not (has_unknown_key keys ms) && not (lacks_key keys ms))
-keyed keys _ = Err OutOfRange
+keyed keys d = then_with (known_keys keys d) (λ _. given_keys keys d)
+
+-- any object
+abbrev pub some_object : Data → Result ⊤ Fault
+some_object (object ms) = Ok tt
+some_object _ = Err WrongKind
 
 abbrev pub number_within : ℕ → ℕ → Option ℕ → Result ℕ Fault
 number_within least most None = Err OutOfRange
@@ -65,25 +84,30 @@ number_within least most (Some n) = if nat_le least n && nat_le n most then Ok n
 -- a whole number between two bounds
 abbrev pub whole_number : ℕ → ℕ → Data → Result ℕ Fault
 whole_number least most (number n) = number_within least most (as_u64 n)
-whole_number least most _ = Err OutOfRange
+whole_number least most _ = Err WrongKind
 
-abbrev pub nothing : Data → Result ⊤ Fault
-nothing null = Ok tt
-nothing _ = Err OutOfRange
-
-abbrev pub no_entries : Data → Result ⊤ Fault
-no_entries (array ds) = demand (nat_le (items_count ds) 0)
-no_entries _ = Err OutOfRange
+-- `true` or `false`
+abbrev pub truth : Data → Result Bool Fault
+truth (boolean b) = Ok b
+truth _ = Err WrongKind
 
 abbrev pub name_text : Data → Result (List ℕ) Fault
 name_text (string s) = if is_name s then Ok s else Err OutOfRange
-name_text _ = Err OutOfRange
+name_text _ = Err WrongKind
 
-abbrev pub bytes_within : ℕ → Result (List ℕ) FromHexError → Result (List ℕ) Fault
-bytes_within most (Ok bytes) = if nat_le (length bytes) most then Ok bytes else Err OutOfRange
-bytes_within most (Err e) = Err OutOfRange
+-- the place of a name, by what finds places
+abbrev pub reference : (List ℕ → ℕ) → Data → Result ℕ Fault
+reference find d = then_with (name_text d) (λ name. Ok (find name))
+
+abbrev pub decoded : Result (List ℕ) FromHexError → Result (List ℕ) Fault
+decoded (Ok bytes) = Ok bytes
+decoded (Err e) = Err BadHex
+
+-- hex text
+abbrev pub hex_text : Data → Result (List ℕ) Fault
+hex_text (string s) = decoded (decode_of s)
+hex_text _ = Err WrongKind
 
 -- hex text of at most 8 bytes
 abbrev pub address_text : Data → Result (List ℕ) Fault
-address_text (string s) = bytes_within 8 (decode_of s)
-address_text _ = Err OutOfRange
+address_text d = then_with (hex_text d) (λ bytes. then_with (demand OverLimit (nat_le (length bytes) 8)) (λ _. Ok bytes))

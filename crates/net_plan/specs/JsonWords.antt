@@ -1,7 +1,7 @@
 -- Sentences over JSON values.
-use Rattle.std.specs.Prelude.{ℕ, ◌≡◌, ◌≢◌, ◌↔◌, ◌<◌, ◌≤◌, List, [], ◌∷◌, length, slice_get, Option, Some, None, Ok, IsSome, IsTrue, Contains}
+use Rattle.std.specs.Prelude.{ℕ, ◌≡◌, ◌≢◌, ◌↔◌, ◌<◌, ◌≤◌, Bool, List, [], ◌∷◌, length, slice_get, Option, Some, None, Ok, IsSome, IsTrue, Contains}
 use Rattle.hex.specs.Hex.{decode_of}
-use Rattle.serde_json.specs.Data.{Data, null, number, unsigned, string, array, object, Items, no_items, item, Members}
+use Rattle.serde_json.specs.Data.{Data, null, boolean, number, unsigned, string, array, object, Items, no_items, item, Members}
 use Rattle.serde_json.specs.Find.{get, get_member}
 use Rattle.net_plan.specs.NameText.{is_name}
 
@@ -27,9 +27,10 @@ IsListOf R d xs = (ds : Items) × (d ≡ array ds) × AreItems R ds xs
 abbrev pub IsShortListOf : {A : Type 0} → ℕ → (Data → A → Type 0) → Data → List A → Type 0
 IsShortListOf most R d xs = IsListOf R d xs × (length xs ≤ most)
 
--- `null`, and no value
-abbrev pub IsNothing : {A : Type 0} → Data → Option A → Type 0
-IsNothing d o = (d ≡ null) × (o ≡ None)
+-- `null`, and no value; or what is R to the value
+abbrev pub IsOptional : {A : Type 0} → (Data → A → Type 0) → Data → Option A → Type 0
+IsOptional R d None = d ≡ null
+IsOptional R d (Some x) = (d ≢ null) × R d x
 
 -- a number, written without sign, fraction and exponent
 abbrev pub IsNumber : Data → ℕ → Type 0
@@ -38,13 +39,25 @@ IsNumber d n = d ≡ number (unsigned n)
 abbrev pub IsNumberWithin : ℕ → ℕ → Data → ℕ → Type 0
 IsNumberWithin least most d n = IsNumber d n × (least ≤ n) × (n ≤ most)
 
+-- `true` or `false`
+abbrev pub IsTruth : Data → Bool → Type 0
+IsTruth d b = d ≡ boolean b
+
 -- the text of a name
 abbrev pub IsName : Data → List ℕ → Type 0
 IsName d s = (d ≡ string s) × IsTrue (is_name s)
 
+-- this text
+abbrev pub IsText : List ℕ → Data → Type 0
+IsText s d = d ≡ string s
+
+-- the hex text of bytes
+abbrev pub IsHex : Data → List ℕ → Type 0
+IsHex d bytes = (s : List ℕ) × (d ≡ string s) × (decode_of s ≡ Ok bytes)
+
 -- the hex text of at most 8 bytes
 abbrev pub IsAddress : Data → List ℕ → Type 0
-IsAddress d bytes = (s : List ℕ) × (d ≡ string s) × (decode_of s ≡ Ok bytes) × (length bytes ≤ 8)
+IsAddress d bytes = IsHex d bytes × (length bytes ≤ 8)
 
 -- the first place of a name in a list
 pub record IsFirstOf (names : List (List ℕ)) (name : List ℕ) (place : ℕ) : Type 0 where
@@ -53,4 +66,4 @@ pub record IsFirstOf (names : List (List ℕ)) (name : List ℕ) (place : ℕ) :
 
 -- the text of a name that stands in a list, at this place first
 abbrev pub IsPlace : List (List ℕ) → Data → ℕ → Type 0
-IsPlace names d place = (name : List ℕ) × (d ≡ string name) × IsFirstOf names name place
+IsPlace names d place = (name : List ℕ) × IsName d name × IsFirstOf names name place

@@ -16,11 +16,44 @@ row_keys = codes "first" ∷ codes "size" ∷ codes "port" ∷ codes "next" ∷ 
 abbrev pub node_keys : List (List ℕ)
 node_keys = codes "name" ∷ codes "kind" ∷ codes "eid" ∷ codes "owner" ∷ codes "pool" ∷ codes "ports" ∷ codes "rows" ∷ codes "terminus" ∷ []
 
+abbrev pub pool_keys : List (List ℕ)
+pool_keys = codes "first" ∷ codes "size" ∷ []
+
+abbrev pub terminus_keys : List (List ℕ)
+terminus_keys = codes "tid" ∷ codes "records" ∷ []
+
+abbrev pub record_keys : List (List ℕ)
+record_keys = codes "handle" ∷ codes "next" ∷ codes "bytes" ∷ []
+
 abbrev pub certificate_keys : List (List ℕ)
 certificate_keys = codes "format" ∷ codes "levels" ∷ codes "places" ∷ codes "ranks" ∷ []
+
+abbrev pub level_keys : List (List ℕ)
+level_keys = codes "level" ∷ codes "node" ∷ []
+
+abbrev pub places_keys : List (List ℕ)
+places_keys = codes "node" ∷ codes "places" ∷ []
 
 abbrev pub ranks_keys : List (List ℕ)
 ranks_keys = codes "node" ∷ codes "ranges" ∷ []
 
 abbrev pub range_keys : List (List ℕ)
 range_keys = codes "first" ∷ codes "rank" ∷ codes "size" ∷ []
+
+abbrev pub events_keys : List (List ℕ)
+events_keys = codes "format" ∷ codes "events" ∷ []
+
+abbrev pub put_keys : List (List ℕ)
+put_keys = codes "do" ∷ codes "node" ∷ codes "bytes" ∷ []
+
+abbrev pub move_keys : List (List ℕ)
+move_keys = codes "do" ∷ codes "flight" ∷ codes "keep" ∷ []
+
+abbrev pub lose_keys : List (List ℕ)
+lose_keys = codes "do" ∷ codes "flight" ∷ []
+
+abbrev pub expire_keys : List (List ℕ)
+expire_keys = codes "do" ∷ codes "node" ∷ codes "source" ∷ codes "tag" ∷ codes "owner" ∷ []
+
+abbrev pub answer_keys : List (List ℕ)
+answer_keys = codes "do" ∷ codes "node" ∷ []

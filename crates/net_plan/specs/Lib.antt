@@ -1,4 +1,4 @@
--- plans, certificates and their texts
+-- plans, certificates, events and their texts
 pub mod NameText
 pub mod NodeValues
 pub mod Placed
@@ -13,6 +13,12 @@ pub mod Stream
 pub mod TextFaults
 pub mod Reading
 pub mod Json
+pub mod Names
 pub mod Places
 pub mod PlanReading
 pub mod CertificateReading
+pub mod EventValues
+pub mod EventReading
+pub mod EventText
+pub mod Refusals
+pub mod Unread

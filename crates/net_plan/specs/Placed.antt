@@ -12,9 +12,14 @@ is_port_placed buses p = nat_lt p.bus buses
 abbrev pub is_row_placed : ℕ → RowValue → Bool
 is_row_placed nodes r = nat_lt r.next nodes
 
+-- no value, or one that passes
+abbrev pub is_none_or : {A : Type 0} → (A → Bool) → Option A → Bool
+is_none_or test None = true
+is_none_or test (Some x) = test x
+
+-- the owner is one of so many nodes
 abbrev pub is_owner_placed : ℕ → Option ℕ → Bool
-is_owner_placed nodes None = true
-is_owner_placed nodes (Some owner) = nat_lt owner nodes
+is_owner_placed nodes owner = is_none_or (λ place. nat_lt place nodes) owner
 
 -- what a node names is among so many buses and nodes
 abbrev pub is_node_placed : ℕ → ℕ → NodeValue → Bool

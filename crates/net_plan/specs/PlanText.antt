@@ -1,17 +1,24 @@
 -- Which plan a JSON value is.
-use Rattle.std.specs.Prelude.{ℕ, ◌≡◌, ◌≢◌, codes, List, AllPairs}
-use Rattle.serde_json.specs.Data.{Data, string}
-use Rattle.net_plan.specs.JsonWords.{HasKeys, At, IsShortListOf, IsNumber, IsNumberWithin, IsName, IsAddress, IsPlace, IsNothing}
-use Rattle.net_plan.specs.Keys.{plan_keys, bus_keys, port_keys, row_keys, node_keys}
-use Rattle.net_plan.specs.PlanValues.{BusValue, PortValue, RowValue, NodeValue, PlanValue, bus_names, node_names}
+use Rattle.std.specs.Prelude.{ℕ, ◌≢◌, codes, List, AllPairs}
+use Rattle.serde_json.specs.Data.{Data}
+use Rattle.net_plan.specs.JsonWords.{HasKeys, At, IsShortListOf, IsOptional, IsNumber, IsNumberWithin, IsName, IsText, IsHex, IsAddress, IsPlace}
+use Rattle.net_plan.specs.Keys.{plan_keys, bus_keys, port_keys, row_keys, pool_keys, record_keys, terminus_keys, node_keys}
+use Rattle.net_plan.specs.PlanValues.{BusValue, PortValue, RowValue, PoolValue, RecordValue, TerminusValue, NodeValue, PlanValue, bus_names, node_names}
 use Rattle.net_plan.specs.declared.nodes.Kind.{Kind}
 use Rattle.net_plan.specs.declared.nodes.Kind.TheVariants.{Bridge, Endpoint}
+
+abbrev pub IsByte : Data → ℕ → Type 0
+IsByte d n = IsNumberWithin 0 255 d n
+
+-- a number of 32 bits
+abbrev pub IsWord : Data → ℕ → Type 0
+IsWord d n = IsNumberWithin 0 4294967295 d n
 
 pub record IsBusOf (d : Data) (b : BusValue) : Type 0 where
   pub keys : HasKeys bus_keys d
   pub name : At (codes "name") IsName d b.name
-  pub binding : At (codes "binding") (IsNumberWithin 0 255) d b.binding
-  pub media : At (codes "media") (IsNumberWithin 0 255) d b.media
+  pub binding : At (codes "binding") IsByte d b.binding
+  pub media : At (codes "media") IsByte d b.media
 
 -- a port on one of the buses with these names
 pub record IsPortOf (buses : List (List ℕ)) (d : Data) (p : PortValue) : Type 0 where
@@ -22,28 +29,44 @@ pub record IsPortOf (buses : List (List ℕ)) (d : Data) (p : PortValue) : Type 
 -- a row that leads to the first of the nodes that has the name at `next`
 pub record IsRowOf (nodes : List (List ℕ)) (d : Data) (r : RowValue) : Type 0 where
   pub keys : HasKeys row_keys d
-  pub first : At (codes "first") (IsNumberWithin 0 255) d r.first
-  pub size : At (codes "size") (IsNumberWithin 0 255) d r.size
+  pub first : At (codes "first") IsByte d r.first
+  pub size : At (codes "size") IsByte d r.size
   pub port : At (codes "port") (IsNumberWithin 0 31) d r.port
   pub next : At (codes "next") (IsPlace nodes) d r.next
 
+pub record IsPoolOf (d : Data) (p : PoolValue) : Type 0 where
+  pub keys : HasKeys pool_keys d
+  pub first : At (codes "first") IsByte d p.first
+  pub size : At (codes "size") IsByte d p.size
+
+pub record IsRecordOf (d : Data) (r : RecordValue) : Type 0 where
+  pub keys : HasKeys record_keys d
+  pub handle : At (codes "handle") IsWord d r.handle
+  pub next : At (codes "next") IsWord d r.next
+  pub bytes : At (codes "bytes") IsHex d r.bytes
+
+pub record IsTerminusOf (d : Data) (t : TerminusValue) : Type 0 where
+  pub keys : HasKeys terminus_keys d
+  pub tid : At (codes "tid") (IsNumberWithin 0 254) d t.tid
+  pub records : At (codes "records") (IsShortListOf 4096 IsRecordOf) d t.records
+
 abbrev pub IsKindOf : Data → Kind → Type 0
-IsKindOf d Bridge = d ≡ string (codes "bridge")
-IsKindOf d Endpoint = d ≡ string (codes "endpoint")
+IsKindOf d Bridge = IsText (codes "bridge") d
+IsKindOf d Endpoint = IsText (codes "endpoint") d
 
 -- a node among buses and nodes with these names
 pub record IsNodeOf (buses nodes : List (List ℕ)) (d : Data) (n : NodeValue) : Type 0 where
   pub keys : HasKeys node_keys d
   pub name : At (codes "name") IsName d n.name
   pub kind : At (codes "kind") IsKindOf d n.kind
-  pub eid : At (codes "eid") (IsNumberWithin 0 255) d n.eid
-  pub owner : At (codes "owner") IsNothing d n.owner
-  pub pool : At (codes "pool") IsNothing d n.pool
+  pub eid : At (codes "eid") IsByte d n.eid
+  pub owner : At (codes "owner") (IsOptional (IsPlace nodes)) d n.owner
+  pub pool : At (codes "pool") (IsOptional IsPoolOf) d n.pool
   pub ports : At (codes "ports") (IsShortListOf 32 (IsPortOf buses)) d n.ports
   pub rows : At (codes "rows") (IsShortListOf 256 (IsRowOf nodes)) d n.rows
-  pub terminus : At (codes "terminus") IsNothing d n.terminus
+  pub terminus : At (codes "terminus") (IsOptional IsTerminusOf) d n.terminus
 
--- a plan: no two buses have one name, and ports and rows name its own buses and nodes
+-- a plan: no two buses have one name, and ports, rows and owners name its own buses and nodes
 pub record IsPlanOf (d : Data) (p : PlanValue) : Type 0 where
   pub keys : HasKeys plan_keys d
   pub format : At (codes "format") IsNumber d 1

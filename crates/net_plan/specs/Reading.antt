@@ -1,13 +1,20 @@
 -- What the reader of one JSON value answers.
 use Rattle.std.specs.Prelude.{◌≡◌, ◌≢◌, Result, Ok, Err, MatchResult}
 use Rattle.net_plan.specs.declared.error.Fault.{Fault}
-use Rattle.net_plan.specs.declared.error.Fault.TheVariants.{OutOfRange, OutOfMemory}
+use Rattle.net_plan.specs.declared.error.Fault.TheVariants.{WrongKind, MissingKey, UnknownKey, OutOfRange, UnknownName, BadHex, OverLimit, Doubled, OutOfMemory}
 use Rattle.net_plan.specs.declared.error.PlanError.{PlanError}
 use Rattle.net_plan.specs.declared.error.PlanError.TheVariants as errors
 
 -- what the user is told
 abbrev pub error_of : Fault → PlanError
+error_of WrongKind = errors.WrongKind
+error_of MissingKey = errors.MissingKey
+error_of UnknownKey = errors.UnknownKey
 error_of OutOfRange = errors.OutOfRange
+error_of UnknownName = errors.UnknownName
+error_of BadHex = errors.BadHex
+error_of OverLimit = errors.OverLimit
+error_of Doubled = errors.Doubled
 error_of OutOfMemory = errors.OutOfMemory
 
 -- the next reading, where this one gave a value

@@ -17,10 +17,7 @@ device_count (Err e) = fault_count e
 
 abbrev pub error_count : PlanError → ℕ
 error_count errors.Device = 1
-error_count errors.NotJson = 0
-error_count errors.OutOfRange = 0
-error_count errors.OverLimit = 0
-error_count errors.OutOfMemory = 0
+error_count _ = 0
 
 -- one where the answer is that the source failed
 abbrev pub failed_count : {T : Type 0} → Result T PlanError → ℕ

@@ -12,10 +12,6 @@ IsJson text d = IsUtf8 text × (read text ≡ Some d)
 abbrev pub StandsFor : {A : Type 0} → (Data → A → Type 0) → List ℕ → A → Type 0
 StandsFor R text x = (d : Data) × IsJson text d × R d x
 
--- the bytes are JSON, and its value is R to nothing
-abbrev pub StandsForNone : {A : Type 0} → (Data → A → Type 0) → List ℕ → Type 0
-StandsForNone {A} R text = (d : Data) × IsJson text d × ((x : A) → ¬ R d x)
-
 -- the bytes are no JSON
 abbrev pub IsNoJson : List ℕ → Type 0
 IsNoJson text = IsUtf8 text → read text ≡ None

@@ -1,28 +1,92 @@
 //! A certificate from its JSON value.
-ghost use Rattle.std.specs.Prelude.{◌≡◌, ◌≢◌, Ok, Err, MatchResult, IfOk, ℕ, List, map};
-ghost use Rattle.serde_json.specs.Data.{Data};
+ghost use Rattle.std.specs.Prelude.{◌≡◌, ◌≢◌, ◌&&◌, Ok, Err, MatchResult, ℕ, List, map, length, nat_lt, IsTrue, IfOk};
+ghost use Rattle.std.specs.List.{list_all};
 ghost use Rattle.serde_json.specs.View.{view};
+ghost use Rattle.net_plan.specs.declared.error.Fault.TheVariants.{Doubled, UnknownName};
 ghost use Rattle.net_plan.specs.Reading.{IsReadOf};
-ghost use Rattle.net_plan.specs.Json.{demand};
+ghost use Rattle.net_plan.specs.Json.{demand, whole_number};
+ghost use Rattle.net_plan.specs.Names.{place_among};
 ghost use Rattle.net_plan.specs.Places.{find_in};
-ghost use Rattle.net_plan.specs.PlanReading.{names_differ};
-ghost use Rattle.net_plan.specs.PlanValues.{name_bytes, node_value, node_names, plan_value};
-ghost use Rattle.net_plan.specs.CertificateReading.{range, ranges, ascends, ranks_name, node_ranks, ranks_among, certificate};
-ghost use Rattle.net_plan.specs.CertificateValues.{RangeValue, NodeRanksValue, range_value, node_ranks_value, certificate_value};
+ghost use Rattle.net_plan.specs.PlanValues.{node_value, node_names, plan_value};
+ghost use Rattle.net_plan.specs.CertificateReading.{level, node_places, range, node_ranks, nodes_differ, ascends, are_known, entries, entries_differ, certificate};
+ghost use Rattle.net_plan.specs.CertificateValues.{LevelValue, PlacesValue, RangeValue, NodeRanksValue, level_value, places_value, range_value, node_ranks_value, certificate_value};
 
-use crate::certificate::{Certificate, NodeRanks, RankRange};
+use crate::certificate::{Certificate, NodeLevel, NodePlaces, NodeRanks, RankRange, RecordPlace};
 use crate::error::Fault;
-use crate::json::{
-    ReadItem, check_keys, member, read_all, read_byte, read_no_entries, read_number,
-};
-use crate::name::Name;
+use crate::json::{ReadItem, check_keys, demand, member, read_all, read_byte, read_number};
+use crate::naming::{NodeName, TextAt};
 use crate::nodes::Node;
 use crate::places::{Places, names_differ};
 use crate::plan::Plan;
-use crate::plan_text::{read_name, read_place};
+use crate::words::read_reference;
 use mctp_transport::Eid;
 use serde_json::Value;
 use std::alloc::Global;
+
+/// Reads levels of nodes that have these places.
+#[derive(Clone, Copy)]
+struct LevelReader<'p, 't> {
+    nodes: &'p Places<'t>,
+}
+
+impl<'p, 't> ReadItem for LevelReader<'p, 't> {
+    type Item = NodeLevel;
+
+    ghost Meaning = { LevelValue };
+
+    ghost meaning = { level_value };
+
+    ghost said = { λ s d. level (find_in s.nodes.now) d };
+
+    fn read_item(&self, _alloc: Global, value: &Value) -> Result<NodeLevel, Fault> {
+        check_keys(value, &["level", "node"])?;
+        let level = read_number(member(value, "level")?, 1, 63)? as u8;
+        let node = read_reference(self.nodes, member(value, "node")?)?;
+        Ok(NodeLevel { level, node })
+    }
+}
+
+/// Reads places of records.
+#[derive(Clone, Copy)]
+struct RecordPlaceReader;
+
+impl ReadItem for RecordPlaceReader {
+    type Item = RecordPlace;
+
+    ghost Meaning = { ℕ };
+
+    ghost meaning = { λ place. place.value };
+
+    ghost said = { λ _ d. whole_number 0 4095 d };
+
+    fn read_item(&self, _alloc: Global, value: &Value) -> Result<RecordPlace, Fault> {
+        let value = read_number(value, 0, 4095)? as u16;
+        Ok(RecordPlace { value })
+    }
+}
+
+/// Reads the places of the records of nodes that have these places.
+#[derive(Clone, Copy)]
+struct PlacesReader<'p, 't> {
+    nodes: &'p Places<'t>,
+}
+
+impl<'p, 't> ReadItem for PlacesReader<'p, 't> {
+    type Item = NodePlaces;
+
+    ghost Meaning = { PlacesValue };
+
+    ghost meaning = { places_value };
+
+    ghost said = { λ s d. node_places (find_in s.nodes.now) d };
+
+    fn read_item(&self, alloc: Global, value: &Value) -> Result<NodePlaces, Fault> {
+        check_keys(value, &["node", "places"])?;
+        let node = read_reference(self.nodes, member(value, "node")?)?;
+        let places = read_all(alloc, &RecordPlaceReader, member(value, "places")?)?;
+        Ok(NodePlaces { node, places })
+    }
+}
 
 /// Reads ranges of endpoint IDs of one rank.
 #[derive(Clone, Copy)]
@@ -53,15 +117,85 @@ impl ReadItem for RangeReader {
     }
 }
 
-/// Ranges that ascend without overlap.
-fn read_ranges(alloc: Global, value: &Value) -> Result<Vec<RankRange>, Fault>
-    ensures { IsReadOf (λ v. map range_value v.items) (ranges (view value.now)) result }
-{
-    let ranges = read_all(alloc, &RangeReader, value)?;
-    if !ascends(ranges.as_slice()) {
-        return Err(Fault::OutOfRange);
+/// Reads the ranks of nodes that have these places.
+#[derive(Clone, Copy)]
+struct RanksReader<'p, 't> {
+    nodes: &'p Places<'t>,
+}
+
+impl<'p, 't> ReadItem for RanksReader<'p, 't> {
+    type Item = NodeRanks;
+
+    ghost Meaning = { NodeRanksValue };
+
+    ghost meaning = { node_ranks_value };
+
+    ghost said = { λ s d. node_ranks (find_in s.nodes.now) d };
+
+    fn read_item(&self, alloc: Global, value: &Value) -> Result<NodeRanks, Fault> {
+        check_keys(value, &["node", "ranges"])?;
+        let node = read_reference(self.nodes, member(value, "node")?)?;
+        let ranges = read_all(alloc, &RangeReader, member(value, "ranges")?)?;
+        Ok(NodeRanks { node, ranges })
     }
-    Ok(ranges)
+}
+
+/// The three lists, of nodes that have these places.
+#[tactic(auto, unfolding(crate::specs::CertificateReading::entries))]
+fn read_entries(alloc: Global, nodes: &Places, value: &Value) -> Result<Certificate, Fault>
+    ensures { IsReadOf certificate_value (entries (find_in nodes.now) (view value.now)) result }
+{
+    let levels = read_all(alloc, &LevelReader { nodes }, member(value, "levels")?)?;
+    let places = read_all(alloc, &PlacesReader { nodes }, member(value, "places")?)?;
+    let ranks = read_all(alloc, &RanksReader { nodes }, member(value, "ranks")?)?;
+    Ok(Certificate {
+        levels,
+        places,
+        ranks,
+    })
+}
+
+/// The three lists, of these nodes.
+fn read_entries_of(alloc: Global, nodes: &[Node], value: &Value) -> Result<Certificate, Fault>
+    ensures { IsReadOf certificate_value (entries (place_among (node_names (map node_value nodes.now))) (view value.now)) result }
+{
+    read_entries(alloc, &Places::of(alloc, &NodeName, nodes)?, value)
+}
+
+/// That no two entries of a list name one node.
+fn check_nodes_differ(alloc: Global, value: &Value) -> Result<(), Fault>
+    ensures { IsReadOf (λ u. u) (nodes_differ (view value.now)) result }
+{
+    let Value::Array(items) = value else {
+        return Ok(());
+    };
+    demand(
+        Fault::Doubled,
+        names_differ(alloc, &TextAt { key: "node" }, items.as_slice())?,
+    )
+}
+
+/// That no list names a node twice.
+#[tactic(auto, unfolding(crate::specs::CertificateReading::entries_differ))]
+fn check_entries_differ(alloc: Global, value: &Value) -> Result<(), Fault>
+    ensures { IsReadOf (λ u. u) (entries_differ (view value.now)) result }
+{
+    check_nodes_differ(alloc, member(value, "levels")?)?;
+    check_nodes_differ(alloc, member(value, "places")?)?;
+    check_nodes_differ(alloc, member(value, "ranks")?)
+}
+
+/// That the ranges of each node ascend without overlap.
+fn check_ascending(ranks: &[NodeRanks]) -> Result<(), Fault>
+    ensures { result ≡ demand Doubled (list_all (λ r. ascends 0 r.ranges) (map node_ranks_value ranks.now)) }
+{
+    demand(Fault::Doubled, are_ascending(ranks))
+}
+
+fn are_ascending(ranks: &[NodeRanks]) -> bool
+    ensures { result ≡ list_all (λ r. ascends 0 (map range_value r.ranges.items)) ranks.now }
+{
+    ranks.iter().all(|ranks| ascends(ranks.ranges.as_slice()))
 }
 
 /// Whether each range begins where the one before has ended, or later.
@@ -78,68 +212,61 @@ fn ascends(ranges: &[RankRange]) -> bool
     true
 }
 
-/// Reads the names of the nodes that have ranks.
-#[derive(Clone, Copy)]
-struct RanksNameReader;
-
-impl ReadItem for RanksNameReader {
-    type Item = Name;
-
-    ghost Meaning = { List ℕ };
-
-    ghost meaning = { name_bytes };
-
-    ghost said = { λ _ d. ranks_name d };
-
-    fn read_item(&self, alloc: Global, value: &Value) -> Result<Name, Fault> {
-        read_name(alloc, member(value, "node")?)
-    }
-}
-
-/// Reads the ranks of nodes that have these places.
-#[derive(Drop)]
-struct RanksReader<'n> {
-    nodes: Places<'n>,
-}
-
-impl<'n> ReadItem for RanksReader<'n> {
-    type Item = NodeRanks;
-
-    ghost Meaning = { NodeRanksValue };
-
-    ghost meaning = { node_ranks_value };
-
-    ghost said = { λ s d. node_ranks (find_in s.nodes) d };
-
-    fn read_item(&self, alloc: Global, value: &Value) -> Result<NodeRanks, Fault> {
-        check_keys(value, &["node", "ranges"])?;
-        let node = read_place(&self.nodes, member(value, "node")?)?;
-        let ranges = read_ranges(alloc, member(value, "ranges")?)?;
-        Ok(NodeRanks { node, ranges })
-    }
-}
-
-/// That no name stands twice.
-fn check_names_differ(names: &[Name]) -> Result<(), Fault>
-    ensures { result ≡ demand (names_differ (map name_bytes names.now)) }
+/// That all entries are of one of so many nodes.
+fn check_known(nodes: usize, certificate: &Certificate) -> Result<(), Fault>
+    ensures { result ≡ demand UnknownName (are_known nodes (certificate_value certificate.now)) }
 {
-    if names_differ(names) {
-        Ok(())
-    } else {
-        Err(Fault::OutOfRange)
-    }
+    demand(Fault::UnknownName, are_known(nodes, certificate))
 }
 
-/// The ranks of a list, each of another node.
-fn read_ranks(alloc: Global, nodes: &[Node], value: &Value) -> Result<Vec<NodeRanks>, Fault>
-    ensures { IsReadOf (λ v. map node_ranks_value v.items) (ranks_among (node_names (map node_value nodes.now)) (view value.now)) result }
+fn are_known(nodes: usize, certificate: &Certificate) -> bool
+    ensures { result ≡ (list_all (λ l. nat_lt l.node nodes) certificate.now.levels.items
+        && (list_all (λ p. nat_lt p.node nodes) certificate.now.places.items && list_all (λ r. nat_lt r.node nodes) certificate.now.ranks.items)) }
 {
-    let names = read_all(alloc, &RanksNameReader, value)?;
-    check_names_differ(names.as_slice())?;
-    let reader = RanksReader {
-        nodes: Places::of(alloc, nodes)?,
-    };
-    read_all(alloc, &reader, value)
+    are_levels_known(nodes, certificate.levels.as_slice()) && are_lists_known(nodes, certificate)
+}
+
+fn are_lists_known(nodes: usize, certificate: &Certificate) -> bool
+    ensures { result ≡ (list_all (λ p. nat_lt p.node nodes) certificate.now.places.items
+        && list_all (λ r. nat_lt r.node nodes) certificate.now.ranks.items) }
+{
+    are_places_known(nodes, certificate.places.as_slice())
+        && are_ranks_known(nodes, certificate.ranks.as_slice())
+}
+
+fn are_levels_known(nodes: usize, levels: &[NodeLevel]) -> bool
+    ensures { result ≡ list_all (λ l. nat_lt l.node nodes) levels.now }
+{
+    levels.iter().all(|level| level.node < nodes)
+}
+
+fn are_places_known(nodes: usize, places: &[NodePlaces]) -> bool
+    ensures { result ≡ list_all (λ p. nat_lt p.node nodes) places.now }
+{
+    places.iter().all(|places| places.node < nodes)
+}
+
+fn are_ranks_known(nodes: usize, ranks: &[NodeRanks]) -> bool
+    ensures { result ≡ list_all (λ r. nat_lt r.node nodes) ranks.now }
+{
+    ranks.iter().all(|ranks| ranks.node < nodes)
+}
+
+/// The certificate of nodes with these names that a JSON value is.
+fn read_certificate_among(
+    alloc: Global,
+    nodes: &[Node],
+    value: &Value,
+) -> Result<Certificate, Fault>
+    ensures { IsReadOf certificate_value (certificate (node_names (map node_value nodes.now)) (view value.now)) result }
+{
+    check_keys(value, &["format", "levels", "places", "ranks"])?;
+    read_number(member(value, "format")?, 1, 1)?;
+    let certificate = read_entries_of(alloc, nodes, value)?;
+    check_entries_differ(alloc, value)?;
+    check_ascending(certificate.ranks.as_slice())?;
+    check_known(nodes.len(), &certificate)?;
+    Ok(certificate)
 }
 
 /// The certificate of a plan that a JSON value is.
@@ -150,14 +277,5 @@ pub fn read_certificate_value(
 ) -> Result<Certificate, Fault>
     ensures { IsReadOf certificate_value (certificate (node_names (plan_value plan.now).nodes) (view value.now)) result }
 {
-    check_keys(value, &["format", "levels", "places", "ranks"])?;
-    read_number(member(value, "format")?, 1, 1)?;
-    read_no_entries(member(value, "levels")?)?;
-    read_no_entries(member(value, "places")?)?;
-    let ranks = read_ranks(alloc, plan.nodes.as_slice(), member(value, "ranks")?)?;
-    Ok(Certificate {
-        levels: Vec::new(alloc),
-        places: Vec::new(alloc),
-        ranks,
-    })
+    read_certificate_among(alloc, plan.nodes.as_slice(), value)
 }

@@ -5,18 +5,36 @@ use crate::stream::TextFault;
 use std::alloc::AllocError;
 use thiserror::Error;
 
-/// Why a text gave no plan and no certificate. Each is printed as the code that users see.
+/// Why a text gave no plan, no certificate and no events. Each is printed as the code that users see.
 #[derive(Clone, Copy, Debug, PartialEq, Eq, Error)]
 pub enum PlanError {
     /// The text is no JSON.
     #[error("J01")]
     NotJson,
-    /// The text is JSON, and not of the form that was asked for.
+    /// A value is of another kind than the one that belongs there.
+    #[error("J02")]
+    WrongKind,
+    /// An object lacks a key.
+    #[error("J03")]
+    MissingKey,
+    /// An object has a key that does not belong to it.
+    #[error("J04")]
+    UnknownKey,
+    /// A number is out of its range, a name is not well formed, or a word is none of those that may stand there.
     #[error("J05")]
     OutOfRange,
-    /// The text is longer than 16,777,216 bytes.
+    /// A name is that of no bus or node.
+    #[error("J06")]
+    UnknownName,
+    /// A text is no hex.
+    #[error("J07")]
+    BadHex,
+    /// The text is longer than 16,777,216 bytes, or a list or an address is too long.
     #[error("J08")]
     OverLimit,
+    /// Two buses have one name, a list of a certificate has two entries of one node, or ranges do not ascend apart.
+    #[error("J09")]
+    Doubled,
     /// The source failed.
     #[error("file")]
     Device,
@@ -27,8 +45,14 @@ pub enum PlanError {
 /// Why a JSON value was not read.
 #[derive(Clone, Copy, Debug, PartialEq, Eq)]
 pub enum Fault {
-    /// It is not of the form that was asked for.
+    WrongKind,
+    MissingKey,
+    UnknownKey,
     OutOfRange,
+    UnknownName,
+    BadHex,
+    OverLimit,
+    Doubled,
     OutOfMemory,
 }
 
@@ -49,7 +73,14 @@ impl From<Fault> for PlanError {
 
     fn from(fault: Fault) -> PlanError {
         match fault {
+            Fault::WrongKind => PlanError::WrongKind,
+            Fault::MissingKey => PlanError::MissingKey,
+            Fault::UnknownKey => PlanError::UnknownKey,
             Fault::OutOfRange => PlanError::OutOfRange,
+            Fault::UnknownName => PlanError::UnknownName,
+            Fault::BadHex => PlanError::BadHex,
+            Fault::OverLimit => PlanError::OverLimit,
+            Fault::Doubled => PlanError::Doubled,
             Fault::OutOfMemory => PlanError::OutOfMemory,
         }
     }

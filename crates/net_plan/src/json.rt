@@ -1,5 +1,5 @@
 //! JSON values: objects, numbers, and lists.
-ghost use Rattle.std.specs.Prelude.{◌≡◌, ◌≢◌, Ok, Err, Result, MatchResult, IfOk, map, not, is_some, nat_le, ◌&&◌, ◌≤◌, ◌<◌, vec_len, string_bytes};
+ghost use Rattle.std.specs.Prelude.{◌≡◌, ◌≢◌, Ok, Err, Result, MatchResult, IfOk, map, option_map, not, is_some, nat_le, ◌&&◌, ◌≤◌, ◌<◌, vec_len, string_bytes};
 ghost use Rattle.std.specs.List.{list_any};
 ghost use Rattle.std.specs.Map.{keys_of};
 ghost use Rattle.std.specs.Str.{bytes_eq};
@@ -7,7 +7,8 @@ ghost use Rattle.serde_json.specs.Data.{Data};
 ghost use Rattle.serde_json.specs.Find.{get};
 ghost use Rattle.serde_json.specs.View.{view};
 ghost use Rattle.net_plan.specs.Reading.{IsReadOf};
-ghost use Rattle.net_plan.specs.Json.{list_within, all_of, keyed, found, whole_number, nothing, no_entries};
+ghost use Rattle.net_plan.specs.Json.{list_within, all_of, optional, known_keys, given_keys, keyed, some_object, demand, found, whole_number, truth};
+ghost use Rattle.net_plan.specs.Names.{text_at};
 ghost use Rattle.net_plan.specs.declared.error.Fault.{Fault};
 
 use crate::error::Fault;
@@ -42,10 +43,10 @@ where
     ensures within { IfOk result (λ v. vec_len v ≤ most) }
 {
     let Value::Array(items) = value else {
-        return Err(Fault::OutOfRange);
+        return Err(Fault::WrongKind);
     };
     if items.len() > most {
-        return Err(Fault::OutOfRange);
+        return Err(Fault::OverLimit);
     }
     let mut list = Vec::new(alloc);
     for value in items {
@@ -71,32 +72,27 @@ where
     ensures { IsReadOf (λ v. map R.meaning v.items) (all_of (R.said reader.now) (view value.now)) result }
 {
     let Value::Array(items) = value else {
-        return Err(Fault::OutOfRange);
+        return Err(Fault::WrongKind);
     };
     read_list(alloc, reader, value, items.len())
 }
 
-/// A list of no items.
-pub fn read_no_entries(value: &Value) -> Result<(), Fault>
-    ensures { result ≡ no_entries (view value.now) }
+/// `null`, or an item.
+pub fn read_optional<R: ReadItem>(
+    alloc: Global,
+    reader: &R,
+    value: &Value,
+) -> Result<Option<R::Item>, Fault>
+where
+    R::Item: Drop,
+    ensures { IsReadOf (option_map R.meaning) (optional (R.said reader.now) (view value.now)) result }
 {
-    let Value::Array(items) = value else {
-        return Err(Fault::OutOfRange);
-    };
-    if items.is_empty() {
-        Ok(())
-    } else {
-        Err(Fault::OutOfRange)
+    if let Value::Null = value {
+        return Ok(None);
     }
-}
-
-/// `null`.
-pub fn read_nothing(value: &Value) -> Result<(), Fault>
-    ensures { result ≡ nothing (view value.now) }
-{
-    match value {
-        Value::Null => Ok(()),
-        _ => Err(Fault::OutOfRange),
+    match reader.read_item(alloc, value) {
+        Ok(item) => Ok(Some(item)),
+        Err(fault) => Err(fault),
     }
 }
 
@@ -105,7 +101,10 @@ pub fn read_number(value: &Value, least: u64, most: u64) -> Result<u64, Fault>
     ensures read { result ≡ whole_number least most (view value.now) }
     ensures bound { IfOk result (λ n. (least ≤ n) × (n ≤ most)) }
 {
-    match value.as_u64() {
+    let Value::Number(number) = value else {
+        return Err(Fault::WrongKind);
+    };
+    match number.as_u64() {
         Some(number) if least <= number && number <= most => Ok(number),
         _ => Err(Fault::OutOfRange),
     }
@@ -119,13 +118,40 @@ pub fn read_byte(value: &Value, least: u8) -> Result<u8, Fault>
     Ok(read_number(value, u64::from(least), 255)? as u8)
 }
 
+/// A number of 32 bits.
+pub fn read_word(value: &Value) -> Result<u32, Fault>
+    ensures { result ≡ whole_number 0 4294967295 (view value.now) }
+{
+    Ok(read_number(value, 0, 4_294_967_295)? as u32)
+}
+
+/// `true` or `false`.
+pub fn read_truth(value: &Value) -> Result<bool, Fault>
+    ensures { result ≡ truth (view value.now) }
+{
+    match value {
+        Value::Bool(truth) => Ok(*truth),
+        _ => Err(Fault::WrongKind),
+    }
+}
+
+/// The text at a key; an empty one where there is none.
+pub fn text_at<'a>(value: &'a Value, key: &str) -> &'a str
+    ensures { result.now ≡ text_at key.now (view value.now) }
+{
+    match value.get(key) {
+        Some(Value::String(text)) => text.as_str(),
+        _ => "",
+    }
+}
+
 /// What an object has at a key.
 pub fn member<'a>(value: &'a Value, key: &str) -> Result<&'a Value, Fault>
     ensures { IsReadOf (λ v. view v.now) (found (get key.now (view value.now))) result }
 {
     match value.get(key) {
         Some(found) => Ok(found),
-        None => Err(Fault::OutOfRange),
+        None => Err(Fault::MissingKey),
     }
 }
 
@@ -133,16 +159,45 @@ pub fn member<'a>(value: &'a Value, key: &str) -> Result<&'a Value, Fault>
 pub fn check_keys(value: &Value, keys: &[&str]) -> Result<(), Fault>
     ensures { result ≡ keyed (map (λ key. key.now) keys.now) (view value.now) }
 {
+    check_known_keys(value, keys)?;
+    check_given_keys(value, keys)
+}
+
+/// That a value is an object with no other keys than these.
+fn check_known_keys(value: &Value, keys: &[&str]) -> Result<(), Fault>
+    ensures { result ≡ known_keys (map (λ key. key.now) keys.now) (view value.now) }
+{
     let Value::Object(members) = value else {
-        return Err(Fault::OutOfRange);
+        return Err(Fault::WrongKind);
     };
-    if has_unknown_key(members, keys) {
-        return Err(Fault::OutOfRange);
+    demand(Fault::UnknownKey, !has_unknown_key(members, keys))
+}
+
+/// That a value is an object with all these keys.
+fn check_given_keys(value: &Value, keys: &[&str]) -> Result<(), Fault>
+    ensures { result ≡ given_keys (map (λ key. key.now) keys.now) (view value.now) }
+{
+    let Value::Object(_) = value else {
+        return Err(Fault::WrongKind);
+    };
+    demand(Fault::MissingKey, !is_lacking(value, keys))
+}
+
+/// That a value is an object.
+pub fn check_object(value: &Value) -> Result<(), Fault>
+    ensures { result ≡ some_object (view value.now) }
+{
+    match value {
+        Value::Object(_) => Ok(()),
+        _ => Err(Fault::WrongKind),
     }
-    if is_lacking(value, keys) {
-        return Err(Fault::OutOfRange);
-    }
-    Ok(())
+}
+
+/// That something holds.
+pub fn demand(fault: Fault, holds: bool) -> Result<(), Fault>
+    ensures { result ≡ demand fault holds }
+{
+    if holds { Ok(()) } else { Err(fault) }
 }
 
 /// Whether a key is one of those.

@@ -1,46 +1,64 @@
 //! Places of names in a list.
-ghost use Rattle.std.specs.Prelude.{◌≡◌, ℕ, List, map, IfOk, not};
-ghost use Rattle.std.specs.List.{list_any};
-ghost use Rattle.std.specs.Str.{bytes_eq};
-ghost use Rattle.net_plan.specs.PlanReading.{place_of, names_differ};
+ghost use Rattle.std.specs.Prelude.{◌≡◌, ℕ, List, map, IfOk};
+ghost use Rattle.net_plan.specs.Names.{place_among, names_differ};
 
 use indexmap::IndexMap;
 use std::alloc::{AllocError, Global};
 
-/// What has a name.
-pub trait Named {
-    ghost name_of: { Self → List ℕ };
+/// Tells the names of items.
+pub trait Naming {
+    type Item;
 
-    fn name(&self) -> &str
-        ensures { result.now ≡ name_of self.now };
+    ghost name_of: { Self → Self.Item → List ℕ };
+
+    fn name<'a>(&self, item: &'a Self::Item) -> &'a str
+        ensures { result.now ≡ name_of self.now item.now };
 }
 
 /// The places of the names of a list. Of two items of one name it is the first's.
 #[derive(Drop)]
 pub struct Places<'a> {
     by_name: IndexMap<&'a str, usize>,
+    /// How long the list is.
+    count: usize,
 }
 
 impl<'a> Places<'a> {
-    ghost use Rattle.std.specs.Prelude.{◌≡◌, ℕ, List, map, IfOk, OnOk, None, Some, if◌then◌else◌};
+    ghost use Rattle.std.specs.Prelude.{◌≡◌, ℕ, List, map, IfOk, OnOk, None, Some, is_some, if◌then◌else◌};
     ghost use Rattle.std.specs.Option.{option_or};
-    ghost use Rattle.net_plan.specs.Places.{find_in};
+    ghost use Rattle.std.specs.Str.{bytes_eq};
+    ghost use Rattle.net_plan.specs.Names.{place_among};
+    ghost use Rattle.net_plan.specs.Places.{noted, find_in};
 
-    pub fn of<T: Named>(alloc: Global, items: &'a [T]) -> Result<Places<'a>, AllocError>
-        ensures { IfOk result (λ p. (q : List ℕ) → find_in p q ≡ place_of (map T.name_of items.now) q) }
+    pub fn of<N: Naming>(
+        alloc: Global,
+        naming: &N,
+        items: &'a [N::Item],
+    ) -> Result<Places<'a>, AllocError>
+        ensures { IfOk result (λ p. (q : List ℕ) → find_in p q ≡ place_among (map (N.name_of naming.now) items.now) q) }
     {
-        let mut places = Places {
-            by_name: IndexMap::new(alloc),
-        };
+        let mut places = Places::none(alloc, items.len());
         for (place, item) in items.iter().enumerate() {
-            places.note(item.name(), place)?;
+            places.note(naming.name(item), place)?;
         }
         Ok(places)
     }
 
+    /// No places yet, of a list that is so long.
+    fn none(alloc: Global, count: usize) -> Places<'a>
+        ensures none { (q : List ℕ) → noted result q ≡ None }
+        ensures count { result.count ≡ count }
+    {
+        Places {
+            by_name: IndexMap::new(alloc),
+            count,
+        }
+    }
+
     /// Gives a name a place, if it has none.
     fn note(&mut self, name: &'a str, place: usize) -> Result<(), AllocError>
-        ensures { OnOk result ((q : List ℕ) → find_in self.new q ≡ option_or (find_in self.old q) (if bytes_eq q name.now then Some place else None)) }
+        ensures noted { OnOk result ((q : List ℕ) → noted self.new q ≡ option_or (noted self.old q) (if bytes_eq q name.now then Some place else None)) }
+        ensures count { OnOk result (self.new.count ≡ self.old.count) }
     {
         if self.by_name.contains_key(name) {
             return Ok(());
@@ -51,29 +69,39 @@ impl<'a> Places<'a> {
         }
     }
 
-    /// The place of a name.
-    pub fn find(&self, name: &str) -> Option<usize>
+    /// Whether a name has a place.
+    fn holds(&self, name: &str) -> bool
+        ensures { result ≡ is_some (noted self.now name.now) }
+    {
+        self.by_name.contains_key(name)
+    }
+
+    /// The place of a name; the count of the list for one that has none.
+    pub fn find(&self, name: &str) -> usize
         ensures { result ≡ find_in self.now name.now }
     {
-        self.by_name.get(name).copied()
+        match self.by_name.get(name) {
+            Some(place) => *place,
+            None => self.count,
+        }
     }
 }
 
 /// Whether no two items have one name.
-pub fn names_differ<T: Named>(items: &[T]) -> bool
-    ensures { result ≡ names_differ (map T.name_of items.now) }
+pub fn names_differ<N: Naming>(
+    alloc: Global,
+    naming: &N,
+    items: &[N::Item],
+) -> Result<bool, AllocError>
+    ensures { IfOk result (λ differ. differ ≡ names_differ (map (N.name_of naming.now) items.now)) }
 {
+    let mut places = Places::none(alloc, items.len());
     for (place, item) in items.iter().enumerate() {
-        if is_named(&items[place + 1..], item.name()) {
-            return false;
+        let name = naming.name(item);
+        if places.holds(name) {
+            return Ok(false);
         }
+        places.note(name, place)?;
     }
-    true
-}
-
-/// Whether an item has this name.
-fn is_named<T: Named>(items: &[T], name: &str) -> bool
-    ensures { result ≡ list_any (λ item. bytes_eq name.now (T.name_of item)) items.now }
-{
-    items.iter().any(|item| name == item.name())
+    Ok(true)
 }

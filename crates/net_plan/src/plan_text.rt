@@ -1,104 +1,29 @@
 //! A plan from its JSON value.
-ghost use Rattle.std.specs.Prelude.{◌≡◌, ◌≢◌, Ok, Err, MatchResult, IfOk, ℕ, List, map, nat_le, length, ◌&&◌, ◌≤◌, vec_len, IsTrue};
-ghost use Rattle.std.specs.List.{list_all};
-ghost use Rattle.serde_json.specs.Data.{Data};
+ghost use Rattle.std.specs.Prelude.{◌≡◌, ◌≢◌, Ok, Err, MatchResult, IfOk, ℕ, List, map, length, ◌≤◌, vec_len};
 ghost use Rattle.serde_json.specs.View.{view};
-ghost use Rattle.net_plan.specs.NameText.{is_name, is_name_byte, has_name_length};
+ghost use Rattle.net_plan.specs.declared.error.Fault.TheVariants.{Doubled, UnknownName};
 ghost use Rattle.net_plan.specs.Reading.{IsReadOf};
-ghost use Rattle.net_plan.specs.Json.{demand, name_text, address_text};
-ghost use Rattle.net_plan.specs.Places.{find_in};
+ghost use Rattle.net_plan.specs.Json.{demand, reference};
+ghost use Rattle.net_plan.specs.Names.{names_differ};
 ghost use Rattle.net_plan.specs.Placed.{are_placed};
-ghost use Rattle.net_plan.specs.PlanReading.{place_text, bus, port, row, kind_text, node_name, nothing_else, node, nodes_among, names_differ, plan};
-ghost use Rattle.net_plan.specs.PlanValues.{BusValue, PortValue, RowValue, NodeValue, name_bytes, bus_value, bus_names, port_value, row_value, node_value, plan_value};
+ghost use Rattle.net_plan.specs.Places.{find_in};
+ghost use Rattle.net_plan.specs.PlanReading.{bus, port, row, pool, node, nodes_among, plan};
+ghost use Rattle.net_plan.specs.PlanValues.{BusValue, PortValue, RowValue, PoolValue, NodeValue, name_bytes, bus_value, bus_names, port_value, row_value, pool_value, node_value, plan_value};
 
 use crate::error::Fault;
-use crate::json::{ReadItem, check_keys, member, read_byte, read_list, read_nothing, read_number};
-use crate::name::Name;
-use crate::nodes::{Bus, Kind, Node, Port, Row};
-use crate::places::{Named, Places, names_differ};
+use crate::json::{
+    ReadItem, check_keys, demand, member, read_byte, read_list, read_number, read_optional,
+};
+use crate::naming::{BusName, TextAt};
+use crate::nodes::{Bus, Node, Pool, Port, Row};
+use crate::places::{Places, names_differ};
 use crate::plan::Plan;
 use crate::references::are_placed;
-use hex::FromHexError;
+use crate::terminus_text::TerminusReader;
+use crate::words::{read_address, read_kind, read_name, read_reference};
 use mctp_transport::Eid;
 use serde_json::Value;
 use std::alloc::Global;
-
-impl Named for Name {
-    ghost name_of = { name_bytes };
-
-    fn name(&self) -> &str {
-        self.text.as_str()
-    }
-}
-
-impl Named for Bus {
-    ghost name_of = { λ b. name_bytes b.name };
-
-    fn name(&self) -> &str {
-        self.name.name()
-    }
-}
-
-impl Named for Node {
-    ghost name_of = { λ n. name_bytes n.name };
-
-    fn name(&self) -> &str {
-        self.name.name()
-    }
-}
-
-/// A name.
-pub fn read_name(alloc: Global, value: &Value) -> Result<Name, Fault>
-    ensures { IsReadOf name_bytes (name_text (view value.now)) result }
-{
-    let Some(text) = value.as_str() else {
-        return Err(Fault::OutOfRange);
-    };
-    if !is_name(text) {
-        return Err(Fault::OutOfRange);
-    }
-    match String::from_str(alloc, text) {
-        Ok(text) => Ok(Name { text }),
-        Err(_) => Err(Fault::OutOfMemory),
-    }
-}
-
-fn is_name(text: &str) -> bool
-    ensures { result ≡ is_name text.now }
-{
-    has_name_length(text) && is_spelled(text.as_bytes())
-}
-
-fn has_name_length(text: &str) -> bool
-    ensures { result ≡ has_name_length text.now }
-{
-    1 <= text.len() && text.len() <= 32
-}
-
-fn is_spelled(bytes: &[u8]) -> bool
-    ensures { result ≡ list_all is_name_byte bytes.now }
-{
-    bytes.iter().all(|byte| is_name_byte(*byte))
-}
-
-fn is_name_byte(byte: u8) -> bool
-    ensures { result ≡ is_name_byte byte }
-{
-    byte.is_ascii_alphanumeric() || byte == b'-' || byte == b'.' || byte == b'_'
-}
-
-/// The place of a name in a list.
-pub fn read_place(places: &Places, value: &Value) -> Result<usize, Fault>
-    ensures { result ≡ place_text (find_in places.now) (view value.now) }
-{
-    let Some(name) = value.as_str() else {
-        return Err(Fault::OutOfRange);
-    };
-    match places.find(name) {
-        Some(place) => Ok(place),
-        None => Err(Fault::OutOfRange),
-    }
-}
 
 /// Reads buses.
 #[derive(Clone, Copy)]
@@ -143,29 +68,9 @@ impl<'p, 't> ReadItem for PortReader<'p, 't> {
 
     fn read_item(&self, alloc: Global, value: &Value) -> Result<Port, Fault> {
         check_keys(value, &["bus", "address"])?;
-        let bus = read_place(self.buses, member(value, "bus")?)?;
+        let bus = read_reference(self.buses, member(value, "bus")?)?;
         let address = read_address(alloc, member(value, "address")?)?;
         Ok(Port { bus, address })
-    }
-}
-
-/// Hex text of at most 8 bytes.
-fn read_address(alloc: Global, value: &Value) -> Result<Vec<u8>, Fault>
-    ensures read { IsReadOf (λ v. v.items) (address_text (view value.now)) result }
-    ensures short { IfOk result (λ v. vec_len v ≤ 8) }
-{
-    let Some(text) = value.as_str() else {
-        return Err(Fault::OutOfRange);
-    };
-    match hex::decode(alloc, text) {
-        Ok(bytes) => {
-            if bytes.len() > 8 {
-                return Err(Fault::OutOfRange);
-            }
-            Ok(bytes)
-        }
-        Err(FromHexError::OutOfMemory) => Err(Fault::OutOfMemory),
-        Err(_) => Err(Fault::OutOfRange),
     }
 }
 
@@ -189,7 +94,7 @@ impl<'p, 't> ReadItem for RowReader<'p, 't> {
         let first = read_byte(member(value, "first")?, 0)?;
         let size = read_byte(member(value, "size")?, 0)?;
         let port = read_number(member(value, "port")?, 0, 31)? as u8;
-        let next = read_place(self.nodes, member(value, "next")?)?;
+        let next = read_reference(self.nodes, member(value, "next")?)?;
         Ok(Row {
             first: Eid::new(first),
             size,
@@ -199,21 +104,47 @@ impl<'p, 't> ReadItem for RowReader<'p, 't> {
     }
 }
 
-/// Reads the names of nodes.
+/// Reads owners that have these places.
 #[derive(Clone, Copy)]
-struct NodeNameReader;
+struct OwnerReader<'p, 't> {
+    nodes: &'p Places<'t>,
+}
 
-impl ReadItem for NodeNameReader {
-    type Item = Name;
+impl<'p, 't> ReadItem for OwnerReader<'p, 't> {
+    type Item = usize;
 
-    ghost Meaning = { List ℕ };
+    ghost Meaning = { ℕ };
 
-    ghost meaning = { name_bytes };
+    ghost meaning = { λ place. place };
 
-    ghost said = { λ _ d. node_name d };
+    ghost said = { λ s d. reference (find_in s.nodes.now) d };
 
-    fn read_item(&self, alloc: Global, value: &Value) -> Result<Name, Fault> {
-        read_name(alloc, member(value, "name")?)
+    fn read_item(&self, _alloc: Global, value: &Value) -> Result<usize, Fault> {
+        read_reference(self.nodes, value)
+    }
+}
+
+/// Reads EID pools.
+#[derive(Clone, Copy)]
+struct PoolReader;
+
+impl ReadItem for PoolReader {
+    type Item = Pool;
+
+    ghost Meaning = { PoolValue };
+
+    ghost meaning = { pool_value };
+
+    ghost said = { λ _ d. pool d };
+
+    fn read_item(&self, _alloc: Global, value: &Value) -> Result<Pool, Fault> {
+        check_keys(value, &["first", "size"])?;
+        let first = read_byte(member(value, "first")?, 0)?;
+        let size = read_byte(member(value, "size")?, 0)?;
+        Ok(Pool {
+            first: Eid::new(first),
+            size,
+        })
     }
 }
 
@@ -240,79 +171,58 @@ impl<'b, 'n> ReadItem for NodeReader<'b, 'n> {
                 "name", "kind", "eid", "owner", "pool", "ports", "rows", "terminus",
             ],
         )?;
-        check_nothing_else(value)?;
         let name = read_name(alloc, member(value, "name")?)?;
         let kind = read_kind(member(value, "kind")?)?;
         let eid = read_byte(member(value, "eid")?, 0)?;
+        let owner = OwnerReader { nodes: &self.nodes };
+        let owner = read_optional(alloc, &owner, member(value, "owner")?)?;
+        let pool = read_optional(alloc, &PoolReader, member(value, "pool")?)?;
         let ports = PortReader { buses: &self.buses };
         let ports = read_list(alloc, &ports, member(value, "ports")?, 32)?;
         let rows = RowReader { nodes: &self.nodes };
         let rows = read_list(alloc, &rows, member(value, "rows")?, 256)?;
+        let terminus = read_optional(alloc, &TerminusReader, member(value, "terminus")?)?;
         Ok(Node {
             name,
             kind,
             eid: Eid::new(eid),
-            owner: None,
-            pool: None,
+            owner,
+            pool,
             ports,
             rows,
-            terminus: None,
+            terminus,
         })
     }
 }
 
-fn read_kind(value: &Value) -> Result<Kind, Fault>
-    ensures { result ≡ kind_text (view value.now) }
-{
-    match value.as_str() {
-        Some("bridge") => Ok(Kind::Bridge),
-        Some("endpoint") => Ok(Kind::Endpoint),
-        _ => Err(Fault::OutOfRange),
-    }
-}
-
-/// That a node has no owner, no pool and no terminus.
-fn check_nothing_else(value: &Value) -> Result<(), Fault>
-    ensures { IsReadOf (λ u. u) (nothing_else (view value.now)) result }
-{
-    read_nothing(member(value, "owner")?)?;
-    read_nothing(member(value, "pool")?)?;
-    read_nothing(member(value, "terminus")?)
-}
-
 /// The nodes of a list, among buses.
+#[tactic(auto, unfolding(crate::specs::PlanReading::nodes_among))]
 fn read_nodes(alloc: Global, buses: &[Bus], value: &Value) -> Result<Vec<Node>, Fault>
     ensures read { IsReadOf (λ v. map node_value v.items) (nodes_among (bus_names (map bus_value buses.now)) (view value.now)) result }
     ensures within { IfOk result (λ v. vec_len v ≤ 64) }
 {
-    let names = read_list(alloc, &NodeNameReader, value, 64)?;
+    let Value::Array(items) = value else {
+        return Err(Fault::WrongKind);
+    };
     let reader = NodeReader {
-        buses: Places::of(alloc, buses)?,
-        nodes: Places::of(alloc, names.as_slice())?,
+        buses: Places::of(alloc, &BusName, buses)?,
+        nodes: Places::of(alloc, &TextAt { key: "name" }, items.as_slice())?,
     };
     read_list(alloc, &reader, value, 64)
 }
 
 /// That no two buses have one name.
-fn check_names_differ(buses: &[Bus]) -> Result<(), Fault>
-    ensures { result ≡ demand (names_differ (bus_names (map bus_value buses.now))) }
+fn check_names_differ(alloc: Global, buses: &[Bus]) -> Result<(), Fault>
+    ensures { IsReadOf (λ u. u) (demand Doubled (names_differ (bus_names (map bus_value buses.now)))) result }
 {
-    if names_differ(buses) {
-        Ok(())
-    } else {
-        Err(Fault::OutOfRange)
-    }
+    demand(Fault::Doubled, names_differ(alloc, &BusName, buses)?)
 }
 
-/// That ports and rows name the plan's own buses and nodes.
+/// That ports, rows and owners name the plan's own buses and nodes.
 fn check_placed(buses: &[Bus], nodes: &[Node]) -> Result<(), Fault>
-    ensures { result ≡ demand (are_placed (length buses.now) (map node_value nodes.now)) }
+    ensures { result ≡ demand UnknownName (are_placed (length buses.now) (map node_value nodes.now)) }
 {
-    if are_placed(buses.len(), nodes) {
-        Ok(())
-    } else {
-        Err(Fault::OutOfRange)
-    }
+    demand(Fault::UnknownName, are_placed(buses.len(), nodes))
 }
 
 /// The plan of a JSON value.
@@ -322,8 +232,8 @@ pub fn read_plan_value(alloc: Global, value: &Value) -> Result<Plan, Fault>
     check_keys(value, &["format", "buses", "nodes"])?;
     read_number(member(value, "format")?, 1, 1)?;
     let buses = read_list(alloc, &BusReader, member(value, "buses")?, 64)?;
-    check_names_differ(buses.as_slice())?;
     let nodes = read_nodes(alloc, buses.as_slice(), member(value, "nodes")?)?;
+    check_names_differ(alloc, buses.as_slice())?;
     check_placed(buses.as_slice(), nodes.as_slice())?;
     Ok(Plan { buses, nodes })
 }

@@ -120,10 +120,10 @@ fn answers_the_fault_of_a_plan(rt: HostRuntime) -> Result<(), Fail> {
 fn tells_texts_that_do_not_read(rt: HostRuntime) {
     let rows = [
         ("", NO_RANKS, "unreadable plan: J01\n"),
-        ("[]", NO_RANKS, "unreadable plan: J05\n"),
-        ("[]", "[]", "unreadable plan: J05\n"),
+        ("[]", NO_RANKS, "unreadable plan: J02\n"),
+        ("[]", "[]", "unreadable plan: J02\n"),
         (NO_NODES, "", "unreadable certificate: J01\n"),
-        (NO_NODES, "[]", "unreadable certificate: J05\n"),
+        (NO_NODES, "[]", "unreadable certificate: J02\n"),
     ];
     for (plan, certificate, text) in rows {
         expect_unreadable(&rt, plan.as_bytes(), certificate.as_bytes(), text);
@@ -178,7 +178,7 @@ fn tells_files_that_fail(rt: HostRuntime) {
     expect_unreadable(&rt, plan, cut, "unreadable certificate: file\n");
     expect_unreadable(&rt, missing(), missing(), "unreadable plan: file\n");
     expect_unreadable(&rt, plan, missing(), "unreadable certificate: file\n");
-    expect_unreadable(&rt, b"[]".as_slice(), missing(), "unreadable plan: J05\n");
+    expect_unreadable(&rt, b"[]".as_slice(), missing(), "unreadable plan: J02\n");
 }
 
 #[test]

@@ -1,26 +1,32 @@
-use Rattle.std.proofs.Common.{rules, ◌≡◌, ◌∷◌, map, drop, suc, true, false, sym, ap, ◌∙◌, drop-cons, add-one}
-use Rattle.std.specs.List.{list_any}
+use Rattle.std.proofs.Common.{rules, ◌≡◌, ◌+◌, map, take, drop, is_some, true, false, sym, ap, ◌∙◌, Some, None, if◌then◌else◌}
+use Rattle.std.specs.Option.{option_or}
 use Rattle.std.specs.Str.{bytes_eq}
-use Rattle.net_plan.specs.PlanReading.{names_differ}
-use Rattle.net_plan.proofs.Names.{named_again, not_named_again, rest_of}
+use Rattle.net_plan.specs.Json.{is_among}
+use Rattle.net_plan.specs.Names.{are_new}
+use Rattle.net_plan.specs.Places.{noted}
+use Rattle.net_plan.proofs.Names.{place_of-take, place_of-among, not_new, one_new, names_take, names_drop}
 use Rattle.net_plan.proofs.places.names_differ.Goals as goal
 
-pub returns-then-is_named : goal.returns-then-is_named
-returns-then-is_named g c =
-    let f = g.T.Named.name_of in
+pub returns-then-holds : goal.returns-then-holds
+returns-then-holds g c =
+    let f = g.N.Naming.name_of c.args.naming.now in
     let items = c.args.items.now in
     let i = c.loop-place.place in
     let x = c.index-items-place.result in
-    let next : drop i items ≡ x ∷ drop (suc i) items = drop-cons items i x (search rules) ∙ ap (λ y. y ∷ drop (suc i) items) (sym c.index-items-place.is) in
-    let again : list_any (λ item. bytes_eq (f x) (f item)) (drop (suc i) items) ≡ true = ap (λ n. list_any (λ item. bytes_eq n (f item)) (drop (suc i) items)) (sym c.name.ensures) ∙ ap (list_any (λ item. bytes_eq c.name.result.now (f item))) (sym (rest_of items i)) ∙ sym c.is_named.ensures ∙ c.if-is_named.true in
-    sym (named_again f x (drop (suc i) items) again) ∙ ap (λ xs. names_differ (map f xs)) (sym next) ∙ c.loop-place.invariant
+    let seen = map f (take i items) in
+    let among : is_among seen (f x) ≡ true = sym (place_of-among seen (f x)) ∙ ap is_some (sym (c.loop-place.invariant.0 (f x))) ∙ ap (λ q. is_some (noted c.loop-place.places q)) (sym c.name-name.ensures) ∙ sym c.holds.ensures ∙ c.if-holds.true in
+    sym (not_new seen (f x) (map f (drop (i + 1) items)) among) ∙ ap (are_new seen) (sym (names_drop f items i x (search rules) c.index-items-place.is)) ∙ c.loop-place.invariant.1
 
 pub loop-place-preserved : goal.loop-place-preserved
 loop-place-preserved g c =
-    let f = g.T.Named.name_of in
+    let f = g.N.Naming.name_of c.args.naming.now in
     let items = c.args.items.now in
     let i = c.loop-place.place in
     let x = c.index-items-place.result in
-    let next : drop i items ≡ x ∷ drop (suc i) items = drop-cons items i x (search rules) ∙ ap (λ y. y ∷ drop (suc i) items) (sym c.index-items-place.is) in
-    let again : list_any (λ item. bytes_eq (f x) (f item)) (drop (suc i) items) ≡ false = ap (λ n. list_any (λ item. bytes_eq n (f item)) (drop (suc i) items)) (sym c.name.ensures) ∙ ap (list_any (λ item. bytes_eq c.name.result.now (f item))) (sym (rest_of items i)) ∙ sym c.is_named.ensures ∙ c.if-is_named.false in
-    ap (λ j. names_differ (map f (drop j items))) (add-one i) ∙ sym (not_named_again f x (drop (suc i) items) again) ∙ ap (λ xs. names_differ (map f xs)) (sym next) ∙ c.loop-place.invariant
+    let seen = map f (take i items) in
+    let among : is_among seen (f x) ≡ false = sym (place_of-among seen (f x)) ∙ ap is_some (sym (c.loop-place.invariant.0 (f x))) ∙ ap (λ q. is_some (noted c.loop-place.places q)) (sym c.name-name.ensures) ∙ sym c.holds.ensures ∙ c.if-holds.false in (
+      λ q. c.in_ok-note.ensures.noted q ∙ ap (λ name. option_or (noted c.loop-place.places q) (if bytes_eq q name then Some i else None)) c.name-name.ensures ∙ ap (λ o. option_or o (if bytes_eq q (f x) then Some i else None)) (c.loop-place.invariant.0 q)
+          ∙ sym (place_of-take f items i x q (search rules) c.index-items-place.is),
+      ap (λ names. are_new names (map f (drop (i + 1) items))) (names_take f items i x (search rules) c.index-items-place.is) ∙ sym (one_new seen (f x) (map f (drop (i + 1) items)) among)
+          ∙ ap (are_new seen) (sym (names_drop f items i x (search rules) c.index-items-place.is)) ∙ c.loop-place.invariant.1,
+    )

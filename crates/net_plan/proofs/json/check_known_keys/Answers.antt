@@ -1,0 +1,15 @@
+use Rattle.std.proofs.Common.{◌≡◌, map, not, sym, ap, ◌∙◌}
+use Rattle.serde_json.specs.Data.{object}
+use Rattle.serde_json.specs.View.{view, members_view}
+use Rattle.net_plan.specs.Json.{demand, has_unknown_key, known_keys}
+use Rattle.net_plan.specs.declared.error.Fault.TheVariants.{UnknownKey}
+use Rattle.net_plan.proofs.Keys.{unknown_members, object_view}
+use Rattle.net_plan.proofs.json.check_known_keys.Goals as goal
+
+pub returns : goal.returns
+returns c =
+    let keys = c.args.keys.now in
+    let members = c.in-Object.members in
+    let seen : view c.args.value.now ≡ object (members_view members.entries) = ap view c.in-Object.is ∙ object_view members in
+    let unknown : has_unknown_key (map (λ key. key.now) keys) (members_view members.entries) ≡ c.has_unknown_key.result = unknown_members keys members.entries ∙ sym c.has_unknown_key.ensures in
+    c.demand.ensures ∙ ap (λ b. demand UnknownKey (not b)) (sym unknown) ∙ ap (known_keys (map (λ key. key.now) keys)) (sym seen)

@@ -1,0 +1,61 @@
+-- Which events a JSON value is.
+use Rattle.std.specs.Prelude.{ℕ, Bool, true, false, codes, List}
+use Rattle.serde_json.specs.Data.{Data}
+use Rattle.net_plan.specs.EventValues.{EventEntry, put, move, lose, expire, answer}
+use Rattle.net_plan.specs.JsonWords.{HasKeys, At, IsShortListOf, IsNumber, IsNumberWithin, IsTruth, IsText, IsHex, IsPlace}
+use Rattle.net_plan.specs.Keys.{events_keys, put_keys, move_keys, lose_keys, expire_keys, answer_keys}
+use Rattle.net_plan.specs.PlanText.{IsByte, IsWord}
+use Rattle.net_plan.specs.PlanValues.{PlanValue, node_names}
+
+-- what happens is this
+abbrev pub Does : List ℕ → Data → Type 0
+Does word d = At (codes "do") (λ e w. IsText w e) d word
+
+pub record IsPutOf (nodes : List (List ℕ)) (d : Data) (node : ℕ) (bytes : List ℕ) : Type 0 where
+  pub keys : HasKeys put_keys d
+  pub does : Does (codes "put") d
+  pub at_node : At (codes "node") (IsPlace nodes) d node
+  pub packet : At (codes "bytes") IsHex d bytes
+
+pub record IsMoveOf (d : Data) (flight : ℕ) (keep : Bool) : Type 0 where
+  pub keys : HasKeys move_keys d
+  pub does : Does (codes "move") d
+  pub number : At (codes "flight") IsWord d flight
+  pub kept : At (codes "keep") IsTruth d keep
+
+pub record IsLoseOf (d : Data) (flight : ℕ) : Type 0 where
+  pub keys : HasKeys lose_keys d
+  pub does : Does (codes "lose") d
+  pub number : At (codes "flight") IsWord d flight
+
+-- 1 for true, 0 for false
+abbrev pub IsBit : Data → Bool → Type 0
+IsBit d true = IsNumber d 1
+IsBit d false = IsNumber d 0
+
+pub record IsExpireOf (nodes : List (List ℕ)) (d : Data) (node source tag : ℕ) (owner : Bool) : Type 0 where
+  pub keys : HasKeys expire_keys d
+  pub does : Does (codes "expire") d
+  pub at_node : At (codes "node") (IsPlace nodes) d node
+  pub from : At (codes "source") IsByte d source
+  pub tagged : At (codes "tag") (IsNumberWithin 0 7) d tag
+  pub owned : At (codes "owner") IsBit d owner
+
+pub record IsAnswerOf (nodes : List (List ℕ)) (d : Data) (node : ℕ) : Type 0 where
+  pub keys : HasKeys answer_keys d
+  pub does : Does (codes "answer") d
+  pub at_node : At (codes "node") (IsPlace nodes) d node
+
+-- an event at nodes with these names
+abbrev pub IsEventOf : List (List ℕ) → Data → EventEntry → Type 0
+IsEventOf nodes d (put node bytes) = IsPutOf nodes d node bytes
+IsEventOf nodes d (move flight keep) = IsMoveOf d flight keep
+IsEventOf nodes d (lose flight) = IsLoseOf d flight
+IsEventOf nodes d (expire node source tag owner) = IsExpireOf nodes d node source tag owner
+IsEventOf nodes d (answer node) = IsAnswerOf nodes d node
+
+-- a list of events at the nodes of a plan
+pub record AreEventsOf (plan : PlanValue) (d : Data) (es : List EventEntry) : Type 0 where
+  pub keys : HasKeys events_keys d
+  pub format : At (codes "format") IsNumber d 1
+  pub events : At (codes "events") (IsShortListOf 100000 (IsEventOf (node_names plan.nodes))) d es

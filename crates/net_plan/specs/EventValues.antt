@@ -1,0 +1,32 @@
+-- Events as plain lists and numbers.
+use Rattle.std.specs.Prelude.{ℕ, Bool, true, List, nat_lt}
+use Rattle.net_plan.specs.declared.event.Event.{Event}
+use Rattle.net_plan.specs.declared.event.Event.TheVariants.{Put, Move, Lose, Expire, Answer}
+
+-- an entry of a list of events; nodes are places in the plan's list
+pub data EventEntry : Type 0 where
+  -- the node, and the packet's bytes
+  put : ℕ → List ℕ → EventEntry
+  -- the flight, and whether it is kept
+  move : ℕ → Bool → EventEntry
+  -- the flight
+  lose : ℕ → EventEntry
+  -- the node, and the message key: source, tag and tag owner
+  expire : ℕ → ℕ → ℕ → Bool → EventEntry
+  -- the node
+  answer : ℕ → EventEntry
+
+abbrev pub event_entry : Event → EventEntry
+event_entry (Put node bytes) = put node bytes.items
+event_entry (Move flight keep) = move flight keep
+event_entry (Lose flight) = lose flight
+event_entry (Expire node key) = expire node key.source.value key.tag.value key.owner
+event_entry (Answer node) = answer node
+
+-- the event's node is one of so many
+abbrev pub is_known_event : ℕ → EventEntry → Bool
+is_known_event nodes (put node bytes) = nat_lt node nodes
+is_known_event nodes (move flight keep) = true
+is_known_event nodes (lose flight) = true
+is_known_event nodes (expire node source tag owner) = nat_lt node nodes
+is_known_event nodes (answer node) = nat_lt node nodes

@@ -1,0 +1,41 @@
+-- Why a text gives no value, by the error.
+use Rattle.std.specs.Prelude.{◌≡◌, ℕ, ◌<◌, ◌⊎◌, List, length, Option, Result, Err, ⊤}
+use Rattle.serde_json.specs.Data.{Data}
+use Rattle.net_plan.specs.Stream.{TakesMoreThan}
+use Rattle.net_plan.specs.Texts.{IsJson, IsNoJson, Gave}
+use Rattle.net_plan.specs.declared.error.Fault.{Fault}
+use Rattle.net_plan.specs.declared.error.Fault.TheVariants as fault
+use Rattle.net_plan.specs.declared.error.PlanError.{PlanError}
+use Rattle.net_plan.specs.declared.error.PlanError.TheVariants.{NotJson, WrongKind, MissingKey, UnknownKey, OutOfRange, UnknownName, BadHex, OverLimit, Doubled, Device, OutOfMemory}
+
+-- the bytes are JSON of a value that is R to nothing, and whose first fault in the order of tests is this one
+abbrev pub IsFaulty : {A : Type 0} → (Data → Result A Fault) → (Data → A → Type 0) → Fault → List ℕ → Type 0
+IsFaulty {A} said R first text = (d : Data) × IsJson text d × (said d ≡ Err first) × ((x : A) → ¬ R d x)
+
+-- why bytes are no JSON value
+abbrev pub IsNoValue : List ℕ → PlanError → Type 0
+IsNoValue text NotJson = IsNoJson text
+IsNoValue text OverLimit = 16777216 < length text
+IsNoValue text OutOfMemory = ⊤
+IsNoValue text _ = ⊥
+
+-- why bytes give no value
+abbrev pub IsRefused : {A : Type 0} → (Data → Result A Fault) → (Data → A → Type 0) → List ℕ → PlanError → Type 0
+IsRefused said R text NotJson = IsNoJson text
+IsRefused said R text WrongKind = IsFaulty said R fault.WrongKind text
+IsRefused said R text MissingKey = IsFaulty said R fault.MissingKey text
+IsRefused said R text UnknownKey = IsFaulty said R fault.UnknownKey text
+IsRefused said R text OutOfRange = IsFaulty said R fault.OutOfRange text
+IsRefused said R text UnknownName = IsFaulty said R fault.UnknownName text
+IsRefused said R text BadHex = IsFaulty said R fault.BadHex text
+IsRefused said R text OverLimit = (16777216 < length text) ⊎ IsFaulty said R fault.OverLimit text
+IsRefused said R text Doubled = IsFaulty said R fault.Doubled text
+IsRefused said R text Device = ⊥
+IsRefused said R text OutOfMemory = ⊤
+
+-- why what a source gave is no value; whether the source failed is told by its count
+abbrev pub GaveNone : {A : Type 0} → (Data → Result A Fault) → (Data → A → Type 0) → Option (List ℕ) → Option (List ℕ) → PlanError → Type 0
+GaveNone said R old new OverLimit = TakesMoreThan 16777216 old new ⊎ Gave 16777216 old new (IsFaulty said R fault.OverLimit)
+GaveNone said R old new Device = ⊤
+GaveNone said R old new OutOfMemory = ⊤
+GaveNone said R old new e = Gave 16777216 old new (λ text. IsRefused said R text e)
