@@ -23,7 +23,7 @@ use Rattle.pdr_repository.proofs.Crcs.{crc-none, crc-more, table_entry, IsEntry}
 use Rattle.pdr_repository.specs.Records.{Entry, IsMeant, handle_at, change_in}
 use Rattle.pdr_repository.specs.Parts.{PartAnswer, offset_of, HasChange, IsWithin, IsPartOf, AnswersFrom, AnswersPart}
 use Rattle.pdr_repository.specs.Answers.{IsAsked, reply_header, known_types, request_length, AnswersData, IsOf, AnswersCommand, Answers}
-use Rattle.net_check.proofs.Deciding.{OrNot, both_or_not, either_or_not, implied_or_not, not_or_not, same_or_not, less_or_not}
+use Rattle.net_check.proofs.Deciding.{OrNot, both_or_not, implied_or_not, not_or_not, same_or_not, less_or_not, at_most_or_not}
 
 -- each number is a byte
 abbrev EachByte : List ℕ → Type 0
@@ -210,9 +210,9 @@ pub record SomeData (c : Command) (tid : ℕ) (records : List Entry) (asked : Li
   pub answers : AnswersData c tid records asked reply tid_after
 
 some_data : (c : Command) (tid : ℕ) (records : List Entry) (asked : List ℕ) → RecordsOfBytes records → EachByte asked → length asked ≡ request_length c → SomeData c tid records asked
-some_data SetTid tid records (wanted ∷ []) all bytes long = elim (either_or_not _ _ (same_or_not wanted 0) (same_or_not wanted 255)) [
-  | inl reserved ↦ record { reply = 0x02 ∷ []; tid_after = tid; answers = (wanted, refl, inl (reserved, (refl, refl))) }
-  | inr free ↦ record { reply = 0 ∷ []; tid_after = wanted; answers = (wanted, refl, inr (free, (refl, refl))) }
+some_data SetTid tid records (wanted ∷ []) all bytes long = elim (both_or_not _ _ (at_most_or_not 1 wanted) (at_most_or_not wanted 254)) [
+  | inr reserved ↦ record { reply = 0x02 ∷ []; tid_after = tid; answers = (wanted, refl, inl (reserved, (refl, refl))) }
+  | inl free ↦ record { reply = 0 ∷ []; tid_after = wanted; answers = (wanted, refl, inr ((λ not. not free), (refl, refl))) }
 ]
 some_data SetTid tid records [] all bytes long = absurd (omega arith)
 some_data SetTid tid records (a ∷ b ∷ rest) all bytes long = absurd (omega arith)

@@ -30,3 +30,4 @@ pub mod Sends
 pub mod Sent
 pub mod Answering
 pub mod Steps
+pub mod Asked

@@ -40,10 +40,10 @@ module _ (plan : Plan) (n d : ℕ) (key : KeyValue) (epoch : Epoch) (there : n <
     pub of_key : key_of p ≡ key
     pub of_epoch : IsOfEpoch unit epoch key d p
 
-  abbrev put_turn : NetworkState → Frame → Turn
+  abbrev pub put_turn : NetworkState → Frame → Turn
   put_turn w p = record { event = Put n (frame_bytes p); outcome = PutIn (w.made + 1) n; after = with_packet w n p }
 
-  abbrev moved_turn : NetworkState → Frame → Answer → Turn
+  abbrev pub moved_turn : NetworkState → Frame → Answer → Turn
   moved_turn w p answer = record {
     event = Move (w.made + 1) false;
     outcome = Entered (w.made + 1) n key answer;
@@ -62,7 +62,7 @@ module _ (plan : Plan) (n d : ℕ) (key : KeyValue) (epoch : Epoch) (there : n <
     may_put N05 refused = refused
     may_put N06 refused = omega (arith, stands.number)
 
-    puts : Step plan w (Put n (frame_bytes p)) (PutIn (w.made + 1) n) (with_packet w n p)
+    pub puts : Step plan w (Put n (frame_bytes p)) (PutIn (w.made + 1) n) (with_packet w n p)
     puts = (may_put, (p, spelled, refl, refl, refl))
 
     put_there : (with_packet w n p).flight (w.made + 1) ≡ Some (new_flight n p)
@@ -76,13 +76,13 @@ module _ (plan : Plan) (n d : ℕ) (key : KeyValue) (epoch : Epoch) (there : n <
     may_move N05 refused = refused
     may_move N06 refused = omega arith
 
-    moves : (answer : Answer) → Hears slots limit (w.history n) p answer
+    pub moves : (answer : Answer) → Hears slots limit (w.history n) p answer
         → Step plan (with_packet w n p) (Move (w.made + 1) false) (Entered (w.made + 1) n key answer) (moved_turn w p answer).after
     moves answer hears =
         let H : ℕ → Type 0 = λ e. Holds plan n e in
         (may_move, (new_flight n p, put_there, (Here, subst H (sym sendable.to) holds, (refl, refl, sym sendable.of_key, hears, refl))))
 
-    has_heard : (answer : Answer) → HasHeard (moved_turn w p answer).after n (made + 1) (ps ++ p ∷ [])
+    pub has_heard : (answer : Answer) → HasHeard (moved_turn w p answer).after n (made + 1) (ps ++ p ∷ [])
     has_heard answer =
         let v : NetworkState = with_input (without_flight (with_packet w n p) (w.made + 1)) n (Arrived p) in
         let same = received_same v n key answer in

@@ -17,7 +17,7 @@ use Rattle.net_check.specs.ExactMessages.{Epoch, FitsKey, IsTold, CanBeSent, Six
 use Rattle.net_check.proofs.Sends.{IsSendable, sent_is_told}
 
 -- the packets of a message
-message_packets : (message : List ℕ) (d : ℕ) (key : KeyValue) → (ps : List Frame) × ArePacketsOf unit message d key 0 ps
+pub message_packets : (message : List ℕ) (d : ℕ) (key : KeyValue) → (ps : List Frame) × ArePacketsOf unit message d key 0 ps
 message_packets message d key =
     let f : Frame = record {
       reserved = 0;
@@ -46,7 +46,7 @@ module _ (plan : Plan) (n d : ℕ) (key : KeyValue) (message : List ℕ) (there 
   epoch = record { message = message; first_number = 0 }
 
   -- each packet of the message may be sent
-  sendable : (ps : List Frame) → ArePacketsOf unit message d key 0 ps → AllByRecursion (IsSendable plan n d key (record { message = message; first_number = 0 }) there holds) ps
+  pub sendable : (ps : List Frame) → ArePacketsOf unit message d key 0 ps → AllByRecursion (IsSendable plan n d key (record { message = message; first_number = 0 }) there holds) ps
   sendable ps are = all_from (IsSendable plan n d key (record { message = message; first_number = 0 }) there holds) ps (λ i p at.
       let long = payloads_length ps in
       let inside = slice_get_within ps i p at in

@@ -181,7 +181,7 @@ holds_some plan n within = elim (slice_get_cases plan.nodes.items n).1 [
 ]
 
 -- the packets of an answer
-some_packets : (answer : List ℕ) (destination : ℕ) (key : KeyValue) → (ps : List Frame) × ArePacketsOf unit answer destination key 0 ps
+pub some_packets : (answer : List ℕ) (destination : ℕ) (key : KeyValue) → (ps : List Frame) × ArePacketsOf unit answer destination key 0 ps
 some_packets answer destination key =
     let f : Frame = record {
       reserved = 0;

@@ -22,6 +22,7 @@ pub mod Promises
 pub mod Headline
 pub mod Deliveries
 pub mod ExactMessages
+pub mod Requests
 -- certificates made
 pub mod Circles
 pub mod RoutingLoops

@@ -11,6 +11,7 @@ ghost use Rattle.net_check.specs.Events.{EventValue};
 ghost use Rattle.net_check.specs.Networks.{GoesOn};
 ghost use Rattle.net_check.specs.Headline.{Headline};
 ghost use Rattle.net_check.specs.Deliveries.{HeldAreLedOn, Delivers};
+ghost use Rattle.net_check.specs.Requests.{RequestsCanBeAnswered};
 ghost use Rattle.net_check.specs.ExactMessages.{TellsWhatComes, CanBeSent, SixAreTooMany};
 
 /// Whatever the event, the network has an outcome and a next state for it, where its termini hold bytes.
@@ -46,4 +47,9 @@ pub fn messages_can_be_sent()
 /// Of a message of six packets another message can come in a tidy run.
 pub fn six_are_too_many()
     ensures { (plan : Plan) (cert : Certificate) → SixAreTooMany 64 plan cert }
+{}
+
+/// A request of one packet can be sent to a node with a terminus so that it is answered.
+pub fn requests_can_be_answered()
+    ensures { (plan : Plan) (cert : Certificate) → RequestsCanBeAnswered plan cert }
 {}

@@ -22,8 +22,8 @@ pub use check_error::CheckError;
 pub use checked::{Checked, check};
 pub use fault::Fault;
 pub use laws::{
-    headline_holds, held_is_delivered, messages_can_be_sent, never_stuck, six_are_too_many,
-    what_comes_is_told,
+    headline_holds, held_is_delivered, messages_can_be_sent, never_stuck, requests_can_be_answered,
+    six_are_too_many, what_comes_is_told,
 };
 pub use rule::Rule;
 
