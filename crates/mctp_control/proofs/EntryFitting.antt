@@ -1,7 +1,7 @@
 -- As many entries as fit.
-use Rattle.std.proofs.Common.{◌≡◌, ◌⊎◌, ◌≢◌, ℕ, ◌+◌, ◌-◌, ◌*◌, ◌<◌, ◌≤◌, ◌==◌, if◌then◌else◌, List, ◌∷◌, [], length, map, take, drop, refl, inl, inr, ◌∙◌, ap, length-take, length-drop, arith}
+use Rattle.std.proofs.Common.{◌≡◌, ◌≢◌, ℕ, ◌+◌, ◌-◌, ◌<◌, ◌≤◌, ◌==◌, if◌then◌else◌, List, ◌∷◌, length, take, drop, refl, ◌∙◌, length-take, length-drop, arith}
 use Rattle.std.proofs.lemmas.List.{take-map, drop-map, take_all, length-take-le}
-use Rattle.mctp_control.specs.RouteEntries.{EntryValue, entry_value}
+use Rattle.mctp_control.specs.RouteEntries.{entry_value}
 use Rattle.mctp_control.specs.EntryLists.{entries_bytes, values_of}
 use Rattle.mctp_control.specs.Replies.{IsMost, EntriesReplies}
 use Rattle.mctp_control.specs.declared.route_entry.RouteEntry.{RouteEntry}

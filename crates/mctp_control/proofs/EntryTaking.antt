@@ -3,7 +3,7 @@ use Rattle.std.proofs.Common.{◌≡◌, ℕ, ◌+◌, ◌<◌, ◌≤◌, List,
 use Rattle.std.specs.List.{AllByRecursion}
 use Rattle.std.proofs.lemmas.List.{map-append, take_more, take-append-drop}
 use Rattle.std.proofs.lemmas.Grind.{flat_map-append}
-use Rattle.mctp_control.specs.RouteEntries.{EntryValue, IsEntry, entry_value, entry_bytes}
+use Rattle.mctp_control.specs.RouteEntries.{IsEntry, entry_value, entry_bytes}
 use Rattle.mctp_control.specs.EntryLists.{entries_bytes, values_of}
 use Rattle.mctp_control.specs.declared.route_entry.RouteEntry.{RouteEntry}
 use Rattle.mctp_control.proofs.EntryReading.{each_more}

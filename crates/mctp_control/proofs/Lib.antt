@@ -3,3 +3,6 @@ pub mod EntryTaking
 pub mod CommandNumbers
 pub mod PoolLaws
 pub mod EntryFitting
+pub mod Deciding
+pub mod OneReply
+pub mod Asked

@@ -1,9 +1,8 @@
 -- Runs of free EIDs, and marks that are set.
-use Rattle.std.proofs.Common.{◌≡◌, ◌≢◌, ◌⊎◌, ◌↔◌, ℕ, zero, suc, ◌+◌, ◌-◌, ◌<◌, ◌≤◌, Bool, false, true, List, length, slice_index_or, get_or, set, replicate, refl, sym, ◌∙◌, ap, inl, inr, arith, add-zero, Option, IfSome}
+use Rattle.std.proofs.Common.{◌≡◌, ℕ, zero, suc, ◌+◌, ◌-◌, ◌<◌, ◌≤◌, false, true, slice_index_or, replicate, arith, add-zero, Option, IfSome}
 use Rattle.std.proofs.lemmas.Option.{IfSome_then}
 use Rattle.mctp_transport.specs.declared.address.Eid.{Eid}
-use Rattle.mctp_control.specs.Ranges.{IsWithin}
-use Rattle.mctp_control.specs.Pools.{PoolValue, Has, IsOut, IsFree, IsFreeRun, IsLowestFree, IsLowestRun}
+use Rattle.mctp_control.specs.Pools.{PoolValue, IsFree, IsFreeRun, IsLowestFree, IsLowestRun}
 
 -- nothing is marked in a list of no marks
 pub no_mark : (n eid : ℕ) → slice_index_or (replicate n false) eid false ≡ true → ⊥

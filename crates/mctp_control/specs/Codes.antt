@@ -1,4 +1,4 @@
--- The numbers of the codes in control messages (DSP0236, sections 12.3 to 12.10).
+-- The codes that users see, and the numbers of an entry's kinds.
 use Rattle.std.specs.Prelude.{ℕ, List, codes}
 use Rattle.mctp_control.specs.declared.control_error.ControlError.{ControlError}
 use Rattle.mctp_control.specs.declared.control_error.ControlError.TheVariants as error

@@ -1,5 +1,5 @@
 -- What a device holds.
-use Rattle.std.specs.Prelude.{◌≡◌, ℕ, zero, suc, Option, Some, None, IfSome, option_map}
+use Rattle.std.specs.Prelude.{◌≡◌, ℕ, zero, suc, Option, Some, None, IfSome}
 use Rattle.mctp_control.specs.declared.eid_range.EidRange.{EidRange}
 use Rattle.mctp_control.specs.declared.device.DeviceKind.{DeviceKind}
 use Rattle.mctp_control.specs.declared.device.DeviceKind.TheVariants as kind

@@ -1,5 +1,5 @@
 -- Routing table entries one after another.
-use Rattle.std.specs.Prelude.{◌≡◌, ℕ, ◌≤◌, List, map, length}
+use Rattle.std.specs.Prelude.{◌≡◌, ℕ, List, map}
 use Rattle.std.specs.List.{flat_map, AllByRecursion}
 use Rattle.mctp_control.specs.RouteEntries.{EntryValue, IsEntry, entry_value, entry_bytes}
 use Rattle.mctp_control.specs.declared.route_entry.RouteEntry.{RouteEntry}

@@ -1,4 +1,4 @@
--- The second byte of a control message (DSP0236, section 12.2).
+-- The second byte of a control message (DSP0236, "MCTP control message format").
 use Rattle.std.specs.Prelude.{ℕ, ◌+◌, ◌*◌, Bool}
 use Rattle.mctp_transport.specs.Frames.{bit}
 use Rattle.mctp_control.specs.declared.header.ControlHeader.{ControlHeader}

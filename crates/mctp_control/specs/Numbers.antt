@@ -1,4 +1,4 @@
--- The numbers that operations and statuses have in their bits (DSP0236, sections 12.3, 12.4, 12.9).
+-- The numbers that operations and statuses have in their bits (DSP0236, the commands of these names).
 use Rattle.std.specs.Prelude.{ℕ}
 use Rattle.mctp_control.specs.declared.operations.SetOperation.{SetOperation}
 use Rattle.mctp_control.specs.declared.operations.SetOperation.TheVariants as set

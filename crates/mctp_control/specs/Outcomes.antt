@@ -1,9 +1,9 @@
 -- What a device's private calls answer, as bytes.
 use Rattle.std.specs.Prelude.{ℕ, List, [], ◌∷◌, Result, Ok, Err}
-use Rattle.mctp_control.specs.declared.device.Refusal.{Refusal}
-use Rattle.mctp_control.specs.declared.device.Refusal.TheVariants as refusal
+use Rattle.mctp_control.specs.declared.replies.Refusal.{Refusal}
+use Rattle.mctp_control.specs.declared.replies.Refusal.TheVariants as refusal
 
--- completion codes other than success (DSP0236, section 12.2)
+-- completion codes other than success (DSP0236, "MCTP control message completion codes")
 abbrev pub refusal_code : Refusal → ℕ
 refusal_code refusal.InvalidData = 2
 refusal_code refusal.InvalidLength = 3

@@ -1,4 +1,4 @@
--- What a device replies to a request, and what it holds afterwards (DSP0236, sections 12.3, 12.4, 12.9 and 12.13;
+-- What a device replies to a request, and what it holds afterwards (DSP0236, the commands of these names;
 -- this project's own choice where the standard leaves one).
 use Rattle.std.specs.Prelude.{◌≡◌, ◌≢◌, ◌⊎◌, ℕ, ◌+◌, ◌/◌, ◌%◌, ◌<◌, ◌≤◌, ◌==◌, if◌then◌else◌, List, [], ◌∷◌, length, take, drop, slice_index, Option, Some, None}
 use Rattle.mctp_transport.specs.Frames.{IsAssignable}
@@ -7,7 +7,7 @@ use Rattle.mctp_control.specs.RouteEntries.{EntryValue}
 use Rattle.mctp_control.specs.EntryLists.{entries_bytes}
 use Rattle.mctp_control.specs.Requests.{CommandValue, SetsEid, GetsEid, AllocatesEids, GetsEntries, RequestValue, SpellsRequest}
 use Rattle.mctp_control.specs.Refusals.{IsUnknown, HasRequestLength}
-use Rattle.mctp_control.specs.Devices.{EidHeld, PoolHeld, DeviceValue, present_eid, present_size, present_first, MayGiveEid, MayGivePool, endpoint_type, allocation_of, pool_wanted}
+use Rattle.mctp_control.specs.Devices.{DeviceValue, present_eid, present_size, present_first, MayGiveEid, MayGivePool, endpoint_type, allocation_of, pool_wanted}
 use Rattle.mctp_control.specs.declared.device.DeviceKind.{DeviceKind}
 use Rattle.mctp_control.specs.declared.device.DeviceKind.TheVariants as kind
 
@@ -89,3 +89,12 @@ pub record Replies (d : DeviceValue) (bus : ℕ) (table : List EntryValue) (body
       → (reply ≡ Some (reply_bytes body (3 ∷ []))) × (new ≡ d)
   pub answered : (r : RequestValue) → IsAsked body → Supports d.kind (slice_index body 2) → SpellsRequest r body
       → (content : List ℕ) × (reply ≡ Some (reply_bytes body content)) × CommandReplies d bus table r.command content new
+
+-- each is a byte
+abbrev pub IsBytes : List ℕ → Type 0
+IsBytes body = (i : ℕ) → slice_index body i < 256
+
+-- A device has one reply to a body at most, and is one device afterwards.
+abbrev pub HasOneReply : DeviceValue → ℕ → List EntryValue → List ℕ → Type 0
+HasOneReply d bus table body = (reply other : Option (List ℕ)) (new later : DeviceValue) → Replies d bus table body reply new → Replies d bus table body other later
+    → (reply ≡ other) × (new ≡ later)

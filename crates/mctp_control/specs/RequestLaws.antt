@@ -1,6 +1,6 @@
 -- No two requests have the same bytes.
 use Rattle.std.specs.Prelude.{◌≡◌, ℕ, ◌<◌, ◌+◌, ◌*◌, refl}
-use Rattle.std.proofs.Common.{arith, ap}
+use Rattle.std.proofs.Common.{arith}
 use Rattle.mctp_transport.specs.Frames.{bit}
 use Rattle.mctp_control.specs.Digits.{bit_most, bit_one, digits_4, digits_64_32}
 use Rattle.mctp_control.specs.Headers.{HeaderValue, header_byte}

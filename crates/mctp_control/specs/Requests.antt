@@ -1,5 +1,5 @@
--- A request as plain numbers, and its bytes (DSP0236, sections 12.3, 12.4, 12.9 and 12.13).
-use Rattle.std.specs.Prelude.{ℕ, ◌+◌, ◌*◌, ◌<◌, Bool, List, [], ◌∷◌}
+-- A request as plain numbers, and its bytes (DSP0236, the commands of these names).
+use Rattle.std.specs.Prelude.{ℕ, ◌+◌, ◌*◌, ◌<◌, List, [], ◌∷◌}
 use Rattle.mctp_transport.specs.Wire.{Spells}
 use Rattle.mctp_control.specs.Headers.{HeaderValue, header_value, header_byte}
 use Rattle.mctp_control.specs.Numbers.{set_number, allocate_number}

@@ -1,4 +1,4 @@
--- A response as plain numbers, and its bytes (DSP0236, sections 12.3, 12.4, 12.9 and 12.13).
+-- A response as plain numbers, and its bytes (DSP0236, the commands of these names).
 use Rattle.std.specs.Prelude.{◌≡◌, ◌⊎◌, ℕ, ◌<◌, ◌≤◌, List, [], ◌∷◌, length}
 use Rattle.std.specs.List.{AllByRecursion}
 use Rattle.mctp_transport.specs.Wire.{Spells}

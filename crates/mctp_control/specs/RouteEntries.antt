@@ -1,4 +1,4 @@
--- A routing table entry as plain numbers, and its bytes (DSP0236, section 12.13).
+-- A routing table entry as plain numbers, and its bytes (DSP0236, "Get Routing Table Entries").
 use Rattle.std.specs.Prelude.{ℕ, ◌+◌, ◌*◌, ◌<◌, ◌≤◌, Bool, List, ◌∷◌, length}
 use Rattle.mctp_transport.specs.Frames.{bit}
 use Rattle.mctp_transport.specs.Wire.{Spells}

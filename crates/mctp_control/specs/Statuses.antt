@@ -1,4 +1,4 @@
--- The status bytes of responses (DSP0236, sections 12.3, 12.4 and 12.9).
+-- The status bytes of responses (DSP0236, "Set Endpoint ID", "Get Endpoint ID", "Allocate Endpoint IDs").
 use Rattle.std.specs.Prelude.{ℕ, ◌+◌, ◌*◌, ◌<◌}
 use Rattle.mctp_control.specs.Numbers.{acceptance_number, allocation_number, endpoint_number, eid_type_number}
 use Rattle.mctp_control.specs.declared.statuses.SetStatus.{SetStatus}

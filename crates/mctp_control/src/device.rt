@@ -1,20 +1,17 @@
 //! Devices, and how they answer requests.
-ghost use Rattle.std.specs.Prelude.{◌≡◌, ◌<◌, ◌≤◌, ◌==◌, ◌∷◌, if◌then◌else◌, ℕ, List, length};
-ghost use Rattle.mctp_control.specs.EntryLists.{entries_bytes, values_of};
-ghost use Rattle.mctp_control.specs.Replies.{EntriesReplies, IsMost, reply_bytes};
+ghost use Rattle.std.specs.Prelude.{◌≡◌, ◌<◌, ◌≤◌, ℕ, List, length};
+ghost use Rattle.mctp_control.specs.EntryLists.{values_of};
+ghost use Rattle.mctp_control.specs.Replies.{reply_bytes};
 ghost use Rattle.mctp_control.specs.Outcomes.{content_of};
 
-use crate::control_error::ControlError;
 use crate::eid_range::EidRange;
-use crate::entries::{MAX_ENTRY_BYTES, byte_count, put_entries};
 use crate::operations::{AllocateOperation, SetOperation};
+use crate::replies::{MAX_BODY, Refusal, concluded, framed, tell_entries};
 use crate::request::{Command, Request};
 use crate::route_entry::RouteEntry;
+use crate::statuses::{Acceptance, Allocation, EndpointType};
 use arrayvec::ArrayVec;
 use mctp_transport::{Eid, Wire};
-
-/// The most bytes of a control message.
-pub const MAX_BODY: usize = 64;
 
 /// What a device is.
 #[derive(Clone, Copy, Debug, PartialEq, Eq)]
@@ -47,18 +44,10 @@ pub struct Device {
     pool: Option<HeldPool>,
 }
 
-/// A completion code other than success.
-#[derive(Clone, Copy, Debug, PartialEq, Eq)]
-enum Refusal {
-    InvalidData = 2,
-    InvalidLength = 3,
-    UnsupportedCommand = 5,
-}
-
 impl Device {
     ghost use Rattle.std.specs.Prelude.{◌↔◌, ◌∷◌, ◌<◌, ℕ, List, [], length, slice_index, IsTrue, Some, IsSomeAnd, option_map};
     ghost use Rattle.mctp_transport.specs.Frames.{IsAssignable};
-    ghost use Rattle.mctp_control.specs.Numbers.{set_number, allocate_number};
+    ghost use Rattle.mctp_control.specs.Numbers.{set_number, allocate_number, allocation_number};
     ghost use Rattle.mctp_control.specs.Requests.{command_value};
     ghost use Rattle.mctp_control.specs.Devices.{device_value, configured_pool, size_of, present_eid, present_size, present_first, MayGiveEid, MayGivePool, allocation_of, pool_wanted, endpoint_type};
     ghost use Rattle.mctp_control.specs.Replies.{Replies, SetReplies, GetReplies, AllocateReplies, CommandReplies, Supports};
@@ -128,15 +117,14 @@ impl Device {
         }
     }
 
-    /// The allocation status of Set Endpoint ID: 0, 1 or 2.
-    fn allocation(&self) -> u8
-        ensures value { result ≡ allocation_of (pool_wanted self.now.kind self.now.wants) (device_value self.now).pool }
-        ensures most { result ≤ 2 }
+    /// The allocation status of Set Endpoint ID.
+    fn allocation(&self) -> Allocation
+        ensures { allocation_number result ≡ allocation_of (pool_wanted self.now.kind self.now.wants) (device_value self.now).pool }
     {
         match (self.pool_wanted(), self.pool) {
-            (0, _) => 0,
-            (_, None) => 1,
-            (_, Some(_)) => 2,
+            (0, _) => Allocation::NoPool,
+            (_, None) => Allocation::Required,
+            (_, Some(_)) => Allocation::Received,
         }
     }
 
@@ -193,17 +181,14 @@ impl Device {
             }
         };
         if !accepted {
-            return Ok([
-                16 + self.allocation(),
-                self.present_eid(),
-                self.pool_wanted(),
-            ]);
+            let status = 16 * (Acceptance::Rejected as u8) + self.allocation() as u8;
+            return Ok([status, self.present_eid(), self.pool_wanted()]);
         }
         self.eid = Some(HeldEid {
             eid,
             giver: Some(bus),
         });
-        Ok([self.allocation(), eid.value, self.pool_wanted()])
+        Ok([self.allocation() as u8, eid.value, self.pool_wanted()])
     }
 
     /// Get Endpoint ID.
@@ -211,10 +196,10 @@ impl Device {
         ensures { 0 ∷ result ≡ 0 ∷ present_eid (device_value self.now).eid ∷ endpoint_type self.now.kind ∷ 0 ∷ [] }
     {
         let endpoint_type = match self.kind {
-            DeviceKind::Endpoint => 0x00,
-            DeviceKind::Bridge => 0x10,
+            DeviceKind::Endpoint => EndpointType::Simple,
+            DeviceKind::Bridge => EndpointType::Bridge,
         };
-        [self.present_eid(), endpoint_type, 0]
+        [self.present_eid(), 16 * (endpoint_type as u8), 0]
     }
 
     /// Allocate Endpoint IDs.
@@ -231,18 +216,20 @@ impl Device {
         let force = match operation {
             AllocateOperation::Allocate => false,
             AllocateOperation::Force => true,
-            AllocateOperation::GetInformation => return Ok([0, held_size, held_first]),
+            AllocateOperation::GetInformation => {
+                return Ok([Acceptance::Accepted as u8, held_size, held_first]);
+            }
             AllocateOperation::Reserved => return Err(Refusal::InvalidData),
         };
         let range = EidRange::of(first, size).ok_or(Refusal::InvalidData)?;
         if !force && !self.may_give_pool(bus) {
-            return Ok([1, held_size, held_first]);
+            return Ok([Acceptance::Rejected as u8, held_size, held_first]);
         }
         self.pool = Some(HeldPool {
             range,
             giver: Some(bus),
         });
-        Ok([0, size, first.value])
+        Ok([Acceptance::Accepted as u8, size, first.value])
     }
 
     /// Whether the device knows the command.
@@ -312,82 +299,4 @@ impl Device {
             Command::GetRoutingTableEntries { handle } => tell_entries(body, table, handle),
         }
     }
-}
-
-/// A reply to the body: instance ID and command repeated, then the completion code and what follows it.
-fn framed(body: &[u8], content: &[u8]) -> ArrayVec<u8, MAX_BODY>
-    requires body { 3 ≤ length body.now }
-    requires content { length content.now ≤ 61 }
-    ensures { result.items ≡ reply_bytes body.now content.now }
-{
-    let mut reply = ArrayVec::new();
-    reply.push(0);
-    reply.push(body[1] % 32);
-    reply.push(body[2]);
-    let _ = reply.try_extend_from_slice(content);
-    reply
-}
-
-/// A reply to the body with success and three bytes, or with another code alone.
-fn concluded(body: &[u8], outcome: Result<[u8; 3], Refusal>) -> ArrayVec<u8, MAX_BODY>
-    requires { 3 ≤ length body.now }
-    ensures { result.items ≡ reply_bytes body.now (content_of outcome) }
-{
-    match outcome {
-        Ok(data) => framed(body, &[0, data[0], data[1], data[2]]),
-        Err(refusal) => framed(body, &[refusal as u8]),
-    }
-}
-
-/// A reply to the body with the entries from the handle on, as many as fit.
-fn tell_entries(body: &[u8], table: &[RouteEntry], handle: u8) -> ArrayVec<u8, MAX_BODY>
-    requires body { 3 ≤ length body.now }
-    requires table { length table.now < 255 }
-    ensures { (content : List ℕ) × (result.items ≡ reply_bytes body.now content) × EntriesReplies (values_of table.now) handle content }
-{
-    let start = handle as usize;
-    if handle != 0 && start >= table.len() {
-        return framed(body, &[Refusal::InvalidData as u8]);
-    }
-    let entries = &table[start..];
-    let count = fitting(entries);
-    let next = handle_after(table.len(), start + count);
-    told(body, next, &entries[..count])
-}
-
-/// The entry handle for the entries from the index on: 0xFF where there are no more.
-fn handle_after(count: usize, index: usize) -> u8
-    requires { index < 255 }
-    ensures { result ≡ (if index == count then 255 else index) }
-{
-    if index == count { 0xff } else { index as u8 }
-}
-
-/// A reply to the body with the next entry handle and these entries.
-fn told(body: &[u8], next: u8, entries: &[RouteEntry]) -> ArrayVec<u8, MAX_BODY>
-    requires body { 3 ≤ length body.now }
-    requires few { length entries.now ≤ 9 }
-    requires fit { length (entries_bytes (values_of entries.now)) ≤ 58 }
-    ensures { result.items ≡ reply_bytes body.now (0 ∷ next ∷ length entries.now ∷ entries_bytes (values_of entries.now)) }
-{
-    let mut content = [0; 3 + MAX_ENTRY_BYTES];
-    content[1] = next;
-    content[2] = entries.len() as u8;
-    put_entries(entries, &mut content[3..]);
-    framed(body, &content[..3 + byte_count(entries)])
-}
-
-/// How many of the entries fit one response.
-fn fitting(entries: &[RouteEntry]) -> usize
-    ensures most { IsMost (values_of entries.now) result }
-    ensures few { result ≤ 9 }
-{
-    let mut bytes = 0;
-    for (count, entry) in entries.iter().enumerate() {
-        bytes += entry.len();
-        if bytes > MAX_ENTRY_BYTES {
-            return count;
-        }
-    }
-    entries.len()
 }

@@ -1,4 +1,4 @@
-//! What requests and responses have in common (DSP0236, section 12.2).
+//! What requests and responses have in common (DSP0236, "MCTP control message format").
 ghost use Rattle.std.specs.Prelude.{◌≡◌, ◌<◌};
 
 /// An instance ID, 0 to 31: a response repeats that of its request.

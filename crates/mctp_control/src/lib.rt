@@ -1,4 +1,4 @@
-//! MCTP control messages (DSP0236, section 12): the four commands that give out endpoint IDs and routes, the devices
+//! MCTP control messages (DSP0236, "MCTP control messages"): the four commands that give out endpoint IDs and routes, the devices
 //! that answer them, and pools of endpoint IDs.
 #![tactic(auto)]
 
@@ -8,19 +8,23 @@ mod eid_pool;
 mod eid_range;
 mod entries;
 mod header;
+mod laws;
 mod operations;
+mod replies;
 mod request;
 mod response;
 mod route_entry;
 mod statuses;
 
 pub use control_error::ControlError;
-pub use device::{Device, DeviceKind, MAX_BODY};
+pub use device::{Device, DeviceKind};
 pub use eid_pool::EidPool;
 pub use eid_range::EidRange;
 pub use entries::{Entries, MAX_ENTRIES, MAX_ENTRY_BYTES};
 pub use header::{ControlHeader, InstanceId};
+pub use laws::one_reply;
 pub use operations::{AllocateOperation, Reserved, SetOperation};
+pub use replies::MAX_BODY;
 pub use request::{Command, Request};
 pub use response::{Answer, CommandNumber, Failure, Response};
 pub use route_entry::{EntryKind, MAX_ADDRESS, Port, RouteEntry};
@@ -28,3 +32,6 @@ pub use statuses::{
     Acceptance, Allocation, EidType, EndpointStatus, EndpointType, PoolStatus, ReservedPair,
     SetStatus,
 };
+
+#[cfg(test)]
+mod tests;

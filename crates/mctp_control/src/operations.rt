@@ -1,7 +1,7 @@
-//! The operations of requests: the first byte after the command.
+//! The operations of requests (DSP0236, "Set Endpoint ID" and "Allocate Endpoint IDs"): the first byte after the command.
 ghost use Rattle.std.specs.Prelude.{◌≡◌, ◌<◌};
 
-/// What Set Endpoint ID does: bits 1 and 0 of its first byte (DSP0236, section 12.3).
+/// What Set Endpoint ID does: bits 1 and 0 of its first byte.
 #[derive(Clone, Copy, Debug, PartialEq, Eq)]
 pub enum SetOperation {
     /// 0: takes the EID where none is held or the same bus gave it.
@@ -30,7 +30,7 @@ impl SetOperation {
     }
 }
 
-/// What Allocate Endpoint IDs does: bits 1 and 0 of its first byte (DSP0236, section 12.9).
+/// What Allocate Endpoint IDs does: bits 1 and 0 of its first byte.
 #[derive(Clone, Copy, Debug, PartialEq, Eq)]
 pub enum AllocateOperation {
     /// 0: takes the pool where none is held or the same bus gave it.

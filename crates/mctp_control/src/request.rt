@@ -6,18 +6,18 @@ use crate::header::ControlHeader;
 use crate::operations::{AllocateOperation, Reserved, SetOperation};
 use mctp_transport::{Eid, Wire};
 
-/// What is asked, with its data.
+/// What is asked, with its data (DSP0236, the command of the same name).
 #[derive(Clone, Copy, Debug, PartialEq, Eq)]
 pub enum Command {
-    /// 0x01: give the device an EID (DSP0236, section 12.3). Two bytes: the operation, the EID.
+    /// 0x01: give the device an EID. Two bytes: the operation, the EID.
     SetEndpointId {
         operation: SetOperation,
         reserved: Reserved,
         eid: Eid,
     },
-    /// 0x02: tell the EID and the kind of the device (DSP0236, section 12.4). No bytes.
+    /// 0x02: tell the EID and the kind of the device. No bytes.
     GetEndpointId,
-    /// 0x08: give a bridge its pool of EIDs (DSP0236, section 12.9). Three bytes: the operation, the number of EIDs,
+    /// 0x08: give a bridge its pool of EIDs. Three bytes: the operation, the number of EIDs,
     /// the first EID.
     AllocateEndpointIds {
         operation: AllocateOperation,
@@ -25,7 +25,7 @@ pub enum Command {
         size: u8,
         first: Eid,
     },
-    /// 0x0A: tell the entries of the routing table from this one on (DSP0236, section 12.13). One byte: the entry
+    /// 0x0A: tell the entries of the routing table from this one on. One byte: the entry
     /// handle, 0 for the first.
     GetRoutingTableEntries {
         handle: u8,

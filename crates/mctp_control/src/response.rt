@@ -36,7 +36,7 @@ impl CommandNumber {
     }
 }
 
-/// A completion code other than 0x00, which is success (DSP0236, section 12.2): 0x01 error, 0x02 invalid data, 0x03
+/// A completion code other than 0x00, which is success (DSP0236, "MCTP control message completion codes"): 0x01 error, 0x02 invalid data, 0x03
 /// invalid length, 0x04 not ready, 0x05 unsupported command, and others.
 #[derive(Clone, Copy, Debug, PartialEq, Eq)]
 pub struct Failure {
@@ -155,6 +155,7 @@ impl Answer {
         ensures lawful { IsAnswer (answer_value self.now) }
         ensures count { result ≡ length (answer_bytes (answer_value self.now)) }
     {
+        // What is read here is known to be a byte.
         match self {
             Answer::SetEndpointId { size, .. } => {
                 let _size = *size;

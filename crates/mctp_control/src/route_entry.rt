@@ -1,4 +1,4 @@
-//! An entry of a routing table, as Get Routing Table Entries gives it (DSP0236, section 12.13).
+//! An entry of a routing table, as Get Routing Table Entries gives it (DSP0236, "Get Routing Table Entries").
 ghost use Rattle.std.specs.Prelude.{◌≡◌, ◌<◌};
 
 use crate::control_error::ControlError;
@@ -142,6 +142,11 @@ impl<'a> Wire<'a> for RouteEntry {
 }
 
 impl Default for RouteEntry {
+    ghost use Rattle.std.specs.Prelude.{false, []};
+    ghost use Rattle.mctp_control.specs.RouteEntries.{entry_value};
+
+    ghost is_default = { λ e. entry_value e ≡ record { size = 0; first = 0; kind = 0; fixed = false; port = 0; binding = 0; media = 0; address = [] } };
+
     /// An entry of no EIDs.
     fn default() -> Self {
         RouteEntry {

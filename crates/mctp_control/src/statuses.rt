@@ -1,4 +1,4 @@
-//! The statuses in responses.
+//! The statuses in responses (DSP0236, "Set Endpoint ID", "Get Endpoint ID", "Allocate Endpoint IDs").
 ghost use Rattle.std.specs.Prelude.{◌≡◌, ◌<◌};
 
 use crate::operations::Reserved;
@@ -32,7 +32,7 @@ impl Acceptance {
     }
 }
 
-/// Whether a device wants a pool of EIDs (DSP0236, section 12.3).
+/// Whether a device wants a pool of EIDs.
 #[derive(Clone, Copy, Debug, PartialEq, Eq)]
 pub enum Allocation {
     /// 0: it uses none.
@@ -61,7 +61,7 @@ impl Allocation {
     }
 }
 
-/// What a device is (DSP0236, section 12.4).
+/// What a device is.
 #[derive(Clone, Copy, Debug, PartialEq, Eq)]
 pub enum EndpointType {
     /// 0: an endpoint and no more.
@@ -90,7 +90,7 @@ impl EndpointType {
     }
 }
 
-/// Where a device's EID is from (DSP0236, section 12.4).
+/// Where a device's EID is from.
 #[derive(Clone, Copy, Debug, PartialEq, Eq)]
 pub enum EidType {
     /// 0: it is given.

@@ -1,9 +1,9 @@
-use Rattle.std.proofs.Common.{inl, inr, arith, drop, length}
+use Rattle.std.proofs.Common.{inl, inr, arith, drop}
 use Rattle.std.proofs.lemmas.List.{take-map}
 use Rattle.mctp_control.specs.EntryLists.{values_of}
 use Rattle.mctp_control.specs.Replies.{IsMost}
 use Rattle.mctp_control.proofs.EntryFitting.{rest_of, is_told}
-use Rattle.mctp_control.proofs.device.tell_entries.Goals as goal
+use Rattle.mctp_control.proofs.replies.tell_entries.Goals as goal
 
 -- the count is the most that fit of the entries from the handle on
 most_of : (c : goal.After-handle_after-next) → IsMost (values_of (drop c.args.handle c.args.table.now)) c.fitting-count.result

@@ -1,0 +1,99 @@
+//! The bytes of a device's replies.
+ghost use Rattle.std.specs.Prelude.{◌≡◌, ◌<◌, ◌≤◌, ◌==◌, ◌∷◌, if◌then◌else◌, ℕ, List, length};
+ghost use Rattle.mctp_control.specs.EntryLists.{entries_bytes, values_of};
+ghost use Rattle.mctp_control.specs.Replies.{EntriesReplies, IsMost, reply_bytes};
+ghost use Rattle.mctp_control.specs.Outcomes.{content_of};
+
+use crate::entries::{MAX_ENTRY_BYTES, byte_count, put_entries};
+use crate::route_entry::RouteEntry;
+use arrayvec::ArrayVec;
+use mctp_transport::Wire;
+
+/// The most bytes of a control message.
+pub const MAX_BODY: usize = 64;
+
+/// A completion code other than success.
+#[derive(Clone, Copy, Debug, PartialEq, Eq)]
+pub(crate) enum Refusal {
+    InvalidData = 2,
+    InvalidLength = 3,
+    UnsupportedCommand = 5,
+}
+
+/// A reply to the body: instance ID and command repeated, then the completion code and what follows it.
+pub(crate) fn framed(body: &[u8], content: &[u8]) -> ArrayVec<u8, MAX_BODY>
+    requires body { 3 ≤ length body.now }
+    requires content { length content.now ≤ 61 }
+    ensures { result.items ≡ reply_bytes body.now content.now }
+{
+    let mut reply = ArrayVec::new();
+    reply.push(0);
+    reply.push(body[1] % 32);
+    reply.push(body[2]);
+    let _ = reply.try_extend_from_slice(content);
+    reply
+}
+
+/// A reply to the body with success and three bytes, or with another code alone.
+pub(crate) fn concluded(body: &[u8], outcome: Result<[u8; 3], Refusal>) -> ArrayVec<u8, MAX_BODY>
+    requires { 3 ≤ length body.now }
+    ensures { result.items ≡ reply_bytes body.now (content_of outcome) }
+{
+    match outcome {
+        Ok(data) => framed(body, &[0, data[0], data[1], data[2]]),
+        Err(refusal) => framed(body, &[refusal as u8]),
+    }
+}
+
+/// A reply to the body with the entries from the handle on, as many as fit.
+pub(crate) fn tell_entries(body: &[u8], table: &[RouteEntry], handle: u8) -> ArrayVec<u8, MAX_BODY>
+    requires body { 3 ≤ length body.now }
+    requires table { length table.now < 255 }
+    ensures { (content : List ℕ) × (result.items ≡ reply_bytes body.now content) × EntriesReplies (values_of table.now) handle content }
+{
+    let start = handle as usize;
+    if handle != 0 && start >= table.len() {
+        return framed(body, &[Refusal::InvalidData as u8]);
+    }
+    let entries = &table[start..];
+    let count = fitting(entries);
+    let next = handle_after(table.len(), start + count);
+    told(body, next, &entries[..count])
+}
+
+/// The entry handle for the entries from the index on: 0xFF where there are no more.
+fn handle_after(count: usize, index: usize) -> u8
+    requires { index < 255 }
+    ensures { result ≡ (if index == count then 255 else index) }
+{
+    if index == count { 0xff } else { index as u8 }
+}
+
+/// A reply to the body with the next entry handle and these entries.
+fn told(body: &[u8], next: u8, entries: &[RouteEntry]) -> ArrayVec<u8, MAX_BODY>
+    requires body { 3 ≤ length body.now }
+    requires few { length entries.now ≤ 9 }
+    requires fit { length (entries_bytes (values_of entries.now)) ≤ 58 }
+    ensures { result.items ≡ reply_bytes body.now (0 ∷ next ∷ length entries.now ∷ entries_bytes (values_of entries.now)) }
+{
+    let mut content = [0; 3 + MAX_ENTRY_BYTES];
+    content[1] = next;
+    content[2] = entries.len() as u8;
+    put_entries(entries, &mut content[3..]);
+    framed(body, &content[..3 + byte_count(entries)])
+}
+
+/// How many of the entries fit one response.
+fn fitting(entries: &[RouteEntry]) -> usize
+    ensures most { IsMost (values_of entries.now) result }
+    ensures few { result ≤ 9 }
+{
+    let mut bytes = 0;
+    for (count, entry) in entries.iter().enumerate() {
+        bytes += entry.len();
+        if bytes > MAX_ENTRY_BYTES {
+            return count;
+        }
+    }
+    entries.len()
+}
