@@ -26,10 +26,10 @@ use Rattle.pdr_repository.specs.Answers.{IsAsked, reply_header, known_types, req
 use Rattle.net_check.proofs.Deciding.{OrNot, both_or_not, implied_or_not, not_or_not, same_or_not, less_or_not, at_most_or_not}
 
 -- each number is a byte
-abbrev EachByte : List ℕ → Type 0
+abbrev pub EachByte : List ℕ → Type 0
 EachByte bytes = AllByRecursion (λ b. b < 256) bytes
 
-each_byte : (bytes : List ℕ) → AreBytes bytes → EachByte bytes
+pub each_byte : (bytes : List ℕ) → AreBytes bytes → EachByte bytes
 each_byte [] all = tt
 each_byte (b ∷ bytes) all = (All-head (λ n. n < 256) b bytes all, each_byte bytes (All-tail (λ n. n < 256) b bytes all))
 
@@ -148,10 +148,10 @@ meant_or_not records handle = elim (same_or_not handle 0) [
         inl (0, e, record { stands = subst R (sym is) refl; first = λ _. refl; named = λ named. absurd (named zeroth) })
 
 -- records of bytes
-abbrev RecordsOfBytes : List Entry → Type 0
+abbrev pub RecordsOfBytes : List Entry → Type 0
 RecordsOfBytes records = (place : ℕ) (e : Entry) → slice_get records place ≡ Some e → EachByte e.bytes
 
-records_of_bytes : (records : List Entry) → All (λ e. AreBytes e.bytes) records → RecordsOfBytes records
+pub records_of_bytes : (records : List Entry) → All (λ e. AreBytes e.bytes) records → RecordsOfBytes records
 records_of_bytes [] all place e is = absurd (none-some e is)
 records_of_bytes (r ∷ rs) all zero e is =
     let P : Entry → Type 0 = λ x. EachByte x.bytes in
@@ -299,7 +299,7 @@ asked_or_not (a ∷ b ∷ c ∷ d ∷ rest) =
         let byte : b ≡ 64 * 2 + 32 * bit h.reserved + h.instance = second ∙ rw kind refl in
         (first, (omega arith, (omega arith, omega arith)))
 
-bytes_drop : (n : ℕ) (bytes : List ℕ) → EachByte bytes → EachByte (drop n bytes)
+pub bytes_drop : (n : ℕ) (bytes : List ℕ) → EachByte bytes → EachByte (drop n bytes)
 bytes_drop zero bytes all = all
 bytes_drop (suc n) [] all = all
 bytes_drop (suc n) (b ∷ bytes) all = bytes_drop n bytes all.1

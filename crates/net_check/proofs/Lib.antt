@@ -29,5 +29,7 @@ pub mod Exact
 pub mod Sends
 pub mod Sent
 pub mod Answering
+pub mod AnswerBytes
 pub mod Steps
+pub mod ByteRuns
 pub mod Asked

@@ -70,17 +70,17 @@ pub record IsWithin (w v : NetworkState) : Type 0 where
   pub histories : (n : ℕ) → v.history n ≡ w.history n
   pub made : w.made ≤ v.made
 
-itself_is_within : (w : NetworkState) → IsWithin w w
+pub itself_is_within : (w : NetworkState) → IsWithin w w
 itself_is_within w = record { flights = λ number f is. is; histories = λ n. refl; made = omega arith }
 
-without_is_within : (w : NetworkState) (number : ℕ) → IsWithin w (without_flight w number)
+pub without_is_within : (w : NetworkState) (number : ℕ) → IsWithin w (without_flight w number)
 without_is_within w number = record {
   flights = λ k f is. not_ended (eqb k number) f (w.flight k) is;
   histories = λ n. refl;
   made = omega arith;
 }
 
-made_is_within : (w : NetworkState) → IsWithin w (with_made w (w.made + 1))
+pub made_is_within : (w : NetworkState) → IsWithin w (with_made w (w.made + 1))
 made_is_within w = record { flights = λ k f is. is; histories = λ n. refl; made = omega arith }
 
 within_numbers : (w v : NetworkState) → IsWithin w v → IsNumbered w → IsNumbered v
@@ -105,7 +105,7 @@ received_same v node key Held = record { flight = refl; made = refl; history = r
 received_same v node key (Dropped why) = record { flight = refl; made = refl; history = refl }
 
 module _ (plan : Plan) (w : NetworkState) (puts : Frame → Type 0) where
-  same_is_next : (v u : NetworkState) → SameFlights v u → IsNext plan w puts v → IsNext plan w puts u
+  pub same_is_next : (v u : NetworkState) → SameFlights v u → IsNext plan w puts v → IsNext plan w puts u
   same_is_next v u same next =
       let F : (ℕ → Option Flight) → Type 0 = λ flight. (number : ℕ) (g : Flight) → flight number ≡ Some g → IsThere w g ⊎ (HasMoved plan w g ⊎ IsNew puts g) in
       let H : (ℕ → List Input) → Type 0 = λ history. (n : ℕ) → (history n ≡ w.history n) ⊎ ((i : Input) × (history n ≡ after (w.history n) i) × MayBeGiven plan w n i) in
@@ -118,7 +118,7 @@ module _ (plan : Plan) (w : NetworkState) (puts : Frame → Type 0) where
         made = let h = next.made in omega (arith, same.made);
       }
 
-  within_is_next : (v : NetworkState) → IsWithin w v → IsNext plan w puts v
+  pub within_is_next : (v : NetworkState) → IsWithin w v → IsNext plan w puts v
   within_is_next v within = record {
     flights = λ number f is. inl (number, within.flights number f is);
     given = λ n. inl (within.histories n);
@@ -126,7 +126,7 @@ module _ (plan : Plan) (w : NetworkState) (puts : Frame → Type 0) where
     made = within.made;
   }
 
-  input_is_next : (v : NetworkState) (n : ℕ) (i : Input) → IsWithin w v → MayBeGiven plan w n i → IsNext plan w puts (with_input v n i)
+  pub input_is_next : (v : NetworkState) (n : ℕ) (i : Input) → IsWithin w v → MayBeGiven plan w n i → IsNext plan w puts (with_input v n i)
   input_is_next v n i within may = record {
     flights = λ number f is. inl (number, within.flights number f is);
     given = λ m.
@@ -154,7 +154,7 @@ module _ (plan : Plan) (w : NetworkState) (puts : Frame → Type 0) where
   }
 
   -- moving a flight
-  moves_is_next : (v : NetworkState) (k : ℕ) (f : Flight) (outcome : OutcomeValue) (new : NetworkState) → IsWithin w v → IsThere w f → (IsNumbered w → k ≤ v.made)
+  pub moves_is_next : (v : NetworkState) (k : ℕ) (f : Flight) (outcome : OutcomeValue) (new : NetworkState) → IsWithin w v → IsThere w f → (IsNumbered w → k ≤ v.made)
       → Moves plan v k f outcome new → IsNext plan w puts new
   moves_is_next v k f (Entered j node key answer) new within there small (Here, holds, (number, at, whose, hears, is)) =
       let P : NetworkState → Type 0 = IsNext plan w puts in
@@ -181,7 +181,7 @@ module _ (plan : Plan) (w : NetworkState) (puts : Frame → Type 0) where
     pub numbers : IsNumbered w → IsNumbered v
     pub made : w.made ≤ v.made
 
-  none_is_put : (v : NetworkState) → SameFlights w v → IsPutInto v
+  pub none_is_put : (v : NetworkState) → SameFlights w v → IsPutInto v
   none_is_put v same = record {
     flights = λ number f is. inl (number, ap (λ flight. flight number) (sym same.flight) ∙ is);
     histories = λ n. ap (λ history. history n) same.history;
@@ -190,7 +190,7 @@ module _ (plan : Plan) (w : NetworkState) (puts : Frame → Type 0) where
     made = omega (arith, same.made);
   }
 
-  one_is_put : (v : NetworkState) (node : ℕ) (p : Frame) → IsPutInto v → puts p → IsPutInto (with_packet v node p)
+  pub one_is_put : (v : NetworkState) (node : ℕ) (p : Frame) → IsPutInto v → puts p → IsPutInto (with_packet v node p)
   one_is_put v node p into put = record {
     flights = λ number g is. elim (changed_or_older (v.made + 1) number (new_flight node p) g (v.flight number) is) [
       | inl (same, _) ↦ inr (record { node = node; packet = p; put = put; is = sym same })
@@ -204,11 +204,11 @@ module _ (plan : Plan) (w : NetworkState) (puts : Frame → Type 0) where
     made = let h = into.made in omega arith;
   }
 
-  all_are_put : (v : NetworkState) (node : ℕ) (ps : List Frame) → IsPutInto v → AllByRecursion puts ps → IsPutInto (with_packets v node ps)
+  pub all_are_put : (v : NetworkState) (node : ℕ) (ps : List Frame) → IsPutInto v → AllByRecursion puts ps → IsPutInto (with_packets v node ps)
   all_are_put v node [] into all = into
   all_are_put v node (p ∷ ps) into all = all_are_put (with_packet v node p) node ps (one_is_put v node p into all.0) all.1
 
-  put_is_next : (v : NetworkState) → IsPutInto v → IsNext plan w puts v
+  pub put_is_next : (v : NetworkState) → IsPutInto v → IsNext plan w puts v
   put_is_next v into = record {
     flights = λ number f is. elim (into.flights number f is) [ inl there ↦ inl there | inr new ↦ inr (inr new) ];
     given = λ n. inl (into.histories n);

@@ -29,7 +29,7 @@ with_terminus_keeps P w node o kept changed n t is = elim (eqb_tells n node) [
   | inr other ↦ kept n t (rw other.0 at is)
 ]
 
-mapped : (o : Option TerminusState) (m : WaitingMessage) (t : TerminusState) → option_map (λ x. with_waiting x m) o ≡ Some t → (x : TerminusState) × (o ≡ Some x) × (with_waiting x m ≡ t)
+pub mapped : (o : Option TerminusState) (m : WaitingMessage) (t : TerminusState) → option_map (λ x. with_waiting x m) o ≡ Some t → (x : TerminusState) × (o ≡ Some x) × (with_waiting x m ≡ t)
 mapped None m t is = absurd (cc)
 mapped (Some x) m t is = (x, refl, same_Some (with_waiting x m) t is)
 

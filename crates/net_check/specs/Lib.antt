@@ -23,6 +23,7 @@ pub mod Headline
 pub mod Deliveries
 pub mod ExactMessages
 pub mod Requests
+pub mod ByteRuns
 -- certificates made
 pub mod Circles
 pub mod RoutingLoops

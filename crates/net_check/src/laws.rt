@@ -11,6 +11,7 @@ ghost use Rattle.net_check.specs.Events.{EventValue};
 ghost use Rattle.net_check.specs.Networks.{GoesOn};
 ghost use Rattle.net_check.specs.Headline.{Headline};
 ghost use Rattle.net_check.specs.Deliveries.{HeldAreLedOn, Delivers};
+ghost use Rattle.net_check.specs.ByteRuns.{RunsGoOn};
 ghost use Rattle.net_check.specs.Requests.{RequestsCanBeAnswered};
 ghost use Rattle.net_check.specs.ExactMessages.{TellsWhatComes, CanBeSent, SixAreTooMany};
 
@@ -19,6 +20,11 @@ ghost use Rattle.net_check.specs.ExactMessages.{TellsWhatComes, CanBeSent, SixAr
 pub fn never_stuck()
     ensures { (plan : Plan) (w : NetworkState) (event : EventValue)
         → ((n : ℕ) (t : TerminusState) → w.terminus n ≡ Some t → HoldsBytes t) → GoesOn plan w event }
+{}
+
+/// Each run in which bytes are put in goes on, whatever the event.
+pub fn runs_go_on()
+    ensures { (plan : Plan) (cert : Certificate) → RunsGoOn plan cert }
 {}
 
 /// Where each row leads on what is held elsewhere, a flight whose destination is held is never stopped, and enters

@@ -23,7 +23,7 @@ pub use checked::{Checked, check};
 pub use fault::Fault;
 pub use laws::{
     headline_holds, held_is_delivered, messages_can_be_sent, never_stuck, requests_can_be_answered,
-    six_are_too_many, what_comes_is_told,
+    runs_go_on, six_are_too_many, what_comes_is_told,
 };
 pub use rule::Rule;
 
