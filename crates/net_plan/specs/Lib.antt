@@ -22,3 +22,4 @@ pub mod EventReading
 pub mod EventText
 pub mod Refusals
 pub mod Unread
+pub mod CertificateJson
