@@ -13,3 +13,4 @@ pub mod CertificateLaw
 pub mod EventLaw
 pub mod Refusing
 pub mod WrittenJson
+pub mod LineEnd

@@ -23,3 +23,4 @@ pub mod EventText
 pub mod Refusals
 pub mod Unread
 pub mod CertificateJson
+pub mod WellFormed
