@@ -12,3 +12,5 @@ pub mod OneEach
 pub mod CertificateLaw
 pub mod EventLaw
 pub mod Refusing
+pub mod WrittenJson
+pub mod LineEnd

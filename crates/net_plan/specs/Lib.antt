@@ -22,3 +22,5 @@ pub mod EventReading
 pub mod EventText
 pub mod Refusals
 pub mod Unread
+pub mod CertificateJson
+pub mod WellFormed

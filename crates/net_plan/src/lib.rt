@@ -2,6 +2,7 @@
 #![tactic(auto)]
 
 mod certificate;
+mod certificate_json;
 mod certificate_text;
 mod error;
 mod event;
@@ -21,6 +22,7 @@ mod terminus_text;
 #[cfg(test)]
 mod tests;
 mod words;
+mod writing;
 
 pub use certificate::{Certificate, NodeLevel, NodePlaces, NodeRanks, RankRange, RecordPlace};
 pub use error::PlanError;
@@ -34,3 +36,4 @@ pub use reading::{
 };
 pub use stream::{Counted, Failed, Sink, Source, TextFault, read_within, write_whole};
 pub use terminus::{Record, Terminus};
+pub use writing::{text_of_certificate, write_certificate};

@@ -12,3 +12,4 @@ pub mod Following
 pub mod Telling
 pub mod LawfulLists
 pub mod Meeting
+pub mod OneAnswers

@@ -3,7 +3,7 @@ use Rattle.std.specs.Prelude.{◌≡◌, ◌≢◌, ℕ, ◌+◌, ◌<◌, ◌�
 use Rattle.pdr_repository.specs.Crc.{IsCrc}
 use Rattle.pldm_message.specs.First.{First}
 use Rattle.pldm_message.specs.Pdrs.{PartRequest, Part}
-use Rattle.pdr_repository.specs.Records.{Entry, IsMeant, Means, change_in, handle_at}
+use Rattle.pdr_repository.specs.Records.{Entry, IsLawful, IsMeant, Means, change_in, handle_at}
 
 -- an answer is a part, or a completion code other than 0
 abbrev pub PartAnswer : Type 0
@@ -44,3 +44,7 @@ AnswersPart records r a =
     (First (r.count ≡ 0) (a ≡ Err 0x02)
     (First (¬ IsMeant records r.handle) (a ≡ Err 0x82)
     ((place : ℕ) × (e : Entry) × Means records r.handle place e × AnswersFrom (handle_at records (place + 1)) e.bytes r a)))
+
+-- over a lawful list a request for a part has one answer
+abbrev pub OneAnswer : Type 0
+OneAnswer = (records : List Entry) (r : PartRequest) (a b : PartAnswer) → IsLawful records → AnswersPart records r a → AnswersPart records r b → a ≡ b

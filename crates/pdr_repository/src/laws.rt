@@ -1,12 +1,18 @@
 //! Laws of the definitions. The functions do nothing: their contracts are the laws.
 ghost use Rattle.std.specs.Prelude.{◌≡◌, ℕ, List};
 ghost use Rattle.pdr_repository.specs.Crc.{IsCrc};
+ghost use Rattle.pdr_repository.specs.Parts.{OneAnswer};
 ghost use Rattle.pdr_repository.specs.Walks.{CollectsOnce, EveryWalkCollects};
 ghost use Rattle.pdr_repository.specs.Walkers.{EveryRequestIsAnswered};
 
 /// A list of bytes has one check byte.
 pub fn one_check_byte()
     ensures { (bytes : List ℕ) (a b : ℕ) → IsCrc bytes a → IsCrc bytes b → a ≡ b }
+{}
+
+/// A request for a part of a record has one answer.
+pub fn one_answer()
+    ensures { OneAnswer }
 {}
 
 /// Exchanges collect one list of records, and have one beginning of a record under way.

@@ -14,7 +14,9 @@ mod walker;
 
 pub use crc::crc8;
 pub use lawful_list::{MAX_RECORDS, is_lawful_list};
-pub use laws::{collects_once, one_check_byte, requests_are_answered, walks_collect_all};
+pub use laws::{
+    collects_once, one_answer, one_check_byte, requests_are_answered, walks_collect_all,
+};
 pub use list_terminus::ListTerminus;
 pub use parts::MAX_PART;
 pub use terminus::{MAX_ANSWER, Terminus};

@@ -25,7 +25,7 @@ impl Read for Slow<'_> {
     }
 }
 
-fn slow(text: &str, fails_at: usize) -> Counted<Slow> {
+fn piecewise(text: &str, fails_at: usize) -> Counted<Slow> {
     Counted::new(Slow {
         rest: text.as_bytes(),
         calls: 0,
@@ -76,22 +76,22 @@ impl Write for Narrow {
 #[test]
 fn reads_one_byte_a_call_or_tells_the_failure(rt: HostRuntime) -> Result<(), Fail> {
     let alloc = rt.alloc();
-    let plan = read_plan(alloc, &mut slow(riser::PLAN, 0))?;
+    let plan = read_plan(alloc, &mut piecewise(riser::PLAN, 0))?;
     assert_eq!(rt; plan.nodes.len(), 4);
-    let certificate = read_certificate(alloc, &plan, &mut slow(riser::CERTIFICATE, 0))?;
+    let certificate = read_certificate(alloc, &plan, &mut piecewise(riser::CERTIFICATE, 0))?;
     assert_eq!(rt; certificate.ranks.len(), 4);
-    let events = read_events(alloc, &plan, &mut slow(riser::EVENTS, 0))?;
+    let events = read_events(alloc, &plan, &mut piecewise(riser::EVENTS, 0))?;
     assert_eq!(rt; events.len(), 8);
     for fails_at in [1, 2, riser::PLAN.len(), riser::PLAN.len() + 1] {
-        let read = read_plan(alloc, &mut slow(riser::PLAN, fails_at));
+        let read = read_plan(alloc, &mut piecewise(riser::PLAN, fails_at));
         assert_eq!(rt; read.err(), Some(PlanError::Device), "at {fails_at}");
     }
     for fails_at in [1, riser::CERTIFICATE.len() + 1] {
-        let read = read_certificate(alloc, &plan, &mut slow(riser::CERTIFICATE, fails_at));
+        let read = read_certificate(alloc, &plan, &mut piecewise(riser::CERTIFICATE, fails_at));
         assert_eq!(rt; read.err(), Some(PlanError::Device), "at {fails_at}");
     }
     for fails_at in [1, riser::EVENTS.len() + 1] {
-        let read = read_events(alloc, &plan, &mut slow(riser::EVENTS, fails_at));
+        let read = read_events(alloc, &plan, &mut piecewise(riser::EVENTS, fails_at));
         assert_eq!(rt; read.err(), Some(PlanError::Device), "at {fails_at}");
     }
     Ok(())

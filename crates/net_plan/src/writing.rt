@@ -1,0 +1,63 @@
+//! Certificates to texts.
+ghost use Rattle.std.specs.Prelude.{◌≡◌, ◌<◌, ◌+◌, ◌-◌, ◌^◌, ◌⊎◌, IfOk, IfErr, OnOk, Some, string_bytes};
+ghost use Rattle.std.specs.Io.KnownBytes.{Appends};
+ghost use Rattle.net_plan.specs.CertificateJson.{certificate_data, certificate_text};
+ghost use Rattle.serde_json.specs.Read.{read};
+ghost use Rattle.serde_json.specs.Written.{compact_text};
+ghost use Rattle.net_plan.specs.CertificateValues.{certificate_value};
+ghost use Rattle.net_plan.specs.PlanValues.{node_names, plan_value};
+ghost use Rattle.net_plan.specs.Stream.{AppendsBeginning};
+ghost use Rattle.net_plan.specs.TextFaults.{failed_count};
+
+use crate::certificate::Certificate;
+use crate::certificate_json::certificate_json;
+use crate::error::PlanError;
+use crate::plan::Plan;
+use crate::stream::{Sink, write_whole};
+use std::alloc::{AllocError, Global};
+
+/// The text of a certificate of a plan.
+pub fn text_of_certificate(
+    alloc: Global,
+    plan: &Plan,
+    certificate: &Certificate,
+) -> Result<String, AllocError>
+    ensures { IfOk result (λ text. string_bytes text ≡ certificate_text (node_names (plan_value plan.now).nodes) (certificate_value certificate.now)) }
+{
+    let mut text = compact_text(alloc, plan, certificate)?;
+    text.push_str("\n")?;
+    Ok(text)
+}
+
+/// The text without its line's end.
+fn compact_text(alloc: Global, plan: &Plan, certificate: &Certificate) -> Result<String, AllocError>
+    ensures text { IfOk result (λ text. string_bytes text ≡ compact_text (certificate_data (node_names (plan_value plan.now).nodes) (certificate_value certificate.now))) }
+    ensures reads_back { IfOk result (λ text. read (string_bytes text) ≡ Some (certificate_data (node_names (plan_value plan.now).nodes) (certificate_value certificate.now))) }
+{
+    certificate_json(alloc, plan.nodes.as_slice(), certificate)?.to_string(alloc)
+}
+
+/// Gives the text of a certificate of a plan to a sink. The text is made whole first, so that nothing is out where there is
+/// too little memory.
+pub fn write_certificate<S: Sink>(
+    alloc: Global,
+    plan: &Plan,
+    certificate: &Certificate,
+    sink: &mut S,
+) -> Result<(), PlanError>
+    requires { S.failures sink.old < 2 ^ 64 - 1 }
+    ensures written { OnOk result (Appends (S.contents sink.old) (S.contents sink.new)
+        (certificate_text (node_names (plan_value plan.now).nodes) (certificate_value certificate.now))) }
+    ensures no_memory { IfErr result (λ e. (e ≡ PlanError.Device) ⊎ ((e ≡ PlanError.OutOfMemory) × (sink.new ≡ sink.old))) }
+    ensures beginning { IfErr result (λ e. e ≡ PlanError.Device → AppendsBeginning (S.contents sink.old) (S.contents sink.new)
+        (certificate_text (node_names (plan_value plan.now).nodes) (certificate_value certificate.now))) }
+    ensures counts { S.failures sink.new ≡ S.failures sink.old + failed_count result }
+{
+    let Ok(text) = text_of_certificate(alloc, plan, certificate) else {
+        return Err(PlanError::OutOfMemory);
+    };
+    match write_whole(sink, text.as_str().as_bytes()) {
+        Ok(()) => Ok(()),
+        Err(_) => Err(PlanError::Device),
+    }
+}
