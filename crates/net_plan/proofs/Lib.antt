@@ -14,3 +14,4 @@ pub mod EventLaw
 pub mod Refusing
 pub mod WrittenJson
 pub mod LineEnd
+pub mod ReadsBack

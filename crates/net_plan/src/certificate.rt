@@ -13,6 +13,8 @@ pub struct RankRange {
     pub size: u8,
     pub ghost ranked: { 0 < rank },
     pub ghost some: { 0 < size },
+    pub ghost rank_within: { rank ≤ 255 },
+    pub ghost size_within: { size ≤ 255 },
     pub ghost within: { first.value + size ≤ 256 },
 }
 

@@ -36,4 +36,4 @@ pub use reading::{
 };
 pub use stream::{Counted, Failed, Sink, Source, TextFault, read_within, write_whole};
 pub use terminus::{Record, Terminus};
-pub use writing::{text_of_certificate, write_certificate};
+pub use writing::{read_back, text_of_certificate, write_certificate};

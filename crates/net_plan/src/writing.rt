@@ -1,11 +1,14 @@
 //! Certificates to texts.
-ghost use Rattle.std.specs.Prelude.{◌≡◌, ◌<◌, ◌+◌, ◌-◌, ◌^◌, ◌⊎◌, IfOk, IfErr, OnOk, Some, string_bytes};
+ghost use Rattle.std.specs.Prelude.{◌≡◌, ◌<◌, ◌+◌, ◌-◌, ◌^◌, ◌⊎◌, IfOk, IfErr, MatchResult, OnOk, Some, string_bytes};
 ghost use Rattle.std.specs.Io.KnownBytes.{Appends};
 ghost use Rattle.net_plan.specs.CertificateJson.{certificate_data, certificate_text};
 ghost use Rattle.serde_json.specs.Read.{read};
 ghost use Rattle.serde_json.specs.Written.{compact_text};
 ghost use Rattle.net_plan.specs.CertificateValues.{certificate_value};
 ghost use Rattle.net_plan.specs.PlanValues.{node_names, plan_value};
+ghost use Rattle.net_plan.specs.CertificateText.{IsCertificateOf};
+ghost use Rattle.net_plan.specs.Texts.{StandsFor};
+ghost use Rattle.net_plan.specs.WellFormed.{IsWellFormed};
 ghost use Rattle.net_plan.specs.Stream.{AppendsBeginning};
 ghost use Rattle.net_plan.specs.TextFaults.{failed_count};
 
@@ -13,6 +16,7 @@ use crate::certificate::Certificate;
 use crate::certificate_json::certificate_json;
 use crate::error::PlanError;
 use crate::plan::Plan;
+use crate::reading::certificate_of_text;
 use crate::stream::{Sink, write_whole};
 use std::alloc::{AllocError, Global};
 
@@ -22,7 +26,9 @@ pub fn text_of_certificate(
     plan: &Plan,
     certificate: &Certificate,
 ) -> Result<String, AllocError>
-    ensures { IfOk result (λ text. string_bytes text ≡ certificate_text (node_names (plan_value plan.now).nodes) (certificate_value certificate.now)) }
+    ensures text { IfOk result (λ text. string_bytes text ≡ certificate_text (node_names (plan_value plan.now).nodes) (certificate_value certificate.now)) }
+    ensures reads_back { IfOk result (λ text. IsWellFormed (plan_value plan.now) (certificate_value certificate.now)
+        → StandsFor (IsCertificateOf (plan_value plan.now)) (string_bytes text) (certificate_value certificate.now)) }
 {
     let mut text = compact_text(alloc, plan, certificate)?;
     text.push_str("\n")?;
@@ -60,4 +66,19 @@ pub fn write_certificate<S: Sink>(
         Ok(()) => Ok(()),
         Err(_) => Err(PlanError::Device),
     }
+}
+
+/// The certificate that is read of a certificate's text: itself, where it is well formed for its plan.
+pub fn read_back(
+    alloc: Global,
+    plan: &Plan,
+    certificate: &Certificate,
+) -> Result<Certificate, PlanError>
+    ensures { IsWellFormed (plan_value plan.now) (certificate_value certificate.now)
+        → MatchResult result (λ back. certificate_value back ≡ certificate_value certificate.now) (λ e. (e ≡ PlanError.OutOfMemory) ⊎ (e ≡ PlanError.OverLimit)) }
+{
+    let Ok(text) = text_of_certificate(alloc, plan, certificate) else {
+        return Err(PlanError::OutOfMemory);
+    };
+    certificate_of_text(alloc, plan, text.as_str().as_bytes())
 }

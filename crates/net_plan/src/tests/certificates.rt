@@ -1,6 +1,6 @@
 //! Certificates from texts, and the first fault of texts that are none.
 use super::{edited, riser};
-use crate::{PlanError, certificate_of_text, plan_of_text};
+use crate::{PlanError, certificate_of_text, plan_of_text, read_back, text_of_certificate};
 use std::test::Fail;
 
 #[test]
@@ -235,5 +235,26 @@ fn means_the_first_node_of_a_name(rt: HostRuntime) -> Result<(), Fail> {
     let certificate = certificate_of_text(rt.alloc(), &plan, text)?;
     assert_eq!(rt; certificate.ranks.len(), 1);
     assert_eq!(rt; certificate.ranks[0].node, 2);
+    Ok(())
+}
+
+/// Entries stand as they were given, those without ranges or places too.
+#[test]
+fn writes_what_was_read(rt: HostRuntime) -> Result<(), Fail> {
+    let alloc = rt.alloc();
+    let plan = plan_of_text(alloc, riser::PLAN.as_bytes())?;
+    let texts: [&str; 3] = [
+        riser::CERTIFICATE,
+        "{\"format\":1,\"levels\":[],\"places\":[],\"ranks\":[]}\n",
+        "{\"format\":1,\"levels\":[{\"level\":63,\"node\":\"ssd\"},{\"level\":1,\"node\":\"host\"}],\
+\"places\":[{\"node\":\"riser\",\"places\":[]},{\"node\":\"nic\",\"places\":[4095,0]}],\"ranks\":[{\"node\":\"ssd\",\"ranges\":[]},{\"node\":\"nic\",\"ranges\":[]}]}\n",
+    ];
+    for text in texts {
+        let certificate = certificate_of_text(alloc, &plan, text.as_bytes())?;
+        let written = text_of_certificate(alloc, &plan, &certificate)?;
+        assert_eq!(rt; written.as_str(), text);
+        let back = read_back(alloc, &plan, &certificate)?;
+        assert_eq!(rt; back.ranks.len(), certificate.ranks.len());
+    }
     Ok(())
 }

@@ -1,7 +1,8 @@
 //! Reading and writing piece by piece, and failures in mid-stream.
 use super::riser;
 use crate::{
-    Counted, Failed, PlanError, Sink, read_certificate, read_events, read_plan, write_whole,
+    Counted, Failed, PlanError, Sink, certificate_of_text, plan_of_text, read_certificate,
+    read_events, read_plan, write_certificate, write_whole,
 };
 use std::io::{self, ErrorKind, Read, Write};
 use std::test::Fail;
@@ -144,5 +145,29 @@ fn writes_whole_texts(rt: HostRuntime) -> Result<(), Fail> {
     assert_eq!(rt; write_whole(&mut sink, b"hello"), Ok(()));
     assert_eq!(rt; sink.inner().kept.as_slice(), b"hello".as_slice());
     assert_eq!(rt; sink.push(b""), Ok(0));
+    Ok(())
+}
+
+#[test]
+fn writes_a_certificate_or_its_beginning(rt: HostRuntime) -> Result<(), Fail> {
+    let alloc = rt.alloc();
+    let plan = plan_of_text(alloc, riser::PLAN.as_bytes())?;
+    let certificate = certificate_of_text(alloc, &plan, riser::CERTIFICATE.as_bytes())?;
+    for fails_at in [0, 1, 2, riser::CERTIFICATE.len()] {
+        let mut sink = Counted::new(Narrow {
+            kept: Vec::new(alloc),
+            calls: 0,
+            fails_at,
+        });
+        let written = write_certificate(alloc, &plan, &certificate, &mut sink);
+        let kept = sink.inner().kept.as_slice();
+        if fails_at == 0 {
+            assert_eq!(rt; written, Ok(()));
+            assert_eq!(rt; kept, riser::CERTIFICATE.as_bytes());
+        } else {
+            assert_eq!(rt; written, Err(PlanError::Device));
+            assert_eq!(rt; kept, &riser::CERTIFICATE.as_bytes()[..fails_at - 1]);
+        }
+    }
     Ok(())
 }
