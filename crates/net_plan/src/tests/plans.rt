@@ -1,6 +1,6 @@
 //! Plans from texts, and the first fault of texts that are none.
 use super::{edited, riser};
-use crate::{Kind, Plan, PlanError, plan_of_text};
+use crate::{Kind, Node, PlanError, plan_of_text};
 use std::alloc::{AllocError, Global};
 use std::process::Abort;
 use std::test::Fail;
@@ -16,13 +16,13 @@ fn reads_the_riser_network(rt: HostRuntime) -> Result<(), Fail> {
     assert_eq!(rt; plan.buses[1].name.text.as_str(), "b1");
     assert_eq!(rt; (plan.buses[1].binding, plan.buses[1].media), (1, 4));
     assert_eq!(rt; plan.nodes.len(), 4);
-    check_bridge(&rt, &plan);
-    check_endpoint(&rt, &plan);
+    assert_eq!(rt; plan.nodes[0].owner, None);
+    check_bridge(&rt, &plan.nodes[1]);
+    check_endpoint(&rt, &plan.nodes[2]);
     Ok(())
 }
 
-fn check_bridge(rt: &impl Abort, plan: &Plan) {
-    let bridge = &plan.nodes[1];
+fn check_bridge(rt: &impl Abort, bridge: &Node) {
     assert_eq!(rt; bridge.name.text.as_str(), "riser");
     assert_eq!(rt; bridge.kind, Kind::Bridge);
     assert_eq!(rt; bridge.eid.value, 16);
@@ -45,9 +45,7 @@ fn check_bridge(rt: &impl Abort, plan: &Plan) {
     assert!(rt; bridge.terminus.is_none());
 }
 
-fn check_endpoint(rt: &impl Abort, plan: &Plan) {
-    assert_eq!(rt; plan.nodes[0].owner, None);
-    let endpoint = &plan.nodes[2];
+fn check_endpoint(rt: &impl Abort, endpoint: &Node) {
     assert_eq!(rt; endpoint.kind, Kind::Endpoint);
     assert!(rt; endpoint.pool.is_none());
     let Some(terminus) = &endpoint.terminus else {

@@ -26,12 +26,12 @@ impl Read for Slow<'_> {
     }
 }
 
-fn piecewise(text: &str, fails_at: usize) -> Counted<Slow> {
-    Counted::new(Slow {
+fn one_byte_a_call(text: &str, fails_at: usize) -> Slow {
+    Slow {
         rest: text.as_bytes(),
         calls: 0,
         fails_at,
-    })
+    }
 }
 
 /// A reader that gives the same byte so many times.
@@ -77,22 +77,41 @@ impl Write for Narrow {
 #[test]
 fn reads_one_byte_a_call_or_tells_the_failure(rt: HostRuntime) -> Result<(), Fail> {
     let alloc = rt.alloc();
-    let plan = read_plan(alloc, &mut piecewise(riser::PLAN, 0))?;
+    let plan = read_plan(alloc, &mut Counted::new(one_byte_a_call(riser::PLAN, 0)))?;
     assert_eq!(rt; plan.nodes.len(), 4);
-    let certificate = read_certificate(alloc, &plan, &mut piecewise(riser::CERTIFICATE, 0))?;
+    let certificate = read_certificate(
+        alloc,
+        &plan,
+        &mut Counted::new(one_byte_a_call(riser::CERTIFICATE, 0)),
+    )?;
     assert_eq!(rt; certificate.ranks.len(), 4);
-    let events = read_events(alloc, &plan, &mut piecewise(riser::EVENTS, 0))?;
+    let events = read_events(
+        alloc,
+        &plan,
+        &mut Counted::new(one_byte_a_call(riser::EVENTS, 0)),
+    )?;
     assert_eq!(rt; events.len(), 8);
     for fails_at in [1, 2, riser::PLAN.len(), riser::PLAN.len() + 1] {
-        let read = read_plan(alloc, &mut piecewise(riser::PLAN, fails_at));
+        let read = read_plan(
+            alloc,
+            &mut Counted::new(one_byte_a_call(riser::PLAN, fails_at)),
+        );
         assert_eq!(rt; read.err(), Some(PlanError::Device), "at {fails_at}");
     }
     for fails_at in [1, riser::CERTIFICATE.len() + 1] {
-        let read = read_certificate(alloc, &plan, &mut piecewise(riser::CERTIFICATE, fails_at));
+        let read = read_certificate(
+            alloc,
+            &plan,
+            &mut Counted::new(one_byte_a_call(riser::CERTIFICATE, fails_at)),
+        );
         assert_eq!(rt; read.err(), Some(PlanError::Device), "at {fails_at}");
     }
     for fails_at in [1, riser::EVENTS.len() + 1] {
-        let read = read_events(alloc, &plan, &mut piecewise(riser::EVENTS, fails_at));
+        let read = read_events(
+            alloc,
+            &plan,
+            &mut Counted::new(one_byte_a_call(riser::EVENTS, fails_at)),
+        );
         assert_eq!(rt; read.err(), Some(PlanError::Device), "at {fails_at}");
     }
     Ok(())
@@ -166,7 +185,8 @@ fn writes_a_certificate_or_its_beginning(rt: HostRuntime) -> Result<(), Fail> {
             assert_eq!(rt; kept, riser::CERTIFICATE.as_bytes());
         } else {
             assert_eq!(rt; written, Err(PlanError::Device));
-            assert_eq!(rt; kept, &riser::CERTIFICATE.as_bytes()[..fails_at - 1]);
+            assert!(rt; riser::CERTIFICATE.as_bytes().starts_with(kept));
+            assert_eq!(rt; kept.len(), fails_at - 1);
         }
     }
     Ok(())
