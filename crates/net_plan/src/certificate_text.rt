@@ -13,7 +13,7 @@ ghost use Rattle.net_plan.specs.CertificateValues.{LevelValue, PlacesValue, Rang
 
 use crate::certificate::{Certificate, NodeLevel, NodePlaces, NodeRanks, RankRange, RecordPlace};
 use crate::error::Fault;
-use crate::json::{ReadItem, check_keys, demand, member, read_all, read_byte, read_number};
+use crate::json_value::{ReadItem, check_keys, demand, member, read_all, read_byte, read_number};
 use crate::naming::{NodeName, TextAt};
 use crate::nodes::Node;
 use crate::places::{Places, names_differ};

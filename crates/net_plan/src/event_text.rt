@@ -13,7 +13,7 @@ ghost use Rattle.net_plan.specs.EventValues.{EventEntry, event_entry, is_known_e
 
 use crate::error::Fault;
 use crate::event::Event;
-use crate::json::{
+use crate::json_value::{
     ReadItem, check_keys, check_object, demand, member, read_byte, read_list, read_number,
     read_truth, read_word,
 };

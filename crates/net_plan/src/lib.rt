@@ -7,7 +7,7 @@ mod certificate_text;
 mod error;
 mod event;
 mod event_text;
-mod json;
+mod json_value;
 mod name;
 mod naming;
 mod nodes;

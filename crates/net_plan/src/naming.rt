@@ -3,7 +3,7 @@ ghost use Rattle.serde_json.specs.View.{view};
 ghost use Rattle.net_plan.specs.NodeValues.{name_bytes};
 ghost use Rattle.net_plan.specs.Names.{text_at};
 
-use crate::json::text_at;
+use crate::json_value::text_at;
 use crate::nodes::{Bus, Node};
 use crate::places::Naming;
 use serde_json::Value;

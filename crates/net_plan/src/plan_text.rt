@@ -11,7 +11,7 @@ ghost use Rattle.net_plan.specs.PlanReading.{bus, port, row, pool, node, nodes_a
 ghost use Rattle.net_plan.specs.PlanValues.{BusValue, PortValue, RowValue, PoolValue, NodeValue, name_bytes, bus_value, bus_names, port_value, row_value, pool_value, node_value, plan_value};
 
 use crate::error::Fault;
-use crate::json::{
+use crate::json_value::{
     ReadItem, check_keys, demand, member, read_byte, read_list, read_number, read_optional,
 };
 use crate::naming::{BusName, TextAt};

@@ -5,7 +5,7 @@ ghost use Rattle.net_plan.specs.PlanReading.{repository_record, terminus};
 ghost use Rattle.net_plan.specs.NodeValues.{RecordValue, TerminusValue, record_value, terminus_value};
 
 use crate::error::Fault;
-use crate::json::{ReadItem, check_keys, member, read_list, read_number, read_word};
+use crate::json_value::{ReadItem, check_keys, member, read_list, read_number, read_word};
 use crate::terminus::{Record, Terminus};
 use crate::words::read_hex;
 use serde_json::Value;

@@ -3,7 +3,7 @@ use Rattle.std.proofs.Common.{◌≡◌, ◌++◌, length, drop, map, Ok}
 use Rattle.serde_json.specs.View.{items_view}
 use Rattle.net_plan.specs.Json.{each}
 use Rattle.net_plan.specs.Reading.{then_with}
-use Rattle.net_plan.proofs.json.read_list.Given as goal
+use Rattle.net_plan.proofs.json_value.read_list.Given as goal
 
 abbrev pub invariant-loop-value : goal.invariant-loop-value
 invariant-loop-value g l = (length l.list.items ≡ l.value-index) × (each (g.R.ReadItem.said l.reader) (items_view l.value-items)

@@ -6,7 +6,7 @@ use Rattle.serde_json.specs.View.{view, members_view}
 use Rattle.net_plan.specs.Json.{demand, lacks_key, given_keys}
 use Rattle.net_plan.specs.declared.error.Fault.TheVariants.{MissingKey}
 use Rattle.net_plan.proofs.Keys.{lacked_members, object_view}
-use Rattle.net_plan.proofs.json.check_given_keys.Goals as goal
+use Rattle.net_plan.proofs.json_value.check_given_keys.Goals as goal
 
 pub returns : goal.returns
 returns c =

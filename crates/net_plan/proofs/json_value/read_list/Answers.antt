@@ -5,7 +5,7 @@ use Rattle.serde_json.proofs.Views.{view-Array}
 use Rattle.net_plan.specs.Json.{each}
 use Rattle.net_plan.specs.Reading.{then_with}
 use Rattle.net_plan.proofs.Items.{items_count_of_view, each_fault}
-use Rattle.net_plan.proofs.json.read_list.Goals as goal
+use Rattle.net_plan.proofs.json_value.read_list.Goals as goal
 
 pub returns-then-len-most-clause-read : goal.returns-then-len-most-clause-read
 returns-then-len-most-clause-read g c = λ _.

@@ -5,7 +5,7 @@ use Rattle.serde_json.proofs.Views.{view-Array}
 use Rattle.net_plan.specs.Json.{all_of, list_within}
 use Rattle.net_plan.specs.Reading.{IsReadOf}
 use Rattle.net_plan.proofs.Items.{list_within-all}
-use Rattle.net_plan.proofs.json.read_all.Goals as goal
+use Rattle.net_plan.proofs.json_value.read_all.Goals as goal
 
 pub returns : goal.returns
 returns g c =

@@ -4,7 +4,7 @@ use Rattle.serde_json.specs.View.{view, members_view}
 use Rattle.net_plan.specs.Json.{demand, has_unknown_key, known_keys}
 use Rattle.net_plan.specs.declared.error.Fault.TheVariants.{UnknownKey}
 use Rattle.net_plan.proofs.Keys.{unknown_members, object_view}
-use Rattle.net_plan.proofs.json.check_known_keys.Goals as goal
+use Rattle.net_plan.proofs.json_value.check_known_keys.Goals as goal
 
 pub returns : goal.returns
 returns c =
