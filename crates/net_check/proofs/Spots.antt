@@ -5,9 +5,9 @@ use Rattle.std.proofs.lemmas.Option.{same_Some}
 use Rattle.mctp_transport.specs.declared.address.Eid.{Eid}
 use Rattle.net_plan.specs.declared.plan.Plan.{Plan}
 use Rattle.net_plan.specs.declared.nodes.Row.{Row}
-use Rattle.net_check.specs.Routing.{Holds, rows_of, Covers, OfRow}
-use Rattle.net_check.specs.Rules.{AtNode, AtItsEid, AtRow, AtRowEid}
-use Rattle.net_check.specs.Search.{IsFirstSpot, SpotComesBefore, IsFirstRow, IsFirstEid}
+use Rattle.net_check.specs.Routing.{Holds, rows_of, Covers, OfItem}
+use Rattle.net_check.specs.Rules.{AtNode, AtItsEid, AtItem, AtRowEid}
+use Rattle.net_check.specs.Search.{IsFirstSpot, SpotComesBefore, IsFirstItem, IsFirstEid}
 
 -- at the node alone
 pub node_meets : (P : Type 0) → P → IsFirstSpot (AtNode P) None
@@ -39,42 +39,48 @@ eid_fails plan n e P holds not_p = (λ h. not_p (h holds), λ entry eid before. 
         absurd (elim before [ inl lt ↦ omega arith | inr (_, rest) ↦ elim rest [ inl lt ↦ omega arith | inr (_, none) ↦ none ] ])
     eid_earlier plan n e P holds (Some r) eid before = tt
 
--- at each row
-pub rows_meet : (plan : Plan) (n : ℕ) (P : ℕ → Row → Type 0) → IsFirstRow (rows_of plan n) P None → IsFirstSpot (AtRow plan n P) None
-rows_meet plan n P all None eid = tt
-rows_meet plan n P all (Some r) None = all r
-rows_meet plan n P all (Some r) (Some e) = tt
+-- at each item of a list
+pub items_meet : {A : Type 0} (items : List A) (P : ℕ → A → Type 0) → IsFirstItem items P None → IsFirstSpot (AtItem items P) None
+items_meet items P all None eid = tt
+items_meet items P all (Some i) None = all i
+items_meet items P all (Some i) (Some e) = tt
 
-pub row_fails : (plan : Plan) (n i : ℕ) (P : ℕ → Row → Type 0) → IsFirstRow (rows_of plan n) P (Some i) → IsFirstSpot (AtRow plan n P) (Some (record { entry = Some i; eid = None }))
-row_fails plan n i P found = (found.0, λ entry eid before. row_earlier plan n i P found.1 entry eid before)
+pub item_fails : {A : Type 0} (items : List A) (i : ℕ) (P : ℕ → A → Type 0) → IsFirstItem items P (Some i)
+    → IsFirstSpot (AtItem items P) (Some (record { entry = Some i; eid = None }))
+item_fails {A} items i P found = (found.0, λ entry eid before. item_earlier items i P found.1 entry eid before)
   where
-    row_earlier : (plan : Plan) (n i : ℕ) (P : ℕ → Row → Type 0) → ((k : ℕ) → k < i → OfRow (rows_of plan n) k (P k)) → (entry eid : Option ℕ) → SpotComesBefore entry eid (Some i) None → AtRow plan n P entry eid
-    row_earlier plan n i P earlier None eid before = tt
-    row_earlier plan n i P earlier (Some r) None before =
+    item_earlier : (items : List A) (i : ℕ) (P : ℕ → A → Type 0) → ((k : ℕ) → k < i → OfItem items k (P k)) → (entry eid : Option ℕ) → SpotComesBefore entry eid (Some i) None → AtItem items P entry eid
+    item_earlier items i P earlier None eid before = tt
+    item_earlier items i P earlier (Some r) None before =
         let lt : r < i = elim before [ inl lt ↦ omega arith | inr (_, rest) ↦ elim rest [ inl lt ↦ omega arith | inr (_, none) ↦ absurd none ] ] in
         earlier r lt
-    row_earlier plan n i P earlier (Some r) (Some e) before = tt
+    item_earlier items i P earlier (Some r) (Some e) before = tt
+
+-- the spot of the first item that fails
+pub item_spot : {A : Type 0} (items : List A) (P : ℕ → A → Type 0) (found : Option ℕ) → IsFirstItem items P found
+    → IsFirstSpot (AtItem items P) (option_map (λ i. record { entry = Some i; eid = None }) found)
+item_spot items P None h = items_meet items P h
+item_spot items P (Some i) h = item_fails items i P h
 
 -- the spot of the first row that fails, whichever list of rows was searched
-pub row_spot_first : (plan : Plan) (n : ℕ) (P : List Row → ℕ → Row → Type 0) (rows : List Row) (found : Option ℕ) → rows ≡ rows_of plan n → IsFirstRow rows (P rows) found
-    → IsFirstSpot (AtRow plan n (P (rows_of plan n))) (option_map (λ r. record { entry = Some r; eid = None }) found)
-row_spot_first plan n P rows None same h = let Q : List Row → Type 0 = λ rs. IsFirstRow rs (P rs) None in rows_meet plan n (P (rows_of plan n)) (subst Q same h)
-row_spot_first plan n P rows (Some i) same h = let Q : List Row → Type 0 = λ rs. IsFirstRow rs (P rs) (Some i) in row_fails plan n i (P (rows_of plan n)) (subst Q same h)
+pub row_spot_first : (plan : Plan) (n : ℕ) (P : List Row → ℕ → Row → Type 0) (rows : List Row) (found : Option ℕ) → rows ≡ rows_of plan n → IsFirstItem rows (P rows) found
+    → IsFirstSpot (AtItem (rows_of plan n) (P (rows_of plan n))) (option_map (λ r. record { entry = Some r; eid = None }) found)
+row_spot_first plan n P rows found same h = let Q : List Row → Type 0 = λ rs. IsFirstItem rs (P rs) found in item_spot (rows_of plan n) (P (rows_of plan n)) found (subst Q same h)
 
 -- at each EID of a row
-pub row_eids_meet : (plan : Plan) (n : ℕ) (P : Row → ℕ → Type 0) → ((r : ℕ) → OfRow (rows_of plan n) r (λ row. (e : ℕ) → Covers row e → P row e)) → IsFirstSpot (AtRowEid plan n P) None
+pub row_eids_meet : (plan : Plan) (n : ℕ) (P : Row → ℕ → Type 0) → ((r : ℕ) → OfItem (rows_of plan n) r (λ row. (e : ℕ) → Covers row e → P row e)) → IsFirstSpot (AtRowEid plan n P) None
 row_eids_meet plan n P all None eid = tt
 row_eids_meet plan n P all (Some r) None = tt
 row_eids_meet plan n P all (Some r) (Some e) = λ row is covers. all r row is e covers
 
 pub row_eid_fails : (plan : Plan) (n i : ℕ) (row : Row) (e : Eid) (P : Row → ℕ → Type 0) → slice_get (rows_of plan n) i ≡ Some row
-    → ((r : ℕ) → r < i → OfRow (rows_of plan n) r (λ row. (e : ℕ) → Covers row e → P row e)) → IsFirstEid row (P row) (Some e.value)
+    → ((r : ℕ) → r < i → OfItem (rows_of plan n) r (λ row. (e : ℕ) → Covers row e → P row e)) → IsFirstEid row (P row) (Some e.value)
     → IsFirstSpot (AtRowEid plan n P) (Some (record { entry = Some i; eid = Some e }))
 row_eid_fails plan n i row e P at earlier found =
     (λ h. found.0 (h row at), λ entry eid before. eid_before plan n i row e.value P at earlier found.1 entry eid before)
   where
     eid_before : (plan : Plan) (n i : ℕ) (row : Row) (e : ℕ) (P : Row → ℕ → Type 0) → slice_get (rows_of plan n) i ≡ Some row
-        → ((r : ℕ) → r < i → OfRow (rows_of plan n) r (λ row. (e : ℕ) → Covers row e → P row e)) → ((d : ℕ) → d < e → Covers row d → P row d)
+        → ((r : ℕ) → r < i → OfItem (rows_of plan n) r (λ row. (e : ℕ) → Covers row e → P row e)) → ((d : ℕ) → d < e → Covers row d → P row d)
         → (entry eid : Option ℕ) → SpotComesBefore entry eid (Some i) (Some e) → AtRowEid plan n P entry eid
     eid_before plan n i row e P at earlier lower None eid before = tt
     eid_before plan n i row e P at earlier lower (Some r) None before = tt

@@ -11,14 +11,6 @@ use Rattle.net_check.specs.States.{NetworkState, Flight, destination}
 use Rattle.net_check.specs.Events.{EventValue, Put, Move, Lose, Expire, AnswerAt, OutcomeValue, PutIn, Moved, Entered, Stopped, Lost, Expired, Answered, Silent, Refused}
 use Rattle.net_check.specs.Runs.{Turn, Run, reached}
 
--- where a node other than n holds e, m holds it too or is a bridge that routes it
-abbrev pub IsLedOn : Plan → ℕ → ℕ → ℕ → Type 0
-IsLedOn plan n e m = (holder : ℕ) → Holds plan holder e → holder ≢ n → Holds plan m e ⊎ (IsBridge plan m × HasRow plan m e)
-
--- each row leads on what is held elsewhere
-abbrev pub HeldAreLedOn : Plan → Type 0
-HeldAreLedOn plan = (n e m : ℕ) → Routes plan n e m → IsLedOn plan n e m
-
 -- a node holds the flight's destination, and its origin holds it or has a row for it
 abbrev pub IsDeliverable : Plan → Flight → Type 0
 IsDeliverable plan f = ((n : ℕ) × Holds plan n (destination f))

@@ -2,7 +2,7 @@
 use Rattle.std.specs.Prelude.{◌≡◌, ◌⊎◌, ℕ, suc, ◌<◌, List, [], ◌∷◌, Option, Some, None, option_map}
 use Rattle.mctp_transport.specs.declared.address.Eid.{Eid}
 use Rattle.net_check.specs.declared.rule.Rule.{Rule}
-use Rattle.net_check.specs.declared.rule.Rule.TheVariants.{C01, C02, C03, C04, C05, C06, C10}
+use Rattle.net_check.specs.declared.rule.Rule.TheVariants.{C01, C02, C03, C04, C05, C06, C07, C08, C09, C10, C11, C12, C13, C14, C15, C16}
 use Rattle.net_check.specs.declared.fault.Fault.{Fault}
 use Rattle.net_plan.specs.declared.plan.Plan.{Plan}
 use Rattle.net_plan.specs.declared.certificate.Certificate.{Certificate}
@@ -30,7 +30,16 @@ order_of C03 = 2
 order_of C04 = 3
 order_of C05 = 4
 order_of C06 = 5
-order_of C10 = 6
+order_of C07 = 6
+order_of C08 = 7
+order_of C09 = 8
+order_of C10 = 9
+order_of C11 = 10
+order_of C12 = 11
+order_of C13 = 12
+order_of C14 = 13
+order_of C15 = 14
+order_of C16 = 15
 
 -- none comes before each number
 abbrev pub order_of_number : Option ℕ → ℕ

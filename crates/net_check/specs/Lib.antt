@@ -3,8 +3,13 @@ pub mod Routing
 pub mod Names
 pub mod Eids
 pub mod Rows
+pub mod Owners
+pub mod Pools
 pub mod Ranks
 pub mod RankTables
+pub mod HeldEids
+pub mod Locators
+pub mod Superfluous
 pub mod Rules
 pub mod Faults
 pub mod PlanFaults

@@ -1,5 +1,5 @@
 -- The records of a plan's termini, and their order by the certificate's places.
-use Rattle.std.specs.Prelude.{◌≡◌, ◌≢◌, ℕ, ◌+◌, ◌<◌, List, [], length, map, find, position, slice_get, Option, Some, None, option_map, unwrap_or, ◌==◌}
+use Rattle.std.specs.Prelude.{◌≡◌, ◌≢◌, ◌⊎◌, ℕ, ◌+◌, ◌<◌, List, [], length, map, find, position, slice_get, Option, Some, None, option_map, unwrap_or, ◌==◌}
 use Rattle.std.specs.List.{filter_map, range_with_len}
 use Rattle.std.specs.Option.{option_and_then}
 use Rattle.net_plan.specs.declared.plan.Plan.{Plan}
@@ -41,16 +41,23 @@ records_by_place plan cert n = by_place (records_of plan n) (places_of cert n)
 abbrev pub HasNewHandle : List Record → ℕ → Record → Type 0
 HasNewHandle records j r = (r.handle ≢ 0) × ((i : ℕ) (other : Record) → i < j → slice_get records i ≡ Some other → other.handle ≢ r.handle)
 
+-- the handle is that of a record at the place
+abbrev pub IsHandleAt : List Record → List ℕ → ℕ → ℕ → Type 0
+IsHandleAt records places place handle = (k : ℕ) × (r : Record)
+    × (slice_get records k ≡ Some r) × (slice_get places k ≡ Some place) × (handle ≡ r.handle)
+
 -- The record is given a place, which is below the number of records and not an earlier one's. Its next handle is that of
--- a record at the following place, or 0 at the last place.
+-- a record at the following place, or, at the last place, 0.
 pub record IsChained (records : List Record) (places : List ℕ) (j : ℕ) (r : Record) : Type 0 where
   pub place : ℕ
   pub given : slice_get places j ≡ Some place
   pub within : place < length records
   pub new : (i : ℕ) → i < j → slice_get places i ≢ Some place
-  pub next : place + 1 < length records → (k : ℕ) × (s : Record) × (slice_get records k ≡ Some s)
-      × (slice_get places k ≡ Some (place + 1)) × (r.next ≡ s.handle)
-  pub last : place + 1 ≡ length records → r.next ≡ 0
+  pub next : IsHandleAt records places (place + 1) r.next ⊎ ((place + 1 ≡ length records) × (r.next ≡ 0))
+
+-- n's terminus, if it has one, has records
+unfoldable pub HasRecords : Plan → ℕ → Type 0
+HasRecords plan n = terminus_of plan n ≢ None → 0 < length (records_of plan n)
 
 -- The records are some, each with a new handle, with bytes that are those of a record of that handle, and chained to the
 -- next.

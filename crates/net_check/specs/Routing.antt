@@ -42,6 +42,6 @@ HasRow plan n e = (m : ℕ) × Routes plan n e m
 abbrev pub MovesTo : Plan → ℕ → ℕ → ℕ → Type 0
 MovesTo plan e n m = ¬ Holds plan n e × Routes plan n e m
 
--- what is said of the row at a place of the list, if there is one
-abbrev pub OfRow : List Row → ℕ → (Row → Type 0) → Type 0
-OfRow rows r P = (row : Row) → slice_get rows r ≡ Some row → P row
+-- what is said of the item at a place of a list, if there is one
+abbrev pub OfItem : {A : Type 0} → List A → ℕ → (A → Type 0) → Type 0
+OfItem {A} items i P = (item : A) → slice_get items i ≡ Some item → P item

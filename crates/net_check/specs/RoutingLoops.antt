@@ -2,7 +2,7 @@
 use Rattle.std.specs.Prelude.{◌≡◌, ℕ, ◌<◌, List, length, slice_get, Option, Some, MatchOption}
 use Rattle.net_plan.specs.declared.plan.Plan.{Plan}
 use Rattle.net_plan.specs.declared.nodes.Row.{Row}
-use Rattle.net_check.specs.Routing.{rows_of, Covers, OfRow, MovesTo}
+use Rattle.net_check.specs.Routing.{rows_of, Covers, OfItem, MovesTo}
 use Rattle.net_check.specs.Rows.{IsInRange, IsApartFromEarlier}
 use Rattle.net_check.specs.Moves.{Leads}
 use Rattle.net_check.specs.Circles.{IsLoop, IsLeastLoop, HasNoCircle}
@@ -23,11 +23,11 @@ pub record IsFirstRoutingLoop (plan : Plan) (e : ℕ) (nodes : List ℕ) : Type 
 
 -- each row lies apart from the rows before it
 abbrev pub RowsAreApart : Plan → Type 0
-RowsAreApart plan = (n r : ℕ) → OfRow (rows_of plan n) r (IsApartFromEarlier (rows_of plan n) r)
+RowsAreApart plan = (n r : ℕ) → OfItem (rows_of plan n) r (IsApartFromEarlier (rows_of plan n) r)
 
 -- each row has EIDs, and all of them can be held
 abbrev pub RowsAreInRange : Plan → Type 0
-RowsAreInRange plan = (n r : ℕ) → OfRow (rows_of plan n) r IsInRange
+RowsAreInRange plan = (n r : ℕ) → OfItem (rows_of plan n) r IsInRange
 
 -- one of the rows covers e and names m
 abbrev pub NamesFor : List Row → ℕ → ℕ → Type 0

@@ -6,14 +6,14 @@ use Rattle.net_check.specs.declared.spot.Spot.{Spot}
 use Rattle.net_plan.specs.declared.plan.Plan.{Plan}
 use Rattle.net_plan.specs.declared.nodes.Row.{Row}
 use Rattle.net_plan.specs.declared.certificate.Certificate.{Certificate}
-use Rattle.net_check.specs.Routing.{OfRow, Covers}
+use Rattle.net_check.specs.Routing.{OfItem, Covers}
 use Rattle.net_check.specs.Rules.{RuleHolds}
 use Rattle.net_check.specs.Faults.{Place, place_of, eid_number, order_of_number, LessByFirstDifference, ComesBefore, IsMet, IsBroken}
 
--- the first row of the list of which the fact fails, if any
-abbrev pub IsFirstRow : List Row → (ℕ → Row → Type 0) → Option ℕ → Type 0
-IsFirstRow rows P None = (r : ℕ) → OfRow rows r (P r)
-IsFirstRow rows P (Some i) = ¬ OfRow rows i (P i) × ((r : ℕ) → r < i → OfRow rows r (P r))
+-- the first item of the list of which the fact fails, if any
+abbrev pub IsFirstItem : {A : Type 0} → List A → (ℕ → A → Type 0) → Option ℕ → Type 0
+IsFirstItem items P None = (k : ℕ) → OfItem items k (P k)
+IsFirstItem items P (Some i) = ¬ OfItem items i (P i) × ((k : ℕ) → k < i → OfItem items k (P k))
 
 -- the row's first EID of which the fact fails, if any
 abbrev pub IsFirstEid : Row → (ℕ → Type 0) → Option ℕ → Type 0

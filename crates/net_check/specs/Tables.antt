@@ -5,13 +5,13 @@ use Rattle.mctp_bridge.specs.declared.row.Row as bridge
 use Rattle.mctp_bridge.specs.Rows.{IsNext}
 use Rattle.net_plan.specs.declared.plan.Plan.{Plan}
 use Rattle.net_plan.specs.declared.nodes.Row.{Row}
-use Rattle.net_check.specs.Routing.{rows_of, OfRow}
+use Rattle.net_check.specs.Routing.{rows_of, OfItem}
 use Rattle.net_check.specs.Rows.{IsInRange, IsApartFromEarlier}
 use Rattle.net_check.specs.RoutingLoops.{NamesFor}
 
 -- each row lies apart from the rows before it, and its EIDs can be held
 abbrev pub AreRows : List Row → Type 0
-AreRows rows = (r : ℕ) → OfRow rows r (λ row. IsApartFromEarlier rows r row × IsInRange row)
+AreRows rows = (r : ℕ) → OfItem rows r (λ row. IsApartFromEarlier rows r row × IsInRange row)
 
 -- the same row in a routing table
 abbrev pub table_row : Row → bridge.Row

@@ -27,7 +27,7 @@ pub fn certify(alloc: Global, plan: &Plan) -> Result<Certificate, CertifyError>
     ensures obstacle { IfErr result (λ error. NamesObstacle plan.now error) }
     ensures none { IfErr result (λ error. RulesOutCertificates plan.now error) }
 {
-    if let Some(fault) = first_of_plan(plan) {
+    if let Some(fault) = first_of_plan(alloc, plan)? {
         return Err(CertifyError::Fault(fault));
     }
     match route(alloc, plan)? {

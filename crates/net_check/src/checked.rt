@@ -76,7 +76,7 @@ pub fn check<'a>(
 {
     let trial = Trial::new(alloc, plan, certificate)?;
     for rule in RULES {
-        if let Some(fault) = first_of_rule(&trial, rule) {
+        if let Some(fault) = first_of_rule(alloc, &trial, rule)? {
             return Err(CheckError::Fault(fault));
         }
     }

@@ -1,39 +1,52 @@
 //! The search for a rule's first fault.
-ghost use Rattle.std.specs.Prelude.{◌<◌, length};
+ghost use Rattle.std.specs.Prelude.{◌<◌, length, IfOk};
 ghost use Rattle.net_check.specs.Rules.{Demands};
 ghost use Rattle.net_check.specs.Search.{IsFirstSpot, IsFirstOfRule};
 
 use crate::fault::Fault;
 use crate::plan_fault::first_of_plan_at;
 use crate::rule::Rule;
-use crate::rules::ranks;
+use crate::rules::{chains, owners, ranks, superfluous};
 use crate::spot::Spot;
 use crate::trial::Trial;
+use std::alloc::{AllocError, Global};
 
 /// The rule's first fault.
-pub fn first_of_rule(trial: &Trial, rule: Rule) -> Option<Fault>
-    ensures { IsFirstOfRule trial.now.plan.now trial.now.certificate.now rule result }
+pub fn first_of_rule(
+    alloc: Global,
+    trial: &Trial,
+    rule: Rule,
+) -> Result<Option<Fault>, AllocError>
+    ensures { IfOk result (IsFirstOfRule trial.now.plan.now trial.now.certificate.now rule) }
 {
     for node in 0..trial.plan.nodes.len() {
-        if let Some(spot) = first_at(trial, rule, node) {
-            return Some(Fault {
+        if let Some(spot) = first_at(alloc, trial, rule, node)? {
+            return Ok(Some(Fault {
                 rule,
                 node,
                 entry: spot.entry,
                 eid: spot.eid,
-            });
+            }));
         }
     }
-    None
+    Ok(None)
 }
 
 /// The first place at the node where the rule is broken.
-fn first_at(trial: &Trial, rule: Rule, node: usize) -> Option<Spot>
+fn first_at(
+    alloc: Global,
+    trial: &Trial,
+    rule: Rule,
+    node: usize,
+) -> Result<Option<Spot>, AllocError>
     requires { node < length trial.now.plan.now.nodes.items }
-    ensures { IsFirstSpot (Demands trial.now.plan.now trial.now.certificate.now rule node) result }
+    ensures { IfOk result (IsFirstSpot (Demands trial.now.plan.now trial.now.certificate.now rule node)) }
 {
     match rule {
-        Rule::C10 => ranks::row_without_fall(trial, node),
-        rule => first_of_plan_at(trial.plan, rule, node),
+        Rule::C07 => Ok(owners::unlawful_owner(trial.plan, trial.certificate, node)),
+        Rule::C10 => Ok(ranks::row_without_fall(trial, node)),
+        Rule::C14 => chains::unchained_record(alloc, trial.plan, trial.certificate, node),
+        Rule::C16 => Ok(superfluous::superfluous_entry(trial, node)),
+        rule => first_of_plan_at(alloc, trial.plan, rule, node),
     }
 }

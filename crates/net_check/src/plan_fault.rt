@@ -1,56 +1,73 @@
 //! The search for the first fault of a plan alone, whatever the certificate.
-ghost use Rattle.std.specs.Prelude.{◌<◌, length};
+ghost use Rattle.std.specs.Prelude.{◌<◌, length, IfOk};
 ghost use Rattle.net_check.specs.Rules.{PlanDemands};
 ghost use Rattle.net_check.specs.Search.{IsFirstSpot};
 ghost use Rattle.net_check.specs.PlanFaults.{IsFirstOfPlan, IsFirstOfPlanRule};
 
 use crate::fault::Fault;
 use crate::rule::{RULES, Rule};
-use crate::rules::{eids, names, rows};
+use crate::rules::{eids, held_eids, locators, names, owners, pools, records, rows};
 use crate::spot::Spot;
 use net_plan::Plan;
+use std::alloc::{AllocError, Global};
 
 /// The first place where the plan breaks a rule.
-pub fn first_of_plan(plan: &Plan) -> Option<Fault>
-    ensures { IsFirstOfPlan plan.now result }
+pub fn first_of_plan(alloc: Global, plan: &Plan) -> Result<Option<Fault>, AllocError>
+    ensures { IfOk result (IsFirstOfPlan plan.now) }
 {
     for rule in RULES {
-        if let Some(fault) = first_of_plan_rule(plan, rule) {
-            return Some(fault);
+        if let Some(fault) = first_of_plan_rule(alloc, plan, rule)? {
+            return Ok(Some(fault));
         }
     }
-    None
+    Ok(None)
 }
 
 /// The first place where the plan breaks the rule.
-fn first_of_plan_rule(plan: &Plan, rule: Rule) -> Option<Fault>
-    ensures { IsFirstOfPlanRule plan.now rule result }
+pub fn first_of_plan_rule(
+    alloc: Global,
+    plan: &Plan,
+    rule: Rule,
+) -> Result<Option<Fault>, AllocError>
+    ensures { IfOk result (IsFirstOfPlanRule plan.now rule) }
 {
     for node in 0..plan.nodes.len() {
-        if let Some(spot) = first_of_plan_at(plan, rule, node) {
-            return Some(Fault {
+        if let Some(spot) = first_of_plan_at(alloc, plan, rule, node)? {
+            return Ok(Some(Fault {
                 rule,
                 node,
                 entry: spot.entry,
                 eid: spot.eid,
-            });
+            }));
         }
     }
-    None
+    Ok(None)
 }
 
 /// The first place at the node where the plan breaks the rule.
-pub fn first_of_plan_at(plan: &Plan, rule: Rule, node: usize) -> Option<Spot>
+pub fn first_of_plan_at(
+    alloc: Global,
+    plan: &Plan,
+    rule: Rule,
+    node: usize,
+) -> Result<Option<Spot>, AllocError>
     requires { node < length plan.now.nodes.items }
-    ensures { IsFirstSpot (PlanDemands plan.now rule node) result }
+    ensures { IfOk result (IsFirstSpot (PlanDemands plan.now rule node)) }
 {
-    match rule {
+    Ok(match rule {
         Rule::C01 => names::repeated_name(plan, node),
         Rule::C02 => eids::unassignable_eid(plan, node),
         Rule::C03 => eids::repeated_eid(plan, node),
         Rule::C04 => rows::row_out_of_range(plan, node),
         Rule::C05 => rows::overlapping_row(plan, node),
         Rule::C06 => rows::row_without_neighbor(plan, node),
-        Rule::C10 => None,
-    }
+        Rule::C07 => owners::owner_without_bridge(plan, node),
+        Rule::C08 => pools::eid_out_of_its_pool(plan, node),
+        Rule::C09 => pools::unlawful_pool(plan, node),
+        Rule::C11 => held_eids::row_without_way_on(plan, node),
+        Rule::C12 => records::unlawful_handle(alloc, plan, node)?,
+        Rule::C13 => records::unreadable_record(plan, node),
+        Rule::C15 => locators::misleading_locator(plan, node),
+        Rule::C10 | Rule::C14 | Rule::C16 => None,
+    })
 }

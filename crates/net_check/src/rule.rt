@@ -18,19 +18,47 @@ pub enum Rule {
     /// A row's port exists, its next node is another node with a port on that port's bus, and a row of several
     /// endpoint IDs names a bridge.
     C06,
+    /// A node's owner is a bridge that shares a bus with it, and is of a lower level.
+    C07,
+    /// An owned node's endpoint ID lies in its owner's pool, and no node's lies in a pool of a bridge of the same owner.
+    C08,
+    /// Only a bridge has a pool, which is not empty, lies in 8 to 254 and in the pool of the bridge's owner, and apart
+    /// from those of earlier nodes of the same owner.
+    C09,
     /// Along a row, the certified rank of each endpoint ID that the node does not hold falls.
     C10,
+    /// What another node holds a row leads to its holder, or to a bridge that has a row for it.
+    C11,
+    /// A terminus has records, each with a handle that is not 0 and no earlier record's.
+    C12,
+    /// A record's bytes are those of a record, with its handle in the header.
+    C13,
+    /// The certified places lead along the next handles through all records once.
+    C14,
+    /// A terminus locator names a node that holds the endpoint ID and whose terminus has the terminus ID.
+    C15,
+    /// The certificate gives no level, rank or place that the plan has no use for.
+    C16,
 }
 
 /// The rules, in their order.
-pub const RULES: [Rule; 7] = [
+pub const RULES: [Rule; 16] = [
     Rule::C01,
     Rule::C02,
     Rule::C03,
     Rule::C04,
     Rule::C05,
     Rule::C06,
+    Rule::C07,
+    Rule::C08,
+    Rule::C09,
     Rule::C10,
+    Rule::C11,
+    Rule::C12,
+    Rule::C13,
+    Rule::C14,
+    Rule::C15,
+    Rule::C16,
 ];
 
 impl Rule {
@@ -45,7 +73,16 @@ impl Rule {
             Rule::C04 => "C04",
             Rule::C05 => "C05",
             Rule::C06 => "C06",
+            Rule::C07 => "C07",
+            Rule::C08 => "C08",
+            Rule::C09 => "C09",
             Rule::C10 => "C10",
+            Rule::C11 => "C11",
+            Rule::C12 => "C12",
+            Rule::C13 => "C13",
+            Rule::C14 => "C14",
+            Rule::C15 => "C15",
+            Rule::C16 => "C16",
         }
     }
 }

@@ -3,7 +3,7 @@ ghost use Rattle.std.specs.Prelude.{◌≡◌, ℕ, ◌<◌, ◌↔◌, ◌==◌
 ghost use Rattle.std.specs.List.{list_any};
 ghost use Rattle.net_check.specs.Rows.{IsInRange, AreApart, IsApartFromEarlier, IsJoined, NamesNeighbor, bus_of};
 ghost use Rattle.net_check.specs.Rules.{PlanDemands};
-ghost use Rattle.net_check.specs.Search.{IsFirstRow, IsFirstSpot};
+ghost use Rattle.net_check.specs.Search.{IsFirstItem, IsFirstSpot};
 
 use crate::routing::{is_bridge, ports_at, row_end, rows_at};
 use crate::rule::Rule;
@@ -43,7 +43,7 @@ fn at_row(row: Option<usize>) -> Option<Spot>
 
 /// The first row that is empty or reaches beyond the endpoint IDs that can be held.
 fn first_out_of_range(rows: &[Row]) -> Option<usize>
-    ensures { IsFirstRow rows.now (λ _ row. IsInRange row) result }
+    ensures { IsFirstItem rows.now (λ _ row. IsInRange row) result }
 {
     for (r, row) in rows.iter().enumerate() {
         if !is_in_range(row) {
@@ -64,7 +64,7 @@ fn is_in_range(row: &Row) -> bool
 /// The first row that overlaps an earlier one.
 #[tactic(auto, unfolding(crate::specs::Rows::IsApartFromEarlier))]
 fn first_overlapping(rows: &[Row]) -> Option<usize>
-    ensures { IsFirstRow rows.now (IsApartFromEarlier rows.now) result }
+    ensures { IsFirstItem rows.now (IsApartFromEarlier rows.now) result }
 {
     for (r, row) in rows.iter().enumerate() {
         if !is_apart_from_all(row, &rows[..r]) {
@@ -94,7 +94,7 @@ fn are_apart(row: &Row, other: &Row) -> bool
 
 /// The first of the node's rows that names no neighbor.
 fn first_without_neighbor(plan: &Plan, node: usize, rows: &[Row]) -> Option<usize>
-    ensures { IsFirstRow rows.now (λ _ row. NamesNeighbor plan.now node row) result }
+    ensures { IsFirstItem rows.now (λ _ row. NamesNeighbor plan.now node row) result }
 {
     for (r, row) in rows.iter().enumerate() {
         if !names_neighbor(plan, node, row) {
