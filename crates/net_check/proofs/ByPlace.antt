@@ -247,15 +247,13 @@ module _ (records : List Record) (places : List ℕ) (order : HaveOrder records 
   next_at place e x =
       let c = order.chained x.j x.found x.listed in
       let here : c.place ≡ place = same_Some c.place place (sym c.given ∙ x.given) in
-      elim (cases_lt (place + 1) (length records)) [
-        | inl more ↦
-            let next = c.next (omega arith) in
+      elim c.next [
+        | inl next ↦
             let P : ℕ → Type 0 = λ n. slice_get places next.0 ≡ Some (n + 1) in
             ap handle_of (placed next.0 (place + 1) next.1 next.2 (subst P here next.3)) ∙ sym next.4
-        | inr none ↦
-            let small = c.within in
-            let last = c.last (omega arith) in
-            ap handle_of (slice_get_past (by_place records places) (place + 1) (omega (arith, by_place_length))) ∙ sym last
+        | inr last ↦
+            let end = last.0 in
+            ap handle_of (slice_get_past (by_place records places) (place + 1) (omega (arith, by_place_length))) ∙ sym last.1
       ]
 
 -- a finished walk has collected each record

@@ -19,7 +19,8 @@ use Rattle.net_check.specs.States.{NetworkState, Flight, at_start, destination, 
 use Rattle.net_check.specs.Events.{EventValue, Move, OutcomeValue, Stopped, Lost}
 use Rattle.net_check.specs.Networks.{Step, Moves, IsDecided}
 use Rattle.net_check.specs.Runs.{Turn, Run, RunFrom, after_all, reached, PutsIn}
-use Rattle.net_check.specs.Deliveries.{HeldAreLedOn, IsDeliverable, moves_of, IsNotLost, HasEntered, IsOnItsWay, Delivers}
+use Rattle.net_check.specs.HeldEids.{IsLedOn, HeldAreLedOn}
+use Rattle.net_check.specs.Deliveries.{IsDeliverable, moves_of, IsNotLost, HasEntered, IsOnItsWay, Delivers}
 use Rattle.net_check.proofs.Nexts.{HasMoved, IsNew, step_is_next}
 use Rattle.net_check.proofs.Kept.{Kept, at_start_keeps, next_keeps}
 use Rattle.net_check.proofs.Fates.{counts, moved_to, step_fate}
@@ -37,6 +38,10 @@ pub record IsReady (plan : Plan) (cert : Certificate) (w : NetworkState) : Type 
 start_is_ready : (plan : Plan) (cert : Certificate) → IsReady plan cert (at_start plan cert)
 start_is_ready plan cert = record { kept = at_start_keeps plan cert (λ p. Unit {0}); routed = λ number f is. absurd (cc) }
 
+led_on : (plan : Plan) (n e m : ℕ) → IsLedOn plan n e m → (holder : ℕ) → Holds plan holder e → holder ≢ n → Holds plan m e ⊎ (IsBridge plan m × HasRow plan m e)
+unfolding IsLedOn
+led_on plan n e m led holder holds away = led holder holds away
+
 module _ (plan : Plan) (cert : Certificate) (accepted : Accepts plan cert) (leads : HeldAreLedOn plan) where
   moved_on_route : (w : NetworkState) (g : Flight) → HasMoved plan w g → IsDeliverable plan g → IsOnRoute plan g
   moved_on_route w g moved deliverable =
@@ -45,7 +50,8 @@ module _ (plan : Plan) (cert : Certificate) (accepted : Accepts plan cert) (lead
       let now : IsDeliverable plan (moved_to f moved.hop) → IsOnRoute plan (moved_to f moved.hop) = λ d.
       let holder = d.0.0 in
       let away : holder ≢ f.node = λ same. let H : ℕ → Type 0 = λ n. Holds plan n (destination f) in moved.decided.0 (subst H same d.0.1) in
-      elim (leads f.node (destination f) moved.hop.next (named (rows_of plan f.node) (destination f) moved.hop moved.decided.3) holder d.0.1 away) [
+      let next = leads f.node (destination f) moved.hop.next (named (rows_of plan f.node) (destination f) moved.hop moved.decided.3) in
+      elim (led_on plan f.node (destination f) moved.hop.next next holder d.0.1 away) [
         | inl here ↦ inl here
         | inr (bridge, row) ↦ inr (inl bridge, row)
       ] in
@@ -229,8 +235,8 @@ module _ (plan : Plan) (cert : Certificate) (accepted : Accepts plan cert) (lead
       let D : Flight → Type 0 = λ h. IsDecided plan h (Drop why) in
       subst D (same_Some g f (sym stood ∙ stands)) (stopped_by (with_made w (w.made + 1)) (w.made + 1) k g why new moves)
 
-  pub accepted_delivers : Delivers plan cert
-  accepted_delivers = record {
+  pub led_delivers : Delivers plan cert
+  led_delivers = record {
     stops_none = λ earlier turn number keep f k why run stands deliverable event outcome.
         let parts = run_parts plan (at_start plan cert) earlier turn run in
         let ready = run_is_ready (at_start plan cert) earlier (start_is_ready plan cert) parts.0 in

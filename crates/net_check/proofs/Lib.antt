@@ -15,6 +15,13 @@ pub mod Filters
 pub mod RankLaws
 pub mod CertificateLaws
 pub mod OneCertificate
+pub mod Lines
+pub mod LevelLaws
+pub mod IndexLaws
+pub mod ChainLaws
+pub mod ChainPlaces
+pub mod ExactCertificates
+pub mod Obstacles
 -- the network
 pub mod Nexts
 pub mod Fates
@@ -22,6 +29,7 @@ pub mod ByPlace
 pub mod Kept
 pub mod Promised
 pub mod Delivered
+pub mod Accepted
 pub mod Records
 pub mod Told
 pub mod Whole

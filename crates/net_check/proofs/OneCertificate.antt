@@ -11,7 +11,7 @@ use Rattle.net_plan.specs.CertificateValues.{RangeValue, range_value, NodeRanksV
 use Rattle.net_check.specs.Ranks.{rank}
 use Rattle.net_check.specs.PlanFaults.{PlanMeetsAll}
 use Rattle.net_check.specs.RankRuns.{AreLongestRuns}
-use Rattle.net_check.specs.Certificates.{HasExactRanks}
+use Rattle.net_check.specs.Certificates.{AreExactRanks}
 use Rattle.net_check.proofs.CertificateLaws.{rows_apart}
 use Rattle.net_check.proofs.EidMoves.{rank_only}
 use Rattle.net_check.proofs.Elements.{element}
@@ -108,7 +108,7 @@ seen_ranks : (a b : NodeRanks) → a.node ≡ b.node → map range_value a.range
 seen_ranks a b node ranges = cc
 
 module _ (plan : Plan) (met : PlanMeetsAll plan) where
-  node_in : (cert other : Certificate) → HasExactRanks plan cert → HasExactRanks plan other → (i : ℕ) (one : NodeRanks) → slice_get cert.ranks.items i ≡ Some one
+  node_in : (cert other : Certificate) → AreExactRanks plan cert.ranks.items → AreExactRanks plan other.ranks.items → (i : ℕ) (one : NodeRanks) → slice_get cert.ranks.items i ≡ Some one
       → (j : ℕ) × (two : NodeRanks) × (slice_get other.ranks.items j ≡ Some two) × (node_ranks_value one ≡ node_ranks_value two)
   node_in cert other exact exact' i one is =
       let n = one.node in
@@ -123,6 +123,6 @@ module _ (plan : Plan) (met : PlanMeetsAll plan) where
       let runs' = subst P found.3 (exact'.longest found.0 two found.2) in
       (found.0, two, found.2, seen_ranks one two (sym found.3) (one_runs (rank other n) one.ranges.items two.ranges.items (runs_same (rank cert n) (rank other n) one.ranges.items ranks_are runs) runs'))
 
-  pub one_ranks : (cert other : Certificate) → HasExactRanks plan cert → HasExactRanks plan other → map node_ranks_value other.ranks.items ≡ map node_ranks_value cert.ranks.items
+  pub one_ranks : (cert other : Certificate) → AreExactRanks plan cert.ranks.items → AreExactRanks plan other.ranks.items → map node_ranks_value other.ranks.items ≡ map node_ranks_value cert.ranks.items
   one_ranks cert other exact exact' =
       one_list node_ranks_value (λ one. one.node) (λ x y same. ap (λ (v : NodeRanksValue). v.node) same) other.ranks.items cert.ranks.items exact'.ascend exact.ascend (node_in other cert exact' exact) (node_in cert other exact exact')

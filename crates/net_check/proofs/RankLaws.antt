@@ -13,7 +13,7 @@ use Rattle.net_check.specs.Ranks.{rank, rank_in, is_in_range}
 use Rattle.net_check.specs.Circles.{HasNoCircle, AreMovesToEnds}
 use Rattle.net_check.specs.RoutingLoops.{IsRank, RowsAreApart, RowsAreInRange}
 use Rattle.net_check.specs.RankRuns.{AreLongestRuns, below, AreNone, AreGrown}
-use Rattle.net_check.specs.Certificates.{AreRoutedBelow, HasExactRanks, has_ranges}
+use Rattle.net_check.specs.Certificates.{AreRoutedBelow, AreExactRanks, has_ranges}
 use Rattle.net_check.proofs.Circling.{circle_in}
 use Rattle.net_check.proofs.Elements.{element}
 use Rattle.net_check.proofs.Filters.{find_cases, in_filter, to_filter, filter_pairs}
@@ -92,7 +92,7 @@ rank_in_runs ranks ranges e h = elim (find_cases (λ range. is_in_range range e)
 ]
 
 -- The ranges of all EIDs.
-module _ (plan : Plan) (given : List NodeRanks) (cert : Certificate) (apart : RowsAreApart plan) (in_range : RowsAreInRange plan) (routed : AreRoutedBelow plan 255 given) (made : cert.ranks.items ≡ filter has_ranges given) where
+module _ (plan : Plan) (given ranks : List NodeRanks) (apart : RowsAreApart plan) (in_range : RowsAreInRange plan) (routed : AreRoutedBelow plan 255 given) (made : ranks ≡ filter has_ranges given) where
   rank_at : (n : ℕ) → n < length plan.nodes.items → ℕ → ℕ
   rank_at n lt e = elim (cases_lt e 255) [ inl low ↦ (routed.ranked n e lt low).0 | inr high ↦ 0 ]
 
@@ -112,16 +112,16 @@ module _ (plan : Plan) (given : List NodeRanks) (cert : Certificate) (apart : Ro
       (routed.runs n one (rank_at n lt) is (λ d _. rank_at_is n lt d))
 
   -- each node of the certificate stood at its place
-  stood : (i : ℕ) (one : NodeRanks) → slice_get cert.ranks.items i ≡ Some one → (slice_get given one.node ≡ Some one) × (has_ranges one ≡ true)
+  stood : (i : ℕ) (one : NodeRanks) → slice_get ranks i ≡ Some one → (slice_get given one.node ≡ Some one) × (has_ranges one ≡ true)
   stood i one is =
       let found = in_filter has_ranges given i one (ap (λ xs. slice_get xs i) (sym made) ∙ is) in
       (ap (λ k. slice_get given k) (routed.node found.0 one found.1) ∙ found.1, found.2)
 
-  stood_within : (i : ℕ) (one : NodeRanks) → slice_get cert.ranks.items i ≡ Some one → one.node < length plan.nodes.items
+  stood_within : (i : ℕ) (one : NodeRanks) → slice_get ranks i ≡ Some one → one.node < length plan.nodes.items
   stood_within i one is = omega (arith, slice_get_within given one.node one (stood i one is).0, routed.long)
 
-  cert_rank : (n e : ℕ) (one : NodeRanks) → slice_get given n ≡ Some one → rank cert n e ≡ rank_in one.ranges.items e
-  cert_rank n e one is = elim (find_cases (λ (other : NodeRanks). other.node == n) cert.ranks.items) [
+  cert_rank : (n e : ℕ) (one : NodeRanks) → slice_get given n ≡ Some one → rank_given ranks n e ≡ rank_in one.ranges.items e
+  cert_rank n e one is = elim (find_cases (λ (other : NodeRanks). other.node == n) ranks) [
     | inr (i, other, there, passes, found) ↦ rw found (
         let at : other.node ≡ n = eqb-true other.node n passes in
         let same : other ≡ one = same_Some other one (sym (stood i other there).0 ∙ (ap (λ k. slice_get given k) at ∙ is)) in
@@ -136,18 +136,18 @@ module _ (plan : Plan) (given : List NodeRanks) (cert : Certificate) (apart : Ro
     ])
   ]
 
-  cert_rank_at : (n e : ℕ) (lt : n < length plan.nodes.items) → rank cert n e ≡ rank_at n lt e
+  cert_rank_at : (n e : ℕ) (lt : n < length plan.nodes.items) → rank_given ranks n e ≡ rank_at n lt e
   cert_rank_at n e lt =
       let one = element given n (omega (arith, routed.long, lt)) in
       cert_rank n e one.0 one.1 ∙ rank_in_runs (rank_at n lt) one.0.ranges.items e (longest_at n lt one.0 one.1)
 
-  cert_rank_beyond : (n e : ℕ) → length plan.nodes.items ≤ n → rank cert n e ≡ 0
-  cert_rank_beyond n e past = elim (find_cases (λ (other : NodeRanks). other.node == n) cert.ranks.items) [
+  cert_rank_beyond : (n e : ℕ) → length plan.nodes.items ≤ n → rank_given ranks n e ≡ 0
+  cert_rank_beyond n e past = elim (find_cases (λ (other : NodeRanks). other.node == n) ranks) [
     | inl (none, fail) ↦ rw none refl
     | inr (i, other, there, passes, found) ↦ absurd (omega (arith, eqb-true other.node n passes, stood_within i other there, past))
   ]
 
-  pub routed_all : HasExactRanks plan cert
+  pub routed_all : AreExactRanks plan ranks
   routed_all = record {
     ranks = λ n e. elim (cases_lt n (length plan.nodes.items)) [
       | inl lt ↦ (let P : ℕ → Type 0 = IsRank plan n e in subst P (sym (cert_rank_at n e lt)) (rank_at_is n lt e))
@@ -155,7 +155,7 @@ module _ (plan : Plan) (given : List NodeRanks) (cert : Certificate) (apart : Ro
     ];
     longest = λ i one is.
         let lt = stood_within i one is in
-        runs_same (rank_at one.node lt) (rank cert one.node) one.ranges.items (λ e. sym (cert_rank_at one.node e lt)) (longest_at one.node lt one (stood i one is).0);
+        runs_same (rank_at one.node lt) (rank_given ranks one.node) one.ranges.items (λ e. sym (cert_rank_at one.node e lt)) (longest_at one.node lt one (stood i one is).0);
     some = λ i one is. ltb-true 0 (length one.ranges.items) (stood i one is).1;
     within = stood_within;
     ascend = λ i j one other lt is is'. filter_pairs (λ (a b : NodeRanks). a.node < b.node) has_ranges given

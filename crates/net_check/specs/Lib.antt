@@ -31,7 +31,9 @@ pub mod Requests
 pub mod ByteRuns
 -- certificates made
 pub mod Circles
+pub mod OwnerLoops
 pub mod RoutingLoops
+pub mod RecordChains
 pub mod Tables
 pub mod RankRuns
 pub mod Certificates

@@ -1,7 +1,8 @@
 -- The owners of nodes, and the levels that a certificate gives.
-use Rattle.std.specs.Prelude.{◌≡◌, ℕ, ◌<◌, ◌==◌, Option, Some, option_map, option_and_then, unwrap_or, find}
+use Rattle.std.specs.Prelude.{◌≡◌, ℕ, ◌<◌, ◌==◌, List, Option, Some, option_map, option_and_then, unwrap_or, find}
 use Rattle.net_plan.specs.declared.plan.Plan.{Plan}
 use Rattle.net_plan.specs.declared.certificate.Certificate.{Certificate}
+use Rattle.net_plan.specs.declared.certificate.NodeLevel.{NodeLevel}
 use Rattle.net_check.specs.Routing.{node_at, IsBridge}
 use Rattle.net_check.specs.Rows.{IsOnBus}
 
@@ -20,9 +21,12 @@ ShareBus plan n m = (bus : ℕ) × IsOnBus plan n bus × IsOnBus plan m bus
 unfoldable pub HasBridgeAsOwner : Plan → ℕ → Type 0
 HasBridgeAsOwner plan n = (owner : ℕ) → IsOwnedBy plan n owner → IsBridge plan owner × ShareBus plan n owner
 
--- the level that the certificate gives n, 0 where it gives none
+-- the level that the list gives n, 0 where it gives none
+abbrev pub level_given : List NodeLevel → ℕ → ℕ
+level_given levels n = unwrap_or (option_map (λ given. given.level) (find (λ given. given.node == n) levels)) 0
+
 abbrev pub given_level : Certificate → ℕ → ℕ
-given_level cert n = unwrap_or (option_map (λ given. given.level) (find (λ given. given.node == n) cert.levels.items)) 0
+given_level cert n = level_given cert.levels.items n
 
 -- the level of n: 0 where it has no owner, whatever is given
 abbrev pub level : Plan → Certificate → ℕ → ℕ

@@ -3,6 +3,7 @@ use Rattle.std.specs.Prelude.{ℕ, ◌+◌, ◌<◌, List, Bool, ◌&&◌, ◌==
 use Rattle.net_plan.specs.declared.plan.Plan.{Plan}
 use Rattle.net_plan.specs.declared.nodes.Row.{Row}
 use Rattle.net_plan.specs.declared.certificate.RankRange.{RankRange}
+use Rattle.net_plan.specs.declared.certificate.NodeRanks.{NodeRanks}
 use Rattle.net_plan.specs.declared.certificate.Certificate.{Certificate}
 use Rattle.net_check.specs.Routing.{Holds}
 
@@ -14,10 +15,12 @@ is_in_range range e = nat_le range.first.value e && nat_lt e (range.first.value 
 abbrev pub rank_in : List RankRange → ℕ → ℕ
 rank_in ranges e = unwrap_or (option_map (λ range. range.rank) (find (λ range. is_in_range range e) ranges)) 0
 
--- the rank of (n, e); 0 where the certificate gives none
+-- the rank that the list gives n and e, 0 where it gives none
+abbrev pub rank_given : List NodeRanks → ℕ → ℕ → ℕ
+rank_given ranks n e = unwrap_or (option_map (λ given. rank_in given.ranges.items e) (find (λ given. given.node == n) ranks)) 0
+
 abbrev pub rank : Certificate → ℕ → ℕ → ℕ
-rank cert n e =
-    unwrap_or (option_map (λ given. rank_in given.ranges.items e) (find (λ given. given.node == n) cert.ranks.items)) 0
+rank cert n e = rank_given cert.ranks.items n e
 
 -- n holds e, or the rank is less at the row's next node
 unfoldable pub Falls : Plan → Certificate → ℕ → Row → ℕ → Type 0

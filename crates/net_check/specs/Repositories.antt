@@ -4,6 +4,7 @@ use Rattle.std.specs.List.{filter_map, range_with_len}
 use Rattle.std.specs.Option.{option_and_then}
 use Rattle.net_plan.specs.declared.plan.Plan.{Plan}
 use Rattle.net_plan.specs.declared.certificate.Certificate.{Certificate}
+use Rattle.net_plan.specs.declared.certificate.NodePlaces.{NodePlaces}
 use Rattle.net_plan.specs.declared.terminus.Terminus.{Terminus}
 use Rattle.net_plan.specs.declared.terminus.Record.{Record}
 use Rattle.pdr_repository.specs.Records.{Entry, IsRecordOf}
@@ -16,10 +17,12 @@ terminus_of plan n = option_and_then (λ node. node.terminus) (node_at plan n)
 abbrev pub records_of : Plan → ℕ → List Record
 records_of plan n = unwrap_or (option_map (λ t. t.records.items) (terminus_of plan n)) []
 
--- the places that the certificate gives the records of n, in the same order
+-- the places that the list gives the records of n, in the same order; none where it gives none
+abbrev pub places_given : List NodePlaces → ℕ → List ℕ
+places_given places n = unwrap_or (option_map (λ given. map (λ p. p.value) given.places.items) (find (λ given. given.node == n) places)) []
+
 abbrev pub places_of : Certificate → ℕ → List ℕ
-places_of cert n =
-    unwrap_or (option_map (λ given. map (λ p. p.value) given.places.items) (find (λ given. given.node == n) cert.places.items)) []
+places_of cert n = places_given cert.places.items n
 
 -- a record as a terminus answers it
 abbrev pub entry_of : Record → Entry

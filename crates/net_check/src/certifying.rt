@@ -1,8 +1,19 @@
 //! `certify`: the certificate of a plan, or why there is none.
-ghost use Rattle.std.specs.Prelude.{IfOk, IfErr};
+ghost use Rattle.std.specs.Prelude.{◌+◌, IfOk, IfErr, OnOk};
+ghost use Rattle.net_plan.specs.CertificateValues.{certificate_value};
+ghost use Rattle.net_plan.specs.PlanValues.{plan_value};
+ghost use Rattle.net_plan.specs.WellFormed.{IsWellFormed};
 ghost use Rattle.net_check.specs.Rules.{Accepts};
-ghost use Rattle.net_check.specs.Certificates.{HasExactRanks, HasOnlyRanks, HasRanksAlone, NamesObstacle, RulesOutCertificates};
+ghost use Rattle.net_check.specs.Faults.{order_of};
+ghost use Rattle.net_check.specs.PlanFaults.{PlanMeets};
+ghost use Rattle.net_check.specs.Certificates.{IsExact, HasOnlyRanks, IsMadeBefore, NamesObstacle, RulesOutCertificates};
 
+pub mod chains;
+mod exact_levels;
+mod exact_places;
+mod exact_ranks;
+mod handle_index;
+pub mod levels;
 mod next_nodes;
 mod rank_ranges;
 mod routes;
@@ -10,28 +21,58 @@ mod tables;
 mod walks;
 
 use crate::certify_error::CertifyError;
-use crate::certifying::routes::{Routed, route};
-use crate::plan_fault::first_of_plan;
+use crate::certifying::exact_levels::exact_levels;
+use crate::certifying::exact_places::exact_places;
+use crate::certifying::exact_ranks::exact_ranks;
+use crate::plan_fault::first_of_plan_rule;
+use crate::rule::{RULES, Rule};
 use net_plan::{Certificate, Plan};
 use std::alloc::Global;
 
-/// The certificate of a plan: the rank of each node and endpoint ID is the number of moves along rows from the node to
-/// the endpoint ID's holder, or to a node without a row for it. It is answered exactly where a certificate exists;
-/// otherwise the plan's first fault, the first routing loop, or want of memory. Levels and places are not certified yet.
-#[tactic(auto, using(crate::proofs::CertificateLaws::rows_apart, crate::proofs::CertificateLaws::rows_in_range, crate::proofs::CertificateLaws::exact_accepted, crate::proofs::OneCertificate::one_ranks))]
+/// The certificate of a plan: each node's level is the number of owners above it, each record's place is where the next
+/// handles lead to it, and the rank of each node and endpoint ID is the number of moves along rows from the node to the
+/// endpoint ID's holder, or to a node without a row for it. It is answered exactly where a certificate exists; otherwise,
+/// unless memory ran out, that which comes first in the order of the rules of what rules certificates out.
+#[tactic(auto, using(crate::proofs::ExactCertificates::made_exact, crate::proofs::ExactCertificates::exact_accepted, crate::proofs::ExactCertificates::exact_well_formed, crate::proofs::ExactCertificates::exact_only, crate::proofs::Obstacles::fault_named, crate::proofs::Obstacles::ruled_out))]
 pub fn certify(alloc: Global, plan: &Plan) -> Result<Certificate, CertifyError>
     ensures accepted { IfOk result (λ certificate. Accepts plan.now certificate) }
-    ensures exact { IfOk result (λ certificate. HasExactRanks plan.now certificate) }
+    ensures exact { IfOk result (λ certificate. IsExact plan.now certificate) }
     ensures only { IfOk result (λ certificate. HasOnlyRanks plan.now certificate) }
-    ensures alone { IfOk result (λ certificate. HasRanksAlone certificate) }
+    ensures well_formed { IfOk result (λ certificate. IsWellFormed (plan_value plan.now) (certificate_value certificate)) }
     ensures obstacle { IfErr result (λ error. NamesObstacle plan.now error) }
     ensures none { IfErr result (λ error. RulesOutCertificates plan.now error) }
 {
-    if let Some(fault) = first_of_plan(alloc, plan)? {
-        return Err(CertifyError::Fault(fault));
+    let mut made = Certificate {
+        levels: Vec::new(alloc),
+        places: Vec::new(alloc),
+        ranks: Vec::new(alloc),
+    };
+    for rule in RULES {
+        if let Some(fault) = first_of_plan_rule(alloc, plan, rule)? {
+            return Err(CertifyError::Fault(fault));
+        }
+        add_part(alloc, plan, rule, &mut made)?;
     }
-    match route(alloc, plan)? {
-        Routed::Ranked(certificate) => Ok(certificate),
-        Routed::Looped(eid, nodes) => Err(CertifyError::Loop(eid, nodes)),
+    Ok(made)
+}
+
+/// Adds to the certificate what a rule demands of it.
+fn add_part(
+    alloc: Global,
+    plan: &Plan,
+    rule: Rule,
+    made: &mut Certificate,
+) -> Result<(), CertifyError>
+    requires before { IsMadeBefore plan.now (order_of rule) made.old }
+    requires met { PlanMeets plan.now rule }
+    ensures more { OnOk result (IsMadeBefore plan.now (order_of rule + 1) made.new) }
+    ensures obstacle { IfErr result (λ error. NamesObstacle plan.now error) }
+{
+    match rule {
+        Rule::C07 => made.levels = exact_levels(alloc, plan)?,
+        Rule::C10 => made.ranks = exact_ranks(alloc, plan)?,
+        Rule::C14 => made.places = exact_places(alloc, plan)?,
+        _ => {}
     }
+    Ok(())
 }

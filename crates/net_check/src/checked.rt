@@ -5,7 +5,8 @@ ghost use Rattle.net_check.specs.Errors.{NamesFirstFault};
 ghost use Rattle.net_check.specs.Promises.{EndsWithinRank};
 ghost use Rattle.mctp_transport.specs.Frames.{KeyValue};
 ghost use Rattle.net_check.specs.States.{NetworkState};
-ghost use Rattle.net_check.specs.Headline.{KeepsPackets};
+ghost use Rattle.net_check.specs.Headline.{Headline};
+ghost use Rattle.net_check.specs.Deliveries.{Delivers};
 ghost use Rattle.net_check.specs.ExactMessages.{RunsAsSent};
 
 use crate::check_error::CheckError;
@@ -53,7 +54,7 @@ impl<'a> Checked<'a> {
 
 /// Whether each rule holds of the plan and the certificate. Otherwise the first fault is answered, or want of memory:
 /// it takes 256 bytes for each node.
-#[tactic(auto, using(crate::proofs::Ends::ends_within_rank, crate::proofs::Promised::accepted_keeps, crate::proofs::Exact::runs_as_sent))]
+#[tactic(auto, using(crate::proofs::Ends::ends_within_rank, crate::proofs::Whole::whole_headline, crate::proofs::Whole::accepted_delivers, crate::proofs::Exact::runs_as_sent))]
 pub fn check<'a>(
     alloc: Global,
     plan: &'a Plan,
@@ -67,8 +68,12 @@ pub fn check<'a>(
     ensures ends { OnOk result (EndsWithinRank plan.now certificate.now) }
 
     // In every run a packet enters only the node that holds its destination, within its certified hops, and what comes
-    // joins packets that were put in.
-    ensures every_run { OnOk result (KeepsPackets plan.now certificate.now) }
+    // joins packets that were put in; a finished walk over a terminus has collected each record once.
+    ensures headline { OnOk result (Headline plan.now certificate.now) }
+
+    // A flight whose destination is held, and held or routed by its origin, is never stopped, and enters within the
+    // certified hops and one move more.
+    ensures delivers { OnOk result (Delivers plan.now certificate.now) }
 
     // Where one message at a time is sent under a key to a destination, of five packets at most, what comes of it is
     // that message.

@@ -3,15 +3,10 @@ ghost use Rattle.std.specs.Prelude.{◌≡◌, ℕ, Some};
 ghost use Rattle.mctp_transport.specs.Frames.{KeyValue};
 ghost use Rattle.net_plan.specs.declared.plan.Plan.{Plan};
 ghost use Rattle.net_plan.specs.declared.certificate.Certificate.{Certificate};
-ghost use Rattle.net_check.specs.Rules.{Accepts};
-ghost use Rattle.net_check.specs.Repositories.{RecordsHaveOrder};
 ghost use Rattle.net_check.specs.Termini.{TerminusState, HoldsBytes};
 ghost use Rattle.net_check.specs.States.{NetworkState};
 ghost use Rattle.net_check.specs.Events.{EventValue};
 ghost use Rattle.net_check.specs.Networks.{GoesOn};
-ghost use Rattle.net_check.specs.HeldEids.{HeldAreLedOn};
-ghost use Rattle.net_check.specs.Headline.{Headline};
-ghost use Rattle.net_check.specs.Deliveries.{Delivers};
 ghost use Rattle.net_check.specs.ByteRuns.{RunsGoOn};
 ghost use Rattle.net_check.specs.Requests.{RequestsCanBeAnswered};
 ghost use Rattle.net_check.specs.ExactMessages.{TellsWhatComes, CanBeSent, SixAreTooMany};
@@ -26,18 +21,6 @@ pub fn never_stuck()
 /// Each run in which bytes are put in goes on, whatever the event.
 pub fn runs_go_on()
     ensures { (plan : Plan) (cert : Certificate) → RunsGoOn plan cert }
-{}
-
-/// Where each row leads on what is held elsewhere, a flight whose destination is held is never stopped, and enters
-/// within the certified hops of its origin and one move more.
-#[tactic(auto, using(crate::proofs::Delivered::accepted_delivers))]
-pub fn held_is_delivered()
-    ensures { (plan : Plan) (cert : Certificate) → Accepts plan cert → HeldAreLedOn plan → Delivers plan cert }
-{}
-
-/// Where the records of each terminus are in the certificate's order too, the whole headline holds.
-pub fn headline_holds()
-    ensures { (plan : Plan) (cert : Certificate) → Accepts plan cert → RecordsHaveOrder plan cert → Headline plan cert }
 {}
 
 /// A message that comes at a node is told by the outcome of the event with which it comes.

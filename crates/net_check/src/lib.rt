@@ -18,12 +18,13 @@ mod trial;
 
 pub use certify_error::CertifyError;
 pub use certifying::certify;
+pub use certifying::chains::ChainFault;
 pub use check_error::CheckError;
 pub use checked::{Checked, check};
 pub use fault::Fault;
 pub use laws::{
-    headline_holds, held_is_delivered, messages_can_be_sent, never_stuck, requests_can_be_answered,
-    runs_go_on, six_are_too_many, what_comes_is_told,
+    messages_can_be_sent, never_stuck, requests_can_be_answered, runs_go_on, six_are_too_many,
+    what_comes_is_told,
 };
 pub use rule::Rule;
 

@@ -65,7 +65,7 @@ pub fn first_of_plan_at(
         Rule::C08 => pools::eid_out_of_its_pool(plan, node),
         Rule::C09 => pools::unlawful_pool(plan, node),
         Rule::C11 => held_eids::row_without_way_on(plan, node),
-        Rule::C12 => records::unlawful_handle(alloc, plan, node)?,
+        Rule::C12 => return records::unlawful_handle(alloc, plan, node),
         Rule::C13 => records::unreadable_record(plan, node),
         Rule::C15 => locators::misleading_locator(plan, node),
         Rule::C10 | Rule::C14 | Rule::C16 => None,

@@ -8,14 +8,14 @@ use crate::certifying::rank_ranges::{add_ranks, no_ranges};
 use crate::certifying::tables::tables_of;
 use crate::certifying::walks::Walked;
 use mctp_transport::Eid;
-use net_plan::{Certificate, NodeRanks, Plan};
+use net_plan::{NodeRanks, Plan};
 use std::alloc::{AllocError, Global};
 
 /// Ranks, or why there are none.
 #[derive(Debug, Drop)]
 pub enum Routed {
-    /// The certificate of the ranks.
-    Ranked(Certificate),
+    /// The ranks of the nodes that have some, in plan order.
+    Ranked(Vec<NodeRanks>),
     /// An endpoint ID that goes round, and the nodes of its loop.
     Looped(Eid, Vec<usize>),
 }
@@ -36,11 +36,7 @@ pub fn route(alloc: Global, plan: &Plan) -> Result<Routed, AllocError>
         }
     }
     keep_ranked(&mut given);
-    Ok(Routed::Ranked(Certificate {
-        levels: Vec::new(alloc),
-        places: Vec::new(alloc),
-        ranks: given,
-    }))
+    Ok(Routed::Ranked(given))
 }
 
 /// Leaves out the nodes that have no ranges.

@@ -1,4 +1,4 @@
-use Rattle.std.proofs.Common.{◌≡◌, ℕ, Option, None, length, arith, inl, inr}
+use Rattle.std.proofs.Common.{ℕ, Option, length, arith, inl, inr}
 use Rattle.std.proofs.lemmas.Bool.{cases_lt}
 use borrow.Author.Count.{below_more}
 use Rattle.net_check.specs.Rules.{Demands}
@@ -10,7 +10,7 @@ loop-node-preserved c =
     let plan = c.args.trial.now.plan.now in
     let cert = c.args.trial.now.certificate.now in
     below_more (λ k. (entry eid : Option ℕ) → Demands plan cert c.args.rule k entry eid) c.loop-node.node c.loop-node.invariant
-    (let is : c.first_at.result ≡ None = cc in rw is at c.first_at.ensures)
+    (rw c.in_default.is at c.in_ok-spot.ensures)
 
 pub returns : goal.returns
 returns c = λ n entry eid.

@@ -1,4 +1,4 @@
-use Rattle.std.proofs.Common.{◌≡◌, ℕ, Option, None, length, arith, inl, inr}
+use Rattle.std.proofs.Common.{ℕ, Option, length, arith, inl, inr}
 use Rattle.std.proofs.lemmas.Bool.{cases_lt}
 use borrow.Author.Count.{below_more}
 use Rattle.net_check.specs.Rules.{PlanDemands}
@@ -8,7 +8,7 @@ use Rattle.net_check.proofs.plan_fault.first_of_plan_rule.Goals as goal
 pub loop-node-preserved : goal.loop-node-preserved
 loop-node-preserved c =
     below_more (λ k. (entry eid : Option ℕ) → PlanDemands c.args.plan.now c.args.rule k entry eid) c.loop-node.node c.loop-node.invariant
-    (let is : c.first_of_plan_at.result ≡ None = cc in rw is at c.first_of_plan_at.ensures)
+    (rw c.in_default.is at c.in_ok-spot.ensures)
 
 pub returns : goal.returns
 returns c = λ n entry eid.

@@ -64,4 +64,4 @@ pub returns : goal.returns
 returns c =
     let at : c.loop-value.value ≡ 255 = omega arith in
     let R : ℕ → Type 0 = λ e. AreRoutedBelow c.args.plan.now e c.loop-value.given.items in
-    (routed_all c.args.plan.now c.loop-value.given.items _ c.requires.apart c.requires.in_range (subst R at c.loop-value.invariant) c.keep_ranked.ensures, (c.new.ensures.items, c.new-2.ensures.items))
+    routed_all c.args.plan.now c.loop-value.given.items _ c.requires.apart c.requires.in_range (subst R at c.loop-value.invariant) c.keep_ranked.ensures

@@ -1,0 +1,4 @@
+use Rattle.net_check.proofs.plan_fault.first_of_plan_at.Goals as goal
+
+pub returns-in-C12 : goal.returns-in-C12
+returns-in-C12 c = rw c.in-C12.is c.unlawful_handle.ensures

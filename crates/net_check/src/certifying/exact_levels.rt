@@ -1,0 +1,36 @@
+//! The levels of a plan's certificate.
+ghost use Rattle.std.specs.Prelude.{◌≡◌, ◌≤◌, ℕ, IfOk, IfErr, Some, length, slice_get};
+ghost use Rattle.net_check.specs.Certificates.{AreExactLevels, AreLevelsBefore, NamesOwnerLoop};
+
+use crate::certify_error::CertifyError;
+use crate::certifying::levels::{Levelled, levels_of};
+use net_plan::{NodeLevel, Plan};
+use std::alloc::{AllocError, Global};
+
+/// The levels of the nodes that have an owner, in plan order, or the first owner loop.
+pub fn exact_levels(alloc: Global, plan: &Plan) -> Result<Vec<NodeLevel>, CertifyError>
+    ensures exact { IfOk result (λ given. AreExactLevels plan.now given.items) }
+    ensures obstacle { IfErr result (λ error. NamesOwnerLoop plan.now error) }
+{
+    match levels_of(alloc, plan)? {
+        Levelled::Levels(levels) => Ok(given_levels(alloc, &levels)?),
+        Levelled::Looped(nodes) => Err(CertifyError::OwnerLoop(nodes)),
+    }
+}
+
+/// The levels above 0.
+fn given_levels(alloc: Global, levels: &[u8]) -> Result<Vec<NodeLevel>, AllocError>
+    requires { (n k : ℕ) → slice_get levels.now n ≡ Some k → k ≤ 63 }
+    ensures { IfOk result (λ given. AreLevelsBefore levels.now (length levels.now) given.items) }
+{
+    let mut given = Vec::new(alloc);
+    for (node, &level) in levels.iter().enumerate() {
+        if level > 0 {
+            given.push(NodeLevel {
+                level,
+                node,
+            })?;
+        }
+    }
+    Ok(given)
+}
