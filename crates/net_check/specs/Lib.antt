@@ -31,6 +31,8 @@ pub mod Requests
 pub mod ByteRuns
 -- certificates made
 pub mod Circles
+pub mod OwnerLoops
+pub mod RecordChains
 pub mod RoutingLoops
 pub mod Tables
 pub mod RankRuns

@@ -3,6 +3,9 @@ ghost use Rattle.std.specs.Prelude.{IfOk, IfErr};
 ghost use Rattle.net_check.specs.Rules.{Accepts};
 ghost use Rattle.net_check.specs.Certificates.{HasExactRanks, HasOnlyRanks, HasRanksAlone, NamesObstacle, RulesOutCertificates};
 
+mod chains;
+mod handle_index;
+mod levels;
 mod next_nodes;
 mod rank_ranges;
 mod routes;
