@@ -229,8 +229,7 @@ has_next_tells records j r index is indexed some (Some k) found =
 pub first_next_tells : (records : List Record) (j : ℕ) (r : Record) (index : BTreeMap ℕ ℕ) → slice_get records j ≡ Some r → IsIndexOf (map (λ (x : Record). x.next) records) index
     → (first : ℕ) → Some first ≡ get nat_cmp index r.next → IsTrue (nat_eq first j) ↔ OfItem records j (HasNewNext records j)
 first_next_tells records j r index is indexed first found =
-    let named = index_some (λ (x : Record). x.next) records index indexed r.next first (sym found) in
-    (
+    let named = index_some (λ (x : Record). x.next) records index indexed r.next first (sym found) in (
       λ e item is' i other less at same.
           let here : first ≡ j = eqb-true first j e in
           named.3 i other (omega (arith, here, less)) at (same ∙ next_same records j item r is' is),

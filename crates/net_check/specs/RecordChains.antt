@@ -59,16 +59,16 @@ RulesOutPlaces records (Places places) = Unit {0}
 RulesOutPlaces records (Bad fault) = (places : List ℕ) → ¬ AreChained records places
 
 -- what is wrong, in a word
-abbrev pub word_of : ChainFault → List ℕ
-word_of (Missing j) = codes "missing"
-word_of (Doubled j) = codes "doubled"
-word_of (Circle j) = codes "circle"
+abbrev pub chain_word_of : ChainFault → List ℕ
+chain_word_of (Missing j) = codes "missing"
+chain_word_of (Doubled j) = codes "doubled"
+chain_word_of (Circle j) = codes "circle"
 
 -- the record at which it is wrong
-abbrev pub entry_of : ChainFault → ℕ
-entry_of (Missing j) = j
-entry_of (Doubled j) = j
-entry_of (Circle j) = j
+abbrev pub chain_entry_of : ChainFault → ℕ
+chain_entry_of (Missing j) = j
+chain_entry_of (Doubled j) = j
+chain_entry_of (Circle j) = j
 
 -- the place is the first at which the key stands
 abbrev pub IsFirstPlaceOf : List ℕ → ℕ → ℕ → Type 0

@@ -22,11 +22,11 @@ pub enum ChainFault {
 
 impl ChainFault {
     ghost use Rattle.std.specs.Prelude.{◌≡◌};
-    ghost use Rattle.net_check.specs.RecordChains.{word_of, entry_of};
+    ghost use Rattle.net_check.specs.RecordChains.{chain_word_of, chain_entry_of};
 
     /// What is wrong, in the word that users see.
     pub fn word(self) -> &'static str
-        ensures { result.now ≡ word_of self }
+        ensures { result.now ≡ chain_word_of self }
     {
         match self {
             ChainFault::Missing(_) => "missing",
@@ -37,7 +37,7 @@ impl ChainFault {
 
     /// The place of the record in the list.
     pub fn entry(self) -> usize
-        ensures { result ≡ entry_of self }
+        ensures { result ≡ chain_entry_of self }
     {
         match self {
             ChainFault::Missing(record)
