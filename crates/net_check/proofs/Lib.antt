@@ -8,6 +8,11 @@ pub mod Pigeons
 pub mod Circling
 pub mod SameMoves
 pub mod Elements
+pub mod Lines
+pub mod LevelLaws
+pub mod IndexLaws
+pub mod ChainLaws
+pub mod ChainPlaces
 pub mod TableLaws
 pub mod EidMoves
 pub mod RankRunLaws
