@@ -1,4 +1,5 @@
-//! C08 and C09: the endpoint IDs of owned nodes come from their owners' pools, and pools lie within and apart.
+//! C08 and C09: the endpoint IDs of owned nodes come from their owners' pools, and pools lie within their owners' and
+//! apart.
 ghost use Rattle.std.specs.Prelude.{◌≡◌, ℕ, ◌+◌, ◌<◌, ◌↔◌, IsTrue, length};
 ghost use Rattle.net_check.specs.Pools.{pool_of, IsInPool, IsInPoolOf, IsInOwnersPool, IsInNoPeersPool, IsInItsPool, IsPoolInRange, LiesInOwnersPool, LiesApartFromEarlierPools, IsLawfulPool, HasLawfulPool};
 ghost use Rattle.net_check.specs.Rules.{PlanDemands};
@@ -11,7 +12,7 @@ use crate::spot::Spot;
 use mctp_transport::Eid;
 use net_plan::{Plan, Pool};
 
-/// Where the node's endpoint ID lies in another pool than that of its owner.
+/// Where the node's endpoint ID lies outside the pool of its owner, or in a pool of a bridge with the same owner.
 pub fn eid_out_of_its_pool(plan: &Plan, node: usize) -> Option<Spot>
     requires { node < length plan.now.nodes.items }
     ensures { IsFirstSpot (PlanDemands plan.now Rule.C08 node) result }
@@ -57,7 +58,7 @@ fn pool_end(pool: Pool) -> u16
     u16::from(pool.first.value) + u16::from(pool.size)
 }
 
-/// Whether the endpoint ID lies where the node's has to.
+/// Whether the endpoint ID lies in the pool of the node's owner, and in no pool of a bridge with that owner.
 #[tactic(auto, unfolding(crate::specs::Pools::IsInItsPool))]
 fn is_in_its_pool(plan: &Plan, node: usize, eid: Eid) -> bool
     ensures { IsTrue result ↔ IsInItsPool plan.now node eid.value }
