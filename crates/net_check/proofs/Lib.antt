@@ -1,5 +1,7 @@
 -- the rules
 pub mod Spots
+pub mod SharedBuses
+pub mod PoolsOf
 pub mod Beyond
 -- certificates made
 pub mod Deciding
