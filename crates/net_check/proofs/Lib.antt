@@ -1,5 +1,7 @@
 -- the rules
 pub mod Spots
+pub mod OtherSpots
+pub mod OtherSearches
 pub mod Beyond
 -- certificates made
 pub mod Deciding
