@@ -6,7 +6,7 @@ use Rattle.net_plan.specs.declared.plan.Plan.{Plan}
 use Rattle.net_plan.specs.declared.nodes.Row.{Row}
 use Rattle.net_plan.specs.declared.nodes.Node.{Node}
 use Rattle.net_plan.specs.declared.terminus.Terminus.{Terminus}
-use Rattle.net_plan.specs.declared.terminus.Record as plan
+use Rattle.net_plan.specs.declared.terminus.Record as listed
 use Rattle.net_plan.specs.declared.certificate.Certificate.{Certificate}
 use Rattle.net_check.specs.declared.spot.Spot.{Spot}
 use Rattle.net_check.specs.Routing.{Holds, HasRow, Covers, rows_of, OfItem}
@@ -78,7 +78,7 @@ at_node_or_eid P R Q S p q None (Some e) h = q e h
 at_node_or_eid P R Q S p q (Some i) eid h = tt
 
 -- what a locator's value has to be, and what the record has to
-pub locator_spot : (plan : Plan) (r : plan.Record) (tid : ℕ) (value : List ℕ) (found : Option Spot) → IsEidLocator r.bytes.items tid value
+pub locator_spot : (plan : Plan) (r : listed.Record) (tid : ℕ) (value : List ℕ) (found : Option Spot) → IsEidLocator r.bytes.items tid value
     → ((t : ℕ) (v : List ℕ) → IsEidLocator r.bytes.items t v → (tid ≡ t) × (value ≡ v))
     → IsFirstSpot (AtNodeOrEid (length value ≡ 1) (λ e. value ≡ e ∷ [] → IsHeldByTerminus plan tid e)) found
     → IsFirstSpot (AtNodeOrEid (HasOneByteAsEid r) (LocatesTerminus plan r)) found
@@ -89,15 +89,15 @@ locator_spot plan r tid value found is one first =
     let to_record : P → HasOneByteAsEid r = λ long t v other. subst (λ (bytes : List ℕ). length bytes ≡ 1) (one t v other).1 long in
     let to_value : HasOneByteAsEid r → P = λ h. h tid value is in
     let to_records : (e : ℕ) → Q e → LocatesTerminus plan r e = λ e held t other.
-        let same = one t (e ∷ []) other in
-        subst (λ (n : ℕ). IsHeldByTerminus plan n e) same.0 (held same.1) in
+    let same = one t (e ∷ []) other in
+    subst (λ (n : ℕ). IsHeldByTerminus plan n e) same.0 (held same.1) in
     let to_values : (e : ℕ) → LocatesTerminus plan r e → Q e = λ e held same. held tid (subst (λ (bytes : List ℕ). IsEidLocator r.bytes.items tid bytes) same is) in
     same_spot (AtNodeOrEid P Q) (AtNodeOrEid (HasOneByteAsEid r) (LocatesTerminus plan r))
     (at_node_or_eid P (HasOneByteAsEid r) Q (LocatesTerminus plan r) to_record to_records)
     (at_node_or_eid (HasOneByteAsEid r) P (LocatesTerminus plan r) Q to_value to_values) found first
 
 -- a record that is no such locator
-pub no_locator_spot : (plan : Plan) (r : plan.Record) → ((t : ℕ) (v : List ℕ) → ¬ IsEidLocator r.bytes.items t v) → IsFirstSpot (AtNodeOrEid (HasOneByteAsEid r) (LocatesTerminus plan r)) None
+pub no_locator_spot : (plan : Plan) (r : listed.Record) → ((t : ℕ) (v : List ℕ) → ¬ IsEidLocator r.bytes.items t v) → IsFirstSpot (AtNodeOrEid (HasOneByteAsEid r) (LocatesTerminus plan r)) None
 unfolding HasOneByteAsEid LocatesTerminus
 no_locator_spot plan r none =
     node_and_eids_meet (HasOneByteAsEid r) (LocatesTerminus plan r) (λ t v is. absurd (none t v is)) (λ e t is. absurd (none t (e ∷ []) is))

@@ -2,7 +2,6 @@
 use Rattle.std.proofs.Common.{◌≡◌, ℕ, ◌<◌, List, Option, Some, None, sym, ◌∙◌, subst, refl, inl, inr, arith}
 use Rattle.std.specs.Prelude.{slice_get}
 use Rattle.std.proofs.lemmas.Option.{same_Some}
-use Rattle.mctp_transport.specs.declared.address.Eid.{Eid}
 use Rattle.net_check.specs.declared.spot.Spot.{Spot}
 use Rattle.net_check.specs.Routing.{OfItem}
 use Rattle.net_check.specs.Rules.{AtNodeOrEid, AtItemOrEid}
@@ -14,23 +13,6 @@ pub node_and_eids_meet : (P : Type 0) (Q : ℕ → Type 0) → P → ((e : ℕ) 
 node_and_eids_meet P Q p q None None = p
 node_and_eids_meet P Q p q None (Some e) = q e
 node_and_eids_meet P Q p q (Some i) eid = tt
-
-pub node_first_fails : (P : Type 0) (Q : ℕ → Type 0) → ¬ P → IsFirstSpot (AtNodeOrEid P Q) (Some (record { entry = None; eid = None }))
-node_first_fails P Q not_p = (not_p, λ entry eid before. earlier P Q entry eid before)
-  where
-    earlier : (P : Type 0) (Q : ℕ → Type 0) (entry eid : Option ℕ) → SpotComesBefore entry eid None None → AtNodeOrEid P Q entry eid
-    earlier P Q None None before = absurd (elim before [ inl lt ↦ omega arith | inr (same, rest) ↦ elim rest [ inl lt ↦ omega arith | inr (same, none) ↦ none ] ])
-    earlier P Q None (Some e) before = absurd (elim before [ inl lt ↦ omega arith | inr (same, rest) ↦ elim rest [ inl lt ↦ omega arith | inr (same, none) ↦ none ] ])
-    earlier P Q (Some i) eid before = tt
-
-pub node_eid_fails : (P : Type 0) (Q : ℕ → Type 0) (e : Eid) → P → ¬ Q e.value → ((d : ℕ) → d < e.value → Q d)
-    → IsFirstSpot (AtNodeOrEid P Q) (Some (record { entry = None; eid = Some e }))
-node_eid_fails P Q e p not_q lower = (not_q, λ entry eid before. earlier P Q e.value p lower entry eid before)
-  where
-    earlier : (P : Type 0) (Q : ℕ → Type 0) (e : ℕ) → P → ((d : ℕ) → d < e → Q d) → (entry eid : Option ℕ) → SpotComesBefore entry eid None (Some e) → AtNodeOrEid P Q entry eid
-    earlier P Q e p lower None None before = p
-    earlier P Q e p lower None (Some d) before = lower d (elim before [ inl lt ↦ omega arith | inr (_, rest) ↦ elim rest [ inl lt ↦ omega arith | inr (_, none) ↦ absurd none ] ])
-    earlier P Q e p lower (Some i) eid before = tt
 
 -- at each item of a list, alone or at each EID
 pub items_and_eids_meet : {A : Type 0} (items : List A) (P : A → Type 0) (Q : A → ℕ → Type 0)
@@ -53,15 +35,18 @@ meets_everywhere P Q all = (all None None, λ e. all None (Some e))
 pub item_or_eid_fails : {A : Type 0} (items : List A) (i : ℕ) (item : A) (spot : Spot) (P : A → Type 0) (Q : A → ℕ → Type 0)
     → slice_get items i ≡ Some item → ((k : ℕ) → k < i → OfItem items k (λ item. P item × ((e : ℕ) → Q item e)))
     → IsFirstSpot (AtNodeOrEid (P item) (Q item)) (Some spot) → IsFirstSpot (AtItemOrEid items P Q) (Some (record { entry = Some i; eid = spot.eid }))
-item_or_eid_fails {A} items i item spot P Q at earlier found =
-    (there_fails items i item P Q at spot.entry (eid_number spot.eid) found.0, λ entry eid before.
-      before_meets items i item P Q at earlier spot.entry (eid_number spot.eid) found.0 found.1 entry eid before)
+item_or_eid_fails {A} items i item spot P Q at earlier found = (
+  there_fails items i item P Q at spot.entry (eid_number spot.eid) found.0,
+  λ entry eid before.
+      before_meets items i item P Q at earlier spot.entry (eid_number spot.eid) found.0 found.1 entry eid before,
+)
   where
     there_fails : (items : List A) (i : ℕ) (item : A) (P : A → Type 0) (Q : A → ℕ → Type 0) → slice_get items i ≡ Some item → (entry eid : Option ℕ)
         → ¬ AtNodeOrEid (P item) (Q item) entry eid → ¬ AtItemOrEid items P Q (Some i) eid
     there_fails items i item P Q at None None not = λ h. not (h item at)
     there_fails items i item P Q at None (Some e) not = λ h. not (h item at)
     there_fails items i item P Q at (Some k) eid not = λ h. not tt
+
     before_meets : (items : List A) (i : ℕ) (item : A) (P : A → Type 0) (Q : A → ℕ → Type 0) → slice_get items i ≡ Some item
         → ((k : ℕ) → k < i → OfItem items k (λ item. P item × ((e : ℕ) → Q item e))) → (place number : Option ℕ) → ¬ AtNodeOrEid (P item) (Q item) place number
         → ((entry eid : Option ℕ) → SpotComesBefore entry eid place number → AtNodeOrEid (P item) (Q item) entry eid)

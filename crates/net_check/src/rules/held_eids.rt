@@ -75,7 +75,7 @@ pub fn has_row(plan: &Plan, node: usize, eid: Eid) -> bool
     ensures { IsTrue result ↔ HasRow plan.now node eid.value }
 {
     let rows = rows_at(plan, node);
-    for (r, row) in rows.iter().enumerate() {
+    for row in rows {
         if covers(row, eid) {
             return true;
         }

@@ -38,11 +38,9 @@ pub fn superfluous_entry(trial: &Trial, node: usize) -> Option<Spot>
 /// The first endpoint ID for which the node is given a rank and needs none.
 fn superfluous_rank(trial: &Trial, node: usize) -> Option<Eid>
     requires { node < length trial.now.plan.now.nodes.items }
-    ensures {
-        MatchOption result ((e : ℕ) → NeedsItsRank trial.now.plan.now trial.now.certificate.now node e)
+    ensures { MatchOption result ((e : ℕ) → NeedsItsRank trial.now.plan.now trial.now.certificate.now node e)
         (λ eid. ¬ NeedsItsRank trial.now.plan.now trial.now.certificate.now node eid.value
-        × ((d : ℕ) → d < eid.value → NeedsItsRank trial.now.plan.now trial.now.certificate.now node d))
-    }
+        × ((d : ℕ) → d < eid.value → NeedsItsRank trial.now.plan.now trial.now.certificate.now node d)) }
 {
     for value in 0..256u16 {
         let eid = Eid::new(value as u8);

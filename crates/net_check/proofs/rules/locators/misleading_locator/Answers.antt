@@ -16,7 +16,7 @@ pub loop-j-preserved : goal.loop-j-preserved
 loop-j-preserved c =
     let net = c.args.plan.now in
     of_one_more c.records_at-records.result.now c.loop-j.j c.index-records-j.result (λ (r : plan.Record). HasOneByteAsEid r × ((e : ℕ) → LocatesTerminus net r e))
-    (omega arith) c.index-records-j.is (meets_everywhere (HasOneByteAsEid c.index-records-j.result) (LocatesTerminus net c.index-records-j.result) ?) c.loop-j.invariant
+    (omega arith) c.index-records-j.is (meets_everywhere (HasOneByteAsEid c.index-records-j.result) (LocatesTerminus net c.index-records-j.result) c.in_default.ensures) c.loop-j.invariant
 
 pub returns : goal.returns
 returns c =
