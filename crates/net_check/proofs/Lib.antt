@@ -2,6 +2,8 @@
 pub mod Spots
 pub mod SharedBuses
 pub mod PoolsOf
+pub mod OtherSpots
+pub mod OtherSearches
 pub mod Beyond
 -- certificates made
 pub mod Deciding

@@ -4,6 +4,8 @@ ghost use Rattle.net_plan.specs.NameText.{is_name};
 
 mod certificates;
 mod owners_and_pools;
+mod deliveries;
+mod superfluous;
 
 use crate::{CheckError, Fault, Rule, check};
 use mctp_transport::Eid;

@@ -1,15 +1,122 @@
 //! C15: terminus locators name a node that holds the endpoint ID, and whose terminus has the terminus ID.
-ghost use Rattle.std.specs.Prelude.{◌<◌, ◌↔◌, IsTrue, length};
-ghost use Rattle.net_check.specs.Rules.{PlanDemands};
+ghost use Rattle.std.specs.Prelude.{◌≡◌, ℕ, List, [], ◌∷◌, length, ◌↔◌, IsTrue, IfSome, IsSomeAnd, Some, option_map};
+ghost use Rattle.net_check.specs.Routing.{Holds};
+ghost use Rattle.net_check.specs.Repositories.{terminus_of, records_of};
+ghost use Rattle.net_check.specs.Locators.{IsEidLocator, HasOneByteAsEid, IsHeldByTerminus, LocatesTerminus};
+ghost use Rattle.net_check.specs.Rules.{PlanDemands, AtNodeOrEid};
 ghost use Rattle.net_check.specs.Search.{IsFirstSpot};
 
+use crate::routing::holds;
 use crate::rule::Rule;
 use crate::spot::Spot;
-use net_plan::Plan;
+use mctp_transport::{Eid, Wire};
+use net_plan::{Plan, Record};
+use pdr_record::{Body, TerminusLocator};
 
 /// Where a terminus locator does not locate a terminus of the plan.
 pub fn misleading_locator(plan: &Plan, node: usize) -> Option<Spot>
     ensures { IsFirstSpot (PlanDemands plan.now Rule.C15 node) result }
 {
+    let records = records_at(plan, node);
+    for (j, listed) in records.iter().enumerate() {
+        if let Some(spot) = misleading_at(plan, listed) {
+            return Some(Spot {
+                entry: Some(j),
+                eid: spot.eid,
+            });
+        }
+    }
     None
+}
+
+/// Where a record, as a terminus locator, does not locate a terminus of the plan: by the length of its value, or by its
+/// endpoint ID.
+fn misleading_at(plan: &Plan, listed: &Record) -> Option<Spot>
+    ensures { IsFirstSpot (AtNodeOrEid (HasOneByteAsEid listed.now) (LocatesTerminus plan.now listed.now)) result }
+{
+    match eid_locator(&listed.bytes) {
+        Some(locator) => misleading_value(plan, locator.tid, locator.locator_value),
+        None => None,
+    }
+}
+
+/// Where a locator's value is no endpoint ID, or one that no node of the terminus ID holds.
+fn misleading_value(plan: &Plan, tid: u8, value: &[u8]) -> Option<Spot>
+    ensures { IsFirstSpot (AtNodeOrEid (length value.now ≡ 1) (λ e. value.now ≡ e ∷ [] → IsHeldByTerminus plan.now tid e)) result }
+{
+    let [number] = value else {
+        return Some(Spot {
+            entry: None,
+            eid: None,
+        });
+    };
+    let eid = Eid::new(*number);
+    if is_held_by_terminus(plan, tid, eid) {
+        return None;
+    }
+    Some(Spot {
+        entry: None,
+        eid: Some(eid),
+    })
+}
+
+/// The locator that the bytes are, if they are those of a terminus locator that is valid and names an MCTP endpoint ID.
+fn eid_locator(bytes: &[u8]) -> Option<TerminusLocator<'_>>
+    ensures found { IfSome result (λ locator. IsEidLocator bytes.now locator.tid locator.locator_value.now) }
+    ensures all { (tid : ℕ) (value : List ℕ) → IsEidLocator bytes.now tid value → IsSomeAnd result (λ locator. (locator.tid ≡ tid) × (locator.locator_value.now ≡ value)) }
+{
+    match pdr_record::Record::read(bytes) {
+        Ok(record) => match record.body {
+            Body::Terminus(locator) if locator.validity == 1 && locator.locator_type == 1 => {
+                Some(locator)
+            }
+            _ => None,
+        },
+        Err(_) => None,
+    }
+}
+
+/// Whether a node holds the endpoint ID whose terminus has the terminus ID.
+fn is_held_by_terminus(plan: &Plan, tid: u8, eid: Eid) -> bool
+    ensures { IsTrue result ↔ IsHeldByTerminus plan.now tid eid.value }
+{
+    for node in 0..plan.nodes.len() {
+        if is_holder(plan, node, tid, eid) {
+            return true;
+        }
+    }
+    false
+}
+
+/// Whether the node holds the endpoint ID and has a terminus of the terminus ID.
+fn is_holder(plan: &Plan, node: usize, tid: u8, eid: Eid) -> bool
+    ensures { IsTrue result ↔ (Holds plan.now node eid.value × (option_map (λ t. t.tid) (terminus_of plan.now node) ≡ Some tid)) }
+{
+    holds(plan, node, eid) && has_tid(plan, node, tid)
+}
+
+/// Whether the node has a terminus of the terminus ID.
+fn has_tid(plan: &Plan, node: usize, tid: u8) -> bool
+    ensures { IsTrue result ↔ (option_map (λ t. t.tid) (terminus_of plan.now node) ≡ Some tid) }
+{
+    match plan.nodes.get(node) {
+        Some(node) => match &node.terminus {
+            Some(terminus) => terminus.tid == tid,
+            None => false,
+        },
+        None => false,
+    }
+}
+
+/// The records of the node's terminus, none where it has no terminus.
+pub fn records_at(plan: &Plan, node: usize) -> &[Record]
+    ensures { result.now ≡ records_of plan.now node }
+{
+    match plan.nodes.get(node) {
+        Some(node) => match &node.terminus {
+            Some(terminus) => &terminus.records,
+            None => &[],
+        },
+        None => &[],
+    }
 }

@@ -1,0 +1,122 @@
+-- From the loops of the searches, and what they ask of a node or a record, to the rules' sentences.
+use Rattle.std.proofs.Common.{◌≡◌, ℕ, ◌+◌, ◌<◌, ◌≤◌, List, [], ◌∷◌, length, get_or, Option, Some, None, refl, sym, ◌∙◌, subst, arith, below_more}
+use Rattle.std.specs.Prelude.{slice_get, option_map}
+use Rattle.std.proofs.lemmas.Option.{same_Some, slice_get_read, slice_get_within, get_or_from_slice_get}
+use Rattle.net_plan.specs.declared.plan.Plan.{Plan}
+use Rattle.net_plan.specs.declared.nodes.Row.{Row}
+use Rattle.net_plan.specs.declared.nodes.Node.{Node}
+use Rattle.net_plan.specs.declared.terminus.Terminus.{Terminus}
+use Rattle.net_plan.specs.declared.terminus.Record as listed
+use Rattle.net_plan.specs.declared.certificate.Certificate.{Certificate}
+use Rattle.net_check.specs.declared.spot.Spot.{Spot}
+use Rattle.net_check.specs.Routing.{Holds, HasRow, Covers, rows_of, OfItem}
+use Rattle.net_check.specs.Repositories.{terminus_of}
+use Rattle.net_check.specs.Locators.{IsEidLocator, HasOneByteAsEid, IsHeldByTerminus, LocatesTerminus}
+use Rattle.net_check.specs.Superfluous.{NeedsItsRank}
+use Rattle.net_check.specs.Rules.{AtNodeOrEid, AtItemOrEid}
+use Rattle.net_check.specs.Search.{IsFirstSpot}
+use Rattle.net_check.proofs.OtherSpots.{node_and_eids_meet, items_and_eids_meet, item_or_eid_fails}
+
+-- what is said of each item below the end is said of each
+pub of_all_items : {A : Type 0} (items : List A) (n : ℕ) (P : A → Type 0) → length items ≤ n → ((k : ℕ) → k < n → OfItem items k P) → (k : ℕ) → OfItem items k P
+of_all_items items n P end below k item is =
+    let within : k < length items = slice_get_within items k item is in
+    below k (omega arith) item is
+
+-- one item more
+pub of_one_more : {A : Type 0} (items : List A) (n : ℕ) (item : A) (P : A → Type 0) → n < length items → item ≡ get_or items n item → P item
+    → ((k : ℕ) → k < n → OfItem items k P) → (k : ℕ) → k < n + 1 → OfItem items k P
+of_one_more {A} items n item P within is p below =
+    let Q : ℕ → Type 0 = λ k. OfItem items k P in
+    below_more Q n below (λ (other : A) at. subst P (is ∙ get_or_from_slice_get items n other item at) p)
+
+-- a row of the node that covers e
+pub row_for : (plan : Plan) (n e r : ℕ) (row : Row) (rows : List Row) → rows ≡ rows_of plan n → r < length rows → row ≡ get_or rows r row → Covers row e → HasRow plan n e
+row_for plan n e r row rows same within is covers =
+    let P : List Row → Type 0 = λ rs. slice_get rs r ≡ Some row in
+    (row.next, (r, row, subst P same (slice_get_read rows (length rows) r row refl within is), covers, refl))
+
+pub no_row_for : (plan : Plan) (n e : ℕ) (rows : List Row) → rows ≡ rows_of plan n → ((k : ℕ) → OfItem rows k (λ row. ¬ Covers row e)) → ¬ HasRow plan n e
+no_row_for plan n e rows same none (m, (r, row, at, covers, next)) =
+    let P : List Row → Type 0 = λ rs. slice_get rs r ≡ Some row in
+    none r row (subst P (sym same) at) covers
+
+-- what a number was told of
+some_of_map : {A : Type 0} (f : A → ℕ) (o : Option A) (e : ℕ) → option_map f o ≡ Some e → (a : A) × (o ≡ Some a)
+some_of_map f None e is = absurd (cc)
+some_of_map f (Some a) e is = (a, refl)
+
+-- a terminus of the TID
+some_terminus : (o : Option Terminus) (tid : ℕ) → option_map (λ t. t.tid) o ≡ Some tid → (t : Terminus) × (o ≡ Some t) × (t.tid ≡ tid)
+some_terminus None tid is = absurd (cc)
+some_terminus (Some t) tid is = (t, refl, same_Some t.tid tid is)
+
+tid_of_some : (o : Option Terminus) (t : Terminus) (tid : ℕ) → o ≡ Some t → t.tid ≡ tid → option_map (λ t. t.tid) o ≡ Some tid
+tid_of_some o t tid at same = rw at (rw same refl)
+
+pub held_by : (plan : Plan) (n tid e : ℕ) → Holds plan n e → option_map (λ t. t.tid) (terminus_of plan n) ≡ Some tid → IsHeldByTerminus plan tid e
+unfolding IsHeldByTerminus
+held_by plan n tid e holds is = let (t, at, same) = some_terminus (terminus_of plan n) tid is in (n, holds, t, at, same)
+
+pub not_held_by : (plan : Plan) (count tid e : ℕ) → length plan.nodes.items ≤ count
+    → ((n : ℕ) → n < count → ¬ (Holds plan n e × (option_map (λ t. t.tid) (terminus_of plan n) ≡ Some tid))) → ¬ IsHeldByTerminus plan tid e
+unfolding IsHeldByTerminus
+not_held_by plan count tid e end none (n, holds, t, at, same) =
+    let node = some_of_map (λ (node : Node). node.eid.value) (slice_get plan.nodes.items n) e holds in
+    let within : n < length plan.nodes.items = slice_get_within plan.nodes.items n node.0 node.1 in
+    none n (omega arith) (holds, tid_of_some (terminus_of plan n) t tid at same)
+
+-- demands that come to the same have one first spot
+same_spot : (D E : Option ℕ → Option ℕ → Type 0) → ((entry eid : Option ℕ) → D entry eid → E entry eid) → ((entry eid : Option ℕ) → E entry eid → D entry eid)
+    → (found : Option Spot) → IsFirstSpot D found → IsFirstSpot E found
+same_spot D E to from None all = λ entry eid. to entry eid (all entry eid)
+same_spot D E to from (Some spot) first = (λ e. first.0 (from _ _ e), λ entry eid before. to entry eid (first.1 entry eid before))
+
+at_node_or_eid : (P R : Type 0) (Q S : ℕ → Type 0) → (P → R) → ((e : ℕ) → Q e → S e) → (entry eid : Option ℕ) → AtNodeOrEid P Q entry eid → AtNodeOrEid R S entry eid
+at_node_or_eid P R Q S p q None None h = p h
+at_node_or_eid P R Q S p q None (Some e) h = q e h
+at_node_or_eid P R Q S p q (Some i) eid h = tt
+
+-- what a locator's value has to be, and what the record has to
+pub locator_spot : (plan : Plan) (r : listed.Record) (tid : ℕ) (value : List ℕ) (found : Option Spot) → IsEidLocator r.bytes.items tid value
+    → ((t : ℕ) (v : List ℕ) → IsEidLocator r.bytes.items t v → (tid ≡ t) × (value ≡ v))
+    → IsFirstSpot (AtNodeOrEid (length value ≡ 1) (λ e. value ≡ e ∷ [] → IsHeldByTerminus plan tid e)) found
+    → IsFirstSpot (AtNodeOrEid (HasOneByteAsEid r) (LocatesTerminus plan r)) found
+unfolding HasOneByteAsEid LocatesTerminus
+locator_spot plan r tid value found is one first =
+    let P : Type 0 = length value ≡ 1 in
+    let Q : ℕ → Type 0 = λ e. value ≡ e ∷ [] → IsHeldByTerminus plan tid e in
+    let to_record : P → HasOneByteAsEid r = λ long t v other. subst (λ (bytes : List ℕ). length bytes ≡ 1) (one t v other).1 long in
+    let to_value : HasOneByteAsEid r → P = λ h. h tid value is in
+    let to_records : (e : ℕ) → Q e → LocatesTerminus plan r e = λ e held t other.
+    let same = one t (e ∷ []) other in
+    subst (λ (n : ℕ). IsHeldByTerminus plan n e) same.0 (held same.1) in
+    let to_values : (e : ℕ) → LocatesTerminus plan r e → Q e = λ e held same. held tid (subst (λ (bytes : List ℕ). IsEidLocator r.bytes.items tid bytes) same is) in
+    same_spot (AtNodeOrEid P Q) (AtNodeOrEid (HasOneByteAsEid r) (LocatesTerminus plan r))
+    (at_node_or_eid P (HasOneByteAsEid r) Q (LocatesTerminus plan r) to_record to_records)
+    (at_node_or_eid (HasOneByteAsEid r) P (LocatesTerminus plan r) Q to_value to_values) found first
+
+-- a record that is no such locator
+pub no_locator_spot : (plan : Plan) (r : listed.Record) → ((t : ℕ) (v : List ℕ) → ¬ IsEidLocator r.bytes.items t v) → IsFirstSpot (AtNodeOrEid (HasOneByteAsEid r) (LocatesTerminus plan r)) None
+unfolding HasOneByteAsEid LocatesTerminus
+no_locator_spot plan r none =
+    node_and_eids_meet (HasOneByteAsEid r) (LocatesTerminus plan r) (λ t v is. absurd (none t v is)) (λ e t is. absurd (none t (e ∷ []) is))
+
+-- the first item that fails, and no item, whichever list was searched
+pub found_item : {A : Type 0} (items others : List A) (i : ℕ) (item : A) (spot : Spot) (P : A → Type 0) (Q : A → ℕ → Type 0) → others ≡ items → i < length others
+    → item ≡ get_or others i item → ((k : ℕ) → k < i → OfItem others k (λ item. P item × ((e : ℕ) → Q item e))) → IsFirstSpot (AtNodeOrEid (P item) (Q item)) (Some spot)
+    → IsFirstSpot (AtItemOrEid items P Q) (Some (record { entry = Some i; eid = spot.eid }))
+found_item {A} items others i item spot P Q same within is earlier found =
+    let R : List A → Type 0 = λ xs. IsFirstSpot (AtItemOrEid xs P Q) (Some (record { entry = Some i; eid = spot.eid })) in
+    subst R same (item_or_eid_fails others i item spot P Q (slice_get_read others (length others) i item refl within is) earlier found)
+
+pub found_no_item : {A : Type 0} (items others : List A) (n : ℕ) (P : A → Type 0) (Q : A → ℕ → Type 0) → others ≡ items → length others ≤ n
+    → ((k : ℕ) → k < n → OfItem others k (λ item. P item × ((e : ℕ) → Q item e))) → IsFirstSpot (AtItemOrEid items P Q) None
+found_no_item {A} items others n P Q same end all =
+    let R : List A → Type 0 = λ xs. IsFirstSpot (AtItemOrEid xs P Q) None in
+    subst R same (items_and_eids_meet others P Q (of_all_items others n (λ item. P item × ((e : ℕ) → Q item e)) end all))
+
+-- beyond 255 nothing is asked
+pub ranks_needed : (plan : Plan) (cert : Certificate) (n count : ℕ) → 256 ≤ count → ((e : ℕ) → e < count → NeedsItsRank plan cert n e) → (e : ℕ) → NeedsItsRank plan cert n e
+unfolding NeedsItsRank
+ranks_needed plan cert n count end below e within small given = below e (omega arith) within small given
