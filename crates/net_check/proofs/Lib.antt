@@ -1,5 +1,7 @@
 -- the rules
 pub mod Spots
+pub mod RecordSpots
+pub mod Handles
 pub mod Beyond
 -- certificates made
 pub mod Deciding
