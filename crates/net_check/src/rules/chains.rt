@@ -23,8 +23,8 @@ pub fn unchained_record(
     ensures { IfOk result (IsFirstSpot (CertificateDemands plan.now certificate.now Rule.C14 node)) }
 {
     let places = places_at(certificate, node);
-    let record = first_unchained(alloc, records_at(plan, node), places)?;
-    Ok(at_record(record))
+    let found = first_unchained(alloc, records_at(plan, node), places)?;
+    Ok(at_record(found))
 }
 
 /// The places that the certificate gives a node's records, none where it has none for the node.

@@ -22,8 +22,8 @@ pub fn unlawful_handle(alloc: Global, plan: &Plan, node: usize) -> Result<Option
             eid: None,
         }));
     }
-    let record = first_without_new_handle(alloc, records_at(plan, node))?;
-    Ok(at_record(record))
+    let found = first_without_new_handle(alloc, records_at(plan, node))?;
+    Ok(at_record(found))
 }
 
 /// Where the bytes of a record are not those of a record of its handle.
@@ -33,12 +33,12 @@ pub fn unreadable_record(plan: &Plan, node: usize) -> Option<Spot>
     at_record(first_unreadable(records_at(plan, node)))
 }
 
-/// The spot of a record alone.
-pub fn at_record(record: Option<usize>) -> Option<Spot>
-    ensures { result ≡ option_map (λ i. record { entry = Some i; eid = None }) record }
+/// The spot of the record alone that was found, if any.
+pub fn at_record(found: Option<usize>) -> Option<Spot>
+    ensures { result ≡ option_map (λ i. record { entry = Some i; eid = None }) found }
 {
-    record.map(|record| Spot {
-        entry: Some(record),
+    found.map(|i| Spot {
+        entry: Some(i),
         eid: None,
     })
 }

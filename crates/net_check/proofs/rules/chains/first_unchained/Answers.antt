@@ -1,12 +1,11 @@
-use Rattle.std.proofs.Common.{◌≡◌, ◌<◌, ◌≤◌, ℕ, Bool, true, false, Some, length, refl, sym, ◌∙◌, subst, inl, inr, arith, rules}
+use Rattle.std.proofs.Common.{◌≡◌, ◌≤◌, Some, length, refl, sym, ◌∙◌, subst, arith, rules}
 use Rattle.std.specs.Prelude.{slice_get}
-use Rattle.std.proofs.lemmas.Option.{slice_get_read, slice_get_within, slice_get-get_or, same_Some}
+use Rattle.std.proofs.lemmas.Option.{slice_get_read, slice_get_within, same_Some}
 use borrow.Author.Count.{below_more}
 use Rattle.net_plan.specs.declared.terminus.Record.{Record}
-use Rattle.net_plan.specs.declared.certificate.RecordPlace.{RecordPlace}
 use Rattle.net_check.specs.Routing.{OfItem}
 use Rattle.net_check.specs.Repositories.{IsChained}
-use Rattle.net_check.proofs.Handles.{HasBefore, values, LeadsOn, value_of_place, has_one_more, missed, had, is_chained, not_given, not_new, not_led_on}
+use Rattle.net_check.proofs.Handles.{values, value_of_place, has_one_more, missed, had, is_chained, not_given, not_new, not_led_on}
 use Rattle.net_check.proofs.rules.chains.first_unchained.Goals as goal
 use Rattle.net_check.proofs.rules.chains.first_unchained.Goals.{then-not-is_new-via-then-not-is_new, then-not-is_new-via-else-not-is_new+then-not-leads_on}
 

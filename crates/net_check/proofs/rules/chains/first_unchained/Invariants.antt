@@ -1,8 +1,6 @@
 use Rattle.std.proofs.Common.{ℕ, ◌<◌}
-use Rattle.std.specs.BTreeSet.{IsFromIterResult}
 use Rattle.net_check.specs.Routing.{OfItem}
 use Rattle.net_check.specs.Repositories.{IsChained}
-use Rattle.net_check.specs.Handles.{by_place_and_handle, pairs}
 use Rattle.net_check.proofs.Handles.{HasBefore, values}
 use Rattle.net_check.proofs.rules.chains.first_unchained.Given as goal
 

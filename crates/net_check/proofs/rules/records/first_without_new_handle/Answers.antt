@@ -1,14 +1,11 @@
-use Rattle.std.proofs.Common.{◌≡◌, ◌≢◌, ℕ, ◌<◌, Bool, true, false, Some, length, sym, ◌∙◌, subst, arith, rules}
+use Rattle.std.proofs.Common.{◌≡◌, Some, length, sym, ◌∙◌, subst, arith, rules}
 use Rattle.std.specs.Prelude.{slice_get}
-use Rattle.std.specs.Ordering.{nat_cmp}
-use Rattle.std.specs.BTreeSet.{contains}
-use Rattle.std.proofs.lemmas.Bool.{cases_lt}
 use Rattle.std.proofs.lemmas.Option.{slice_get_read, slice_get_within, same_Some}
 use borrow.Author.Count.{below_more}
 use Rattle.net_plan.specs.declared.terminus.Record.{Record}
 use Rattle.net_check.specs.Routing.{OfItem}
 use Rattle.net_check.specs.Repositories.{HasNewHandle}
-use Rattle.net_check.proofs.Handles.{HasBefore, handles_of, handle_of_record, has_one_more, missed, had, is_new, is_not_new}
+use Rattle.net_check.proofs.Handles.{handles_of, handle_of_record, has_one_more, missed, had, is_new, is_not_new}
 use Rattle.net_check.proofs.rules.records.first_without_new_handle.Goals as goal
 use Rattle.net_check.proofs.rules.records.first_without_new_handle.Goals.{then-record-eq0-via-then-record-eq0, then-record-eq0-via-else-record-eq0+in_ok-insert+then-not-branch}
 
