@@ -3,6 +3,7 @@ ghost use Rattle.std.specs.Prelude.{◌+◌, ◌<◌, ◌≤◌, IsTrue, vec_len
 ghost use Rattle.net_plan.specs.NameText.{is_name};
 
 mod certificates;
+mod records;
 
 use crate::{CheckError, Fault, Rule, check};
 use mctp_transport::Eid;
