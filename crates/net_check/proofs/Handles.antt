@@ -74,12 +74,17 @@ is_new records j r set has some missing = (some, λ i other less is same.
     let found = (has r.handle).1 (i, less, handle_of_record records i other is ∙ ap Some same) in
     absurd (cc))
 
--- one that it has is not
-pub is_not_new : (records : List Record) (j : ℕ) (r : Record) (set : BTreeSet ℕ) → HasBefore (handles_of records) j set → contains nat_cmp set r.handle ≡ true → ¬ HasNewHandle records j r
-is_not_new records j r set has found new =
-    let f = (has r.handle).0 found in
-    let other = record_of_handle records f.0 r.handle f.2 in
-    new.1 f.0 other.0 f.1 other.1 other.2
+-- one that is new is not 0, and the set does not have it
+pub is_not_new : (records : List Record) (j : ℕ) (r : Record) (set : BTreeSet ℕ) → HasBefore (handles_of records) j set → ¬ ((r.handle ≢ 0) × (contains nat_cmp set r.handle ≡ false))
+    → ¬ HasNewHandle records j r
+is_not_new records j r set has old new = old (new.0, by (contains nat_cmp set r.handle) refl)
+  where
+    by : (b : Bool) → contains nat_cmp set r.handle ≡ b → contains nat_cmp set r.handle ≡ false
+    by true found =
+        let f = (has r.handle).0 found in
+        let other = record_of_handle records f.0 r.handle f.2 in
+        absurd (new.1 f.0 other.0 f.1 other.1 other.2)
+    by false missing = missing
 
 abbrev pub values : List RecordPlace → List ℕ
 values places = map (λ p. p.value) places

@@ -1,5 +1,7 @@
 //! C12 and C13: the records of a terminus have handles of their own, and bytes that are those of a record.
-ghost use Rattle.std.specs.Prelude.{◌≡◌, ℕ, ◌<◌, ◌↔◌, IsTrue, IfOk, length, option_map};
+ghost use Rattle.std.specs.Prelude.{◌≡◌, ◌≢◌, ℕ, ◌<◌, ◌↔◌, true, false, IsTrue, IfOk, OnOk, length, option_map};
+ghost use Rattle.std.specs.BTreeSet.{contains, Updates};
+ghost use Rattle.std.specs.Ordering.{nat_cmp};
 ghost use Rattle.pdr_repository.specs.Records.{IsRecordOf};
 ghost use Rattle.net_check.specs.Repositories.{records_of, HasRecords, HasNewHandle};
 ghost use Rattle.net_check.specs.Rules.{PlanDemands};
@@ -79,11 +81,20 @@ fn first_without_new_handle(
 {
     let mut handles = BTreeSet::new(alloc);
     for (j, record) in records.iter().enumerate() {
-        if record.handle == 0 || !handles.insert(record.handle)? {
+        let is_new = add_handle(&mut handles, record.handle)?;
+        if !is_new {
             return Ok(Some(j));
         }
     }
     Ok(None)
+}
+
+/// Adds a handle to those of earlier records. Whether it is not 0 and none of them.
+fn add_handle(handles: &mut BTreeSet<u32>, handle: u32) -> Result<bool, AllocError>
+    ensures new { IfOk result (λ is_new. IsTrue is_new ↔ ((handle ≢ 0) × (contains nat_cmp handles.old handle ≡ false))) }
+    ensures added { OnOk result (Updates nat_cmp handles.old handles.new handle true) }
+{
+    Ok(handles.insert(handle)? && handle != 0)
 }
 
 /// The first record whose bytes are not those of a record of its handle.
