@@ -70,9 +70,12 @@ had false added told is = absurd (cc)
 -- a handle that the set of the earlier ones does not have is new
 pub is_new : (records : List Record) (j : ℕ) (r : Record) (set : BTreeSet ℕ) → HasBefore (handles_of records) j set → r.handle ≢ 0 → contains nat_cmp set r.handle ≡ false
     → HasNewHandle records j r
-is_new records j r set has some missing = (some, λ i other less is same.
-    let found = (has r.handle).1 (i, less, handle_of_record records i other is ∙ ap Some same) in
-    absurd (cc))
+is_new records j r set has some missing = (
+  some,
+  λ i other less is same.
+      let found = (has r.handle).1 (i, less, handle_of_record records i other is ∙ ap Some same) in
+      absurd (cc),
+)
 
 -- one that is new is not 0, and the set does not have it
 pub is_not_new : (records : List Record) (j : ℕ) (r : Record) (set : BTreeSet ℕ) → HasBefore (handles_of records) j set → ¬ ((r.handle ≢ 0) × (contains nat_cmp set r.handle ≡ false))
@@ -129,13 +132,13 @@ pub handle_found : (places : List RecordPlace) (records : List Record) (set : BT
 handle_found places records set made place handle =
     let found = btree_set_contains_from_list by_place_and_handle_total same_pair (pairs places records) set made (place, handle) in (
       λ h.
-        let at = found.0 h in
-        let is = slice_get-get_or (pairs places records) at.0 (place, handle) at.1 ∙ ap Some at.2 in
-        let there = handle_at_pair places records at.0 place handle is in
-        (at.0, there.0, there.1, there.2, there.3),
+          let at = found.0 h in
+          let is = slice_get-get_or (pairs places records) at.0 (place, handle) at.1 ∙ ap Some at.2 in
+          let there = handle_at_pair places records at.0 place handle is in
+          (at.0, there.0, there.1, there.2, there.3),
       λ (k, r, is, given, same).
-        let pair : slice_get (pairs places records) k ≡ Some (place, handle) = pair_of_handle places records k place r is given ∙ ap (λ h. Some (place, h)) (sym same) in
-        found.1 (k, slice_get_within (pairs places records) k (place, handle) pair, get_or_from_slice_get (pairs places records) k (place, handle) (place, handle) pair),
+          let pair : slice_get (pairs places records) k ≡ Some (place, handle) = pair_of_handle places records k place r is given ∙ ap (λ h. Some (place, h)) (sym same) in
+          found.1 (k, slice_get_within (pairs places records) k (place, handle) pair, get_or_from_slice_get (pairs places records) k (place, handle) (place, handle) pair),
     )
 
 pub value_of_place : (places : List RecordPlace) (j : ℕ) (p : RecordPlace) → slice_get places j ≡ Some p → slice_get (values places) j ≡ Some p.value

@@ -81,6 +81,5 @@ fn leads_on(handles: &BTreeSet<(u16, u32)>, count: usize, place: u16, next: u32)
 {
     let following = place + 1;
     usize::from(place) < count
-        && (handles.contains(&(following, next))
-            || usize::from(following) == count && next == 0)
+        && (handles.contains(&(following, next)) || usize::from(following) == count && next == 0)
 }

@@ -73,10 +73,7 @@ fn has_records(plan: &Plan, node: usize) -> bool
 }
 
 /// The first record whose handle is 0 or an earlier record's.
-fn first_without_new_handle(
-    alloc: Global,
-    records: &[Record],
-) -> Result<Option<usize>, AllocError>
+fn first_without_new_handle(alloc: Global, records: &[Record]) -> Result<Option<usize>, AllocError>
     ensures { IfOk result (IsFirstItem records.now (HasNewHandle records.now)) }
 {
     let mut handles = BTreeSet::new(alloc);

@@ -50,9 +50,9 @@ loop-j-preserved c =
     let missing = missed _ c.in_ok-is_new.is_new c.in_ok-is_new.ensures.added c.if-not-is_new.false in
     record {
       earlier = below_more (λ k. OfItem records k (IsChained records (values places) k)) j c.loop-j.invariant.earlier (λ item is.
-        let one : r ≡ item = same_Some r item (sym here ∙ is) in
-        let N : Record → Type 0 = IsChained records (values places) j in
-        subst N one (is_chained records places handles c.in_ok-handles.ensures j r p c.loop-j.taken given c.loop-j.invariant.has missing (c.if-not-leads_on.ensures.0 refl)));
+          let one : r ≡ item = same_Some r item (sym here ∙ is) in
+          let N : Record → Type 0 = IsChained records (values places) j in
+          subst N one (is_chained records places handles c.in_ok-handles.ensures j r p c.loop-j.taken given c.loop-j.invariant.has missing (c.if-not-leads_on.ensures.0 refl)));
       has = has_one_more (values places) j p.value c.loop-j.taken c.insert.new.self (value_of_place places j p given) c.in_ok-is_new.ensures.updates.0 c.loop-j.invariant.has;
     }
 
