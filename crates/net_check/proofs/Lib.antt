@@ -4,6 +4,8 @@ pub mod SharedBuses
 pub mod PoolsOf
 pub mod OtherSpots
 pub mod OtherSearches
+pub mod RecordSpots
+pub mod Handles
 pub mod Beyond
 -- certificates made
 pub mod Deciding

@@ -18,6 +18,7 @@ pub mod Errors
 -- the network
 pub mod Moves
 pub mod Repositories
+pub mod Handles
 pub mod Termini
 pub mod States
 pub mod Events

@@ -6,6 +6,7 @@ mod certificates;
 mod owners_and_pools;
 mod deliveries;
 mod superfluous;
+mod records;
 
 use crate::{CheckError, Fault, Rule, check};
 use mctp_transport::Eid;

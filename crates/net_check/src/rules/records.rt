@@ -1,23 +1,117 @@
 //! C12 and C13: the records of a terminus have handles of their own, and bytes that are those of a record.
-ghost use Rattle.std.specs.Prelude.{◌<◌, ◌↔◌, IsTrue, IfOk, length};
+ghost use Rattle.std.specs.Prelude.{◌≡◌, ◌≢◌, ℕ, ◌<◌, ◌↔◌, true, false, IsTrue, IfOk, OnOk, length, option_map};
+ghost use Rattle.std.specs.BTreeSet.{contains, Updates};
+ghost use Rattle.std.specs.Ordering.{nat_cmp};
+ghost use Rattle.pdr_repository.specs.Records.{IsRecordOf};
+ghost use Rattle.net_check.specs.Repositories.{records_of, HasRecords, HasNewHandle};
 ghost use Rattle.net_check.specs.Rules.{PlanDemands};
-ghost use Rattle.net_check.specs.Search.{IsFirstSpot};
+ghost use Rattle.net_check.specs.Search.{IsFirstItem, IsFirstSpot};
 
 use crate::rule::Rule;
 use crate::spot::Spot;
-use net_plan::Plan;
+use mctp_transport::Wire;
+use net_plan::{Plan, Record};
 use std::alloc::{AllocError, Global};
+use std::collections::BTreeSet;
 
 /// Where a terminus has no record, or a record's handle is 0 or an earlier record's.
 pub fn unlawful_handle(alloc: Global, plan: &Plan, node: usize) -> Result<Option<Spot>, AllocError>
     ensures { IfOk result (IsFirstSpot (PlanDemands plan.now Rule.C12 node)) }
 {
-    Ok(None)
+    if !has_records(plan, node) {
+        return Ok(Some(Spot {
+            entry: None,
+            eid: None,
+        }));
+    }
+    let found = first_without_new_handle(alloc, records_at(plan, node))?;
+    Ok(at_record(found))
 }
 
 /// Where the bytes of a record are not those of a record of its handle.
 pub fn unreadable_record(plan: &Plan, node: usize) -> Option<Spot>
     ensures { IsFirstSpot (PlanDemands plan.now Rule.C13 node) result }
 {
+    at_record(first_unreadable(records_at(plan, node)))
+}
+
+/// The spot of the record alone that was found, if any.
+pub fn at_record(found: Option<usize>) -> Option<Spot>
+    ensures { result ≡ option_map (λ i. record { entry = Some i; eid = None }) found }
+{
+    found.map(|i| Spot {
+        entry: Some(i),
+        eid: None,
+    })
+}
+
+/// The records of a node's terminus, none where it has no terminus.
+pub fn records_at(plan: &Plan, node: usize) -> &[Record]
+    ensures { result.now ≡ records_of plan.now node }
+{
+    match plan.nodes.get(node) {
+        Some(node) => match &node.terminus {
+            Some(terminus) => &terminus.records,
+            None => &[],
+        },
+        None => &[],
+    }
+}
+
+/// Whether the node's terminus has records, if there is one.
+#[tactic(auto, unfolding(crate::specs::Repositories::HasRecords))]
+fn has_records(plan: &Plan, node: usize) -> bool
+    ensures { IsTrue result ↔ HasRecords plan.now node }
+{
+    match plan.nodes.get(node) {
+        Some(node) => match &node.terminus {
+            Some(terminus) => !terminus.records.is_empty(),
+            None => true,
+        },
+        None => true,
+    }
+}
+
+/// The first record whose handle is 0 or an earlier record's.
+fn first_without_new_handle(alloc: Global, records: &[Record]) -> Result<Option<usize>, AllocError>
+    ensures { IfOk result (IsFirstItem records.now (HasNewHandle records.now)) }
+{
+    let mut handles = BTreeSet::new(alloc);
+    for (j, record) in records.iter().enumerate() {
+        let is_new = add_handle(&mut handles, record.handle)?;
+        if !is_new {
+            return Ok(Some(j));
+        }
+    }
+    Ok(None)
+}
+
+/// Adds a handle to those of earlier records. Whether it is not 0 and none of them.
+fn add_handle(handles: &mut BTreeSet<u32>, handle: u32) -> Result<bool, AllocError>
+    ensures new { IfOk result (λ is_new. IsTrue is_new ↔ ((handle ≢ 0) × (contains nat_cmp handles.old handle ≡ false))) }
+    ensures added { OnOk result (Updates nat_cmp handles.old handles.new handle true) }
+{
+    Ok(handles.insert(handle)? && handle != 0)
+}
+
+/// The first record whose bytes are not those of a record of its handle.
+fn first_unreadable(records: &[Record]) -> Option<usize>
+    ensures { IsFirstItem records.now (λ _ r. IsRecordOf r.handle r.bytes.items) result }
+{
+    for (j, record) in records.iter().enumerate() {
+        if !is_record(record.handle, &record.bytes) {
+            return Some(j);
+        }
+    }
     None
+}
+
+/// Whether the bytes are those of a record of this handle, all of them.
+fn is_record(handle: u32, bytes: &[u8]) -> bool
+    ensures { IsTrue result ↔ IsRecordOf handle bytes.now }
+{
+    match pdr_record::Record::read(bytes) {
+        Ok(read) => read.handle == handle,
+        Err(_) => false,
+    }
 }
