@@ -27,7 +27,7 @@ use Rattle.net_check.specs.Superfluous.{NeedsItsLevel, NeedsItsPlaces, NeedsWhat
 use Rattle.net_check.specs.Rules.{CertificateDemands, Accepts}
 use Rattle.net_check.specs.Faults.{order_of}
 use Rattle.net_check.specs.PlanFaults.{PlanMeetsAll}
-use Rattle.net_check.specs.Moves.{Leads}
+use Rattle.net_check.specs.RoutingLoops.{IsRank}
 use Rattle.net_check.specs.Circles.{EndsAfter}
 use Rattle.net_check.specs.Certificates.{AreExactLevels, AreExactPlaces, AreExactRanks, IsExact, HasOnlyRanks, IsMadeBefore}
 use Rattle.net_check.proofs.Circling.{ends_once}
@@ -66,7 +66,7 @@ needs_rank : (plan : Plan) (cert : Certificate) → AreExactRanks plan cert.rank
 unfolding NeedsItsRank
 needs_rank plan cert exact n e within low some = by (rank cert n e) refl (exact.ranks n e)
   where
-    by : (k : ℕ) → rank cert n e ≡ k → (m : ℕ) × Leads (MovesTo plan e) n k m × _ → ¬ Holds plan n e × HasRow plan n e
+    by : (k : ℕ) → rank cert n e ≡ k → IsRank plan n e k → ¬ Holds plan n e × HasRow plan n e
     by zero none is = absurd (some none)
     by (suc k) is (m, (p, move, rest), ends) = (move.0, (p, move.1))
 

@@ -26,11 +26,7 @@ pub mod Filters
 pub mod RankLaws
 pub mod CertificateLaws
 pub mod OneCertificate
-pub mod Lines
-pub mod LevelLaws
-pub mod IndexLaws
-pub mod ChainLaws
-pub mod ChainPlaces
+pub mod Listed
 pub mod ExactCertificates
 pub mod Obstacles
 -- the network

@@ -12,10 +12,11 @@ use Rattle.net_plan.specs.declared.plan.Plan.{Plan}
 use Rattle.net_plan.specs.declared.certificate.Certificate.{Certificate}
 use Rattle.net_check.specs.Routing.{MovesTo}
 use Rattle.net_check.specs.Owners.{IsOwnedBy}
-use Rattle.net_check.specs.Repositories.{records_of, places_given, places_of}
+use Rattle.net_check.specs.Repositories.{records_of, places_given, places_of, HasRecords}
+use Rattle.net_check.specs.RecordChains.{HaveNewHandles}
 use Rattle.net_check.specs.Faults.{Place, place_of, order_of, ComesBefore}
 use Rattle.net_check.specs.PlanFaults.{PlanMeets, IsMetByPlan, IsFirstPlanFault, IsFirstOfPlanRule}
-use Rattle.net_check.specs.RoutingLoops.{RowsAreApart}
+use Rattle.net_check.specs.RoutingLoops.{RowsAreApart, RowsAreInRange}
 use Rattle.net_check.specs.Certificates.{AreExactLevels, AreExactPlaces, AreExactRanks, IsMadeBefore, CanBeMetBefore, NamesOwnerLoop, NamesRoutingLoop, NamesBadChain, NamesObstacle, RulesOutCertificates}
 use Rattle.net_check.proofs.Circling.{circle_never_ends}
 use Rattle.net_check.proofs.EidMoves.{moves_only, ends_from_rank}
@@ -109,6 +110,19 @@ none_made plan made = record {
   places = λ lt. absurd (omega arith);
 }
 
+-- what the parts need of the rules before them
+pub made_apart : (plan : Plan) (made : Certificate) → IsMadeBefore plan (order_of C10) made → RowsAreApart plan
+made_apart plan made is n r = is.meets C05 (omega arith) n (Some r) None
+
+pub made_in_range : (plan : Plan) (made : Certificate) → IsMadeBefore plan (order_of C10) made → RowsAreInRange plan
+made_in_range plan made is n r = is.meets C04 (omega arith) n (Some r) None
+
+pub made_handles : (plan : Plan) (made : Certificate) → IsMadeBefore plan (order_of C14) made → (n : ℕ) → HaveNewHandles (records_of plan n)
+made_handles plan made is n j r at = is.meets C12 (omega arith) n (Some j) None r at
+
+pub made_records : (plan : Plan) (made : Certificate) → IsMadeBefore plan (order_of C14) made → (n : ℕ) → HasRecords plan n
+made_records plan made is n = is.meets C12 (omega arith) n None None
+
 -- the parts that are made leave no circle
 pub made_can : (plan : Plan) (order : ℕ) (made : Certificate) → IsMadeBefore plan order made → CanBeMetBefore plan order
 made_can plan order made is = record {
@@ -131,7 +145,7 @@ fault_named plan rule made fault is (here, broken, first) =
     earlier : (other : Place) → ComesBefore other (place_of fault) → IsMetByPlan plan other
     earlier other before = elim before [
       | inl less ↦ is.meets other.rule (let at = ap order_of here in omega (arith, less, at)) other.node other.entry other.eid
-      | inr (same, rest) ↦ first other (one_order other.rule fault.rule same ∙ here) before
+      | inr (same, rest) ↦ first other (one_order other.rule fault.rule same ∙ here) (inr (same, rest))
     ]
 
 pub owner_loop_named : (plan : Plan) (made : Certificate) (e : CertifyError) → IsMadeBefore plan (order_of C07) made → PlanMeets plan C07 → NamesOwnerLoop plan e → NamesObstacle plan e

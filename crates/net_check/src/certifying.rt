@@ -13,7 +13,7 @@ mod exact_levels;
 mod exact_places;
 mod exact_ranks;
 mod handle_index;
-pub mod levels;
+mod levels;
 mod next_nodes;
 mod rank_ranges;
 mod routes;
@@ -33,7 +33,7 @@ use std::alloc::Global;
 /// handles lead to it, and the rank of each node and endpoint ID is the number of moves along rows from the node to the
 /// endpoint ID's holder, or to a node without a row for it. It is answered exactly where a certificate exists; otherwise,
 /// unless memory ran out, that which comes first in the order of the rules of what rules certificates out.
-#[tactic(auto, using(crate::proofs::ExactCertificates::made_exact, crate::proofs::ExactCertificates::exact_accepted, crate::proofs::ExactCertificates::exact_well_formed, crate::proofs::ExactCertificates::exact_only, crate::proofs::Obstacles::fault_named, crate::proofs::Obstacles::ruled_out))]
+#[tactic(auto, using(crate::proofs::ExactCertificates::made_exact, crate::proofs::ExactCertificates::made_meets, crate::proofs::Obstacles::none_made, crate::proofs::ExactCertificates::exact_accepted, crate::proofs::ExactCertificates::exact_well_formed, crate::proofs::ExactCertificates::exact_only, crate::proofs::Obstacles::fault_named, crate::proofs::Obstacles::ruled_out))]
 pub fn certify(alloc: Global, plan: &Plan) -> Result<Certificate, CertifyError>
     ensures accepted { IfOk result (λ certificate. Accepts plan.now certificate) }
     ensures exact { IfOk result (λ certificate. IsExact plan.now certificate) }
@@ -57,6 +57,7 @@ pub fn certify(alloc: Global, plan: &Plan) -> Result<Certificate, CertifyError>
 }
 
 /// Adds to the certificate what a rule demands of it.
+#[tactic(auto, using(crate::proofs::Obstacles::more_levels, crate::proofs::Obstacles::more_ranks, crate::proofs::Obstacles::more_places, crate::proofs::Obstacles::more_alone, crate::proofs::Obstacles::owner_loop_named, crate::proofs::Obstacles::routing_loop_named, crate::proofs::Obstacles::bad_chain_named, crate::proofs::Obstacles::made_apart, crate::proofs::Obstacles::made_in_range, crate::proofs::Obstacles::made_handles, crate::proofs::Obstacles::made_records))]
 fn add_part(
     alloc: Global,
     plan: &Plan,

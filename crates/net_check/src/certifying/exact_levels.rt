@@ -8,6 +8,7 @@ use net_plan::{NodeLevel, Plan};
 use std::alloc::{AllocError, Global};
 
 /// The levels of the nodes that have an owner, in plan order, or the first owner loop.
+#[tactic(auto, using(crate::proofs::Listed::levels_all))]
 pub fn exact_levels(alloc: Global, plan: &Plan) -> Result<Vec<NodeLevel>, CertifyError>
     ensures exact { IfOk result (λ given. AreExactLevels plan.now given.items) }
     ensures obstacle { IfErr result (λ error. NamesOwnerLoop plan.now error) }
@@ -19,6 +20,7 @@ pub fn exact_levels(alloc: Global, plan: &Plan) -> Result<Vec<NodeLevel>, Certif
 }
 
 /// The levels above 0.
+#[tactic(auto, using(crate::proofs::Listed::no_levels, crate::proofs::Listed::level_pushed, crate::proofs::Listed::level_skipped))]
 fn given_levels(alloc: Global, levels: &[u8]) -> Result<Vec<NodeLevel>, AllocError>
     requires { (n k : ℕ) → slice_get levels.now n ≡ Some k → k ≤ 63 }
     ensures { IfOk result (λ given. AreLevelsBefore levels.now (length levels.now) given.items) }

@@ -11,6 +11,7 @@ use net_plan::{NodePlaces, Plan, Record, RecordPlace};
 use std::alloc::{AllocError, Global};
 
 /// The places of each terminus's records, in plan order, or the first bad chain.
+#[tactic(auto, using(crate::proofs::Listed::no_places, crate::proofs::Listed::places_pushed, crate::proofs::Listed::places_skipped, crate::proofs::Listed::places_all))]
 pub fn exact_places(alloc: Global, plan: &Plan) -> Result<Vec<NodePlaces>, CertifyError>
     requires handles { (n : ℕ) → HaveNewHandles (records_of plan.now n) }
     requires some { (n : ℕ) → HasRecords plan.now n }
