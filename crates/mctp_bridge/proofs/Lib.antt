@@ -8,3 +8,4 @@ pub mod Replying
 pub mod PieceSteps
 pub mod PieceChains
 pub mod PieceWholes
+pub mod PieceLoops

@@ -1,7 +1,6 @@
 -- The pieces of an interval of endpoint IDs: what the rows of a table make of it (they are this project's own).
-use Rattle.std.specs.Prelude.{◌≡◌, ◌⊎◌, ◌↔◌, ℕ, ◌+◌, ◌-◌, ◌<◌, ◌≤◌, List, Option, MatchOption, All, Any, AllPairs}
+use Rattle.std.specs.Prelude.{◌≡◌, ◌⊎◌, ◌↔◌, ℕ, ◌+◌, ◌-◌, ◌<◌, ◌≤◌, List, length, Option, MatchOption, All, Any, AllPairs}
 use Rattle.std.specs.List.{AllAdjacentBelow}
-use Rattle.std.specs.Prelude.{length}
 use Rattle.mctp_bridge.specs.declared.row.Row.{Row}
 use Rattle.mctp_bridge.specs.declared.row.Hop.{Hop}
 use Rattle.mctp_bridge.specs.declared.pieces.Piece.{Piece}
@@ -28,8 +27,7 @@ IsCovered rows e = Any (λ row. Covers row e) rows
 abbrev pub IsPartOf : (first last : ℕ) → PieceValue → Row → Type 0
 IsPartOf first last piece row = (e : ℕ) → LiesIn e piece ↔ ((first ≤ e) × (e ≤ last) × Covers row e)
 
--- No row covers an EID of the piece, and the piece is no longer on either side only because the interval ends there or
--- because the next EID is covered.
+-- No row covers an EID of the piece. On each side the piece ends with the interval, or the EID next to it is covered.
 pub record IsGap (rows : List Row) (first last : ℕ) (piece : PieceValue) : Type 0 where
   pub bare : (e : ℕ) → LiesIn e piece → ¬ IsCovered rows e
   pub below : (piece.first ≡ first) ⊎ IsCovered rows (piece.first - 1)
@@ -40,9 +38,9 @@ abbrev pub IsWhole : List Row → (first last : ℕ) → PieceValue → Type 0
 IsWhole rows first last piece =
     MatchOption piece.hop (IsGap rows first last piece) (λ hop. Any (λ row. (row.hop ≡ hop) × IsPartOf first last piece row) rows)
 
--- The pieces of the interval from first to last: none is empty, each begins one after the one before, together they have
--- the interval's EIDs and no other, the hop of a piece is that of all its EIDs, and each is a whole part of a row or a
--- whole gap, so that no row and no gap is cut in two.
+-- The pieces of the interval from first to last: none is empty, each begins one after the one before it, they ascend,
+-- together they have the interval's EIDs and no others, the hop of a piece is that of each of its EIDs, and each piece is
+-- the whole part of a row or a whole gap, so that no row and no gap is cut in two.
 pub record ArePieces (rows : List Row) (first last : ℕ) (pieces : List PieceValue) : Type 0 where
   pub filled : All (λ piece. piece.first ≤ piece.last) pieces
   pub joined : AllAdjacentBelow (λ piece later. later.first ≡ piece.last + 1) pieces (length pieces)

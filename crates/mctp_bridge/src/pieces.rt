@@ -14,7 +14,7 @@ use std::marker::Model;
 pub struct Piece {
     /// The first endpoint ID of the run.
     pub first: Eid,
-    /// The last one of it; not below the first.
+    /// The last endpoint ID of the run, which it includes.
     pub last: Eid,
     /// The hop of the row that covers each of them, none where no row covers any.
     pub hop: Option<Hop>,
@@ -109,3 +109,6 @@ fn cut(from: &mut u16, stop: u16, hop: Option<Hop>) -> Piece
     *from = stop;
     Piece { first, last, hop }
 }
+
+#[cfg(test)]
+mod tests;
