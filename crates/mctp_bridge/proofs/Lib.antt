@@ -9,3 +9,4 @@ pub mod PieceSteps
 pub mod PieceChains
 pub mod PieceWholes
 pub mod PieceLoops
+pub mod OnePieces

@@ -1,5 +1,5 @@
 -- An interval has one list of pieces.
-use Rattle.std.proofs.Common.{◌≡◌, ℕ, ◌+◌, ◌-◌, ◌<◌, ◌≤◌, List, [], ◌∷◌, length, get_or, refl, sym, ap, subst, ◌∙◌, arith, inl, inr}
+use Rattle.std.proofs.Common.{◌≡◌, ℕ, suc, ◌+◌, ◌-◌, ◌<◌, ◌≤◌, List, [], ◌∷◌, length, get_or, refl, sym, ap, subst, ◌∙◌, arith, inl, inr}
 use Rattle.std.specs.Prelude.{Option, Some, None, All, Any, AllPairs, ◌↔◌, MatchOption}
 use Rattle.std.proofs.lemmas.Bool.{cases_lt}
 use Rattle.std.proofs.lemmas.List.{get_or_default}
@@ -87,7 +87,7 @@ module _ (rows : List Row) (first last : ℕ) (table : IsTable rows) where
   past_first : (piece : PieceValue) (later : List PieceValue) (e : ℕ) → AllPairs (λ piece later. piece.last < later.first) (piece ∷ later)
       → Any (LiesIn e) later → piece.last < e
   past_first piece later e ascending (k, other, lt, is, lies) =
-      let order = rw is at (ascending 0 (k + 1) other (omega arith) (omega arith)) in
+      let order = rw is at (ascending 0 (suc k) other (omega arith) (omega arith)) in
       let begins = lies.0 in
       omega arith
 
@@ -111,7 +111,7 @@ module _ (rows : List Row) (first last : ℕ) (table : IsTable rows) where
       let filled = head.1 in
       record {
         filled = All-tail (λ piece. piece.first ≤ piece.last) piece later rest.filled;
-        ascending = λ i j d lt lj. rest.ascending (i + 1) (j + 1) d (omega arith) (omega arith);
+        ascending = λ i j d lt lj. rest.ascending (suc i) (suc j) d (omega arith) (omega arith);
         covering = λ e. (
           λ some. (let past = past_first piece later e rest.ascending some in
             let within = ((rest.covering e).0 (any_later (LiesIn e) piece later some)).1 in (omega arith, within)),
