@@ -1,5 +1,5 @@
 -- An interval has one list of pieces.
-use Rattle.std.proofs.Common.{◌≡◌, ℕ, suc, ◌+◌, ◌-◌, ◌<◌, ◌≤◌, List, [], ◌∷◌, length, get_or, refl, sym, ap, subst, ◌∙◌, arith, inl, inr}
+use Rattle.std.proofs.Common.{◌≡◌, ℕ, suc, ◌+◌, ◌<◌, ◌≤◌, List, [], ◌∷◌, length, get_or, refl, sym, ap, subst, ◌∙◌, arith, inl, inr}
 use Rattle.std.specs.Prelude.{Option, Some, None, All, Any, AllPairs, ◌↔◌, MatchOption}
 use Rattle.std.proofs.lemmas.Bool.{cases_lt}
 use Rattle.std.proofs.lemmas.List.{get_or_default}
@@ -7,7 +7,7 @@ use Rattle.std.proofs.lemmas.List.Elements.{All-head, All-tail}
 use Rattle.mctp_bridge.specs.declared.row.Row.{Row}
 use Rattle.mctp_bridge.specs.declared.row.Hop.{Hop}
 use Rattle.mctp_bridge.specs.Rows.{Covers, IsTable}
-use Rattle.mctp_bridge.specs.Pieces.{PieceValue, LiesIn, IsCovered, IsPartOf, IsGap, IsWhole, ArePieces}
+use Rattle.mctp_bridge.specs.Pieces.{PieceValue, LiesIn, IsPartOf, IsGap, IsWhole, ArePieces}
 use Rattle.mctp_bridge.proofs.PieceChains.{any_cases, any_here, any_later, any_none}
 
 -- one row of a table covers an EID
@@ -72,7 +72,7 @@ module _ (rows : List Row) (first last : ℕ) (table : IsTable rows) where
       let long = not_longer other.hop other piece e all whole_now (omega arith, omega arith) (omega arith, filled) within in
       let ends : piece.last ≡ other.last = elim (cases_lt piece.last other.last) [
         | inl lt ↦ absurd (short lt)
-        | inr ge ↦ elim (cases_lt other.last piece.last) [ | inl lt ↦ absurd (long lt) | inr le ↦ omega arith ]
+        | inr ge ↦ elim (cases_lt other.last piece.last) [ inl lt ↦ absurd (long lt) | inr le ↦ omega arith ]
       ] in
       λ i. record { first = begins i; last = ends i; hop = hops i }
 
@@ -114,11 +114,12 @@ module _ (rows : List Row) (first last : ℕ) (table : IsTable rows) where
         ascending = λ i j d lt lj. rest.ascending (suc i) (suc j) d (omega arith) (omega arith);
         covering = λ e. (
           λ some. (let past = past_first piece later e rest.ascending some in
-            let within = ((rest.covering e).0 (any_later (LiesIn e) piece later some)).1 in (omega arith, within)),
+              let within = ((rest.covering e).0 (any_later (LiesIn e) piece later some)).1 in (omega arith, within)),
           λ inside. (let low = inside.0 in elim (any_cases (LiesIn e) piece later ((rest.covering e).1 (omega arith, inside.1))) [
             | inl here ↦ (let upto = here.1 in absurd (omega arith))
             | inr there ↦ there
-          ]));
+          ]),
+        );
         whole = All-tail (IsWhole rows first last) piece later rest.whole;
       }
 
@@ -136,12 +137,12 @@ module _ (rows : List Row) (first last : ℕ) (table : IsTable rows) where
       let head = head_inside from piece later rest in
       let that = head_inside from other more also in
       let same = one_piece piece other (head.0 ∙ sym that.0) head.1 that.1 head.2 that.2
-        (All-head (IsWhole rows first last) piece later rest.whole) (All-head (IsWhole rows first last) other more also.whole) in
+      (All-head (IsWhole rows first last) piece later rest.whole) (All-head (IsWhole rows first last) other more also.whole) in
       let next : AreRest (piece.last + 1) more = subst (λ (p : PieceValue). AreRest (p.last + 1) more) (sym same) (tail_rest from other more also) in
       let tails = one_rest (piece.last + 1) later more (tail_rest from piece later rest) next in
       ap (λ p. p ∷ later) same ∙ ap (λ ps. other ∷ ps) tails
 
   pub one_list : (pieces others : List PieceValue) → ArePieces rows first last pieces → ArePieces rows first last others → pieces ≡ others
   one_list pieces others are also = one_rest first pieces others
-    (record { filled = are.filled; ascending = are.ascending; covering = are.covering; whole = are.whole })
-    (record { filled = also.filled; ascending = also.ascending; covering = also.covering; whole = also.whole })
+      (record { filled = are.filled; ascending = are.ascending; covering = are.covering; whole = are.whole })
+      (record { filled = also.filled; ascending = also.ascending; covering = also.covering; whole = also.whole })

@@ -1,7 +1,7 @@
 -- The pieces ahead follow one another from an EID to an end.
-use Rattle.std.proofs.Common.{◌≡◌, ℕ, zero, suc, ◌+◌, ◌-◌, ◌<◌, ◌≤◌, min, max, List, [], ◌∷◌, ◌++◌, length, get_or, refl, sym, arith, inl, inr, ◌⊎◌}
+use Rattle.std.proofs.Common.{◌≡◌, ℕ, zero, suc, ◌+◌, ◌<◌, ◌≤◌, List, [], ◌∷◌, ◌++◌, length, refl, arith, inl, inr, ◌⊎◌}
 use native.Mathlib.Numerals.{unary_clauses}
-use Rattle.std.specs.Prelude.{Option, Some, None, All, Any, AllPairs, ◌↔◌}
+use Rattle.std.specs.Prelude.{Option, Some, None, All, Any, AllPairs}
 use Rattle.std.specs.List.{AllAdjacentBelow}
 use Rattle.std.proofs.lemmas.Bool.{cases_lt}
 use Rattle.std.proofs.lemmas.List.Elements.{All-nil, All-cons, All-weaker}
@@ -9,7 +9,7 @@ use Rattle.std.proofs.lemmas.List.Kept.{AllPairs-cons}
 use Rattle.mctp_bridge.specs.declared.row.Row.{Row}
 use Rattle.mctp_bridge.specs.declared.row.Hop.{Hop}
 use Rattle.mctp_bridge.specs.Pieces.{PieceValue, LiesIn}
-use Rattle.mctp_bridge.specs.PiecesLeft.{piece_to, run, clipped, pieces_from}
+use Rattle.mctp_bridge.specs.PiecesLeft.{run, clipped, pieces_from}
 use Rattle.mctp_bridge.proofs.PieceSteps.{run_some, run_none, row_parts, no_rows}
 
 -- what holds of some element of a list holds of its first or of some later one

@@ -1,5 +1,5 @@
 -- What the pieces ahead begin with.
-use Rattle.std.proofs.Common.{◌≡◌, ℕ, zero, suc, ◌+◌, ◌-◌, ◌<◌, ◌≤◌, min, max, List, [], ◌∷◌, ◌++◌, length, get_or, true, false, refl, sym, arith, inl, inr}
+use Rattle.std.proofs.Common.{◌≡◌, ℕ, zero, suc, ◌+◌, ◌<◌, ◌≤◌, min, List, [], ◌∷◌, ◌++◌, length, get_or, true, false, refl, arith, inl, inr}
 use Rattle.std.proofs.Math.Dec.{ltb, leb}
 use Rattle.std.specs.Prelude.{Option, Some, None, All}
 use Rattle.std.proofs.lemmas.Bool.{cond-true, cond-false, lt-ltb, le-ltb, cases_lt}
@@ -8,7 +8,7 @@ use Rattle.std.specs.List.Sorted.{IsNonDecreasingBy}
 use Rattle.std.proofs.lemmas.List.Elements.{All-tail}
 use Rattle.mctp_bridge.specs.declared.row.Row.{Row}
 use Rattle.mctp_bridge.specs.declared.row.Hop.{Hop}
-use Rattle.mctp_bridge.specs.Rows.{IsLawful, IsTable, LiesBelow}
+use Rattle.mctp_bridge.specs.Rows.{IsLawful, IsTable}
 use Rattle.mctp_bridge.specs.Pieces.{PieceValue}
 use Rattle.mctp_bridge.specs.PiecesLeft.{piece_to, run, clipped, pieces_from, Reaches, AreAhead}
 
@@ -35,8 +35,11 @@ no_rows from end = refl
 pub none_left : (rows : List Row) (from end : ℕ) → end ≤ from → pieces_from rows from end ≡ []
 none_left [] from end past = rw (no_rows from end) (run_none from end None past)
 none_left (row ∷ rows) from end past =
-    rw (row_parts row rows from end from from (omega arith) (omega arith), run_none from from None (omega arith),
-    run_none from from (Some row.hop) (omega arith)) (none_left rows from end past)
+    rw (
+      row_parts row rows from end from from (omega arith) (omega arith),
+      run_none from from None (omega arith),
+      run_none from from (Some row.hop) (omega arith),
+    ) (none_left rows from end past)
 
 -- with no row left the last gap is ahead
 pub last_gap : (from end : ℕ) → from < end → pieces_from [] from end ≡ piece_to from end None ∷ pieces_from [] end end
@@ -47,16 +50,23 @@ pub gap_ahead : (row : Row) (rows : List Row) (from end stop : ℕ) → from < e
     → pieces_from (row ∷ rows) from end ≡ piece_to from stop None ∷ pieces_from (row ∷ rows) stop end
 gap_ahead row rows from end stop lt before stops =
     let ended = min (row.first.value + row.size) end in
-    rw (row_parts row rows from end stop ended (omega arith) (omega arith), row_parts row rows stop end stop ended (omega arith) (omega arith),
-    run_some from stop None (omega arith), run_none stop stop None (omega arith)) refl
+    rw (
+      row_parts row rows from end stop ended (omega arith) (omega arith),
+      row_parts row rows stop end stop ended (omega arith) (omega arith),
+      run_some from stop None (omega arith),
+      run_none stop stop None (omega arith),
+    ) refl
 
 -- in the next row its part is ahead
 pub part_ahead : (row : Row) (rows : List Row) (from end stop : ℕ) → from < end → row.first.value ≤ from → Reaches from row
     → stop ≡ min (row.first.value + row.size) end
     → pieces_from (row ∷ rows) from end ≡ piece_to from stop (Some row.hop) ∷ pieces_from rows stop end
 part_ahead row rows from end stop lt begun reach stops =
-    rw (row_parts row rows from end from stop (omega arith) (omega arith), run_none from from None (omega arith),
-    run_some from stop (Some row.hop) (omega arith)) refl
+    rw (
+      row_parts row rows from end from stop (omega arith) (omega arith),
+      run_none from from None (omega arith),
+      run_some from stop (Some row.hop) (omega arith),
+    ) refl
 
 -- the rows after the first make a table
 pub table_tail : (row : Row) (rows : List Row) → IsTable (row ∷ rows) → IsTable rows

@@ -1,18 +1,18 @@
 -- The pieces ahead are whole parts of rows and whole gaps.
-use Rattle.std.proofs.Common.{◌≡◌, ℕ, zero, suc, ◌+◌, ◌-◌, ◌<◌, ◌≤◌, min, max, List, [], ◌∷◌, ◌++◌, length, get_or, drop, refl, sym, subst, ap, ◌∙◌, arith, inl, inr, ◌⊎◌}
-use Rattle.std.specs.Prelude.{Option, Some, None, All, Any, ◌↔◌, MatchOption}
+use Rattle.std.proofs.Common.{◌≡◌, ℕ, ◌+◌, ◌-◌, ◌<◌, ◌≤◌, List, [], ◌∷◌, ◌++◌, length, get_or, drop, refl, sym, subst, ap, ◌∙◌, arith, inl, inr, ◌⊎◌}
+use Rattle.std.specs.Prelude.{Option, Some, None, All, Any, MatchOption}
 use Rattle.std.specs.List.{AllWithin}
 use Rattle.std.proofs.lemmas.Bool.{cases_lt}
 use Rattle.std.proofs.lemmas.List.{get_or-drop, length-drop}
 use Rattle.std.proofs.lemmas.List.Elements.{All-nil, All-cons, All-append, All-weaker, All-drop}
 use Rattle.mctp_bridge.specs.declared.row.Row.{Row}
 use Rattle.mctp_bridge.specs.declared.row.Hop.{Hop}
-use Rattle.mctp_bridge.specs.Rows.{Covers, IsLawful, IsTable, IsNext, Routes, LiesBelow}
+use Rattle.mctp_bridge.specs.Rows.{Covers, IsLawful, IsTable, IsNext, Routes}
 use Rattle.mctp_bridge.specs.Pieces.{PieceValue, LiesIn, IsCovered, IsPartOf, IsGap, IsWhole, ArePieces}
 use Rattle.mctp_bridge.specs.PiecesLeft.{piece_to, run, clipped, pieces_from, Reaches}
 use Rattle.mctp_bridge.proofs.Apart.{ends_within}
 use Rattle.mctp_bridge.proofs.PieceSteps.{run_some, run_none, row_parts, no_rows, none_left, table_tail, later_begin, later_reach}
-use Rattle.mctp_bridge.proofs.PieceChains.{any_cases, any_here, any_later, any_none, IsChain, chain_ahead, chain_filled, chain_ascends, chain_joined, chain_within, chain_covers}
+use Rattle.mctp_bridge.proofs.PieceChains.{any_cases, any_here, any_later, any_none, chain_ahead, chain_filled, chain_ascends, chain_joined, chain_within, chain_covers}
 
 -- The rows that can still cover an EID from here on, in an interval that began at first: of all rows no other does. The
 -- interval begins here, or the EID before is covered and no row began before.
@@ -50,7 +50,7 @@ module _ (all : List Row) (first last : ℕ) where
   last_whole : (from : ℕ) → from ≤ last → AreLater all [] first from → IsWhole all first last (piece_to from (last + 1) None)
   last_whole from le later = record {
     bare = λ e lies covered. any_none (λ r. Covers r e) (later.rest e lies.0 covered);
-    below = elim later.left [ | inl begins ↦ inl begins | inr before ↦ inr before.0 ];
+    below = elim later.left [ inl begins ↦ inl begins | inr before ↦ inr before.0 ];
     above = inl (omega arith);
   }
 
@@ -58,7 +58,7 @@ module _ (all : List Row) (first last : ℕ) where
       → AreLater all (row ∷ rows) first from → Among all (row ∷ rows) → IsWhole all first last (piece_to from begin None)
   gap_whole row rows from begin le begins some later among = record {
     bare = λ e lies covered. bare_before row rows e later.table (let low = lies.0 in let high = lies.1 in omega arith) (later.rest e lies.0 covered);
-    below = elim later.left [ | inl start ↦ inl start | inr before ↦ inr before.0 ];
+    below = elim later.left [ inl start ↦ inl start | inr before ↦ inr before.0 ];
     above = elim (cases_lt row.first.value (last + 1)) [
       | inl inside ↦
           (let lawful = later.table.each 0 row (omega arith) in
@@ -78,17 +78,21 @@ module _ (all : List Row) (first last : ℕ) where
       let lawful = later.table.each 0 row (omega arith) in
       let started = later.begun in
       among (λ r. (r.hop ≡ row.hop) × IsPartOf first last (piece_to begin stop (Some row.hop)) r)
-      (any_here (λ r. (r.hop ≡ row.hop) × IsPartOf first last (piece_to begin stop (Some row.hop)) r) row rows (refl,
-      λ e. (λ lies.
-        (let low = lies.0 in let high = lies.1 in
-        (omega arith, omega arith, covers_between row e lawful (omega arith) (omega arith))),
-      λ inside.
-        (let from_first = inside.0 in let to_last = inside.1 in let low = inside.2.0 in let high = inside.2.1 in
-        let here : from ≤ e = elim later.left [
-          | inl start ↦ omega arith
-          | inr before ↦ (let begun = before.1 0 row (omega arith) in omega arith)
-        ] in
-        (omega arith, omega arith)))))
+      (any_here (λ r. (r.hop ≡ row.hop) × IsPartOf first last (piece_to begin stop (Some row.hop)) r) row rows (
+        refl,
+        λ e. (
+          λ lies.
+              (let low = lies.0 in let high = lies.1 in
+              (omega arith, omega arith, covers_between row e lawful (omega arith) (omega arith))),
+          λ inside.
+              (let from_first = inside.0 in let to_last = inside.1 in let low = inside.2.0 in let high = inside.2.1 in
+              let here : from ≤ e = elim later.left [
+                | inl start ↦ omega arith
+                | inr before ↦ (let begun = before.1 0 row (omega arith) in omega arith)
+              ] in
+              (omega arith, omega arith)),
+        ),
+      ))
 
   -- what can still cover an EID past the first row
   after_row : (row : Row) (rows : List Row) (from stop : ℕ) → stop ≡ row.first.value + row.size → from ≤ stop
@@ -107,7 +111,8 @@ module _ (all : List Row) (first last : ℕ) where
         ];
         left = inr (
           among (λ r. Covers r (stop - 1)) (any_here (λ r. Covers r (stop - 1)) row rows (covers_between row (stop - 1) lawful (omega arith) (omega arith))),
-          λ k d lt. (let begins = later_begin row rows later.table k d lt in omega arith));
+          λ k d lt. (let begins = later_begin row rows later.table k d lt in omega arith),
+        );
       }
 
   all_whole : (rows : List Row) (from : ℕ) → from ≤ last → AreLater all rows first from → Among all rows
@@ -154,9 +159,13 @@ still_covered rows first passed within ended e past (k, row, lt, is, covers) =
     elim (cases_lt k passed) [
       | inl before ↦ (let not_reached = rw is at (ended k row (omega arith) before) in absurd (not_reached (let high = covers.1 in omega arith)))
       | inr from ↦
-          (let place : passed + (k - passed) ≡ k = omega arith in
-          (k - passed, row, omega (arith, length-drop passed rows),
-          get_or-drop passed rows (k - passed) row ∙ ap (λ n. get_or rows n row) place ∙ is, covers))
+          (let place : passed + (k - passed) ≡ k = omega arith in (
+            k - passed,
+            row,
+            omega (arith, length-drop passed rows),
+            get_or-drop passed rows (k - passed) row ∙ ap (λ n. get_or rows n row) place ∙ is,
+            covers,
+          ))
     ]
 
 -- from first on only the rows that reach past it cover an EID
@@ -167,7 +176,7 @@ later_rows rows first passed table within ended reaching = record {
   table = record {
     each = All-drop IsLawful passed rows table.each;
     ascending = λ i j d lt lj. rw (get_or-drop passed rows i d, get_or-drop passed rows j d)
-      (table.ascending (passed + i) (passed + j) d (omega arith) (omega (arith, length-drop passed rows)));
+        (table.ascending (passed + i) (passed + j) d (omega arith) (omega (arith, length-drop passed rows)));
   };
   reaching = λ k d lt. rw (get_or-drop passed rows k d) (reaching (passed + k) d (omega arith) (omega (arith, length-drop passed rows)));
   rest = still_covered rows first passed within ended;
@@ -188,9 +197,11 @@ are_pieces rows later first last passed table ordered within ended reaching is =
       filled = chain_filled ahead first (last + 1) chain;
       joined = chain_joined ahead first (last + 1) chain;
       ascending = chain_ascends ahead first (last + 1) chain;
-      covering = λ e. (λ some. (let h = chain_within ahead first (last + 1) e chain some in (h.0, omega arith)),
-        λ inside. chain_covers ahead first (last + 1) e chain inside.0 (let high = inside.1 in omega arith));
+      covering = λ e. (
+        λ some. (let h = chain_within ahead first (last + 1) e chain some in (h.0, omega arith)),
+        λ inside. chain_covers ahead first (last + 1) e chain inside.0 (let high = inside.1 in omega arith),
+      );
       routed = All-weaker (IsWhole rows first last) (λ piece. (e : ℕ) → LiesIn e piece → IsNext rows e piece.hop)
-        (λ piece holds. hop_routes rows first last piece piece.hop holds) ahead whole;
+          (λ piece holds. hop_routes rows first last piece piece.hop holds) ahead whole;
       whole = whole;
     }

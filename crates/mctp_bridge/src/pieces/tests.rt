@@ -7,7 +7,9 @@ use mctp_transport::Eid;
 use std::test::Fail;
 
 const HOST: Hop = Hop { port: 0, next: 0 };
+
 const NIC: Hop = Hop { port: 1, next: 2 };
+
 const SSD: Hop = Hop { port: 2, next: 3 };
 
 fn row(first: u8, size: u8, hop: Hop) -> Row {
@@ -45,9 +47,7 @@ fn first_uncovered(table: &RangeTable, first: Eid, last: Eid) -> Option<Eid>
 #[test]
 fn rows_and_gaps_are_pieces(rt: HostRuntime) -> Result<(), Fail> {
     let rows = [row(17, 1, NIC), row(8, 1, HOST), row(18, 1, SSD)];
-    let table = RangeTable::build(rt.alloc(), &rows)
-        .ok()
-        .ok_or("no table")?;
+    let table = RangeTable::build(rt.alloc(), &rows).ok().ok_or("no table")?;
     let mut pieces = table.pieces(Eid::new(8), Eid::new(23));
     assert_eq!(rt; pieces.next(), piece(8, 8, Some(HOST)));
     assert_eq!(rt; pieces.next(), piece(9, 16, None));
@@ -62,9 +62,7 @@ fn rows_and_gaps_are_pieces(rt: HostRuntime) -> Result<(), Fail> {
 #[test]
 fn every_number_is_in_a_piece(rt: HostRuntime) -> Result<(), Fail> {
     let rows = [row(8, 9, HOST), row(17, 40, HOST)];
-    let table = RangeTable::build(rt.alloc(), &rows)
-        .ok()
-        .ok_or("no table")?;
+    let table = RangeTable::build(rt.alloc(), &rows).ok().ok_or("no table")?;
     let mut pieces = table.pieces(Eid::new(0), Eid::new(255));
     assert_eq!(rt; pieces.next(), piece(0, 7, None));
     assert_eq!(rt; pieces.next(), piece(8, 16, Some(HOST)));
@@ -77,9 +75,7 @@ fn every_number_is_in_a_piece(rt: HostRuntime) -> Result<(), Fail> {
 #[test]
 fn an_interval_inside_a_row_or_a_gap_is_one_piece(rt: HostRuntime) -> Result<(), Fail> {
     let rows = [row(16, 8, NIC), row(40, 8, SSD)];
-    let table = RangeTable::build(rt.alloc(), &rows)
-        .ok()
-        .ok_or("no table")?;
+    let table = RangeTable::build(rt.alloc(), &rows).ok().ok_or("no table")?;
     let mut in_row = table.pieces(Eid::new(18), Eid::new(20));
     assert_eq!(rt; in_row.next(), piece(18, 20, Some(NIC)));
     assert_eq!(rt; in_row.next(), None);
@@ -94,9 +90,7 @@ fn an_interval_inside_a_row_or_a_gap_is_one_piece(rt: HostRuntime) -> Result<(),
 
 #[test]
 fn a_table_without_rows_is_one_gap(rt: HostRuntime) -> Result<(), Fail> {
-    let table = RangeTable::build(rt.alloc(), &[])
-        .ok()
-        .ok_or("no table")?;
+    let table = RangeTable::build(rt.alloc(), &[]).ok().ok_or("no table")?;
     let mut pieces = table.pieces(Eid::new(0), Eid::new(255));
     assert_eq!(rt; pieces.next(), piece(0, 255, None));
     assert_eq!(rt; pieces.next(), None);
@@ -106,11 +100,15 @@ fn a_table_without_rows_is_one_gap(rt: HostRuntime) -> Result<(), Fail> {
 #[test]
 fn a_loop_looks_at_every_number(rt: HostRuntime) -> Result<(), Fail> {
     let rows = [row(8, 8, NIC), row(16, 8, SSD)];
-    let table = RangeTable::build(rt.alloc(), &rows)
-        .ok()
-        .ok_or("no table")?;
+    let table = RangeTable::build(rt.alloc(), &rows).ok().ok_or("no table")?;
     assert_eq!(rt; first_uncovered(&table, Eid::new(10), Eid::new(23)), None);
-    assert_eq!(rt; first_uncovered(&table, Eid::new(10), Eid::new(40)), Some(Eid::new(24)));
-    assert_eq!(rt; first_uncovered(&table, Eid::new(5), Eid::new(40)), Some(Eid::new(5)));
+    assert_eq!(rt;
+        first_uncovered(&table, Eid::new(10), Eid::new(40)),
+        Some(Eid::new(24))
+    );
+    assert_eq!(rt;
+        first_uncovered(&table, Eid::new(5), Eid::new(40)),
+        Some(Eid::new(5))
+    );
     Ok(())
 }

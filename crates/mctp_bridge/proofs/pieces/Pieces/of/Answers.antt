@@ -9,5 +9,5 @@ returns c =
     let passed = c.ended_before-passed.result in
     let told = c.ended_before-passed.ensures in
     let rest : take (length rows - passed) (drop passed rows) ≡ drop passed rows =
-        take_all (length rows - passed) (drop passed rows) (omega (arith, length-drop passed rows)) in
+    take_all (length rows - passed) (drop passed rows) (omega (arith, length-drop passed rows)) in
     rw (c.from.ensures, c.from-2.ensures) (are_pieces rows _ c.args.first.value c.args.last.value passed c.requires.table c.requires.ordered told.within told.ended told.reaching rest)

@@ -1,4 +1,4 @@
-use Rattle.std.proofs.Common.{◌≡◌, length, sym, ◌∙◌, ap, arith, rules}
+use Rattle.std.proofs.Common.{length, sym, ◌∙◌, ap, arith, rules}
 use Rattle.mctp_bridge.proofs.PieceSteps.{none_left, next_last, next_gap, next_part, ahead_then_gap, ahead_then_part, reaches_stop}
 use Rattle.mctp_bridge.proofs.pieces.PiecesIterator.next.Goals as goal
 
@@ -35,7 +35,7 @@ returns-then-self-begin-clause-goes c =
 pub cut-requires-2-clause-filled : goal.cut-requires-2-clause-filled
 cut-requires-2-clause-filled c =
     let lt = reaches_stop c.self.inside.rows.now c.in-Some.later.now c.in-Some.row.now c.self.inside.from c.self.inside.end c.in-Some.ensures.cases.0
-      c.self.invariant c.if-self.false in
+    c.self.invariant c.if-self.false in
     omega arith
 
 pub invariant_of-self-2 : goal.invariant_of-self-2
