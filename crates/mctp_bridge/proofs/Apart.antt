@@ -73,7 +73,7 @@ apart_moved rows others same apart =
     from_all2 others (IsPermutation-keeps rows All2 (to_all2 rows apart) (λ l a b la lb h. all2_swapped l a b la lb h) others same)
 
 -- what lies below a lawful row's end is a byte
-ends_within : (row : Row) → IsLawful row → {e : ℕ} → e < row.first.value + row.size → e ≤ 255
+pub ends_within : (row : Row) → IsLawful row → {e : ℕ} → e < row.first.value + row.size → e ≤ 255
 ends_within row lawful lt =
     elim (cases_lt 255 (row.first.value + row.size)) [
       | inl past ↦ absurd (lawful.1 (inr past))

@@ -5,3 +5,8 @@ pub mod EntryRows
 pub mod Readings
 pub mod ReaderLaws
 pub mod Replying
+pub mod PieceSteps
+pub mod PieceChains
+pub mod PieceWholes
+pub mod PieceLoops
+pub mod OnePieces

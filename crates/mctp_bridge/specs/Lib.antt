@@ -1,4 +1,6 @@
 pub mod Rows
+pub mod Pieces
+pub mod PiecesLeft
 pub mod RowFaults
 pub mod Decisions
 pub mod Entries

@@ -1,5 +1,15 @@
-//! Laws that hold of all readings of routing tables. The functions do nothing: their contracts are the laws.
+//! Laws of pieces and of all readings of routing tables. The functions do nothing: their contracts are the laws.
+ghost use Rattle.std.specs.Prelude.{◌≡◌, ℕ, List};
+ghost use Rattle.mctp_bridge.specs.declared.row.Row.{Row};
+ghost use Rattle.mctp_bridge.specs.Rows.{IsTable};
+ghost use Rattle.mctp_bridge.specs.Pieces.{PieceValue, ArePieces};
 ghost use Rattle.mctp_bridge.specs.Reads.{EveryReadingCollects, AsksWhatIsDue, EveryReplyIsTaken};
+
+/// A table makes one list of pieces of an interval.
+pub fn one_list_of_pieces()
+    ensures { (rows : List Row) (first last : ℕ) (pieces others : List PieceValue) → IsTable rows
+        → ArePieces rows first last pieces → ArePieces rows first last others → pieces ≡ others }
+{}
 
 /// What a reading has collected is a beginning of the bridge's table, and once it is finished it is the table.
 pub fn readings_collect_all()

@@ -5,6 +5,7 @@
 mod decision;
 mod entry_reader;
 mod laws;
+mod pieces;
 mod range_table;
 mod read_fault;
 mod routing_entries;
@@ -15,7 +16,8 @@ mod table_part;
 
 pub use decision::{Decision, Node, Obstacle, Progress, decide};
 pub use entry_reader::{EntryReader, MAX_READ};
-pub use laws::{asks_what_is_due, every_reply_is_taken, readings_collect_all};
+pub use laws::{asks_what_is_due, every_reply_is_taken, one_list_of_pieces, readings_collect_all};
+pub use pieces::{Piece, Pieces};
 pub use range_table::RangeTable;
 pub use read_fault::ReadFault;
 pub use routing_entries::{Neighbor, route_entries};

@@ -5,7 +5,9 @@ ghost use Rattle.std.specs.List.Sorted.{IsPermutation};
 ghost use Rattle.mctp_bridge.specs.declared.row.Row.{Row};
 ghost use Rattle.mctp_bridge.specs.Rows.{AreLawful, IsTable, HasSameRoutes, IsNext};
 ghost use Rattle.mctp_bridge.specs.RowFaults.{IsFirstFault};
+ghost use Rattle.mctp_bridge.specs.Pieces.{ArePieces};
 
+use crate::pieces::Pieces;
 use crate::row::{Hop, Row};
 use crate::row_faults::first_fault;
 use crate::table_fault::TableFault;
@@ -50,6 +52,15 @@ impl RangeTable {
         ensures { IsNext self.now eid.value result }
     {
         next_in(&self.rows, eid)
+    }
+
+    /// The interval from `first` to `last`, both included, in pieces: one for each row that covers some of it, cut to it,
+    /// and one for each gap that no row covers.
+    pub fn pieces(&self, first: Eid, last: Eid) -> Pieces<'_>
+        requires { first.value ≤ last.value }
+        ensures { ArePieces self.now first.value last.value result }
+    {
+        Pieces::of(&self.rows, first, last)
     }
 
     /// The rows in the order of their first endpoint IDs.

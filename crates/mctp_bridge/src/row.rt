@@ -57,7 +57,7 @@ impl Row {
     }
 
     /// The number after the last endpoint ID that a row's size reaches.
-    fn end(&self) -> u16
+    pub(crate) fn end(&self) -> u16
         ensures { result ≡ self.now.first.value + self.now.size }
     {
         u16::from(self.first.value) + u16::from(self.size)
