@@ -5,6 +5,8 @@ pub mod Dues
 pub mod Walks
 pub mod Commands
 pub mod Places
+pub mod Indexing
+pub mod Blocks
 pub mod Handles
 pub mod Judging
 pub mod Taking

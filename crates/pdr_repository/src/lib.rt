@@ -3,15 +3,22 @@
 #![tactic(auto)]
 
 mod answering;
+mod block_terminus;
 mod crc;
+mod handle_index;
 mod lawful_list;
 mod laws;
 mod list_terminus;
 mod parts;
+mod record_block;
+mod record_list;
+mod replying;
+mod repository;
 mod terminus;
 mod walk_fault;
 mod walker;
 
+pub use block_terminus::BlockTerminus;
 pub use crc::crc8;
 pub use lawful_list::{MAX_RECORDS, is_lawful_list};
 pub use laws::{
