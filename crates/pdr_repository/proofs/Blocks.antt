@@ -1,8 +1,9 @@
 -- Records copied one after another into a block.
 use Rattle.std.proofs.Common.{◌≡◌, ◌≢◌, ℕ, ◌+◌, ◌-◌, ◌^◌, ◌<◌, ◌≤◌, List, [], ◌∷◌, ◌++◌, length, take, drop, map, get_or, slice_get, Some, None, refl, sym, ap, ◌∙◌, subst, arith}
-use Rattle.std.specs.Prelude.{All, MatchOption, Option, Vec, option_map}
-use Rattle.std.proofs.lemmas.List.{drop-append-le, drop_at, take-append-le, take_all, map_more, map_push, length-append, length-drop}
+use Rattle.std.specs.Prelude.{All, MatchOption, Option, Vec, option_map, sum_by}
+use Rattle.std.proofs.lemmas.List.{drop-append-le, drop_at, take-append-le, take_all, map_more, map_push, length-append, length-drop, length_push}
 use Rattle.std.proofs.lemmas.List.Elements.{All-head, All-tail, All-push, All-weaker}
+use Rattle.std.proofs.lemmas.List.Sums.{sum_by_more, sum_by_more_le}
 use Rattle.std.proofs.lemmas.Option.{same_Some, slice_get-map}
 use Rattle.pdr_repository.specs.declared.record_block.Span.{Span}
 use Rattle.pdr_repository.specs.Records.{Entry, IsLawful, entries, entry_of}
@@ -37,10 +38,29 @@ entry_pushed block more named start end begins ends =
     let bytes : take (end - start) (drop start (block ++ more)) ≡ more = ap (take (end - start)) behind ∙ take_all (end - start) more long in
     ap (λ (bs : List ℕ). record { handle = named; bytes = bs }) bytes
 
--- what holds of the block so far
+abbrev pub total : {Z : Type 0} → List (ℕ × Vec ℕ Z) → ℕ
+total records = sum_by (λ r. length r.1.items) records
+
+-- the block and the spans hold these records, by place
 pub record IsFilled {Z : Type 0} (records : List (ℕ × Vec ℕ Z)) (block : List ℕ) (spans : List Span) : Type 0 where
   pub placed : entries_in block spans ≡ entries records
   pub within : All (IsSpanIn block) spans
+
+-- what holds of the block after the first i records: there is room for the others
+pub record IsFilledTo {Z : Type 0} (records : List (ℕ × Vec ℕ Z)) (i : ℕ) (block : List ℕ) (spans : List Span) (bytes places : ℕ) : Type 0 where
+  pub filled : IsFilled (take i records) block spans
+  pub copied : length block ≡ total (take i records)
+  pub counted : length spans ≡ i
+  pub bytes_left : total records ≤ bytes
+  pub places_left : length records ≤ places
+
+-- the next record has room
+pub fits : {Z : Type 0} (records : List (ℕ × Vec ℕ Z)) (i : ℕ) (x : ℕ × Vec ℕ Z) (block more : List ℕ) (spans : List Span) (bytes places : ℕ) → i < length records → x ≡ get_or records i x → more ≡ x.1.items
+    → IsFilledTo records i block spans bytes places → length block + length more ≤ bytes
+fits records i x block more spans bytes places inside is copied so_far =
+    let below = sum_by_more_le (λ r. length r.1.items) records i x inside in
+    let long : length more ≡ length (get_or records i x).1.items = ap length copied ∙ ap (λ (r : ℕ × Vec ℕ _). length r.1.items) is in
+    omega (arith, so_far.copied, so_far.bytes_left)
 
 -- one record more
 pub filled_more : {Z : Type 0} (records : List (ℕ × Vec ℕ Z)) (i : ℕ) (x : ℕ × Vec ℕ Z) (block more : List ℕ) (spans : List Span) (start end : ℕ) → i < length records → x ≡ get_or records i x
@@ -66,6 +86,24 @@ pub lawful_handles : (records kept : List Entry) → kept ≡ records → IsLawf
 lawful_handles records kept same lawful =
     let P : List Entry → Type 0 = λ es. HaveHandles es in
     subst P (sym same) (record { distinct = lawful.distinct; some = lawful.handles })
+
+-- the same with the room
+pub filled_to_more : {Z : Type 0} (records : List (ℕ × Vec ℕ Z)) (i : ℕ) (x : ℕ × Vec ℕ Z) (block more grown : List ℕ) (spans : List Span) (start end bytes places larger : ℕ) → i < length records → x ≡ get_or records i x
+    → more ≡ x.1.items → grown ≡ block ++ more → start ≡ length block → end ≡ length grown → length more < 2 ^ 32 → bytes ≤ larger → IsFilledTo records i block spans bytes places
+    → IsFilledTo records (i + 1) grown (spans ++ record { handle = x.0; start = start; end = end } ∷ []) larger places
+filled_to_more records i x block more grown spans start end bytes places larger inside is copied grows begins ends short wider so_far =
+    let s : Span = record { handle = x.0; start = start; end = end } in
+    let P : List ℕ → Type 0 = λ bs. IsFilled (take (i + 1) records) bs (spans ++ s ∷ []) in
+    let long : length more ≡ length (get_or records i x).1.items = ap length copied ∙ ap (λ (r : ℕ × Vec ℕ _). length r.1.items) is in
+    let sum = sum_by_more (λ r. length r.1.items) records i x inside in
+    let joined : length grown ≡ length block + length more = ap length grows ∙ length-append block more in
+    record {
+      filled = subst P (sym grows) (filled_more records i x block more spans start end inside is copied begins (ends ∙ ap length grows) short so_far.filled);
+      copied = omega (arith, so_far.copied);
+      counted = omega (arith, length_push spans s, so_far.counted);
+      bytes_left = omega (arith, so_far.bytes_left);
+      places_left = so_far.places_left;
+    }
 
 -- what stands at a place of the spans is the record that it holds
 pub held_there : (block : List ℕ) (spans : List Span) (place : ℕ) (s : Span) → slice_get spans place ≡ Some s → slice_get (entries_in block spans) place ≡ Some (entry_in block s)

@@ -27,7 +27,7 @@ fn rows_by_place(
 {
     let mut rows = Vec::with_capacity(alloc, records.len())?;
     for (place, record) in records.iter().enumerate() {
-        rows.push(IndexRow { handle: record.0, place })?;
+        rows.push_reserved(IndexRow { handle: record.0, place });
     }
     Ok(rows)
 }

@@ -1,5 +1,5 @@
 //! Records in one block of bytes, with an index.
-ghost use Rattle.std.specs.Prelude.{◌≡◌, ◌≤◌, ◌<◌, ◌^◌, All, IfOk, length, option_map, sum_by};
+ghost use Rattle.std.specs.Prelude.{◌≡◌, ◌≤◌, ◌<◌, ◌+◌, ◌^◌, ◌++◌, All, IfOk, length, option_map, sum_by, vec_capacity, vec_len};
 ghost use Rattle.pdr_repository.specs.Records.{entries, IsLawful};
 ghost use Rattle.pdr_repository.specs.Indexes.{IsIndexOf};
 ghost use Rattle.pdr_repository.specs.RecordBlocks.{HaveHandles, IsSpanIn, entries_in};
@@ -42,6 +42,15 @@ fn total_length(records: &[(u32, Vec<u8>)]) -> usize
     total
 }
 
+/// Appends bytes for which there is room.
+fn append_reserved(block: &mut Vec<u8>, bytes: &[u8])
+    requires { vec_len block.old + length bytes.now ≤ vec_capacity block.old }
+    ensures items { block.new.items ≡ block.old.items ++ bytes.now }
+    ensures capacity { vec_capacity block.old ≤ vec_capacity block.new }
+{
+    let _ = block.extend_from_slice(bytes);
+}
+
 impl RecordBlock {
     /// Copies these records into a block, by place. All memory is taken before the first byte is copied.
     pub(crate) fn new(alloc: Global, records: &[(u32, Vec<u8>)]) -> Result<Self, AllocError>
@@ -54,13 +63,13 @@ impl RecordBlock {
         let index = HandleIndex::of(alloc, records)?;
         for record in records {
             let start = block.len();
-            block.extend_from_slice(record.1.as_slice())?;
+            append_reserved(&mut block, record.1.as_slice());
             let end = block.len();
-            spans.push(Span {
+            spans.push_reserved(Span {
                 handle: record.0,
                 start,
                 end,
-            })?;
+            });
         }
         Ok(RecordBlock {
             block,

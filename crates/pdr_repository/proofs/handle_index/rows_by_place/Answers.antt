@@ -1,4 +1,4 @@
-use Rattle.std.proofs.Common.{arith, rules, ◌≡◌, ◌∙◌, ap, sym, ◌++◌, ◌∷◌, [], get_or}
+use Rattle.std.proofs.Common.{◌∙◌, ◌++◌, ◌∷◌, [], ap, sym, arith}
 use Rattle.std.proofs.lemmas.List.{take_all}
 use Rattle.pdr_repository.specs.Indexes.{rows_of}
 use Rattle.pdr_repository.proofs.Indexing.{rows_more}
@@ -7,7 +7,11 @@ use Rattle.pdr_repository.proofs.handle_index.rows_by_place.Goals as goal
 pub loop-place-preserved : goal.loop-place-preserved
 loop-place-preserved c =
     let more = rows_more c.args.records.now c.loop-place.place c.index-records-place.result c.loop-place-test.true c.index-records-place.is in
-    c.in_ok-push.ensures.items ∙ ap (λ rows. rows ++ record { handle = c.index-records-place.result.0; place = c.loop-place.place } ∷ []) c.loop-place.invariant ∙ sym more
+    record {
+      rows = c.push_reserved.ensures.items ∙ ap (λ rows. rows ++ record { handle = c.index-records-place.result.0; place = c.loop-place.place } ∷ []) c.loop-place.invariant.rows ∙ sym more;
+      counted = omega arith;
+      room = omega arith;
+    }
 
 pub returns : goal.returns
-returns c = c.loop-place.invariant ∙ ap rows_of (take_all _ c.args.records.now (omega arith))
+returns c = c.loop-place.invariant.rows ∙ ap rows_of (take_all _ c.args.records.now (omega arith))
