@@ -16,7 +16,7 @@ entry_kept block more s is =
     let first : drop s.start (block ++ more) ≡ drop s.start block ++ more = drop-append-le s.start block more below in
     let fits : s.end - s.start ≤ length (drop s.start block) = omega (arith, length-drop s.start block, is.ordered, is.within) in
     let bytes : take (s.end - s.start) (drop s.start (block ++ more)) ≡ take (s.end - s.start) (drop s.start block) =
-        ap (take (s.end - s.start)) first ∙ take-append-le (s.end - s.start) (drop s.start block) more fits in
+    ap (take (s.end - s.start)) first ∙ take-append-le (s.end - s.start) (drop s.start block) more fits in
     ap (λ (bs : List ℕ). record { handle = s.handle; bytes = bs }) bytes
 
 -- bytes behind the block change no record in it
@@ -69,17 +69,17 @@ pub filled_more : {Z : Type 0} (records : List (ℕ × Vec ℕ Z)) (i : ℕ) (x 
 filled_more records i x block more spans start end inside is copied begins ends short filled =
     let s : Span = record { handle = x.0; start = start; end = end } in
     let last : entry_in (block ++ more) s ≡ entry_of (get_or records i x) =
-        entry_pushed block more x.0 start end begins ends ∙ ap (λ (bs : List ℕ). record { handle = x.0; bytes = bs }) copied ∙ ap entry_of is in
+    entry_pushed block more x.0 start end begins ends ∙ ap (λ (bs : List ℕ). record { handle = x.0; bytes = bs }) copied ∙ ap entry_of is in
     let before : entries_in (block ++ more) spans ≡ entries (take i records) = entries_kept block more spans filled.within ∙ filled.placed in
     let long = length-append block more in
     record {
       placed = map_push (entry_in (block ++ more)) spans s
-        ∙ ap (λ (es : List Entry). es ++ entry_in (block ++ more) s ∷ []) before
-        ∙ ap (λ (e : Entry). entries (take i records) ++ e ∷ []) last
-        ∙ sym (map_more entry_of records i x inside);
+          ∙ ap (λ (es : List Entry). es ++ entry_in (block ++ more) s ∷ []) before
+          ∙ ap (λ (e : Entry). entries (take i records) ++ e ∷ []) last
+          ∙ sym (map_more entry_of records i x inside);
       within = All-push (IsSpanIn (block ++ more)) spans s
-        (All-weaker (IsSpanIn block) (IsSpanIn (block ++ more)) (span_kept block more) spans filled.within)
-        (record { ordered = omega (arith, long, begins, ends); within = omega (arith, ends); short = omega (arith, long, begins, ends, short) });
+          (All-weaker (IsSpanIn block) (IsSpanIn (block ++ more)) (span_kept block more) spans filled.within)
+          (record { ordered = omega (arith, long, begins, ends); within = omega (arith, ends); short = omega (arith, long, begins, ends, short) });
     }
 
 pub lawful_handles : (records kept : List Entry) → kept ≡ records → IsLawful records → HaveHandles kept

@@ -30,12 +30,12 @@ rows_standing : {Z : Type 0} (records : List (ℕ × Vec ℕ Z)) → All (λ (ro
 rows_standing records =
     All-map (λ (row : IndexRow). HasHandleAt (entries records) row.place row.handle) row_at (enumerate_from 0 records)
     (λ k d within.
-      let small : k < length records = omega (arith, length-enumerate_from 0 records) in
-      let P = λ (r : ℕ × (ℕ × Vec ℕ _)). HasHandleAt (entries records) r.0 r.1.0 in
-      let there = standing_there records k (get_or records k d.1) (slice_get-get_or records k d.1 small) in
-      let same : 0 + k ≡ k = omega arith in
-      let Q : ℕ → Type 0 = λ n. HasHandleAt (entries records) n (get_or records k d.1).0 in
-      subst P (sym (get_or-enumerate_from 0 records k d small)) (subst Q (sym same) there))
+    let small : k < length records = omega (arith, length-enumerate_from 0 records) in
+    let P = λ (r : ℕ × (ℕ × Vec ℕ _)). HasHandleAt (entries records) r.0 r.1.0 in
+    let there = standing_there records k (get_or records k d.1) (slice_get-get_or records k d.1 small) in
+    let same : 0 + k ≡ k = omega arith in
+    let Q : ℕ → Type 0 = λ n. HasHandleAt (entries records) n (get_or records k d.1).0 in
+    subst P (sym (get_or-enumerate_from 0 records k d small)) (subst Q (sym same) there))
 
 -- each record's handle has a row
 rows_whole : {Z : Type 0} (records : List (ℕ × Vec ℕ Z)) (place : ℕ) (e : Entry) → slice_get (entries records) place ≡ Some e → list_any (λ (row : IndexRow). row.handle == e.handle) (rows_of records) ≡ true
@@ -47,7 +47,7 @@ rows_whole records place e here =
     let row : get_or (rows_of records) place (row_at d) ≡ row_at (get_or (enumerate_from 0 records) place d) = get_or-map row_at (enumerate_from 0 records) place d (row_at d) (omega arith) in
     let is : get_or (enumerate_from 0 records) place d ≡ (0 + place, get_or records place y.0) = get_or-enumerate_from 0 records place d small in
     let handle : (get_or (rows_of records) place (row_at d)).handle ≡ e.handle =
-        ap (λ (r : IndexRow). r.handle) row ∙ ap (λ (r : ℕ × (ℕ × Vec ℕ _)). r.1.0) is ∙ ap (λ (r : ℕ × Vec ℕ _). r.0) (get_or_from_slice_get records place y.0 y.0 y.1) ∙ ap (λ (f : Entry). f.handle) (sym y.2) in
+    ap (λ (r : IndexRow). r.handle) row ∙ ap (λ (r : ℕ × (ℕ × Vec ℕ _)). r.1.0) is ∙ ap (λ (r : ℕ × Vec ℕ _). r.0) (get_or_from_slice_get records place y.0 y.0 y.1) ∙ ap (λ (f : Entry). f.handle) (sym y.2) in
     list_any_at (λ (r : IndexRow). r.handle == e.handle) (rows_of records) place (row_at d) (omega (arith, length-map (enumerate_from 0 records) row_at)) (eq-eqb _ _ handle)
 
 enumerate_push : {X : Type 0} (n : ℕ) (xs : List X) (x : X) → enumerate_from n (xs ++ x ∷ []) ≡ enumerate_from n xs ++ (n + length xs, x) ∷ []
@@ -76,7 +76,7 @@ sorted_index records before rows is moved sorted =
       ascending = sorted;
       standing = All-permutation (λ (row : IndexRow). HasHandleAt (entries records) row.place row.handle) (rows_of records) rows from (rows_standing records);
       whole = λ place e here.
-        sym (list_any-IsPermutation (λ (row : IndexRow). row.handle == e.handle) (rows_of records) rows from) ∙ rows_whole records place e here;
+          sym (list_any-IsPermutation (λ (row : IndexRow). row.handle == e.handle) (rows_of records) rows from) ∙ rows_whole records place e here;
     }
 
 record_of : (records : List Entry) (place handle : ℕ) → HasHandleAt records place handle → (e : Entry) × (slice_get records place ≡ Some e) × (e.handle ≡ handle)
@@ -101,16 +101,16 @@ pub found_none : (records : List Entry) (rows : List IndexRow) (handle at : ℕ)
 found_none records rows handle at index splits =
     let parts = splits (searchable_from_sorted nat_cmp_total (λ (y : IndexRow). y.handle) rows handle index.ascending) in
     λ place e here same.
-      let (k, row, within, is, test) = Any-from_list_any (λ (y : IndexRow). y.handle == e.handle) rows (index.whole place e here) in
-      let named : (get_or rows k row).handle ≡ handle = ap (λ (y : IndexRow). y.handle) is ∙ eqb-true row.handle e.handle test ∙ same in
-      elim (cases_lt k at) [
-        | inl before ↦
-            let less : (get_or rows k row).handle < handle = ranked (get_or rows k row).handle handle Less (sym (parts.0 k row (omega arith) before)) in
-            omega arith
-        | inr after ↦
-            let more : handle < (get_or rows k row).handle = ranked (get_or rows k row).handle handle Greater (sym (parts.1 k row after within)) in
-            omega arith
-      ]
+    let (k, row, within, is, test) = Any-from_list_any (λ (y : IndexRow). y.handle == e.handle) rows (index.whole place e here) in
+    let named : (get_or rows k row).handle ≡ handle = ap (λ (y : IndexRow). y.handle) is ∙ eqb-true row.handle e.handle test ∙ same in
+    elim (cases_lt k at) [
+      | inl before ↦
+          let less : (get_or rows k row).handle < handle = ranked (get_or rows k row).handle handle Less (sym (parts.0 k row (omega arith) before)) in
+          omega arith
+      | inr after ↦
+          let more : handle < (get_or rows k row).handle = ranked (get_or rows k row).handle handle Greater (sym (parts.1 k row after within)) in
+          omega arith
+    ]
 
 -- the record that has a handle other than 0 is the one that the handle means
 pub meant_named : (records : List Entry) (handle : ℕ) (place : Option ℕ) → handle ≢ 0 → Locates records handle place → Places records handle place

@@ -19,15 +19,15 @@ pub(crate) struct HandleIndex {
 }
 
 /// A row for each record, by place.
-fn rows_by_place(
-    alloc: Global,
-    records: &[(u32, Vec<u8>)],
-) -> Result<Vec<IndexRow>, AllocError>
+fn rows_by_place(alloc: Global, records: &[(u32, Vec<u8>)]) -> Result<Vec<IndexRow>, AllocError>
     ensures { IfOk result (λ rows. rows.items ≡ rows_of records.now) }
 {
     let mut rows = Vec::with_capacity(alloc, records.len())?;
     for (place, record) in records.iter().enumerate() {
-        rows.push_reserved(IndexRow { handle: record.0, place });
+        rows.push_reserved(IndexRow {
+            handle: record.0,
+            place,
+        });
     }
     Ok(rows)
 }

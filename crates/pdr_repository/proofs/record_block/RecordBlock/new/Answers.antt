@@ -27,7 +27,7 @@ loop-record-preserved c =
     let ends : end ≡ length grown = omega (arith, c.append_reserved.new.block.ok.0, c.len-end.ensures) in
     let short : length more < 2 ^ 32 = rw c.as_slice.ensures.value (rw c.record-item.is (lawful_short records c.requires.lawful i x c.loop-record-test.true)) in
     let so_far = filled_to_more records i x block more grown spans start end (vec_capacity c.loop-record.block) (vec_capacity c.loop-record.spans) (vec_capacity c.append_reserved.new.block)
-        c.loop-record-test.true c.record-item.is c.as_slice.ensures.value c.append_reserved.ensures.items begins ends short c.append_reserved.ensures.capacity c.loop-record.invariant in
+    c.loop-record-test.true c.record-item.is c.as_slice.ensures.value c.append_reserved.ensures.items begins ends short c.append_reserved.ensures.capacity c.loop-record.invariant in
     let Q : List Span → Type 0 = λ ss. IsFilledTo records (i + 1) grown ss (vec_capacity c.append_reserved.new.block) (vec_capacity c.loop-record.spans) in
     let R : ℕ → Type 0 = λ n. IsFilledTo records (i + 1) grown c.push_reserved.new.self.items (vec_capacity c.append_reserved.new.block) n in
     subst R (sym c.push_reserved.ensures.capacity) (subst Q (sym c.push_reserved.ensures.items) so_far)
