@@ -1,8 +1,8 @@
 -- An index of records: that it is one after the sort, and what a search of it finds.
-use Rattle.std.proofs.Common.{◌≡◌, ◌≢◌, ℕ, ◌+◌, ◌<◌, ◌≤◌, List, [], ◌∷◌, ◌++◌, length, map, take, get_or, slice_get, Bool, true, false, Option, Some, None, Result, Ok, Err, option_map, refl, sym, ap, ◌∙◌, subst, arith, inl, inr, eq-eqb}
-use Rattle.std.specs.Prelude.{All, MatchOption, Vec, ◌==◌}
+use Rattle.std.proofs.Common.{◌≡◌, ◌≢◌, ℕ, ◌+◌, ◌<◌, List, [], ◌∷◌, ◌++◌, length, map, take, get_or, slice_get, true, Option, Some, None, option_map, refl, sym, ap, ◌∙◌, subst, arith, inl, inr, eq-eqb}
+use Rattle.std.specs.Prelude.{All, Vec, ◌==◌}
 use Rattle.std.specs.List.{enumerate_from, list_any, HoldsAt}
-use Rattle.std.specs.List.Sorted.{IsPermutation, IsSortedByKey, IsNonDecreasingBy, IsBinarySearchResult, IsPartitionPoint}
+use Rattle.std.specs.List.Sorted.{IsPermutation, IsSortedByKey, IsNonDecreasingBy, IsPartitionPoint}
 use Rattle.std.specs.Ordering.{nat_cmp, ordering_index}
 use Rattle.std.specs.declared.cmp.Ordering.TheVariants.{Less, Equal, Greater}
 use Rattle.std.proofs.lemmas.Bool.{eqb-true, cases_lt}
@@ -14,7 +14,7 @@ use Rattle.std.proofs.lemmas.List.FromFn.{length-enumerate_from, get_or-enumerat
 use Rattle.std.proofs.lemmas.List.Sorted.{All-permutation, list_any-IsPermutation, searchable_from_sorted}
 use Rattle.std.proofs.lemmas.Option.{slice_get-get_or, slice_get_within, slice_get_cases, get_or_from_slice_get, same_Some}
 use Rattle.pdr_repository.specs.declared.handle_index.IndexRow.{IndexRow}
-use Rattle.pdr_repository.specs.Records.{Entry, entries, entry_of, IsMeant, Means, Places}
+use Rattle.pdr_repository.specs.Records.{Entry, entries, Places}
 use Rattle.pdr_repository.specs.Indexes.{HasHandleAt, IsIndexOf, Locates, rows_of}
 use Rattle.pdr_repository.proofs.Places.{entry_there}
 use Rattle.pdr_repository.proofs.LawfulLists.{entry_at}

@@ -7,6 +7,7 @@ pub mod Commands
 pub mod Places
 pub mod Indexing
 pub mod Blocks
+pub mod OneLentParts
 pub mod Handles
 pub mod Judging
 pub mod Taking

@@ -22,7 +22,8 @@ pub use block_terminus::BlockTerminus;
 pub use crc::crc8;
 pub use lawful_list::{MAX_RECORDS, is_lawful_list};
 pub use laws::{
-    collects_once, one_answer, one_check_byte, requests_are_answered, walks_collect_all,
+    collects_once, one_answer, one_check_byte, one_lent_part, requests_are_answered,
+    walks_collect_all,
 };
 pub use list_terminus::ListTerminus;
 pub use parts::MAX_PART;

@@ -1,4 +1,4 @@
-use Rattle.std.proofs.Common.{◌≡◌, ◌+◌, ◌^◌, ◌<◌, ◌∷◌, ◌++◌, [], List, ℕ, length, vec_capacity, sym, subst, arith}
+use Rattle.std.proofs.Common.{◌≡◌, ◌+◌, ◌^◌, ◌<◌, List, ℕ, length, vec_capacity, sym, subst, arith}
 use Rattle.pdr_repository.specs.declared.record_block.Span.{Span}
 use Rattle.pdr_repository.proofs.Headers.{lawful_short}
 use Rattle.pdr_repository.proofs.Blocks.{IsFilledTo, filled_to_more, fits}
