@@ -1,6 +1,7 @@
 -- The commands of headers.
-use Rattle.std.proofs.Common.{ℕ, ◌≡◌, List, length, Result, Ok, refl, subst, inl, inr}
+use Rattle.std.proofs.Common.{ℕ, ◌≡◌, List, [], ◌∷◌, length, get_or, drop, Result, Ok, refl, sym, ap, ◌∙◌, subst, inl, inr, arith}
 use Rattle.std.proofs.lemmas.Bool.{cases_eq}
+use Rattle.std.proofs.lemmas.List.{drop_all, drop_more}
 use Rattle.pldm_message.specs.declared.command.Command.{Command}
 use Rattle.pldm_message.specs.declared.command.Command.TheVariants.{SetTid, GetTid, GetPldmTypes, GetPdr}
 use Rattle.pldm_message.specs.Headers.{HeaderValue}
@@ -38,3 +39,14 @@ pub replied : (h : HeaderValue) (c : Command) (tid : ℕ) (records : List Entry)
 replied h c tid records asked before after next checks (reply, is, replies) =
     let found = checked h asked c (Ok c) refl checks in
     (reply, is, inr (found.known, inr ((λ none. none c found.is), (c, found.is, inr ((λ other. other found.long), replies)))))
+
+-- the answer to a request to set the TID, in the terms of the code
+pub set_replied : (c : Command) (tid value : ℕ) (records : List Entry) (asked before after : List ℕ) (next : ℕ) → c ≡ SetTid → asked ≡ value ∷ [] → RepliesData SetTid tid records (value ∷ []) before after next → RepliesData c tid records asked before after next
+set_replied c tid value records asked before after next is one replies =
+    let P : Command → Type 0 = λ d. RepliesData d tid records asked before after next in
+    let Q : List ℕ → Type 0 = λ xs. RepliesData SetTid tid records xs before after next in
+    subst P (sym is) (subst Q (sym one) replies)
+
+-- what follows the header of a request of five bytes
+pub one_data_byte : (request : List ℕ) → length request ≡ 5 → drop 4 request ≡ get_or request 4 0 ∷ []
+one_data_byte request long = drop_more request 4 0 (omega arith) ∙ ap (λ rest. get_or request 4 0 ∷ rest) (drop_all 5 request (omega arith))

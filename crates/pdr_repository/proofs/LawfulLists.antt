@@ -11,7 +11,7 @@ use Rattle.pdr_repository.specs.Records.{Entry, entries, entry_of, IsLawful, IsL
 use Rattle.pdr_repository.proofs.Places.{entry_there}
 
 -- the entry at a place of the list
-entry_at : {Z : Type 0} (records : List (ℕ × Vec ℕ Z)) (k : ℕ) (f : Entry) → slice_get (entries records) k ≡ Some f → (y : ℕ × Vec ℕ Z) × (slice_get records k ≡ Some y) × (f ≡ entry_of y)
+pub entry_at : {Z : Type 0} (records : List (ℕ × Vec ℕ Z)) (k : ℕ) (f : Entry) → slice_get (entries records) k ≡ Some f → (y : ℕ × Vec ℕ Z) × (slice_get records k ≡ Some y) × (f ≡ entry_of y)
 entry_at records k f there = elim (slice_get_cases records k).1 [
   | inl (y, _, here, _) ↦ (y, here, same_Some f (entry_of y) (sym there ∙ entry_there records k y here))
   | inr (past, _) ↦ absurd (omega (arith, slice_get_within (entries records) k f there, length-map records entry_of))

@@ -5,6 +5,9 @@ pub mod Dues
 pub mod Walks
 pub mod Commands
 pub mod Places
+pub mod Indexing
+pub mod Blocks
+pub mod OneLentParts
 pub mod Handles
 pub mod Judging
 pub mod Taking

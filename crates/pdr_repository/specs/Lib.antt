@@ -5,6 +5,10 @@ pub mod Found
 pub mod Answers
 pub mod Replying
 pub mod ListTermini
+pub mod Indexes
+pub mod RecordBlocks
+pub mod LentParts
+pub mod BlockTermini
 pub mod Walks
 pub mod Faults
 pub mod Dues

@@ -7,4 +7,4 @@ abbrev pub list_tid : ListTerminus → ℕ
 list_tid t = t.tid.value
 
 abbrev pub list_records : ListTerminus → List Entry
-list_records t = entries t.records.items
+list_records t = entries t.records.by_place.items

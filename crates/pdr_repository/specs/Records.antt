@@ -68,5 +68,5 @@ abbrev pub IsMeant : List Entry → ℕ → Type 0
 IsMeant records handle = (place : ℕ) × (e : Entry) × Means records handle place e
 
 -- the place of the record that a handle means, if it means one
-abbrev pub Places : {Z : Type 0} → List (ℕ × Vec ℕ Z) → ℕ → Option ℕ → Type 0
-Places records handle place = MatchOption place (¬ IsMeant (entries records) handle) (λ p. (e : Entry) × Means (entries records) handle p e)
+abbrev pub Places : List Entry → ℕ → Option ℕ → Type 0
+Places records handle place = MatchOption place (¬ IsMeant records handle) (λ p. (e : Entry) × Means records handle p e)

@@ -2,6 +2,7 @@
 ghost use Rattle.std.specs.Prelude.{◌≡◌, ℕ, List};
 ghost use Rattle.pdr_repository.specs.Crc.{IsCrc};
 ghost use Rattle.pdr_repository.specs.Parts.{OneAnswer};
+ghost use Rattle.pdr_repository.specs.LentParts.{OneLentPart};
 ghost use Rattle.pdr_repository.specs.Walks.{CollectsOnce, EveryWalkCollects};
 ghost use Rattle.pdr_repository.specs.Walkers.{EveryRequestIsAnswered};
 
@@ -13,6 +14,11 @@ pub fn one_check_byte()
 /// A request for a part of a record has one answer.
 pub fn one_answer()
     ensures { OneAnswer }
+{}
+
+/// Over a lawful list a handle, an offset and a count have one part, or none.
+pub fn one_lent_part()
+    ensures { OneLentPart }
 {}
 
 /// Exchanges collect one list of records, and have one beginning of a record under way.

@@ -3,19 +3,27 @@
 #![tactic(auto)]
 
 mod answering;
+mod block_terminus;
 mod crc;
+mod handle_index;
 mod lawful_list;
 mod laws;
 mod list_terminus;
 mod parts;
+mod record_block;
+mod record_list;
+mod replying;
+mod repository;
 mod terminus;
 mod walk_fault;
 mod walker;
 
+pub use block_terminus::BlockTerminus;
 pub use crc::crc8;
 pub use lawful_list::{MAX_RECORDS, is_lawful_list};
 pub use laws::{
-    collects_once, one_answer, one_check_byte, requests_are_answered, walks_collect_all,
+    collects_once, one_answer, one_check_byte, one_lent_part, requests_are_answered,
+    walks_collect_all,
 };
 pub use list_terminus::ListTerminus;
 pub use parts::MAX_PART;

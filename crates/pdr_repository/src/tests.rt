@@ -2,6 +2,7 @@ use super::*;
 use arrayvec::ArrayVec;
 use pldm_message::{InstanceId, InstanceIds, Tid};
 use std::alloc::{AllocError, Global};
+use std::process::Abort;
 use std::test::Fail;
 
 const LOCATOR: [u8; 19] = [
@@ -19,8 +20,8 @@ fn record_of(alloc: Global, handle: u8, length: u8) -> Result<Vec<u8>, AllocErro
     Ok(bytes)
 }
 
-/// A terminus of TID 1 over these records, where they are a lawful list.
-fn terminus_over(
+/// A list of TID 1 over these records, where they are a lawful list.
+fn list_over(
     alloc: Global,
     records: Vec<(u32, Vec<u8>)>,
 ) -> Result<Option<ListTerminus>, AllocError> {
@@ -30,13 +31,33 @@ fn terminus_over(
     Ok(Some(ListTerminus::new(alloc, Tid::new(1), records)?))
 }
 
-/// A terminus over the one record.
-fn one_record(alloc: Global) -> Result<Option<ListTerminus>, AllocError> {
+/// A block of TID 1 over these records, where they are a lawful list.
+fn block_over(
+    alloc: Global,
+    records: Vec<(u32, Vec<u8>)>,
+) -> Result<Option<BlockTerminus>, AllocError> {
+    if !is_lawful_list(&records) {
+        return Ok(None);
+    }
+    Ok(Some(BlockTerminus::new(alloc, Tid::new(1), records)?))
+}
+
+/// The one record.
+fn one_record(alloc: Global) -> Result<Vec<(u32, Vec<u8>)>, AllocError> {
     let mut bytes = Vec::new(alloc);
     bytes.extend_from_slice(&LOCATOR)?;
     let mut records = Vec::new(alloc);
     records.push((1, bytes))?;
-    terminus_over(alloc, records)
+    Ok(records)
+}
+
+/// Three records whose handles do not ascend.
+fn three_records(alloc: Global) -> Result<Vec<(u32, Vec<u8>)>, AllocError> {
+    let mut records = Vec::new(alloc);
+    records.push((7, record_of(alloc, 7, 19)?))?;
+    records.push((3, record_of(alloc, 3, 128)?))?;
+    records.push((5, record_of(alloc, 5, 65)?))?;
+    Ok(records)
 }
 
 /// Walks to the end or the first fault, and says how many requests it took.
@@ -59,10 +80,8 @@ fn walk(walker: &mut Walker, terminus: &mut Box<dyn Terminus>) -> Result<usize, 
     Ok(requests)
 }
 
-#[test]
-fn answers_the_base_commands(rt: HostRuntime) -> Result<(), Fail> {
-    let list = one_record(rt.alloc())?.ok_or("lawful")?;
-    let mut terminus: Box<dyn Terminus> = Box::new(rt.alloc(), list)?;
+/// The rows of the base commands, at a terminus over the one record.
+fn answers_the_base_commands(rt: &impl Abort, terminus: &mut Box<dyn Terminus>) {
     let mut out = ArrayVec::new();
     let rows: [(&[u8], &[u8]); 8] = [
         (
@@ -105,12 +124,22 @@ fn answers_the_base_commands(rt: HostRuntime) -> Result<(), Fail> {
         assert!(rt; !terminus.answer(&request, &mut out));
         assert!(rt; out.is_empty());
     }
-    Ok(())
 }
 
 #[test]
-fn gives_a_record_in_parts(rt: HostRuntime) -> Result<(), Fail> {
-    let mut terminus = one_record(rt.alloc())?.ok_or("lawful")?;
+fn either_kind_answers_the_base_commands(rt: HostRuntime) -> Result<(), Fail> {
+    let alloc = rt.alloc();
+    let list = list_over(alloc, one_record(alloc)?)?.ok_or("lawful")?;
+    let mut terminus: Box<dyn Terminus> = Box::new(alloc, list)?;
+    answers_the_base_commands(&rt, &mut terminus);
+    let block = block_over(alloc, one_record(alloc)?)?.ok_or("lawful")?;
+    let mut terminus: Box<dyn Terminus> = Box::new(alloc, block)?;
+    answers_the_base_commands(&rt, &mut terminus);
+    Ok(())
+}
+
+/// The rows of GetPDR, at a terminus over the one record.
+fn gives_a_record_in_parts<T: Terminus>(rt: &impl Abort, terminus: &mut T) {
     let mut out = ArrayVec::new();
     let rows: [(&[u8], &[u8]); 11] = [
         (
@@ -193,20 +222,52 @@ fn gives_a_record_in_parts(rt: HostRuntime) -> Result<(), Fail> {
         assert!(rt; terminus.answer(request, &mut out));
         assert_eq!(rt; out.as_slice(), answer);
     }
+}
+
+#[test]
+fn either_kind_gives_a_record_in_parts(rt: HostRuntime) -> Result<(), Fail> {
+    let alloc = rt.alloc();
+    let mut list = list_over(alloc, one_record(alloc)?)?.ok_or("lawful")?;
+    gives_a_record_in_parts(&rt, &mut list);
+    let mut block = block_over(alloc, one_record(alloc)?)?.ok_or("lawful")?;
+    gives_a_record_in_parts(&rt, &mut block);
     Ok(())
 }
 
 #[test]
-fn walks_collect_the_records(rt: HostRuntime) -> Result<(), Fail> {
+fn a_block_lends_parts(rt: HostRuntime) -> Result<(), Fail> {
     let alloc = rt.alloc();
-    let mut records = Vec::new(alloc);
-    records.push((7, record_of(alloc, 7, 19)?))?;
-    records.push((3, record_of(alloc, 3, 128)?))?;
-    records.push((5, record_of(alloc, 5, 65)?))?;
-    let list = terminus_over(alloc, records)?.ok_or("lawful")?;
-    let mut terminus: Box<dyn Terminus> = Box::new(alloc, list)?;
+    let block = block_over(alloc, one_record(alloc)?)?.ok_or("lawful")?;
+    assert_eq!(rt; block.part(1, 16, 16), Some([0x01, 0x01, 0x0a].as_slice()));
+    assert_eq!(rt; block.part(1, 0, 19), Some(LOCATOR.as_slice()));
+    assert_eq!(rt; block.part(1, 18, usize::MAX), Some([0x0a].as_slice()));
+    assert_eq!(rt; block.part(1, 18, 0).map(|part| part.len()), Some(0));
+    assert!(rt; block.part(1, 19, 1).is_none());
+    assert!(rt; block.part(1, usize::MAX, 1).is_none());
+    assert!(rt; block.part(9, 0, 1).is_none());
+    assert!(rt; block.part(0, 0, 1).is_none());
+
+    let several = block_over(alloc, three_records(alloc)?)?.ok_or("lawful")?;
+    for (handle, length) in [(7, 19), (3, 128), (5, 65)] {
+        let bytes = record_of(alloc, handle, length)?;
+        assert_eq!(rt;
+            several.part(u32::from(handle), 0, 4079),
+            Some(bytes.as_slice())
+        );
+        assert!(rt; several.part(u32::from(handle), bytes.len(), 1).is_none());
+    }
+    assert!(rt; several.part(4, 0, 1).is_none());
+    Ok(())
+}
+
+/// Walks over the three records.
+fn walks_collect_the_records(
+    rt: &impl Abort,
+    alloc: Global,
+    terminus: &mut Box<dyn Terminus>,
+) -> Result<(), AllocError> {
     let mut walker = Walker::new(alloc, 64, 3, 212)?;
-    assert_eq!(rt; walk(&mut walker, &mut terminus), Ok(5));
+    assert_eq!(rt; walk(&mut walker, terminus), Ok(5));
     assert_eq!(rt; walker.records().len(), 3);
     assert_eq!(rt; walker.records().first().map(|bytes| bytes.len()), Some(19));
     assert_eq!(rt; walker.records().get(1), Some(&record_of(alloc, 3, 128)?));
@@ -216,11 +277,23 @@ fn walks_collect_the_records(rt: HostRuntime) -> Result<(), Fail> {
     assert_eq!(rt; walker.take(&[]), Err(WalkFault::NotAsked));
 
     let mut narrow = Walker::new(alloc, 64, 2, 212)?;
-    assert_eq!(rt; walk(&mut narrow, &mut terminus), Err(WalkFault::TooMuch));
+    assert_eq!(rt; walk(&mut narrow, terminus), Err(WalkFault::TooMuch));
     assert_eq!(rt; narrow.records().len(), 2);
     let mut short = Walker::new(alloc, 8, 3, 211)?;
-    assert_eq!(rt; walk(&mut short, &mut terminus), Err(WalkFault::TooMuch));
+    assert_eq!(rt; walk(&mut short, terminus), Err(WalkFault::TooMuch));
     assert_eq!(rt; short.records().len(), 2);
+    Ok(())
+}
+
+#[test]
+fn walks_collect_the_records_of_either_kind(rt: HostRuntime) -> Result<(), Fail> {
+    let alloc = rt.alloc();
+    let list = list_over(alloc, three_records(alloc)?)?.ok_or("lawful")?;
+    let mut terminus: Box<dyn Terminus> = Box::new(alloc, list)?;
+    walks_collect_the_records(&rt, alloc, &mut terminus)?;
+    let block = block_over(alloc, three_records(alloc)?)?.ok_or("lawful")?;
+    let mut terminus: Box<dyn Terminus> = Box::new(alloc, block)?;
+    walks_collect_the_records(&rt, alloc, &mut terminus)?;
     Ok(())
 }
 
