@@ -1,0 +1,4 @@
+-- assignments
+pub mod Assignments
+pub mod AssignmentSteps
+pub mod AssignmentRuns

@@ -1,0 +1,160 @@
+//! The requests that give the owned nodes of a plan their endpoint IDs and pools.
+ghost use Rattle.std.specs.Prelude.{◌≡◌, ℕ, ◌++◌, ◌<◌, length, map, option_and_then, IfOk, OnOk};
+ghost use Rattle.net_check.specs.Routing.{ports_of};
+ghost use Rattle.net_check.specs.Owners.{owner_of, given_level, level};
+ghost use Rattle.net_sim.specs.Assignments.{assignment_value, shared_bus, requests_over, requests_to, is_on_bus, IsAssignmentOf};
+ghost use Rattle.net_sim.specs.AssignmentRuns.{CanBeCarriedOut, IsAcceptedThroughout, AssignsAll};
+ghost use Rattle.net_sim.specs.AssignmentSteps.{HasAskedUpTo};
+
+mod assignment;
+mod laws;
+mod requests;
+#[cfg(test)]
+mod tests;
+
+use crate::assigning::requests::{allocate_pool, set_eid};
+pub use assignment::Assignment;
+pub use laws::one_assignment;
+use net_check::Checked;
+use net_plan::{Certificate, Node, Plan, Port};
+use std::alloc::{AllocError, Global};
+
+/// The requests that give each owned node its endpoint ID and, where it has one, its pool: Set Endpoint ID, then
+/// Allocate Endpoint IDs (DSP0236). Nodes of lower levels come first, those of one level in the plan's order; a node is
+/// asked over the bus of its lowest port whose bus its owner shares.
+pub fn assign(alloc: Global, checked: &Checked) -> Result<Vec<Assignment>, AllocError>
+    ensures listed { IfOk result (λ list. IsAssignmentOf checked.now.0 checked.now.1 (map assignment_value list.items)) }
+
+    // The plan's devices, the owned ones empty, can be asked so; however they reply, each request is accepted, and each
+    // device then holds the plan's endpoint ID and pool.
+    ensures possible { IfOk result (λ list. CanBeCarriedOut checked.now.0 (map assignment_value list.items)) }
+    ensures accepted { IfOk result (λ list. IsAcceptedThroughout checked.now.0 (map assignment_value list.items)) }
+    ensures assigned { IfOk result (λ list. AssignsAll checked.now.0 (map assignment_value list.items)) }
+{
+    let plan = checked.plan();
+    let certificate = checked.certificate();
+    let mut list = Vec::new(alloc);
+    // Levels are 1 to 63.
+    for level in 1..64u8 {
+        ask_level(&mut list, plan, certificate, level)?;
+    }
+    Ok(list)
+}
+
+/// Adds the requests to the owned nodes of a level.
+fn ask_level(
+    list: &mut Vec<Assignment>,
+    plan: &Plan,
+    certificate: &Certificate,
+    level: u8,
+) -> Result<(), AllocError>
+    requires owned { 0 < level }
+    requires lower { HasAskedUpTo plan.now certificate.now level 0 (map assignment_value list.old.items) }
+    ensures { OnOk result (HasAskedUpTo plan.now certificate.now level (length plan.now.nodes.items) (map assignment_value list.new.items)) }
+{
+    for place in 0..plan.nodes.len() {
+        if level_of(plan, certificate, place) == level {
+            ask(list, plan, place)?;
+        }
+    }
+    Ok(())
+}
+
+/// The level of a node, 0 where it has no owner.
+fn level_of(plan: &Plan, certificate: &Certificate, place: usize) -> u8
+    ensures { result ≡ level plan.now certificate.now place }
+{
+    match owner_of(plan, place) {
+        Some(_) => given_level(certificate, place),
+        None => 0,
+    }
+}
+
+/// The owner of a node.
+fn owner_of(plan: &Plan, place: usize) -> Option<usize>
+    ensures { result ≡ owner_of plan.now place }
+{
+    plan.nodes.get(place)?.owner
+}
+
+/// The level that the certificate gives a node, 0 where it gives none.
+fn given_level(certificate: &Certificate, place: usize) -> u8
+    ensures { result ≡ given_level certificate.now place }
+{
+    certificate
+        .levels
+        .iter()
+        .find(|given| given.node == place)
+        .map_or(0, |given| given.level)
+}
+
+/// Adds the requests to a node, over the bus that it shares with its owner.
+fn ask(list: &mut Vec<Assignment>, plan: &Plan, place: usize) -> Result<(), AllocError>
+    requires { place < length plan.now.nodes.items }
+    ensures { OnOk result (map assignment_value list.new.items ≡ map assignment_value list.old.items ++ requests_to plan.now place) }
+{
+    let node = &plan.nodes[place];
+    match owner_bus(plan, node) {
+        Some(bus) => ask_over(list, place, node, bus),
+        None => Ok(()),
+    }
+}
+
+/// The bus that a node shares with its owner.
+fn owner_bus(plan: &Plan, node: &Node) -> Option<usize>
+    ensures { result ≡ option_and_then (shared_bus plan.now node.now) node.now.owner }
+{
+    shared_bus(plan, node, node.owner?)
+}
+
+/// The bus of the node's lowest port whose bus the owner shares.
+fn shared_bus(plan: &Plan, node: &Node, owner: usize) -> Option<usize>
+    ensures { result ≡ shared_bus plan.now node.now owner }
+{
+    let shared = node
+        .ports
+        .iter()
+        .find(|port| is_on_bus(plan, owner, port.bus))?;
+    Some(shared.bus)
+}
+
+/// Whether the node has a port on the bus.
+fn is_on_bus(plan: &Plan, node: usize, bus: usize) -> bool
+    ensures { result ≡ is_on_bus plan.now node bus }
+{
+    ports_at(plan, node).iter().any(|port| port.bus == bus)
+}
+
+/// The ports of a node, none where there is no such node.
+fn ports_at(plan: &Plan, node: usize) -> &[Port]
+    ensures { result.now ≡ ports_of plan.now node }
+{
+    match plan.nodes.get(node) {
+        Some(node) => &node.ports,
+        None => &[],
+    }
+}
+
+/// Adds the requests to a node that go over the bus.
+fn ask_over(
+    list: &mut Vec<Assignment>,
+    place: usize,
+    node: &Node,
+    bus: usize,
+) -> Result<(), AllocError>
+    ensures { OnOk result (map assignment_value list.new.items ≡ map assignment_value list.old.items ++ requests_over place node.now bus) }
+{
+    list.push(Assignment {
+        bus,
+        node: place,
+        body: set_eid(node.eid),
+    })?;
+    if let Some(pool) = node.pool {
+        list.push(Assignment {
+            bus,
+            node: place,
+            body: allocate_pool(pool),
+        })?;
+    }
+    Ok(())
+}
