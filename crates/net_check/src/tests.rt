@@ -3,10 +3,11 @@ ghost use Rattle.std.specs.Prelude.{◌+◌, ◌<◌, ◌≤◌, IsTrue, vec_len
 ghost use Rattle.net_plan.specs.NameText.{is_name};
 
 mod certificates;
-mod owners_and_pools;
 mod deliveries;
-mod superfluous;
+mod owners_and_pools;
 mod records;
+mod riser;
+mod superfluous;
 
 use crate::{CheckError, Fault, Rule, check};
 use mctp_transport::Eid;

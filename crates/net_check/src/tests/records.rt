@@ -1,29 +1,12 @@
 //! The riser network of `examples/riser` with other records, and other places of them.
 
-use super::{fault, found};
+use super::{fault, riser};
 use crate::{Fault, Rule};
-use net_plan::{certificate_of_text, plan_of_text};
 use std::alloc::{AllocError, Global};
 use std::test::Fail;
 
-/// The plan as far as the records of nic.
-const PLAN: &str =
-    r#"{"format":1,"buses":[{"name":"b0","binding":1,"media":4},{"name":"b1","binding":1,"media":4}],"nodes":[
-{"name":"host","kind":"bridge","eid":8,"owner":null,"pool":{"first":16,"size":8},"ports":[{"bus":"b0","address":"10"}],"rows":[{"first":16,"size":8,"port":0,"next":"riser"}],"terminus":null},
-{"name":"riser","kind":"bridge","eid":16,"owner":"host","pool":{"first":17,"size":7},"ports":[{"bus":"b0","address":"20"},{"bus":"b1","address":"22"}],"rows":[{"first":8,"size":1,"port":0,"next":"host"},{"first":17,"size":1,"port":1,"next":"nic"},{"first":18,"size":1,"port":1,"next":"ssd"}],"terminus":null},
-{"name":"nic","kind":"endpoint","eid":17,"owner":"riser","pool":null,"ports":[{"bus":"b1","address":"30"}],"rows":[{"first":8,"size":9,"port":0,"next":"riser"}],"terminus":{"tid":1,"records":["#;
-
-/// The plan behind the records of nic.
-const PLAN_END: &str = r#"]}},
-{"name":"ssd","kind":"endpoint","eid":18,"owner":"riser","pool":null,"ports":[{"bus":"b1","address":"32"}],"rows":[{"first":8,"size":9,"port":0,"next":"riser"}],"terminus":null}]}"#;
-
-/// The certificate as far as the places of nic's records.
-const CERTIFICATE: &str =
-    r#"{"format":1,"levels":[{"level":1,"node":"riser"},{"level":2,"node":"nic"},{"level":2,"node":"ssd"}],"places":[{"node":"nic","places":["#;
-
-/// The certificate behind the places of nic's records.
-const CERTIFICATE_END: &str =
-    r#"]}],"ranks":[{"node":"host","ranges":[{"first":16,"rank":1,"size":1},{"first":17,"rank":2,"size":2},{"first":19,"rank":1,"size":5}]},{"node":"riser","ranges":[{"first":8,"rank":1,"size":1},{"first":17,"rank":1,"size":2}]},{"node":"nic","ranges":[{"first":8,"rank":2,"size":1},{"first":9,"rank":1,"size":8}]},{"node":"ssd","ranges":[{"first":8,"rank":2,"size":1},{"first":9,"rank":1,"size":8}]}]}"#;
+/// nic's one record in the plan's text.
+const RECORD: &str = r#"{"handle":1,"next":0,"bytes":"01000000010100000900010001010000010111"}"#;
 
 /// The bytes of nic's terminus locator behind its handle.
 const LOCATOR: &str = "010100000900010001010000010111";
@@ -49,20 +32,10 @@ fn locators(alloc: Global, handles: &[(u8, u8)]) -> Result<String, AllocError> {
     Ok(text)
 }
 
-fn between(alloc: Global, start: &str, middle: &str, end: &str) -> Result<String, AllocError> {
-    let mut text = String::from_str(alloc, start)?;
-    text.push_str(middle)?;
-    text.push_str(end)?;
-    Ok(text)
-}
-
 /// The fault of the network where nic has these records and the certificate gives them these places.
 fn found_with(alloc: Global, records: &str, places: &str) -> Result<Option<Fault>, Fail> {
-    let text = between(alloc, PLAN, records, PLAN_END)?;
-    let plan = plan_of_text(alloc, text.as_str().as_bytes())?;
-    let text = between(alloc, CERTIFICATE, places, CERTIFICATE_END)?;
-    let certificate = certificate_of_text(alloc, &plan, text.as_str().as_bytes())?;
-    Ok(found(alloc, &plan, &certificate)?)
+    let places = format!(in alloc; "[{places}]")?;
+    riser::found_with(alloc, &[(RECORD, records)], &[("[0]", places.as_str())])
 }
 
 #[test]

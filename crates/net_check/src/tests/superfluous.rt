@@ -1,7 +1,7 @@
 //! What the certificate of the riser network may not give.
 
-use super::deliveries::found_with;
 use super::fault;
+use super::riser::found_with;
 use crate::Rule;
 use std::test::Fail;
 
