@@ -24,11 +24,7 @@ pub fn first_of_all(alloc: Global, trial: &Trial) -> Result<Option<Fault>, Alloc
 }
 
 /// The rule's first fault.
-fn first_of_rule(
-    alloc: Global,
-    trial: &Trial,
-    rule: Rule,
-) -> Result<Option<Fault>, AllocError>
+fn first_of_rule(alloc: Global, trial: &Trial, rule: Rule) -> Result<Option<Fault>, AllocError>
     ensures { IfOk result (IsFirstOfRule trial.now.plan.now trial.now.certificate.now rule) }
 {
     for node in 0..trial.plan.nodes.len() {

@@ -2,7 +2,8 @@
 
 use super::fault;
 use super::riser::found_with;
-use crate::Rule;
+use crate::{Fault, Rule};
+use std::alloc::Global;
 use std::test::Fail;
 
 #[test]
