@@ -5,9 +5,11 @@ use Rattle.net_plan.specs.declared.error.PlanError.{PlanError}
 use Rattle.net_plan.specs.declared.error.PlanError.TheVariants as error
 use Rattle.net_plan.specs.PlanValues.{plan_value}
 use Rattle.net_plan.specs.TextFaults.{error_count}
-use Rattle.net_plan.specs.Unread.{GaveNoPlan, GaveNoCertificate}
+use Rattle.net_plan.specs.Unread.{GaveNoCertificate}
 use Rattle.mctpplan.specs.declared.refused.Input.TheVariants as input
-use Rattle.mctpplan.specs.Answers.{Stream, GavePlan, GaveNothing, AreUnread}
+use Rattle.mctpplan.specs.declared.refused.Refused.{Refused}
+use Rattle.mctpplan.specs.declared.refused.Refused.TheVariants as refused
+use Rattle.mctpplan.specs.Answers.{Stream, GavePlan, GaveNothing, IsPlanUnread, AreUnread}
 use Rattle.mctpplan.specs.Statuses.{refused_at}
 
 gave_nothing : (GaveNone : Option (List ℕ) → Option (List ℕ) → PlanError → Type 0) (stream : Stream) (e : PlanError) → GaveNone stream.before stream.after e
@@ -24,22 +26,14 @@ gave_nothing GaveNone stream error.OverLimit gave counted = gave
 gave_nothing GaveNone stream error.Doubled gave counted = gave
 gave_nothing GaveNone stream error.OutOfMemory gave counted = gave
 
-pub plan_unread : (e : PlanError) (plans certificates : Stream) → GaveNoPlan plans.before plans.after e → plans.failures_after ≡ plans.failures_before + error_count e
-    → AreUnread (refused_at input.Plan e) plans certificates
-plan_unread e plans certificates gave counted = told e (gave_nothing GaveNoPlan plans e gave counted)
-  where
-    told : (e : PlanError) → GaveNothing GaveNoPlan plans e → AreUnread (refused_at input.Plan e) plans certificates
-    told error.OutOfMemory gave = tt
-    told error.Device gave = gave
-    told error.NotJson gave = gave
-    told error.WrongKind gave = gave
-    told error.MissingKey gave = gave
-    told error.UnknownKey gave = gave
-    told error.OutOfRange gave = gave
-    told error.UnknownName gave = gave
-    told error.BadHex gave = gave
-    told error.OverLimit gave = gave
-    told error.Doubled gave = gave
+-- where the plan was not read, the inputs were not
+pub inputs_unread : (why : Refused) (plans certificates : Stream) → IsPlanUnread why plans → AreUnread why plans certificates
+inputs_unread refused.Usage plans certificates unread = unread
+inputs_unread (refused.Unreadable input.Plan cause) plans certificates unread = unread
+inputs_unread (refused.Unreadable input.Certificate cause) plans certificates unread = absurd unread
+inputs_unread refused.UnreadableHex plans certificates unread = unread
+inputs_unread refused.Unwritten plans certificates unread = unread
+inputs_unread refused.NoMemory plans certificates unread = unread
 
 pub certificate_unread : (e : PlanError) (p : Plan) (plans certificates : Stream) → GavePlan plans p
     → GaveNoCertificate (plan_value p) certificates.before certificates.after e
