@@ -82,10 +82,10 @@ no_rows plan n past = rw (slice_get_past plan.nodes.items n past) refl
 no_terminus : (plan : Plan) (n : ℕ) → length plan.nodes.items ≤ n → terminus_of plan n ≡ None
 no_terminus plan n past = rw (slice_get_past plan.nodes.items n past) refl
 
-no_records : (plan : Plan) (n : ℕ) → length plan.nodes.items ≤ n → records_of plan n ≡ []
+pub no_records : (plan : Plan) (n : ℕ) → length plan.nodes.items ≤ n → records_of plan n ≡ []
 no_records plan n past = rw (slice_get_past plan.nodes.items n past) refl
 
-no_owner : (plan : Plan) (n owner : ℕ) → length plan.nodes.items ≤ n → IsOwnedBy plan n owner → ⊥
+pub no_owner : (plan : Plan) (n owner : ℕ) → length plan.nodes.items ≤ n → IsOwnedBy plan n owner → ⊥
 no_owner plan n owner past = rw (slice_get_past plan.nodes.items n past) (λ is. cc)
 
 no_pool : (plan : Plan) (n : ℕ) (pool : Pool) → length plan.nodes.items ≤ n → pool_of plan n ≡ Some pool → ⊥

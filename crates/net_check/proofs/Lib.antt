@@ -7,6 +7,7 @@ pub mod OtherSearches
 pub mod RecordSpots
 pub mod Handles
 pub mod Beyond
+pub mod RuleOrder
 -- certificates made
 pub mod Deciding
 pub mod Ends
@@ -26,11 +27,7 @@ pub mod Filters
 pub mod RankLaws
 pub mod CertificateLaws
 pub mod OneCertificate
-pub mod Lines
-pub mod LevelLaws
-pub mod IndexLaws
-pub mod ChainLaws
-pub mod ChainPlaces
+pub mod Listed
 pub mod ExactCertificates
 pub mod Obstacles
 -- the network

@@ -9,7 +9,7 @@ use Rattle.net_plan.specs.declared.certificate.RankRange.{RankRange}
 use Rattle.net_plan.specs.declared.certificate.NodeRanks.{NodeRanks}
 use Rattle.net_plan.specs.declared.certificate.Certificate.{Certificate}
 use Rattle.net_check.specs.Routing.{MovesTo}
-use Rattle.net_check.specs.Ranks.{rank, rank_in, is_in_range}
+use Rattle.net_check.specs.Ranks.{rank_given, rank_in, is_in_range}
 use Rattle.net_check.specs.Circles.{HasNoCircle, AreMovesToEnds}
 use Rattle.net_check.specs.RoutingLoops.{IsRank, RowsAreApart, RowsAreInRange}
 use Rattle.net_check.specs.RankRuns.{AreLongestRuns, below, AreNone, AreGrown}

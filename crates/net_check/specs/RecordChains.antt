@@ -23,7 +23,7 @@ HasNext records r = (r.next ≡ 0) ⊎ IsHandleOf records r.next
 abbrev pub HasNewNext : List Record → ℕ → Record → Type 0
 HasNewNext records j r = (i : ℕ) (other : Record) → i < j → slice_get records i ≡ Some other → other.next ≢ r.next
 
--- record k has the next handle of record j
+-- the next handle of record j is record k's handle
 abbrev pub IsFollowedBy : List Record → ℕ → ℕ → Type 0
 IsFollowedBy records j k = (r : Record) × (other : Record) × (slice_get records j ≡ Some r) × (slice_get records k ≡ Some other) × (r.next ≡ other.handle)
 

@@ -28,7 +28,7 @@ pub fn unchained_record(
 }
 
 /// The places that the certificate gives a node's records, none where it has none for the node.
-fn places_at(certificate: &Certificate, node: usize) -> &[RecordPlace]
+pub fn places_at(certificate: &Certificate, node: usize) -> &[RecordPlace]
     ensures { map (λ p. p.value) result.now ≡ places_of certificate.now node }
 {
     match certificate.places.iter().find(|given| given.node == node) {

@@ -8,6 +8,7 @@ ghost use Rattle.net_check.specs.Search.{IsFirstSpot};
 
 use crate::routing::holds;
 use crate::rule::Rule;
+use crate::rules::records::records_at;
 use crate::spot::Spot;
 use mctp_transport::{Eid, Wire};
 use net_plan::{Plan, Record};
@@ -105,18 +106,5 @@ fn has_tid(plan: &Plan, node: usize, tid: u8) -> bool
             None => false,
         },
         None => false,
-    }
-}
-
-/// The records of the node's terminus, none where it has no terminus.
-pub fn records_at(plan: &Plan, node: usize) -> &[Record]
-    ensures { result.now ≡ records_of plan.now node }
-{
-    match plan.nodes.get(node) {
-        Some(node) => match &node.terminus {
-            Some(terminus) => &terminus.records,
-            None => &[],
-        },
-        None => &[],
     }
 }

@@ -1,6 +1,5 @@
 //! C16: the certificate gives nothing that the plan has no use for.
-ghost use Rattle.std.specs.Prelude.{◌≡◌, ℕ, ◌<◌, ◌↔◌, IsTrue, MatchOption, length, map};
-ghost use Rattle.net_check.specs.Owners.{owner_of, given_level};
+ghost use Rattle.std.specs.Prelude.{◌≡◌, ℕ, ◌<◌, ◌↔◌, IsTrue, MatchOption, length};
 ghost use Rattle.net_check.specs.Repositories.{places_of};
 ghost use Rattle.net_check.specs.Superfluous.{NeedsItsLevel, NeedsItsPlaces, NeedsWhatItIsGiven, NeedsItsRank};
 ghost use Rattle.net_check.specs.Rules.{CertificateDemands};
@@ -8,12 +7,14 @@ ghost use Rattle.net_check.specs.Search.{IsFirstSpot};
 
 use crate::routing::holds;
 use crate::rule::Rule;
+use crate::rules::chains::places_at;
 use crate::rules::held_eids::has_row;
-use crate::rules::locators::records_at;
+use crate::rules::owners::{given_level_of, owner_at};
+use crate::rules::records::records_at;
 use crate::spot::Spot;
 use crate::trial::Trial;
 use mctp_transport::Eid;
-use net_plan::{Certificate, Plan, RecordPlace};
+use net_plan::{Certificate, Plan};
 
 /// Where the certificate gives the node a level, places or a rank that it has no use for.
 pub fn superfluous_entry(trial: &Trial, node: usize) -> Option<Spot>
@@ -86,36 +87,9 @@ fn needs_its_places(plan: &Plan, certificate: &Certificate, node: usize) -> bool
     given_places(certificate, node) <= records_at(plan, node).len()
 }
 
-/// The node that owns a node; none where none does, and where there is no such node.
-fn owner_at(plan: &Plan, node: usize) -> Option<usize>
-    ensures { result ≡ owner_of plan.now node }
-{
-    plan.nodes.get(node)?.owner
-}
-
-/// The level that the certificate gives a node, 0 where it gives none.
-fn given_level_of(certificate: &Certificate, node: usize) -> u8
-    ensures { result ≡ given_level certificate.now node }
-{
-    match certificate.levels.iter().find(|given| given.node == node) {
-        Some(given) => given.level,
-        None => 0,
-    }
-}
-
 /// How many places the certificate gives a node's records.
 fn given_places(certificate: &Certificate, node: usize) -> usize
     ensures { result ≡ length (places_of certificate.now node) }
 {
     places_at(certificate, node).len()
-}
-
-/// The places that the certificate gives a node's records, none where it gives none.
-fn places_at(certificate: &Certificate, node: usize) -> &[RecordPlace]
-    ensures { map (λ p. p.value) result.now ≡ places_of certificate.now node }
-{
-    match certificate.places.iter().find(|given| given.node == node) {
-        Some(given) => &given.places,
-        None => &[],
-    }
 }
