@@ -7,9 +7,7 @@ use Rattle.net_plan.specs.PlanValues.{plan_value}
 use Rattle.net_plan.specs.TextFaults.{error_count}
 use Rattle.net_plan.specs.Unread.{GaveNoCertificate}
 use Rattle.mctpplan.specs.declared.refused.Input.TheVariants as input
-use Rattle.mctpplan.specs.declared.refused.Refused.{Refused}
-use Rattle.mctpplan.specs.declared.refused.Refused.TheVariants as refused
-use Rattle.mctpplan.specs.Answers.{Stream, GavePlan, GaveNothing, IsPlanUnread, AreUnread}
+use Rattle.mctpplan.specs.Answers.{Stream, GavePlan, GaveNothing, AreUnread}
 use Rattle.mctpplan.specs.Statuses.{refused_at}
 
 gave_nothing : (GaveNone : Option (List ℕ) → Option (List ℕ) → PlanError → Type 0) (stream : Stream) (e : PlanError) → GaveNone stream.before stream.after e
@@ -25,15 +23,6 @@ gave_nothing GaveNone stream error.BadHex gave counted = gave
 gave_nothing GaveNone stream error.OverLimit gave counted = gave
 gave_nothing GaveNone stream error.Doubled gave counted = gave
 gave_nothing GaveNone stream error.OutOfMemory gave counted = gave
-
--- where the plan was not read, the inputs were not
-pub inputs_unread : (why : Refused) (plans certificates : Stream) → IsPlanUnread why plans → AreUnread why plans certificates
-inputs_unread refused.Usage plans certificates unread = unread
-inputs_unread (refused.Unreadable input.Plan cause) plans certificates unread = unread
-inputs_unread (refused.Unreadable input.Certificate cause) plans certificates unread = absurd unread
-inputs_unread refused.UnreadableHex plans certificates unread = unread
-inputs_unread refused.Unwritten plans certificates unread = unread
-inputs_unread refused.NoMemory plans certificates unread = unread
 
 pub certificate_unread : (e : PlanError) (p : Plan) (plans certificates : Stream) → GavePlan plans p
     → GaveNoCertificate (plan_value p) certificates.before certificates.after e
