@@ -6,11 +6,8 @@ ghost use Rattle.mctpplan.specs.declared.status.Status.TheVariants.{Unreadable, 
 ghost use Rattle.mctpplan.specs.Statuses.{status_of};
 ghost use Rattle.mctpplan.specs.Answers.{stream, GavePlan, IsPlanUnread};
 
-mod certify;
-mod check;
-
-pub use certify::run_certify;
-pub use check::run_check;
+pub mod certify;
+pub mod check;
 
 use crate::refused::{Input, Refused};
 use crate::status::Status;

@@ -10,7 +10,9 @@ mod status;
 mod texts;
 
 use command_line::{Command, words};
-use commands::{refuse, run_certify, run_check};
+use commands::certify::run_certify;
+use commands::check::run_check;
+use commands::refuse;
 use files::FileAtPath;
 use net_plan::Counted;
 use refused::Refused;

@@ -52,12 +52,7 @@ fn owner_loop_line(alloc: Global, plan: &Plan, nodes: &[usize]) -> Result<String
     format!(in alloc; "owner loop nodes{names}\n")
 }
 
-fn loop_line(
-    alloc: Global,
-    plan: &Plan,
-    eid: Eid,
-    nodes: &[usize],
-) -> Result<String, AllocError>
+fn loop_line(alloc: Global, plan: &Plan, eid: Eid, nodes: &[usize]) -> Result<String, AllocError>
     ensures { IfOk result (λ line. string_bytes line ≡ loop_text plan.now eid.value nodes.now) }
 {
     let eid = eid.value;

@@ -1,4 +1,6 @@
 use super::*;
+use crate::commands::certify::run_certify;
+use crate::commands::check::run_check;
 use crate::files::FileAtPath;
 use net_plan::{Counted, PlanError};
 use std::io::{self, ErrorKind, Read, Write};
@@ -45,7 +47,8 @@ const RANKS: &str = r#"{"format": 1, "levels": [], "places": [], "ranks": [
 const NO_RANKS: &str = r#"{"format": 1, "levels": [], "places": [], "ranks": []}"#;
 
 /// As they are written.
-const RANKS_IN_A_LINE: &str = r#"{"format":1,"levels":[],"places":[],"ranks":[{"node":"a","ranges":[{"first":254,"rank":1,"size":1}]},{"node":"z","ranges":[{"first":8,"rank":1,"size":1}]}]}
+const RANKS_IN_A_LINE: &str =
+    r#"{"format":1,"levels":[],"places":[],"ranks":[{"node":"a","ranges":[{"first":254,"rank":1,"size":1}]},{"node":"z","ranges":[{"first":8,"rank":1,"size":1}]}]}
 "#;
 
 const NO_RANKS_IN_A_LINE: &str = r#"{"format":1,"levels":[],"places":[],"ranks":[]}
@@ -60,12 +63,7 @@ fn plan_of(alloc: Global, rows: &str, eid: &str, further: &str) -> Result<String
 
 /// Wants a run to have ended with this status and this text: an answer on standard output, anything else on standard
 /// error.
-fn expect_told(
-    rt: &impl Abort,
-    ended: (Status, &[u8], &[u8]),
-    status: Status,
-    text: &str,
-) {
+fn expect_told(rt: &impl Abort, ended: (Status, &[u8], &[u8]), status: Status, text: &str) {
     let (with, output, errors) = ended;
     assert_eq!(rt; with, status, "for {text}");
     let (told, silent) = match status {
@@ -172,14 +170,22 @@ fn tells_texts_that_do_not_read(rt: HostRuntime) {
 #[test]
 fn gives_certificates(rt: HostRuntime) -> Result<(), Fail> {
     let two_nodes = plan_of(rt.alloc(), ROW, "254", "")?;
-    let rows = [(two_nodes.as_str(), RANKS_IN_A_LINE), (NO_NODES, NO_RANKS_IN_A_LINE)];
+    let rows = [
+        (two_nodes.as_str(), RANKS_IN_A_LINE),
+        (NO_NODES, NO_RANKS_IN_A_LINE),
+    ];
     for (plan, certificate) in rows {
         let plan = plan.as_bytes();
         expect_certify(&rt, plan, Status::Yes, certificate);
         expect_check(&rt, plan, certificate.as_bytes(), Status::Yes, "yes\n");
     }
     let cut = CutOff { rest: b"[]" };
-    expect_certify(&rt, b"[]".as_slice(), Status::Unreadable, "unreadable plan: J02\n");
+    expect_certify(
+        &rt,
+        b"[]".as_slice(),
+        Status::Unreadable,
+        "unreadable plan: J02\n",
+    );
     expect_certify(&rt, cut, Status::Unreadable, "unreadable plan: file\n");
     Ok(())
 }

@@ -31,9 +31,7 @@ fn bridge_at(alloc: Global, place: u16, count: u16) -> Result<String, AllocError
     if place > 0 {
         let before = place - 1;
         ports.push(format!(in alloc; r#"{{"bus":"b{place}","address":"10"}}"#)?)?;
-        let row = format!(in alloc;
-            r#"{{"first":8,"size":{place},"port":0,"next":"n{before}"}}"#
-        )?;
+        let row = format!(in alloc; r#"{{"first":8,"size":{place},"port":0,"next":"n{before}"}}"#)?;
         rows.push(row)?;
     }
     if after < count {

@@ -21,10 +21,12 @@ const CERTIFICATE: &str =
 const RECORD: &str = r#"{"handle":1,"next":0,"bytes":"01000000010100000900010001010000010111"}"#;
 
 /// Two records in a circle.
-const CIRCLE: &str = r#"{"handle":1,"next":2,"bytes":"01000000010100000900010001010000010111"},{"handle":2,"next":1,"bytes":"02000000010100000900010001010000010111"}"#;
+const CIRCLE: &str =
+    r#"{"handle":1,"next":2,"bytes":"01000000010100000900010001010000010111"},{"handle":2,"next":1,"bytes":"02000000010100000900010001010000010111"}"#;
 
 /// Two records of which neither leads to the other.
-const TWO_ENDS: &str = r#"{"handle":1,"next":0,"bytes":"01000000010100000900010001010000010111"},{"handle":2,"next":0,"bytes":"02000000010100000900010001010000010111"}"#;
+const TWO_ENDS: &str =
+    r#"{"handle":1,"next":0,"bytes":"01000000010100000900010001010000010111"},{"handle":2,"next":0,"bytes":"02000000010100000900010001010000010111"}"#;
 
 /// A text with another in the place of one that stands in it.
 fn replaced(alloc: Global, text: &str, old: &str, new: &str) -> Result<String, AllocError> {
@@ -44,7 +46,11 @@ fn has_a_fault_after_one_change(rt: HostRuntime) -> Result<(), Fail> {
     let rows = [
         (r#""eid":18"#, r#""eid":17"#, "C03 node ssd entry - eid 17"),
         (r#""eid":18"#, r#""eid":7"#, "C02 node ssd entry - eid 7"),
-        (r#""eid":18"#, r#""eid":255"#, "C02 node ssd entry - eid 255"),
+        (
+            r#""eid":18"#,
+            r#""eid":255"#,
+            "C02 node ssd entry - eid 255",
+        ),
         (r#""eid":18"#, r#""eid":30"#, "C08 node ssd entry - eid 30"),
         (
             r#""eid":8,"owner":null"#,
@@ -131,6 +137,12 @@ fn has_no_level_for_a_node_without_owner(rt: HostRuntime) -> Result<(), Fail> {
     let levels = r#""levels":[{"level":1,"node":"host"},"#;
     let certificate = replaced(rt.alloc(), CERTIFICATE, r#""levels":["#, levels)?;
     let fault = "fault C16 node host entry - eid -\n";
-    expect_check(&rt, PLAN.as_bytes(), certificate.as_bytes(), Status::Fault, fault);
+    expect_check(
+        &rt,
+        PLAN.as_bytes(),
+        certificate.as_bytes(),
+        Status::Fault,
+        fault,
+    );
     Ok(())
 }
