@@ -5,7 +5,7 @@ use Rattle.net_plan.specs.declared.error.PlanError.{PlanError}
 use Rattle.net_plan.specs.declared.error.PlanError.TheVariants as error
 use Rattle.net_plan.specs.PlanValues.{plan_value}
 use Rattle.net_plan.specs.TextFaults.{error_count}
-use Rattle.net_plan.specs.Unread.{GaveNoPlan, GaveNoCertificate}
+use Rattle.net_plan.specs.Unread.{GaveNoCertificate}
 use Rattle.mctpplan.specs.declared.refused.Input.TheVariants as input
 use Rattle.mctpplan.specs.Answers.{Stream, GavePlan, GaveNothing, AreUnread}
 use Rattle.mctpplan.specs.Statuses.{refused_at}
@@ -23,23 +23,6 @@ gave_nothing GaveNone stream error.BadHex gave counted = gave
 gave_nothing GaveNone stream error.OverLimit gave counted = gave
 gave_nothing GaveNone stream error.Doubled gave counted = gave
 gave_nothing GaveNone stream error.OutOfMemory gave counted = gave
-
-pub plan_unread : (e : PlanError) (plans certificates : Stream) → GaveNoPlan plans.before plans.after e → plans.failures_after ≡ plans.failures_before + error_count e
-    → AreUnread (refused_at input.Plan e) plans certificates
-plan_unread e plans certificates gave counted = told e (gave_nothing GaveNoPlan plans e gave counted)
-  where
-    told : (e : PlanError) → GaveNothing GaveNoPlan plans e → AreUnread (refused_at input.Plan e) plans certificates
-    told error.OutOfMemory gave = tt
-    told error.Device gave = gave
-    told error.NotJson gave = gave
-    told error.WrongKind gave = gave
-    told error.MissingKey gave = gave
-    told error.UnknownKey gave = gave
-    told error.OutOfRange gave = gave
-    told error.UnknownName gave = gave
-    told error.BadHex gave = gave
-    told error.OverLimit gave = gave
-    told error.Doubled gave = gave
 
 pub certificate_unread : (e : PlanError) (p : Plan) (plans certificates : Stream) → GavePlan plans p
     → GaveNoCertificate (plan_value p) certificates.before certificates.after e

@@ -66,6 +66,15 @@ TellsFault plans certificates output = (plan : Plan) × (certificate : Certifica
     × AreGiven plans certificates plan certificate × IsFirstFault plan certificate (place_of fault)
     × Appends output.before output.after (fault_text plan fault)
 
+-- why the plan was not read
+abbrev pub IsPlanUnread : Refused → Stream → Type 0
+IsPlanUnread refused.Usage plans = ⊥
+IsPlanUnread (refused.Unreadable input.Plan cause) plans = GaveNothing GaveNoPlan plans cause
+IsPlanUnread (refused.Unreadable input.Certificate cause) plans = ⊥
+IsPlanUnread refused.UnreadableHex plans = ⊥
+IsPlanUnread refused.Unwritten plans = ⊥
+IsPlanUnread refused.NoMemory plans = ⊤
+
 -- why an input can't be read; a certificate is read only where the plan was given
 abbrev pub IsUnread : Input → PlanError → Stream → Stream → Type 0
 IsUnread input.Plan cause plans certificates = GaveNothing GaveNoPlan plans cause

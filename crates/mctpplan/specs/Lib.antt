@@ -3,3 +3,4 @@ pub mod Lines
 pub mod Answers
 pub mod Shown
 pub mod Show
+pub mod Certifying

@@ -9,6 +9,8 @@ use std::alloc::{AllocError, Global};
 pub enum Command<'a> {
     /// Does the certificate in one file fit the plan in another?
     Check { plan: &'a str, certificate: &'a str },
+    /// What is the certificate of the plan in a file?
+    Certify { plan: &'a str },
     /// What are the bytes of a hex text?
     Show { kind: Kind, hex: &'a str },
 }
@@ -24,6 +26,7 @@ fn grammar<'a>(alloc: Global) -> Result<clap::Command<'a>, AllocError> {
     clap::Command::new(alloc, "mctpplan")
         .subcommand_required(true)
         .subcommand(with_arguments(alloc, "check", &["plan", "certificate"])?)?
+        .subcommand(with_arguments(alloc, "certify", &["plan"])?)?
         .subcommand(with_arguments(alloc, "show", &["kind", "hex"])?)
 }
 
@@ -46,6 +49,9 @@ fn chosen<'a>(matches: &ArgMatches<'a>) -> Option<Command<'a>> {
         "check" => Some(Command::Check {
             plan: arguments.get_str("plan")?,
             certificate: arguments.get_str("certificate")?,
+        }),
+        "certify" => Some(Command::Certify {
+            plan: arguments.get_str("plan")?,
         }),
         "show" => Some(Command::Show {
             kind: kind_of(arguments.get_str("kind")?)?,

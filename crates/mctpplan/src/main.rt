@@ -1,4 +1,4 @@
-//! The program `mctpplan`: it checks a planned MCTP network against its certificate.
+//! The program `mctpplan`: it checks a planned MCTP network against its certificate, and makes certificates.
 #![tactic(auto)]
 
 mod command_line;
@@ -10,7 +10,9 @@ mod status;
 mod texts;
 
 use command_line::{Command, words};
-use commands::{refuse, run_check};
+use commands::certify::run_certify;
+use commands::check::run_check;
+use commands::refuse;
 use files::FileAtPath;
 use net_plan::Counted;
 use refused::Refused;
@@ -37,6 +39,12 @@ fn run(rt: &HostRuntime) -> Status {
             alloc,
             &mut Counted::new(FileAtPath::new(rt, plan)),
             &mut Counted::new(FileAtPath::new(rt, certificate)),
+            &mut output,
+            &mut errors,
+        ),
+        Ok(Command::Certify { plan }) => run_certify(
+            alloc,
+            &mut Counted::new(FileAtPath::new(rt, plan)),
             &mut output,
             &mut errors,
         ),

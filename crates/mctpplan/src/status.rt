@@ -4,9 +4,9 @@ ghost use Rattle.std.specs.Prelude.{◌≡◌};
 /// How a run of the program ends; the number is its exit status.
 #[derive(Clone, Copy, Debug, PartialEq, Eq)]
 pub enum Status {
-    /// The certificate fits the plan, or the bytes are shown.
+    /// The certificate fits the plan, the plan has a certificate, or the bytes are shown.
     Yes = 0,
-    /// The plan has a fault, or the bytes are refused.
+    /// The plan has a fault, something rules certificates of it out, or the bytes are refused.
     Fault = 1,
     /// The words fit no command, an input can't be read, or the output can't be written.
     Unreadable = 2,

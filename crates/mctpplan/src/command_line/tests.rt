@@ -7,6 +7,7 @@ fn gives_the_command_or_usage(rt: HostRuntime) -> Result<(), Fail> {
         plan: "a",
         certificate: "b",
     };
+    let certify = Command::Certify { plan: "a" };
     let packet = Command::Show {
         kind: Kind::Packet,
         hex: "01",
@@ -15,8 +16,11 @@ fn gives_the_command_or_usage(rt: HostRuntime) -> Result<(), Fail> {
         kind: Kind::Record,
         hex: "",
     };
-    let rows: [(&[&str], Result<Command, Refused>); 16] = [
+    let rows: [(&[&str], Result<Command, Refused>); 19] = [
         (&["mctpplan", "check", "a", "b"], Ok(check)),
+        (&["mctpplan", "certify", "a"], Ok(certify)),
+        (&["mctpplan", "certify"], Err(Refused::Usage)),
+        (&["mctpplan", "certify", "a", "b"], Err(Refused::Usage)),
         (&["mctpplan", "show", "packet", "01"], Ok(packet)),
         (&["mctpplan", "show", "record", ""], Ok(record)),
         (&["mctpplan", "show", "frame", "01"], Err(Refused::Usage)),

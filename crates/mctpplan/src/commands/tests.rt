@@ -1,9 +1,14 @@
 use super::*;
+use crate::commands::certify::run_certify;
+use crate::commands::check::run_check;
 use crate::files::FileAtPath;
 use net_plan::{Counted, PlanError};
 use std::io::{self, ErrorKind, Read, Write};
 use std::process::Abort;
 use std::test::Fail;
+
+mod bridges;
+mod riser;
 
 /// A plan of two endpoints on one bus, up to a's rows.
 const TO_ROWS: &str =
@@ -41,6 +46,14 @@ const RANKS: &str = r#"{"format": 1, "levels": [], "places": [], "ranks": [
 
 const NO_RANKS: &str = r#"{"format": 1, "levels": [], "places": [], "ranks": []}"#;
 
+/// As they are written.
+const RANKS_IN_A_LINE: &str =
+    r#"{"format":1,"levels":[],"places":[],"ranks":[{"node":"a","ranges":[{"first":254,"rank":1,"size":1}]},{"node":"z","ranges":[{"first":8,"rank":1,"size":1}]}]}
+"#;
+
+const NO_RANKS_IN_A_LINE: &str = r#"{"format":1,"levels":[],"places":[],"ranks":[]}
+"#;
+
 const NO_NODES: &str = r#"{"format": 1, "buses": [], "nodes": []}"#;
 
 /// The plan of two nodes with these rows of a, this endpoint ID of z, and further nodes.
@@ -48,8 +61,20 @@ fn plan_of(alloc: Global, rows: &str, eid: &str, further: &str) -> Result<String
     format!(in alloc; "{TO_ROWS}{rows}{TO_EID}{eid}{TO_FURTHER}{further}]}}")
 }
 
-/// Wants `check` on two files to end with this status and this text: an answer on standard output, anything else on
-/// standard error.
+/// Wants a run to have ended with this status and this text: an answer on standard output, anything else on standard
+/// error.
+fn expect_told(rt: &impl Abort, ended: (Status, &[u8], &[u8]), status: Status, text: &str) {
+    let (with, output, errors) = ended;
+    assert_eq!(rt; with, status, "for {text}");
+    let (told, silent) = match status {
+        Status::Yes | Status::Fault => (output, errors),
+        Status::Unreadable | Status::NoMemory => (errors, output),
+    };
+    assert_eq!(rt; told, text.as_bytes());
+    assert!(rt; silent.is_empty());
+}
+
+/// Wants `check` on two files to end so.
 fn expect_check<P: Read + Drop, C: Read + Drop>(
     rt: &(impl Abort + AllocGlobal),
     plan: P,
@@ -66,13 +91,25 @@ fn expect_check<P: Read + Drop, C: Read + Drop>(
         &mut output,
         &mut errors,
     );
-    assert_eq!(rt; ended, status, "for {text}");
-    let (told, silent) = match status {
-        Status::Yes | Status::Fault => (output.inner(), errors.inner()),
-        Status::Unreadable | Status::NoMemory => (errors.inner(), output.inner()),
-    };
-    assert_eq!(rt; told.as_slice(), text.as_bytes());
-    assert!(rt; silent.is_empty());
+    expect_told(rt, (ended, output.inner(), errors.inner()), status, text);
+}
+
+/// Wants `certify` on a file to end so.
+fn expect_certify<P: Read + Drop>(
+    rt: &(impl Abort + AllocGlobal),
+    plan: P,
+    status: Status,
+    text: &str,
+) {
+    let mut output = Counted::new(Vec::new(rt.alloc()));
+    let mut errors = Counted::new(Vec::new(rt.alloc()));
+    let ended = run_certify(
+        rt.alloc(),
+        &mut Counted::new(plan),
+        &mut output,
+        &mut errors,
+    );
+    expect_told(rt, (ended, output.inner(), errors.inner()), status, text);
 }
 
 /// Wants `check` on two files to say this on standard error, and to end with the status of what can't be read.
@@ -128,6 +165,29 @@ fn tells_texts_that_do_not_read(rt: HostRuntime) {
     for (plan, certificate, text) in rows {
         expect_unreadable(&rt, plan.as_bytes(), certificate.as_bytes(), text);
     }
+}
+
+#[test]
+fn gives_certificates(rt: HostRuntime) -> Result<(), Fail> {
+    let two_nodes = plan_of(rt.alloc(), ROW, "254", "")?;
+    let rows = [
+        (two_nodes.as_str(), RANKS_IN_A_LINE),
+        (NO_NODES, NO_RANKS_IN_A_LINE),
+    ];
+    for (plan, certificate) in rows {
+        let plan = plan.as_bytes();
+        expect_certify(&rt, plan, Status::Yes, certificate);
+        expect_check(&rt, plan, certificate.as_bytes(), Status::Yes, "yes\n");
+    }
+    let cut = CutOff { rest: b"[]" };
+    expect_certify(
+        &rt,
+        b"[]".as_slice(),
+        Status::Unreadable,
+        "unreadable plan: J02\n",
+    );
+    expect_certify(&rt, cut, Status::Unreadable, "unreadable plan: file\n");
+    Ok(())
 }
 
 /// A reader that gives its bytes and then fails, where it should end.

@@ -1,5 +1,5 @@
 use Rattle.std.proofs.Common.{rules}
-use Rattle.mctpplan.proofs.commands.answer_check.Goals as goal
+use Rattle.mctpplan.proofs.commands.check.answer_check.Goals as goal
 
 pub returns-in-Err-Fault-clause-tells : goal.returns-in-Err-Fault-clause-tells
 returns-in-Err-Fault-clause-tells g c =
