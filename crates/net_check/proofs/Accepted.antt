@@ -1,5 +1,5 @@
 -- What accepted rules say of rows and of records, all together.
-use Rattle.std.proofs.Common.{◌≡◌, ◌≢◌, ℕ, ◌<◌, length, Some, None, subst}
+use Rattle.std.proofs.Common.{◌≢◌, ℕ, ◌<◌, length, Some, None, subst}
 use Rattle.net_check.specs.declared.rule.Rule.TheVariants.{C11, C12, C13, C14}
 use Rattle.net_plan.specs.declared.plan.Plan.{Plan}
 use Rattle.net_plan.specs.declared.certificate.Certificate.{Certificate}

@@ -7,7 +7,6 @@ use Rattle.net_plan.specs.declared.nodes.Row.{Row}
 use Rattle.net_plan.specs.declared.certificate.Certificate.{Certificate}
 use Rattle.net_check.specs.Routing.{rows_of, Covers, MovesTo}
 use Rattle.net_check.specs.Ranks.{rank, Falls}
-use Rattle.net_check.specs.Rules.{Accepts}
 use Rattle.net_check.specs.PlanFaults.{PlanMeetsAll}
 use Rattle.net_check.specs.RoutingLoops.{RowsAreApart, RowsAreInRange, IsFirstRoutingLoop}
 use Rattle.net_check.specs.Certificates.{AreExactRanks, HasNoCertificate}

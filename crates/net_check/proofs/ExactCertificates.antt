@@ -1,33 +1,29 @@
 -- A plan that meets the rules, and the certificate that is exactly its own: it is accepted, and well formed.
-use Rattle.std.proofs.Common.{◌≡◌, ◌≢◌, ℕ, zero, suc, ◌+◌, ◌<◌, ◌≤◌, ◌⊎◌, List, length, map, get_or, slice_get, Option, Some, None, refl, sym, ◌∙◌, ap, subst, arith, inl, inr, option_map, AllPairs, All, nat_lt, Bool, true, [], ◌∷◌, string_bytes}
+use Rattle.std.proofs.Common.{◌≡◌, ◌≢◌, ℕ, zero, suc, ◌+◌, ◌<◌, ◌≤◌, List, length, map, get_or, slice_get, Option, Some, None, refl, sym, ◌∙◌, ap, subst, arith, option_map, AllPairs, All, nat_lt, Bool, true, [], ◌∷◌, string_bytes}
 use Rattle.std.specs.List.{list_all}
 use Rattle.std.proofs.lemmas.Bool.{and_from, lt-ltb}
 use Rattle.std.proofs.lemmas.List.{length-map}
-use Rattle.std.proofs.lemmas.Option.{slice_get-map, get_or_from_slice_get, same_Some, slice_get_within}
+use Rattle.std.proofs.lemmas.Option.{slice_get-map, get_or_from_slice_get}
 use Rattle.net_check.specs.declared.rule.Rule.{Rule}
 use Rattle.net_check.specs.declared.rule.Rule.TheVariants.{C01, C02, C03, C04, C05, C06, C07, C08, C09, C10, C11, C12, C13, C14, C15, C16}
 use Rattle.net_plan.specs.declared.plan.Plan.{Plan}
 use Rattle.net_plan.specs.declared.nodes.Node.{Node}
 use Rattle.net_plan.specs.declared.certificate.Certificate.{Certificate}
-use Rattle.net_plan.specs.declared.certificate.NodeRanks.{NodeRanks}
-use Rattle.net_plan.specs.CertificateValues.{certificate_value, level_value, places_value, node_ranks_value, range_value, LevelValue, PlacesValue, NodeRanksValue, RangeValue}
+use Rattle.net_plan.specs.CertificateValues.{certificate_value, level_value, places_value, node_ranks_value, range_value}
 use Rattle.net_plan.specs.CertificateText.{IsAscending}
 use Rattle.net_plan.specs.CertificateReading.{are_known}
-use Rattle.net_plan.specs.NodeValues.{node_value, name_bytes, node_names}
+use Rattle.net_plan.specs.NodeValues.{node_value, node_names}
 use Rattle.net_plan.specs.PlanValues.{plan_value}
 use Rattle.net_plan.specs.WellFormed.{IsWellFormed}
-use Rattle.net_check.specs.Routing.{Holds, HasRow, MovesTo}
+use Rattle.net_check.specs.Routing.{Holds, HasRow}
 use Rattle.net_check.specs.Names.{HaveOneName, HasNewName}
 use Rattle.net_check.specs.Owners.{owner_of, IsOwnedBy, given_level, level, IsBelowItsOwner}
 use Rattle.net_check.specs.OwnerLoops.{IsLevel}
 use Rattle.net_check.specs.Ranks.{rank}
-use Rattle.net_check.specs.Repositories.{records_of, places_of, IsChained}
-use Rattle.net_check.specs.RecordChains.{ArePlaces}
 use Rattle.net_check.specs.Superfluous.{NeedsItsLevel, NeedsItsPlaces, NeedsWhatItIsGiven, NeedsItsRank}
 use Rattle.net_check.specs.Rules.{CertificateDemands, Accepts}
 use Rattle.net_check.specs.PlanFaults.{PlanMeetsAll}
 use Rattle.net_check.specs.RoutingLoops.{IsRank}
-use Rattle.net_check.specs.Circles.{EndsAfter}
 use Rattle.net_check.specs.Certificates.{AreExactLevels, AreExactPlaces, AreExactRanks, IsExact, HasOnlyRanks, IsMadeBefore}
 use Rattle.net_check.proofs.Circling.{ends_once}
 use Rattle.net_check.proofs.Elements.{element}

@@ -1,9 +1,9 @@
 -- Lists that give something to nodes, one after another.
-use Rattle.std.proofs.Common.{◌≡◌, ◌≢◌, ℕ, ◌+◌, ◌<◌, ◌≤◌, List, [], ◌∷◌, ◌++◌, length, map, Option, Some, None, option_map, unwrap_or, refl, sym, ◌∙◌, ap, subst, arith, inl, inr, Bool, true, false}
+use Rattle.std.proofs.Common.{◌≡◌, ◌≢◌, ℕ, ◌+◌, ◌<◌, ◌≤◌, List, [], ◌∷◌, ◌++◌, length, map, Option, Some, None, option_map, unwrap_or, refl, sym, ◌∙◌, ap, subst, arith, inl, inr, true}
 use Rattle.std.specs.Prelude.{slice_get, find, ◌==◌}
-use Rattle.std.proofs.lemmas.Bool.{cases_lt, cases_Bool, eqb-true, eq-eqb, true≢false}
+use Rattle.std.proofs.lemmas.Bool.{cases_lt, cases_Bool, eqb-true, eq-eqb}
 use Rattle.std.proofs.lemmas.List.{length-map, nil_from_length}
-use Rattle.std.proofs.lemmas.Option.{same_Some, none-some, slice_get_past, slice_get_within}
+use Rattle.std.proofs.lemmas.Option.{same_Some, none-some, slice_get_within}
 use Rattle.net_plan.specs.declared.plan.Plan.{Plan}
 use Rattle.net_plan.specs.declared.certificate.NodeLevel.{NodeLevel}
 use Rattle.net_plan.specs.declared.certificate.NodePlaces.{NodePlaces}
@@ -11,13 +11,13 @@ use Rattle.net_plan.specs.declared.certificate.RecordPlace.{RecordPlace}
 use Rattle.net_plan.specs.declared.terminus.Record.{Record}
 use Rattle.net_check.specs.declared.certify_error.CertifyError.TheVariants as error
 use Rattle.net_check.specs.declared.certifying.chains.ChainFault.{ChainFault}
-use Rattle.net_check.specs.Owners.{IsOwnedBy, level_given}
+use Rattle.net_check.specs.Owners.{level_given}
 use Rattle.net_check.specs.OwnerLoops.{IsLevel, AreLevels}
 use Rattle.net_check.specs.Repositories.{records_of, places_given}
 use Rattle.net_check.specs.RecordChains.{ArePlaces, IsBadChain}
 use Rattle.net_check.specs.Certificates.{AreLevelsBefore, AreExactLevels, ArePlacesBefore, AreExactPlaces, NamesBadChain}
 use Rattle.net_check.proofs.Beyond.{no_owner, no_records}
-use Rattle.net_check.proofs.Elements.{push_left, push_last, in_push, element}
+use Rattle.net_check.proofs.Elements.{in_push, element}
 use Rattle.net_check.proofs.Filters.{find_cases}
 
 module _ {X : Type 0} (key : X → ℕ) where

@@ -1,8 +1,6 @@
 -- What is made of a certificate on the way, and what rules certificates out.
-use Rattle.std.proofs.Common.{◌≡◌, ◌≢◌, ℕ, ◌+◌, ◌<◌, List, Option, Some, None, refl, sym, ◌∙◌, ap, subst, arith, inl, inr}
-use Rattle.std.specs.Prelude.{slice_get}
+use Rattle.std.proofs.Common.{◌≡◌, ◌≢◌, ℕ, ◌+◌, ◌<◌, Some, None, refl, sym, ◌∙◌, ap, subst, arith, inl, inr}
 use Rattle.std.proofs.lemmas.Bool.{cases_lt}
-use Rattle.std.proofs.lemmas.Option.{same_Some}
 use Rattle.net_check.specs.declared.certify_error.CertifyError.{CertifyError}
 use Rattle.net_check.specs.declared.certify_error.CertifyError.TheVariants as error
 use Rattle.net_check.specs.declared.fault.Fault.{Fault}
@@ -15,7 +13,7 @@ use Rattle.net_check.specs.Owners.{IsOwnedBy}
 use Rattle.net_check.specs.Repositories.{records_of, places_given, places_of, HasRecords}
 use Rattle.net_check.specs.RecordChains.{HaveNewHandles}
 use Rattle.net_check.specs.Faults.{Place, place_of, order_of, ComesBefore}
-use Rattle.net_check.specs.PlanFaults.{PlanMeets, IsMetByPlan, IsFirstPlanFault, IsFirstOfPlanRule}
+use Rattle.net_check.specs.PlanFaults.{PlanMeets, IsMetByPlan, IsFirstOfPlanRule}
 use Rattle.net_check.specs.RoutingLoops.{RowsAreApart, RowsAreInRange}
 use Rattle.net_check.specs.Certificates.{AreExactLevels, AreExactPlaces, AreExactRanks, IsMadeBefore, CanBeMetBefore, NamesOwnerLoop, NamesRoutingLoop, NamesBadChain, NamesObstacle, RulesOutCertificates}
 use Rattle.net_check.proofs.RuleOrder.{one_order, below_more}

@@ -7,7 +7,6 @@ use Rattle.std.proofs.lemmas.List.{nil_from_length}
 use Rattle.net_plan.specs.declared.plan.Plan.{Plan}
 use Rattle.net_plan.specs.declared.certificate.RankRange.{RankRange}
 use Rattle.net_plan.specs.declared.certificate.NodeRanks.{NodeRanks}
-use Rattle.net_plan.specs.declared.certificate.Certificate.{Certificate}
 use Rattle.net_check.specs.Routing.{MovesTo}
 use Rattle.net_check.specs.Ranks.{rank_given, rank_in, is_in_range}
 use Rattle.net_check.specs.Circles.{HasNoCircle, AreMovesToEnds}

@@ -4,7 +4,7 @@ use Rattle.mctp_transport.specs.Frames.{KeyValue}
 use Rattle.mctp_transport.specs.Hearing.{Answer}
 use Rattle.net_plan.specs.declared.plan.Plan.{Plan}
 use Rattle.net_plan.specs.declared.certificate.Certificate.{Certificate}
-use Rattle.net_check.specs.Routing.{Holds, Routes, HasRow, IsBridge}
+use Rattle.net_check.specs.Routing.{Holds, HasRow}
 use Rattle.net_check.specs.Ranks.{rank}
 use Rattle.mctp_bridge.specs.declared.decision.Obstacle.{Obstacle}
 use Rattle.net_check.specs.States.{NetworkState, Flight, destination}

@@ -10,7 +10,7 @@ pub struct Fault {
     pub rule: Rule,
     /// The place of the node in the plan's list.
     pub node: usize,
-    /// The place of the row in the node's list, where the rule speaks of one.
+    /// The place of the row in the node's list, or of the record in its terminus's, where the rule speaks of one.
     pub entry: Option<usize>,
     /// The endpoint ID, where the rule speaks of one.
     pub eid: Option<Eid>,

@@ -1,4 +1,4 @@
-//! Whether a planned MCTP network routes its packets as it should.
+//! Whether a planned MCTP network routes its packets, gives its endpoint IDs and chains its records as it should.
 #![tactic(auto)]
 
 mod certify_error;

@@ -1,4 +1,4 @@
-//! The network of a checked plan.
+//! What comes of a checked plan: the requests that give its nodes their endpoint IDs and pools.
 #![tactic(auto)]
 
 mod assigning;

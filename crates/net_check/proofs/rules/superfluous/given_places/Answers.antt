@@ -1,4 +1,4 @@
-use Rattle.std.proofs.Common.{ℕ, List, length, map, sym, ap, ◌∙◌}
+use Rattle.std.proofs.Common.{ℕ, List, length, sym, ap, ◌∙◌}
 use Rattle.std.proofs.lemmas.List.{length-map}
 use Rattle.net_plan.specs.declared.certificate.RecordPlace.{RecordPlace}
 use Rattle.net_check.proofs.rules.superfluous.given_places.Goals as goal
