@@ -25,7 +25,6 @@ use Rattle.net_check.specs.Repositories.{records_of, places_of, IsChained}
 use Rattle.net_check.specs.RecordChains.{ArePlaces}
 use Rattle.net_check.specs.Superfluous.{NeedsItsLevel, NeedsItsPlaces, NeedsWhatItIsGiven, NeedsItsRank}
 use Rattle.net_check.specs.Rules.{CertificateDemands, Accepts}
-use Rattle.net_check.specs.Faults.{order_of}
 use Rattle.net_check.specs.PlanFaults.{PlanMeetsAll}
 use Rattle.net_check.specs.RoutingLoops.{IsRank}
 use Rattle.net_check.specs.Circles.{EndsAfter}
@@ -33,6 +32,7 @@ use Rattle.net_check.specs.Certificates.{AreExactLevels, AreExactPlaces, AreExac
 use Rattle.net_check.proofs.Circling.{ends_once}
 use Rattle.net_check.proofs.Elements.{element}
 use Rattle.net_check.proofs.CertificateLaws.{rows_apart, exact_falls}
+use Rattle.net_check.proofs.RuleOrder.{all_below}
 use Rattle.net_check.proofs.OneCertificate.{one_ranks}
 use Rattle.net_check.proofs.LevelLaws.{one_owner, exact_levels_fall}
 
@@ -164,25 +164,7 @@ exact_only plan cert met exact other exact' = one_ranks plan met cert other exac
 -- ---- it is made part by part
 
 pub made_meets : (plan : Plan) (made : Certificate) → IsMadeBefore plan 16 made → PlanMeetsAll plan
-made_meets plan made is rule = is.meets rule (below rule)
-  where
-    below : (rule : Rule) → order_of rule < 16
-    below C01 = omega arith
-    below C02 = omega arith
-    below C03 = omega arith
-    below C04 = omega arith
-    below C05 = omega arith
-    below C06 = omega arith
-    below C07 = omega arith
-    below C08 = omega arith
-    below C09 = omega arith
-    below C10 = omega arith
-    below C11 = omega arith
-    below C12 = omega arith
-    below C13 = omega arith
-    below C14 = omega arith
-    below C15 = omega arith
-    below C16 = omega arith
+made_meets plan made is rule = is.meets rule (all_below rule)
 
 pub made_exact : (plan : Plan) (made : Certificate) → IsMadeBefore plan 16 made → IsExact plan made
 made_exact plan made is = record { levels = is.levels (omega arith); places = is.places (omega arith); ranks = is.ranks (omega arith) }

@@ -7,6 +7,7 @@ pub mod OtherSearches
 pub mod RecordSpots
 pub mod Handles
 pub mod Beyond
+pub mod RuleOrder
 -- certificates made
 pub mod Deciding
 pub mod Ends

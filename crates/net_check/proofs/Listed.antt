@@ -2,17 +2,20 @@
 use Rattle.std.proofs.Common.{◌≡◌, ◌≢◌, ℕ, ◌+◌, ◌<◌, ◌≤◌, List, [], ◌∷◌, ◌++◌, length, map, Option, Some, None, option_map, unwrap_or, refl, sym, ◌∙◌, ap, subst, arith, inl, inr, Bool, true, false}
 use Rattle.std.specs.Prelude.{slice_get, find, ◌==◌}
 use Rattle.std.proofs.lemmas.Bool.{cases_lt, cases_Bool, eqb-true, eq-eqb, true≢false}
-use Rattle.std.proofs.lemmas.List.{length-map}
+use Rattle.std.proofs.lemmas.List.{length-map, nil_from_length}
 use Rattle.std.proofs.lemmas.Option.{same_Some, none-some, slice_get_past, slice_get_within}
 use Rattle.net_plan.specs.declared.plan.Plan.{Plan}
 use Rattle.net_plan.specs.declared.certificate.NodeLevel.{NodeLevel}
 use Rattle.net_plan.specs.declared.certificate.NodePlaces.{NodePlaces}
 use Rattle.net_plan.specs.declared.certificate.RecordPlace.{RecordPlace}
+use Rattle.net_plan.specs.declared.terminus.Record.{Record}
+use Rattle.net_check.specs.declared.certify_error.CertifyError.TheVariants as error
+use Rattle.net_check.specs.declared.certifying.chains.ChainFault.{ChainFault}
 use Rattle.net_check.specs.Owners.{IsOwnedBy, level_given}
 use Rattle.net_check.specs.OwnerLoops.{IsLevel, AreLevels}
 use Rattle.net_check.specs.Repositories.{records_of, places_given}
-use Rattle.net_check.specs.RecordChains.{ArePlaces}
-use Rattle.net_check.specs.Certificates.{AreLevelsBefore, AreExactLevels, ArePlacesBefore, AreExactPlaces}
+use Rattle.net_check.specs.RecordChains.{ArePlaces, IsBadChain}
+use Rattle.net_check.specs.Certificates.{AreLevelsBefore, AreExactLevels, ArePlacesBefore, AreExactPlaces, NamesBadChain}
 use Rattle.net_check.proofs.Beyond.{no_owner, no_records}
 use Rattle.net_check.proofs.Elements.{push_left, push_last, in_push, element}
 use Rattle.net_check.proofs.Filters.{find_cases}
@@ -190,6 +193,9 @@ places_skipped plan n given is none = record {
   ascend = is.ascend;
 }
 
+pub empty_skipped : (plan : Plan) (n : ℕ) (given : List NodePlaces) (records : List Record) → records ≡ records_of plan n → length records ≡ 0 → ArePlacesBefore plan n given → ArePlacesBefore plan (n + 1) given
+empty_skipped plan n given records are empty is = places_skipped plan n given is (sym are ∙ nil_from_length records empty)
+
 -- all places are given
 pub places_all : (plan : Plan) (given : List NodePlaces) → ArePlacesBefore plan (length plan.nodes.items) given → AreExactPlaces plan given
 places_all plan given is = record {
@@ -201,3 +207,7 @@ places_all plan given is = record {
   within = is.within;
   ascend = is.ascend;
 }
+
+-- a chain that is bad is the first where all nodes before have places
+pub bad_chain_first : (plan : Plan) (node : ℕ) (given : List NodePlaces) (fault : ChainFault) → ArePlacesBefore plan node given → IsBadChain (records_of plan node) fault → NamesBadChain plan (error.BadChain node fault)
+bad_chain_first plan node given fault is bad = (bad, λ n less. (places_given given n, is.places n less))

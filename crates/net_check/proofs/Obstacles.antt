@@ -1,5 +1,5 @@
 -- What is made of a certificate on the way, and what rules certificates out.
-use Rattle.std.proofs.Common.{◌≡◌, ◌≢◌, ℕ, ◌+◌, ◌<◌, List, [], ◌∷◌, Option, Some, None, refl, sym, ◌∙◌, ap, subst, arith, inl, inr}
+use Rattle.std.proofs.Common.{◌≡◌, ◌≢◌, ℕ, ◌+◌, ◌<◌, List, Option, Some, None, refl, sym, ◌∙◌, ap, subst, arith, inl, inr}
 use Rattle.std.specs.Prelude.{slice_get}
 use Rattle.std.proofs.lemmas.Bool.{cases_lt}
 use Rattle.std.proofs.lemmas.Option.{same_Some}
@@ -7,7 +7,7 @@ use Rattle.net_check.specs.declared.certify_error.CertifyError.{CertifyError}
 use Rattle.net_check.specs.declared.certify_error.CertifyError.TheVariants as error
 use Rattle.net_check.specs.declared.fault.Fault.{Fault}
 use Rattle.net_check.specs.declared.rule.Rule.{Rule}
-use Rattle.net_check.specs.declared.rule.Rule.TheVariants.{C01, C02, C03, C04, C05, C06, C07, C08, C09, C10, C11, C12, C13, C14, C15, C16}
+use Rattle.net_check.specs.declared.rule.Rule.TheVariants.{C04, C05, C07, C10, C12, C14}
 use Rattle.net_plan.specs.declared.plan.Plan.{Plan}
 use Rattle.net_plan.specs.declared.certificate.Certificate.{Certificate}
 use Rattle.net_check.specs.Routing.{MovesTo}
@@ -18,53 +18,19 @@ use Rattle.net_check.specs.Faults.{Place, place_of, order_of, ComesBefore}
 use Rattle.net_check.specs.PlanFaults.{PlanMeets, IsMetByPlan, IsFirstPlanFault, IsFirstOfPlanRule}
 use Rattle.net_check.specs.RoutingLoops.{RowsAreApart, RowsAreInRange}
 use Rattle.net_check.specs.Certificates.{AreExactLevels, AreExactPlaces, AreExactRanks, IsMadeBefore, CanBeMetBefore, NamesOwnerLoop, NamesRoutingLoop, NamesBadChain, NamesObstacle, RulesOutCertificates}
+use Rattle.net_check.proofs.RuleOrder.{one_order, below_more}
 use Rattle.net_check.proofs.Circling.{circle_never_ends}
 use Rattle.net_check.proofs.EidMoves.{moves_only, ends_from_rank}
 use Rattle.net_check.proofs.LevelLaws.{one_owner, first_loop_breaks_levels}
 use Rattle.net_check.proofs.ChainLaws.{bad_chain_breaks_places}
 use Rattle.net_check.proofs.CertificateLaws.{looped_has_none}
 
--- ---- the order of the rules
-
-in_order : List Rule
-in_order = C01 ∷ C02 ∷ C03 ∷ C04 ∷ C05 ∷ C06 ∷ C07 ∷ C08 ∷ C09 ∷ C10 ∷ C11 ∷ C12 ∷ C13 ∷ C14 ∷ C15 ∷ C16 ∷ []
-
-stands_in_order : (rule : Rule) → slice_get in_order (order_of rule) ≡ Some rule
-unfolding in_order
-stands_in_order C01 = refl
-stands_in_order C02 = refl
-stands_in_order C03 = refl
-stands_in_order C04 = refl
-stands_in_order C05 = refl
-stands_in_order C06 = refl
-stands_in_order C07 = refl
-stands_in_order C08 = refl
-stands_in_order C09 = refl
-stands_in_order C10 = refl
-stands_in_order C11 = refl
-stands_in_order C12 = refl
-stands_in_order C13 = refl
-stands_in_order C14 = refl
-stands_in_order C15 = refl
-stands_in_order C16 = refl
-
-pub one_order : (a b : Rule) → order_of a ≡ order_of b → a ≡ b
-one_order a b same = same_Some a b (sym (stands_in_order a) ∙ (ap (λ k. slice_get in_order k) same ∙ stands_in_order b))
-
 -- ---- what is made on the way
-
--- one rule more is met
-meets_more : (plan : Plan) (rule : Rule) → ((other : Rule) → order_of other < order_of rule → PlanMeets plan other) → PlanMeets plan rule
-    → (other : Rule) → order_of other < order_of rule + 1 → PlanMeets plan other
-meets_more plan rule before met other less = elim (cases_lt (order_of other) (order_of rule)) [
-  | inl earlier ↦ before other earlier
-  | inr here ↦ (let P : Rule → Type 0 = PlanMeets plan in subst P (one_order rule other (omega (arith, less, here))) met)
-]
 
 -- the next part is made, or none is to be
 pub more_levels : (plan : Plan) (made new : Certificate) → IsMadeBefore plan (order_of C07) made → PlanMeets plan C07 → AreExactLevels plan new.levels.items → IsMadeBefore plan (order_of C07 + 1) new
 more_levels plan made new is met levels = record {
-  meets = meets_more plan C07 is.meets met;
+  meets = below_more (PlanMeets plan) C07 is.meets met;
   levels = λ lt. levels;
   ranks = λ lt. absurd (omega arith);
   places = λ lt. absurd (omega arith);
@@ -72,7 +38,7 @@ more_levels plan made new is met levels = record {
 
 pub more_ranks : (plan : Plan) (made new : Certificate) → IsMadeBefore plan (order_of C10) made → PlanMeets plan C10 → new.levels ≡ made.levels → AreExactRanks plan new.ranks.items → IsMadeBefore plan (order_of C10 + 1) new
 more_ranks plan made new is met same ranks = record {
-  meets = meets_more plan C10 is.meets met;
+  meets = below_more (PlanMeets plan) C10 is.meets met;
   levels = λ lt. (let P : _ → Type 0 = λ given. AreExactLevels plan given.items in subst P (sym same) (is.levels (omega arith)));
   ranks = λ lt. ranks;
   places = λ lt. absurd (omega arith);
@@ -80,7 +46,7 @@ more_ranks plan made new is met same ranks = record {
 
 pub more_places : (plan : Plan) (made new : Certificate) → IsMadeBefore plan (order_of C14) made → PlanMeets plan C14 → new.levels ≡ made.levels → new.ranks ≡ made.ranks → AreExactPlaces plan new.places.items → IsMadeBefore plan (order_of C14 + 1) new
 more_places plan made new is met same same' places = record {
-  meets = meets_more plan C14 is.meets met;
+  meets = below_more (PlanMeets plan) C14 is.meets met;
   levels = λ lt. (let P : _ → Type 0 = λ given. AreExactLevels plan given.items in subst P (sym same) (is.levels (omega arith)));
   ranks = λ lt. (let P : _ → Type 0 = λ given. AreExactRanks plan given.items in subst P (sym same') (is.ranks (omega arith)));
   places = λ lt. places;
@@ -95,7 +61,7 @@ elsewhere rule part differ less = elim (cases_lt (order_of part) (order_of rule)
 
 pub more_alone : (plan : Plan) (rule : Rule) (made : Certificate) → IsMadeBefore plan (order_of rule) made → PlanMeets plan rule → rule ≢ C07 → rule ≢ C10 → rule ≢ C14 → IsMadeBefore plan (order_of rule + 1) made
 more_alone plan rule made is met no_levels no_ranks no_places = record {
-  meets = meets_more plan rule is.meets met;
+  meets = below_more (PlanMeets plan) rule is.meets met;
   levels = λ lt. is.levels (elsewhere rule C07 no_levels lt);
   ranks = λ lt. is.ranks (elsewhere rule C10 no_ranks lt);
   places = λ lt. is.places (elsewhere rule C14 no_places lt);

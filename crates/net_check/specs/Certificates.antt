@@ -99,13 +99,6 @@ NamesRoutingLoop plan (error.OwnerLoop nodes) = ⊥
 NamesRoutingLoop plan (error.Loop eid nodes) = IsFirstRoutingLoop plan eid.value nodes.items
 NamesRoutingLoop plan (error.BadChain node fault) = ⊥
 
-abbrev pub NamesChainOf : ℕ → List Record → CertifyError → Type 0
-NamesChainOf n records error.OutOfMemory = Unit {0}
-NamesChainOf n records (error.Fault fault) = ⊥
-NamesChainOf n records (error.OwnerLoop nodes) = ⊥
-NamesChainOf n records (error.Loop eid nodes) = ⊥
-NamesChainOf n records (error.BadChain node fault) = (node ≡ n) × IsBadChain records fault
-
 abbrev pub NamesBadChain : Plan → CertifyError → Type 0
 NamesBadChain plan error.OutOfMemory = Unit {0}
 NamesBadChain plan (error.Fault fault) = ⊥

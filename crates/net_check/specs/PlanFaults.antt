@@ -22,12 +22,7 @@ pub record IsFirstPlanFault (plan : Plan) (place : Place) : Type 0 where
   pub broken : ¬ IsMetByPlan plan place
   pub first : (other : Place) → ComesBefore other place → IsMetByPlan plan other
 
--- what the search answers: the plan's first fault, if any
-abbrev pub IsFirstOfPlan : Plan → Option Fault → Type 0
-IsFirstOfPlan plan None = PlanMeetsAll plan
-IsFirstOfPlan plan (Some fault) = IsFirstPlanFault plan (place_of fault)
-
--- and of one rule
+-- what the search answers: the first fault of one rule, if any
 abbrev pub IsFirstOfPlanRule : Plan → Rule → Option Fault → Type 0
 IsFirstOfPlanRule plan rule None = PlanMeets plan rule
 IsFirstOfPlanRule plan rule (Some fault) =

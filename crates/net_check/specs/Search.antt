@@ -7,8 +7,8 @@ use Rattle.net_plan.specs.declared.plan.Plan.{Plan}
 use Rattle.net_plan.specs.declared.nodes.Row.{Row}
 use Rattle.net_plan.specs.declared.certificate.Certificate.{Certificate}
 use Rattle.net_check.specs.Routing.{OfItem, Covers}
-use Rattle.net_check.specs.Rules.{RuleHolds}
-use Rattle.net_check.specs.Faults.{Place, place_of, eid_number, order_of_number, LessByFirstDifference, ComesBefore, IsMet, IsBroken}
+use Rattle.net_check.specs.Rules.{RuleHolds, Accepts}
+use Rattle.net_check.specs.Faults.{Place, place_of, eid_number, order_of_number, LessByFirstDifference, ComesBefore, IsMet, IsBroken, IsFirstFault}
 
 -- the first item of the list of which the fact fails, if any
 abbrev pub IsFirstItem : {A : Type 0} → List A → (ℕ → A → Type 0) → Option ℕ → Type 0
@@ -39,3 +39,8 @@ IsFirstOfRule plan cert rule None = RuleHolds plan cert rule
 IsFirstOfRule plan cert rule (Some fault) =
     (fault.rule ≡ rule) × IsBroken plan cert (place_of fault)
     × ((other : Place) → other.rule ≡ rule → ComesBefore other (place_of fault) → IsMet plan cert other)
+
+-- the first fault of all, if any
+abbrev pub IsFirstOfAll : Plan → Certificate → Option Fault → Type 0
+IsFirstOfAll plan cert None = Accepts plan cert
+IsFirstOfAll plan cert (Some fault) = IsFirstFault plan cert (place_of fault)

@@ -5,6 +5,7 @@ ghost use Rattle.net_plan.specs.PlanValues.{plan_value};
 ghost use Rattle.net_plan.specs.WellFormed.{IsWellFormed};
 ghost use Rattle.net_check.specs.Rules.{Accepts};
 ghost use Rattle.net_check.specs.Faults.{order_of};
+ghost use Rattle.net_check.specs.declared.rule.Rule.TheVariants.{C07, C10, C14};
 ghost use Rattle.net_check.specs.PlanFaults.{PlanMeets};
 ghost use Rattle.net_check.specs.Certificates.{IsExact, HasOnlyRanks, IsMadeBefore, NamesObstacle, RulesOutCertificates};
 
@@ -33,7 +34,7 @@ use std::alloc::Global;
 /// handles lead to it, and the rank of each node and endpoint ID is the number of moves along rows from the node to the
 /// endpoint ID's holder, or to a node without a row for it. It is answered exactly where a certificate exists; otherwise,
 /// unless memory ran out, that which comes first in the order of the rules of what rules certificates out.
-#[tactic(auto, using(crate::proofs::ExactCertificates::made_exact, crate::proofs::ExactCertificates::made_meets, crate::proofs::Obstacles::none_made, crate::proofs::ExactCertificates::exact_accepted, crate::proofs::ExactCertificates::exact_well_formed, crate::proofs::ExactCertificates::exact_only, crate::proofs::Obstacles::fault_named, crate::proofs::Obstacles::ruled_out))]
+#[tactic(auto, using(crate::proofs::ExactCertificates::made_exact, crate::proofs::ExactCertificates::made_meets, crate::proofs::Obstacles::none_made, crate::proofs::ExactCertificates::exact_accepted, crate::proofs::ExactCertificates::exact_only))]
 pub fn certify(alloc: Global, plan: &Plan) -> Result<Certificate, CertifyError>
     ensures accepted { IfOk result (λ certificate. Accepts plan.now certificate) }
     ensures exact { IfOk result (λ certificate. IsExact plan.now certificate) }
@@ -48,16 +49,32 @@ pub fn certify(alloc: Global, plan: &Plan) -> Result<Certificate, CertifyError>
         ranks: Vec::new(alloc),
     };
     for rule in RULES {
-        if let Some(fault) = first_of_plan_rule(alloc, plan, rule)? {
-            return Err(CertifyError::Fault(fault));
+        if let Err(error) = meet_rule(alloc, plan, rule, &mut made) {
+            return Err(error);
         }
-        add_part(alloc, plan, rule, &mut made)?;
     }
     Ok(made)
 }
 
+/// Sees whether the plan meets the next rule, and adds to the certificate what the rule demands of it.
+fn meet_rule(
+    alloc: Global,
+    plan: &Plan,
+    rule: Rule,
+    made: &mut Certificate,
+) -> Result<(), CertifyError>
+    requires { IsMadeBefore plan.now (order_of rule) made.old }
+    ensures more { OnOk result (IsMadeBefore plan.now (order_of rule + 1) made.new) }
+    ensures obstacle { IfErr result (λ error. NamesObstacle plan.now error) }
+{
+    if let Some(fault) = first_of_plan_rule(alloc, plan, rule)? {
+        return Err(CertifyError::Fault(fault));
+    }
+    add_part(alloc, plan, rule, made)
+}
+
 /// Adds to the certificate what a rule demands of it.
-#[tactic(auto, using(crate::proofs::Obstacles::more_levels, crate::proofs::Obstacles::more_ranks, crate::proofs::Obstacles::more_places, crate::proofs::Obstacles::more_alone, crate::proofs::Obstacles::owner_loop_named, crate::proofs::Obstacles::routing_loop_named, crate::proofs::Obstacles::bad_chain_named, crate::proofs::Obstacles::made_apart, crate::proofs::Obstacles::made_in_range, crate::proofs::Obstacles::made_handles, crate::proofs::Obstacles::made_records))]
+#[tactic(auto, using(crate::proofs::Obstacles::more_alone))]
 fn add_part(
     alloc: Global,
     plan: &Plan,
@@ -70,10 +87,60 @@ fn add_part(
     ensures obstacle { IfErr result (λ error. NamesObstacle plan.now error) }
 {
     match rule {
-        Rule::C07 => made.levels = exact_levels(alloc, plan)?,
-        Rule::C10 => made.ranks = exact_ranks(alloc, plan)?,
-        Rule::C14 => made.places = exact_places(alloc, plan)?,
-        _ => {}
+        Rule::C07 => add_levels(alloc, plan, made),
+        Rule::C10 => add_ranks(alloc, plan, made),
+        Rule::C14 => add_places(alloc, plan, made),
+        _ => Ok(()),
     }
-    Ok(())
+}
+
+/// Adds the levels.
+#[tactic(auto, using(crate::proofs::Obstacles::more_levels, crate::proofs::Obstacles::owner_loop_named))]
+fn add_levels(alloc: Global, plan: &Plan, made: &mut Certificate) -> Result<(), CertifyError>
+    requires before { IsMadeBefore plan.now (order_of C07) made.old }
+    requires met { PlanMeets plan.now C07 }
+    ensures more { OnOk result (IsMadeBefore plan.now (order_of C07 + 1) made.new) }
+    ensures obstacle { IfErr result (λ error. NamesObstacle plan.now error) }
+{
+    match exact_levels(alloc, plan) {
+        Ok(levels) => {
+            made.levels = levels;
+            Ok(())
+        }
+        Err(error) => Err(error),
+    }
+}
+
+/// Adds the ranks.
+#[tactic(auto, using(crate::proofs::Obstacles::more_ranks, crate::proofs::Obstacles::routing_loop_named, crate::proofs::Obstacles::made_apart, crate::proofs::Obstacles::made_in_range))]
+fn add_ranks(alloc: Global, plan: &Plan, made: &mut Certificate) -> Result<(), CertifyError>
+    requires before { IsMadeBefore plan.now (order_of C10) made.old }
+    requires met { PlanMeets plan.now C10 }
+    ensures more { OnOk result (IsMadeBefore plan.now (order_of C10 + 1) made.new) }
+    ensures obstacle { IfErr result (λ error. NamesObstacle plan.now error) }
+{
+    match exact_ranks(alloc, plan) {
+        Ok(ranks) => {
+            made.ranks = ranks;
+            Ok(())
+        }
+        Err(error) => Err(error),
+    }
+}
+
+/// Adds the places.
+#[tactic(auto, using(crate::proofs::Obstacles::more_places, crate::proofs::Obstacles::bad_chain_named, crate::proofs::Obstacles::made_handles, crate::proofs::Obstacles::made_records))]
+fn add_places(alloc: Global, plan: &Plan, made: &mut Certificate) -> Result<(), CertifyError>
+    requires before { IsMadeBefore plan.now (order_of C14) made.old }
+    requires met { PlanMeets plan.now C14 }
+    ensures more { OnOk result (IsMadeBefore plan.now (order_of C14 + 1) made.new) }
+    ensures obstacle { IfErr result (λ error. NamesObstacle plan.now error) }
+{
+    match exact_places(alloc, plan) {
+        Ok(places) => {
+            made.places = places;
+            Ok(())
+        }
+        Err(error) => Err(error),
+    }
 }

@@ -10,8 +10,7 @@ ghost use Rattle.net_check.specs.Deliveries.{Delivers};
 ghost use Rattle.net_check.specs.ExactMessages.{RunsAsSent};
 
 use crate::check_error::CheckError;
-use crate::first_fault::first_of_rule;
-use crate::rule::RULES;
+use crate::first_fault::first_of_all;
 use crate::trial::Trial;
 use net_plan::{Certificate, Plan};
 use std::alloc::Global;
@@ -39,14 +38,16 @@ impl<'a> Model for Checked<'a> {
 impl<'a> Checked<'a> {
     /// The plan that was checked.
     pub fn plan(&self) -> &'a Plan
-        ensures { result.now ≡ self.now.0 }
+        ensures plan { result.now ≡ self.now.0 }
+        ensures accepted { Accepts self.now.0 self.now.1 }
     {
         self.plan
     }
 
     /// The certificate that was checked.
     pub fn certificate(&self) -> &'a Certificate
-        ensures { result.now ≡ self.now.1 }
+        ensures certificate { result.now ≡ self.now.1 }
+        ensures accepted { Accepts self.now.0 self.now.1 }
     {
         self.certificate
     }
@@ -80,10 +81,8 @@ pub fn check<'a>(
     ensures exact { OnOk result ((key : KeyValue) (d : ℕ) (w : NetworkState) → RunsAsSent 64 plan.now key d w) }
 {
     let trial = Trial::new(alloc, plan, certificate)?;
-    for rule in RULES {
-        if let Some(fault) = first_of_rule(alloc, &trial, rule)? {
-            return Err(CheckError::Fault(fault));
-        }
+    if let Some(fault) = first_of_all(alloc, &trial)? {
+        return Err(CheckError::Fault(fault));
     }
     Ok(Checked { plan, certificate })
 }

@@ -1,18 +1,30 @@
-//! The search for a rule's first fault.
+//! The search for the first fault of a plan and a certificate.
 ghost use Rattle.std.specs.Prelude.{◌<◌, length, IfOk};
 ghost use Rattle.net_check.specs.Rules.{Demands};
-ghost use Rattle.net_check.specs.Search.{IsFirstSpot, IsFirstOfRule};
+ghost use Rattle.net_check.specs.Search.{IsFirstSpot, IsFirstOfRule, IsFirstOfAll};
 
 use crate::fault::Fault;
 use crate::plan_fault::first_of_plan_at;
-use crate::rule::Rule;
+use crate::rule::{RULES, Rule};
 use crate::rules::{chains, owners, ranks, superfluous};
 use crate::spot::Spot;
 use crate::trial::Trial;
 use std::alloc::{AllocError, Global};
 
+/// The first fault, by the order of the rules.
+pub fn first_of_all(alloc: Global, trial: &Trial) -> Result<Option<Fault>, AllocError>
+    ensures { IfOk result (IsFirstOfAll trial.now.plan.now trial.now.certificate.now) }
+{
+    for rule in RULES {
+        if let Some(fault) = first_of_rule(alloc, trial, rule)? {
+            return Ok(Some(fault));
+        }
+    }
+    Ok(None)
+}
+
 /// The rule's first fault.
-pub fn first_of_rule(
+fn first_of_rule(
     alloc: Global,
     trial: &Trial,
     rule: Rule,

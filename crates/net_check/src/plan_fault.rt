@@ -2,26 +2,14 @@
 ghost use Rattle.std.specs.Prelude.{◌<◌, length, IfOk};
 ghost use Rattle.net_check.specs.Rules.{PlanDemands};
 ghost use Rattle.net_check.specs.Search.{IsFirstSpot};
-ghost use Rattle.net_check.specs.PlanFaults.{IsFirstOfPlan, IsFirstOfPlanRule};
+ghost use Rattle.net_check.specs.PlanFaults.{IsFirstOfPlanRule};
 
 use crate::fault::Fault;
-use crate::rule::{RULES, Rule};
+use crate::rule::Rule;
 use crate::rules::{eids, held_eids, locators, names, owners, pools, records, rows};
 use crate::spot::Spot;
 use net_plan::Plan;
 use std::alloc::{AllocError, Global};
-
-/// The first place where the plan breaks a rule.
-pub fn first_of_plan(alloc: Global, plan: &Plan) -> Result<Option<Fault>, AllocError>
-    ensures { IfOk result (IsFirstOfPlan plan.now) }
-{
-    for rule in RULES {
-        if let Some(fault) = first_of_plan_rule(alloc, plan, rule)? {
-            return Ok(Some(fault));
-        }
-    }
-    Ok(None)
-}
 
 /// The first place where the plan breaks the rule.
 pub fn first_of_plan_rule(

@@ -1,17 +1,19 @@
 //! The places of a plan's certificate.
-ghost use Rattle.std.specs.Prelude.{◌≡◌, ◌≤◌, ℕ, List, [], ◌∷◌, ◌++◌, IfOk, OnOk, IfErr, length, map};
+ghost use Rattle.std.specs.Prelude.{◌≡◌, ◌<◌, ◌+◌, ℕ, List, [], ◌∷◌, ◌++◌, IfOk, OnOk, IfErr, length};
 ghost use Rattle.net_plan.specs.declared.certificate.NodePlaces.{NodePlaces};
-ghost use Rattle.net_check.specs.RecordChains.{HaveNewHandles, ArePlaces};
+ghost use Rattle.net_check.specs.RecordChains.{HaveNewHandles};
 ghost use Rattle.net_check.specs.Repositories.{records_of, HasRecords};
-ghost use Rattle.net_check.specs.Certificates.{AreExactPlaces, NamesBadChain, NamesChainOf};
+ghost use Rattle.net_check.specs.Certificates.{AreExactPlaces, ArePlacesBefore, NamesBadChain};
+ghost use Rattle.net_check.specs.declared.certify_error.CertifyError.TheVariants.{OutOfMemory};
 
 use crate::certify_error::CertifyError;
 use crate::certifying::chains::{Chained, chain_of};
-use net_plan::{NodePlaces, Plan, Record, RecordPlace};
-use std::alloc::{AllocError, Global};
+use crate::rules::records::records_at;
+use net_plan::{NodePlaces, Plan};
+use std::alloc::Global;
 
 /// The places of each terminus's records, in plan order, or the first bad chain.
-#[tactic(auto, using(crate::proofs::Listed::no_places, crate::proofs::Listed::places_pushed, crate::proofs::Listed::places_skipped, crate::proofs::Listed::places_all))]
+#[tactic(auto, using(crate::proofs::Listed::no_places, crate::proofs::Listed::places_all))]
 pub fn exact_places(alloc: Global, plan: &Plan) -> Result<Vec<NodePlaces>, CertifyError>
     requires handles { (n : ℕ) → HaveNewHandles (records_of plan.now n) }
     requires some { (n : ℕ) → HasRecords plan.now n }
@@ -19,40 +21,46 @@ pub fn exact_places(alloc: Global, plan: &Plan) -> Result<Vec<NodePlaces>, Certi
     ensures obstacle { IfErr result (λ error. NamesBadChain plan.now error) }
 {
     let mut given = Vec::new(alloc);
-    for (node, one) in plan.nodes.iter().enumerate() {
-        if let Some(terminus) = &one.terminus {
-            let places = places_along(alloc, node, &terminus.records)?;
-            add_places(&mut given, node, places)?;
+    for node in 0..plan.nodes.len() {
+        if let Err(error) = add_places(alloc, plan, node, &mut given) {
+            return Err(error);
         }
     }
     Ok(given)
 }
 
-/// The places of one node's records.
-fn places_along(
+/// Adds the places of the next node's records, if it has a terminus.
+#[tactic(auto, using(crate::proofs::Listed::places_pushed, crate::proofs::Listed::empty_skipped, crate::proofs::Listed::bad_chain_first))]
+fn add_places(
     alloc: Global,
+    plan: &Plan,
     node: usize,
-    records: &[Record],
-) -> Result<Vec<RecordPlace>, CertifyError>
-    requires few { length records.now ≤ 4096 }
-    requires handles { HaveNewHandles records.now }
-    ensures places { IfOk result (λ places. ArePlaces records.now (map (λ p. p.value) places.items)) }
-    ensures obstacle { IfErr result (λ error. NamesChainOf node records.now error) }
+    given: &mut Vec<NodePlaces>,
+) -> Result<(), CertifyError>
+    requires within { node < length plan.now.nodes.items }
+    requires handles { HaveNewHandles (records_of plan.now node) }
+    requires some { HasRecords plan.now node }
+    requires before { ArePlacesBefore plan.now node given.old.items }
+    ensures more { OnOk result (ArePlacesBefore plan.now (node + 1) given.new.items) }
+    ensures obstacle { IfErr result (λ error. NamesBadChain plan.now error) }
 {
+    let records = records_at(plan, node);
+    if records.is_empty() {
+        return Ok(());
+    }
     match chain_of(alloc, records)? {
-        Chained::Places(places) => Ok(places),
+        Chained::Places(places) => push_places(given, NodePlaces { node, places }),
         Chained::Bad(fault) => Err(CertifyError::BadChain(node, fault)),
     }
 }
 
-/// Adds the places of the node.
-fn add_places(
-    given: &mut Vec<NodePlaces>,
-    node: usize,
-    places: Vec<RecordPlace>,
-) -> Result<(), AllocError>
-    ensures { OnOk result ((one : NodePlaces) × (one.node ≡ node) × (one.places ≡ places) × (given.new.items ≡ given.old.items ++ one ∷ [])) }
+/// Adds the places of a node's records.
+fn push_places(given: &mut Vec<NodePlaces>, one: NodePlaces) -> Result<(), CertifyError>
+    ensures pushed { OnOk result (given.new.items ≡ given.old.items ++ one ∷ []) }
+    ensures no_memory { IfErr result (λ error. error ≡ OutOfMemory) }
 {
-    given.push(NodePlaces { node, places })?;
+    if given.push(one).is_err() {
+        return Err(CertifyError::OutOfMemory);
+    }
     Ok(())
 }

@@ -1,0 +1,23 @@
+use Rattle.std.proofs.Common.{◌≡◌, ℕ, ◌+◌, subst, arith}
+use Rattle.net_check.specs.Certificates.{IsMadeBefore}
+use Rattle.net_check.proofs.RuleOrder.{order_at}
+use Rattle.net_check.proofs.Obstacles.{ruled_out}
+use Rattle.net_check.proofs.ExactCertificates.{made_exact, made_meets, exact_well_formed}
+use Rattle.net_check.proofs.certifying.certify.Goals as goal
+
+pub returns-clause-well_formed : goal.returns-clause-well_formed
+returns-clause-well_formed c =
+    let plan = c.args.plan.now in
+    let made = c.loop-rule.made in
+    let at : c.loop-rule.rule-index ≡ 16 = omega arith in
+    let P : ℕ → Type 0 = λ k. IsMadeBefore plan k made in
+    let is = subst P at c.loop-rule.invariant in
+    exact_well_formed plan made (made_meets plan made is) (made_exact plan made is)
+
+pub loop-rule-preserved : goal.loop-rule-preserved
+loop-rule-preserved c =
+    let P : ℕ → Type 0 = λ k. IsMadeBefore c.args.plan.now (k + 1) c.meet_rule.new.made in
+    subst P (order_at c.loop-rule.rule-index _ c.loop-rule-test.true) c.in_default.ensures.more
+
+pub returns-in-Err-clause-none : goal.returns-in-Err-clause-none
+returns-in-Err-clause-none c = ruled_out c.args.plan.now c.in-Err.error c.in-Err.ensures.obstacle
