@@ -1,3 +1,4 @@
+-- assignments
 pub mod AssignSteps
 pub mod AssignPools
 pub mod AssignReplies
@@ -5,3 +6,15 @@ pub mod AssignOne
 pub mod AssignGiven
 pub mod AssignRuns
 pub mod AssignLaw
+-- the network
+pub mod Deciding
+pub mod Tabled
+pub mod Slots
+pub mod Changes
+pub mod Losing
+pub mod Putting
+pub mod Expiring
+pub mod Entering
+pub mod Moving
+pub mod Packing
+pub mod Asking

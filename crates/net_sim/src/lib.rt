@@ -1,6 +1,15 @@
-//! What comes of a checked plan: the requests that give its nodes their endpoint IDs and pools.
+//! What comes of a checked plan: the requests that give its nodes their endpoint IDs and pools, and the steps of its network.
 #![tactic(auto)]
 
 mod assigning;
+mod desk;
+mod flights;
+mod network;
+mod outcome;
+mod receiving;
+mod refusal;
+mod router;
 
 pub use assigning::{Assignment, assign, one_assignment};
+pub use outcome::Outcome;
+pub use refusal::Refusal;

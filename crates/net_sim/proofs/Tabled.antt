@@ -1,0 +1,45 @@
+-- The rows of an accepted plan make routing tables, node after node.
+use Rattle.std.proofs.Common.{◌≡◌, ℕ, ◌+◌, List, [], ◌∷◌, ◌++◌, length, map, Option, Some, None, refl, sym, ap, subst, inl, inr, arith}
+use Rattle.std.specs.Prelude.{slice_get, option_map, unwrap_or}
+use Rattle.std.proofs.lemmas.List.{length_push}
+use Rattle.mctp_bridge.specs.declared.row.Row as bridge
+use Rattle.mctp_bridge.specs.Rows.{HasSameRoutes}
+use Rattle.net_plan.specs.declared.plan.Plan.{Plan}
+use Rattle.net_plan.specs.declared.nodes.Node.{Node}
+use Rattle.net_plan.specs.declared.nodes.Row.{Row}
+use Rattle.net_plan.specs.declared.certificate.Certificate.{Certificate}
+use Rattle.net_check.specs.declared.rule.Rule.TheVariants.{C04, C05}
+use Rattle.net_check.specs.Routing.{rows_of}
+use Rattle.net_check.specs.Rules.{Accepts}
+use Rattle.net_check.specs.Tables.{AreRows, table_row}
+use Rattle.net_check.proofs.Elements.{in_push}
+
+-- the rows of a node of the plan
+pub rows_at : (plan : Plan) (n : ℕ) (node : Node) → slice_get plan.nodes.items n ≡ Some node → rows_of plan n ≡ node.rows.items
+rows_at plan n node here = ap (λ (o : Option Node). unwrap_or (option_map (λ (m : Node). m.rows.items) o) []) here
+
+pub are_rows : (plan : Plan) (cert : Certificate) (n : ℕ) (node : Node) → Accepts plan cert → slice_get plan.nodes.items n ≡ Some node → AreRows node.rows.items
+are_rows plan cert n node accepted here =
+    let P : List Row → Type 0 = AreRows in
+    subst P (rows_at plan n node here) (λ r row is. ((accepted C05 n (Some r) None).0 row is, (accepted C04 n (Some r) None).0 row is))
+
+-- so many nodes have their tables
+pub record AreTabled (plan : Plan) (count : ℕ) (tables : List (List bridge.Row)) : Type 0 where
+  pub as_many : length tables ≡ count
+  pub same : (n : ℕ) (table : List bridge.Row) → slice_get tables n ≡ Some table → HasSameRoutes (map table_row (rows_of plan n)) table
+
+pub none_tabled : (plan : Plan) → AreTabled plan 0 []
+none_tabled plan = record { as_many = refl; same = λ n table is. absurd (cc) }
+
+pub more_tabled : (plan : Plan) (count : ℕ) (tables : List (List bridge.Row)) (node : Node) (table : List bridge.Row) → AreTabled plan count tables
+    → slice_get plan.nodes.items count ≡ Some node → HasSameRoutes (map table_row node.rows.items) table → AreTabled plan (count + 1) (tables ++ table ∷ [])
+more_tabled plan count tables node table before here routes = record {
+  as_many = omega (arith, length_push tables table, before.as_many);
+  same = λ n other is. elim (in_push tables table n other is) [
+    | inl old ↦ before.same n other old
+    | inr (at, equal) ↦ (
+        let place : count ≡ n = omega (arith, at, before.as_many) in
+        let rows : HasSameRoutes (map table_row (rows_of plan count)) table = subst (λ (rs : List Row). HasSameRoutes (map table_row rs) table) (sym (rows_at plan count node here)) routes in
+        subst (λ (t : List bridge.Row). HasSameRoutes (map table_row (rows_of plan n)) t) equal (subst (λ k. HasSameRoutes (map table_row (rows_of plan k)) table) place rows))
+  ];
+}

@@ -1,0 +1,7 @@
+use Rattle.net_sim.proofs.Asking.{answers_oldest}
+use Rattle.net_sim.proofs.desk.Desk.answer_oldest.Goals as goal
+
+pub returns-clause-asked : goal.returns-clause-asked
+returns-clause-asked g c =
+    answers_oldest _ _ _ c.args.self.now.waiting.items c.pop_front.new.self.items c.in_ok-oldest.oldest c.deref.result.now _ _ c.in_ok-oldest.ensures.items
+    c.ask-answered.ensures.kept c.deref.ensures.value c.ask-answered.ensures.answered

@@ -1,0 +1,51 @@
+-- Termini with the messages that wait at them.
+use Rattle.std.specs.Prelude.{◌≡◌, ◌≢◌, ◌⊎◌, ℕ, ◌<◌, List, [], ◌∷◌, map, Option, Some, None, option_map, if◌then◌else◌}
+use Rattle.std.specs.VecDeque.{deque_len, deque_capacity}
+use Rattle.mctp_transport.specs.Packets.{key_value}
+use Rattle.mctp_transport.specs.Frames.{KeyValue}
+use Rattle.pdr_repository.specs.Records.{Entry}
+use Rattle.pdr_repository.specs.Answers.{Answers}
+use Rattle.net_check.specs.Termini.{TerminusState, WaitingMessage, with_waiting}
+use Rattle.net_sim.specs.declared.refusal.Refusal.{Refusal}
+use Rattle.net_sim.specs.declared.refusal.Refusal.TheVariants.{NoTerminus, NothingWaits}
+use Rattle.net_sim.specs.declared.desk.Waiting.{Waiting}
+use Rattle.net_sim.specs.declared.desk.Desk.{Desk}
+
+abbrev pub waiting_value : Waiting → WaitingMessage
+waiting_value m = record { key = key_value m.key; bytes = m.bytes.items }
+
+-- the terminus ID and the records by the termini's own meaning
+abbrev pub desk_state : {X : Type 0} {R : X → Type 0} → (Desk X R → ℕ) → (Desk X R → List Entry) → Desk X R → TerminusState
+desk_state tid records d = record { tid = tid d; records = records d; waiting = map waiting_value d.waiting.items }
+
+-- where there is a terminus, one message more can wait without growing
+abbrev pub HasPlace : {X : Type 0} {R : X → Type 0} → Option (Desk X R) → Type 0
+HasPlace None = Unit {0}
+HasPlace (Some d) = deque_len d.waiting < deque_capacity d.waiting
+
+-- a node's terminus once a message has come there: it waits if its source owns the tag
+abbrev pub with_message : WaitingMessage → Option TerminusState → Option TerminusState
+with_message m t = if m.key.owner then option_map (λ t. with_waiting t m) t else t
+
+-- there is no terminus, or nothing waits there
+abbrev pub IsIdle : Option TerminusState → Type 0
+IsIdle None = Unit {0}
+IsIdle (Some t) = t.waiting ≡ []
+
+-- The oldest message that waits, of this key, is taken off, and this is the terminus's answer to it, which may change the
+-- terminus ID.
+pub record AnswersOldest (old : Option TerminusState) (key : KeyValue) (answer : Option (List ℕ)) (new : Option TerminusState) : Type 0 where
+  pub terminus : TerminusState
+  pub oldest : WaitingMessage
+  pub rest : List WaitingMessage
+  pub tid : ℕ
+  pub there : old ≡ Some terminus
+  pub waits : terminus.waiting ≡ oldest ∷ rest
+  pub of_key : key ≡ oldest.key
+  pub answers : Answers terminus.tid terminus.records oldest.bytes answer tid
+  pub after : new ≡ Some (record terminus { tid = tid; waiting = rest })
+
+-- why nothing is asked there, if so
+abbrev pub IsIdleFor : Option TerminusState → Option Refusal → Type 0
+IsIdleFor None why = why ≡ Some NoTerminus
+IsIdleFor (Some t) why = ((t.waiting ≡ []) × (why ≡ Some NothingWaits)) ⊎ ((t.waiting ≢ []) × (why ≡ None))

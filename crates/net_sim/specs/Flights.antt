@@ -1,0 +1,26 @@
+-- The flights that a network holds, each in the place of its number.
+use Rattle.std.specs.Prelude.{ℕ, ◌-◌, List, map, length, slice_get, Option, Some, option_map, option_and_then, vec_capacity}
+use Rattle.mctp_transport.specs.Frames.{Frame}
+use Rattle.mctp_transport.specs.Packets.{packet_frame}
+use Rattle.net_check.specs.States as state
+use Rattle.net_sim.specs.declared.flights.Flight.{Flight}
+use Rattle.net_sim.specs.declared.flights.Flights.{Flights}
+
+abbrev pub flight_value : Flight → state.Flight
+flight_value f = record { packet = packet_frame f.packet; origin = f.origin; node = f.node; hops = f.hops }
+
+-- place by place, the flight that is there
+abbrev pub slots_of : Flights → List (Option state.Flight)
+slots_of flights = map (option_map flight_value) flights.slots.items
+
+-- the flight of a number
+abbrev pub flight_at : List (Option state.Flight) → ℕ → Option state.Flight
+flight_at slots number = option_and_then (λ f. f) (slice_get slots number)
+
+-- how many flights more can be made without growing
+abbrev pub room_of : Flights → ℕ
+room_of flights = vec_capacity flights.slots - length flights.slots.items
+
+-- a flight of a packet that begins at the node
+abbrev pub begun : ℕ → Frame → Option state.Flight
+begun node p = Some (record { packet = p; origin = node; node = node; hops = 0 })

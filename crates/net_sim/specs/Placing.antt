@@ -1,0 +1,10 @@
+-- Where flights are in a network of an accepted plan.
+use Rattle.std.specs.Prelude.{◌+◌, ◌<◌, ◌≤◌, length}
+use Rattle.net_plan.specs.declared.plan.Plan.{Plan}
+use Rattle.net_plan.specs.declared.certificate.Certificate.{Certificate}
+use Rattle.net_check.specs.Ranks.{rank}
+use Rattle.net_check.specs.States.{Flight, destination}
+
+-- the flight is at a node of the plan, within its certified hops
+abbrev pub IsPlaced : Plan → Certificate → Flight → Type 0
+IsPlaced plan cert f = (f.node < length plan.nodes.items) × (f.hops + rank cert f.node (destination f) ≤ rank cert f.origin (destination f))

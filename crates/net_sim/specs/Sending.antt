@@ -1,0 +1,24 @@
+-- The packets of an answer are put in at a node.
+use Rattle.std.specs.Prelude.{◌≡◌, ℕ, ◌+◌, List, ◌++◌, length, map, Option}
+use Rattle.mctp_transport.specs.Frames.{Frame, KeyValue}
+use Rattle.mctp_transport.specs.Cutting.{ArePacketsOf}
+use Rattle.net_plan.specs.declared.plan.Plan.{Plan}
+use Rattle.net_check.specs.Routing.{Holds}
+use Rattle.net_check.specs.States.{Flight}
+use Rattle.net_check.specs.Networks.{answer_key}
+use Rattle.net_check.specs.Events.{OutcomeValue, Answered}
+use Rattle.net_sim.specs.Flights.{begun}
+
+-- The packets of the answer to a message of this key are put in at the node, which holds the key's source, as the flights
+-- that the outcome tells.
+pub record Sends (plan : Plan) (node : ℕ) (asked : KeyValue) (answer : List ℕ) (old : List (Option Flight)) (outcome : OutcomeValue) (new : List (Option Flight)) : Type 0 where
+  pub eid : ℕ
+  pub packets : List Frame
+  pub first : ℕ
+  pub last : ℕ
+  pub holds : Holds plan node eid
+  pub are : ArePacketsOf 64 answer asked.source (answer_key eid asked) 0 packets
+  pub tells : outcome ≡ Answered node first last
+  pub begins : first ≡ length old
+  pub ends : last + 1 ≡ length old + length packets
+  pub flights : new ≡ old ++ map (begun node) packets

@@ -1,0 +1,149 @@
+//! The termini of nodes, and the messages that wait at them.
+ghost use Rattle.std.specs.Prelude.{◌≡◌, ◌<◌, ◌≤◌, [], length, vec_capacity, option_map, OnOk, IfSome, IfNone, Some};
+ghost use Rattle.mctp_transport.specs.Packets.{key_value};
+ghost use Rattle.net_check.specs.Termini.{with_waiting};
+ghost use Rattle.std.specs.VecDeque.{deque_len, deque_capacity};
+ghost use Rattle.net_sim.specs.Desks.{desk_state, with_message, HasPlace, AnswersOldest, IsIdle, IsIdleFor};
+ghost use Rattle.pdr_repository.specs.Answers.{Answers, answer_of};
+
+use crate::refusal::Refusal;
+use arrayvec::ArrayVec;
+use mctp_transport::{Key, MAX_MESSAGE};
+use pdr_repository::{MAX_ANSWER, Terminus};
+use std::alloc::{AllocError, Global};
+use std::collections::VecDeque;
+
+/// A message that waits for an answer, and the key of its packets.
+#[derive(Debug, Drop)]
+pub struct Waiting {
+    pub key: Key,
+    pub bytes: Vec<u8>,
+}
+
+/// The terminus of a node, and the messages that wait there, oldest first.
+#[derive(Drop)]
+pub struct Desk {
+    terminus: Box<dyn Terminus>,
+    waiting: VecDeque<Waiting>,
+}
+
+/// What was asked: the key of the message, and whether it has an answer.
+#[derive(Clone, Copy, Debug)]
+pub struct Asked {
+    pub key: Key,
+    pub answered: bool,
+}
+
+impl Desk {
+    /// A terminus at which nothing waits.
+    pub fn new(alloc: Global, terminus: Box<dyn Terminus>) -> Desk
+        ensures terminus { result.terminus ≡ terminus }
+        ensures waiting { result.waiting.items ≡ [] }
+    {
+        Desk {
+            terminus,
+            waiting: VecDeque::new(alloc),
+        }
+    }
+
+    /// Takes the oldest message off, if there is one, and asks the terminus.
+    fn answer_oldest(&mut self, out: &mut ArrayVec<u8, MAX_ANSWER>) -> Option<Asked>
+        ensures none { IfNone result (self.old.waiting.items ≡ []) }
+        ensures asked { IfSome result (λ asked. AnswersOldest (Some (desk_state (λ d. tid d.terminus) (λ d. records d.terminus) self.old))
+            (key_value asked.key) (answer_of asked.answered out.new.items)
+            (Some (desk_state (λ d. tid d.terminus) (λ d. records d.terminus) self.new))) }
+    {
+        let oldest = self.waiting.pop_front()?;
+        let answered = ask(&mut self.terminus, &oldest.bytes, out);
+        Some(Asked {
+            key: oldest.key,
+            answered,
+        })
+    }
+
+    /// Makes room for a message more.
+    pub fn reserve(&mut self) -> Result<(), AllocError>
+        ensures state { desk_state (λ d. tid d.terminus) (λ d. records d.terminus) self.new
+            ≡ desk_state (λ d. tid d.terminus) (λ d. records d.terminus) self.old }
+        ensures room { OnOk result (deque_len self.new.waiting < deque_capacity self.new.waiting) }
+    {
+        self.waiting.reserve(1)
+    }
+
+    /// Lets a message wait, which is copied into the room.
+    pub fn wait(&mut self, key: Key, bytes: &[u8], mut room: Vec<u8>)
+        requires place { deque_len self.old.waiting < deque_capacity self.old.waiting }
+        requires empty { room.items ≡ [] }
+        requires room { 4096 ≤ vec_capacity room }
+        ensures { length bytes.now ≤ 4096 → desk_state (λ d. tid d.terminus) (λ d. records d.terminus) self.new
+            ≡ with_waiting (desk_state (λ d. tid d.terminus) (λ d. records d.terminus) self.old) (record { key = key_value key; bytes = bytes.now }) }
+    {
+        let _ = room.extend_from_slice(bytes);
+        room.shrink_to_fit();
+        self.waiting
+            .push_back_reserved(Waiting { key, bytes: room });
+    }
+}
+
+/// Asks a terminus.
+fn ask(terminus: &mut Box<dyn Terminus>, request: &[u8], out: &mut ArrayVec<u8, MAX_ANSWER>) -> bool
+    ensures answered { Answers (tid terminus.old) (records terminus.old) request.now (answer_of result out.new.items) (tid terminus.new) }
+    ensures kept { records terminus.new ≡ records terminus.old }
+{
+    terminus.answer(request, out)
+}
+
+/// Why nothing is asked there: there is no terminus, or nothing waits.
+pub fn idle_at(desk: &Option<Desk>) -> Option<Refusal>
+    ensures { IsIdleFor (option_map (desk_state (λ d. tid d.terminus) (λ d. records d.terminus)) desk.now) result }
+{
+    match desk {
+        None => Some(Refusal::NoTerminus),
+        Some(desk) => {
+            if desk.waiting.is_empty() {
+                Some(Refusal::NothingWaits)
+            } else {
+                None
+            }
+        }
+    }
+}
+
+/// Takes the oldest message off, where there is one, and asks the terminus. Its answer is written into `out`: the key of the
+/// message is told, and whether there is an answer.
+pub fn answer_at(desk: &mut Option<Desk>, out: &mut ArrayVec<u8, MAX_ANSWER>) -> Option<Asked>
+    ensures none { IfNone result (IsIdle (option_map (desk_state (λ d. tid d.terminus) (λ d. records d.terminus)) desk.old)) }
+    ensures asked { IfSome result (λ asked. AnswersOldest (option_map (desk_state (λ d. tid d.terminus) (λ d. records d.terminus)) desk.old)
+        (key_value asked.key) (answer_of asked.answered out.new.items)
+        (option_map (desk_state (λ d. tid d.terminus) (λ d. records d.terminus)) desk.new)) }
+{
+    desk.as_mut()?.answer_oldest(out)
+}
+
+/// Makes room for a message more, where there is a terminus.
+pub fn reserve_at(desk: &mut Option<Desk>) -> Result<(), AllocError>
+    ensures state { option_map (desk_state (λ d. tid d.terminus) (λ d. records d.terminus)) desk.new
+        ≡ option_map (desk_state (λ d. tid d.terminus) (λ d. records d.terminus)) desk.old }
+    ensures place { OnOk result (HasPlace desk.new) }
+{
+    match desk {
+        Some(desk) => desk.reserve(),
+        None => Ok(()),
+    }
+}
+
+/// Lets a message whose source owns the tag wait, where there is a terminus. It is copied into the room.
+pub fn wait_at(desk: &mut Option<Desk>, key: Key, bytes: &[u8], room: Vec<u8>)
+    requires place { HasPlace desk.old }
+    requires empty { room.items ≡ [] }
+    requires room { 4096 ≤ vec_capacity room }
+    ensures { length bytes.now ≤ 4096 → option_map (desk_state (λ d. tid d.terminus) (λ d. records d.terminus)) desk.new
+        ≡ with_message (record { key = key_value key; bytes = bytes.now })
+        (option_map (desk_state (λ d. tid d.terminus) (λ d. records d.terminus)) desk.old) }
+{
+    if key.owner
+        && let Some(desk) = desk
+    {
+        desk.wait(key, bytes, room);
+    }
+}

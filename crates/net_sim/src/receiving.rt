@@ -1,0 +1,49 @@
+//! A packet that has come to its node, and the room that this takes.
+ghost use Rattle.std.specs.Prelude.{◌≡◌, ◌≤◌, [], vec_capacity, IfOk};
+ghost use Rattle.mctp_transport.specs.Packets.{packet_frame};
+ghost use Rattle.mctp_transport.specs.Histories.{History, Arrived, after};
+ghost use Rattle.mctp_transport.specs.Hearing.{Hears};
+ghost use Rattle.mctp_transport.specs.Assembly.{StandsFor, assembler_slots, assembler_limit};
+ghost use Rattle.net_sim.specs.Receiving.{receipt_value};
+
+use mctp_transport::{Assembler, Fed, MAX_MESSAGE, Packet, Why};
+use std::alloc::{AllocError, Global};
+
+/// What an assembler made of a packet.
+#[derive(Debug, Drop)]
+pub enum Receipt {
+    /// The packet ended this message.
+    Whole(Vec<u8>),
+    Held,
+    Dropped(Why),
+}
+
+/// Room for a message of 4096 bytes.
+pub fn room_for_message(alloc: Global) -> Result<Vec<u8>, AllocError>
+    ensures empty { IfOk result (λ room. room.items ≡ []) }
+    ensures room { IfOk result (λ room. 4096 ≤ vec_capacity room) }
+{
+    Vec::with_capacity(alloc, MAX_MESSAGE)
+}
+
+/// Feeds a packet to an assembler. A message that comes is copied into the room.
+pub fn feed(assembler: &mut Assembler, packet: &Packet, mut room: Vec<u8>) -> Receipt
+    requires empty { room.items ≡ [] }
+    requires room { assembler_limit assembler.old ≤ vec_capacity room }
+    ensures slots { assembler_slots assembler.new ≡ assembler_slots assembler.old }
+    ensures limit { assembler_limit assembler.new ≡ assembler_limit assembler.old }
+    ensures hears { (h : History) → StandsFor assembler.old h
+        → Hears (assembler_slots assembler.old) (assembler_limit assembler.old) h (packet_frame packet.now) (receipt_value result) }
+    ensures stands { (h : History) → StandsFor assembler.old h
+        → StandsFor assembler.new (after h (Arrived (packet_frame packet.now))) }
+{
+    match assembler.feed(packet.view()) {
+        Fed::Whole(message) => {
+            let _ = room.extend_from_slice(message);
+            room.shrink_to_fit();
+            Receipt::Whole(room)
+        }
+        Fed::Held => Receipt::Held,
+        Fed::Dropped(why) => Receipt::Dropped(why),
+    }
+}
