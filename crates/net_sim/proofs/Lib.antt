@@ -18,3 +18,4 @@ pub mod Entering
 pub mod Moving
 pub mod Packing
 pub mod Asking
+pub mod Playing

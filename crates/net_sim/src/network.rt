@@ -17,6 +17,7 @@ use crate::router::Router;
 use arrayvec::ArrayVec;
 use mctp_bridge::Decision;
 use mctp_transport::{Assembler, Key, PacketView, Packets, Seq, Wire};
+use net_plan::Event;
 use std::alloc::{AllocError, Global};
 
 /// Room for a message of 4096 bytes that is told, and for the same message that waits.
@@ -44,10 +45,48 @@ pub struct Network<'a> {
 impl<'a> Network<'a> {
     ghost use Rattle.net_check.specs.Events.{most_flights, Put, Move, Lose, Expire, AnswerAt};
     ghost use Rattle.mctp_transport.specs.PacketsLeft.{frames_left};
-    ghost use Rattle.net_sim.specs.Outcomes.{outcome_value};
+    ghost use Rattle.net_sim.specs.Outcomes.{outcome_value, event_value};
     ghost use Rattle.net_sim.specs.Standing.{Plays, Wants, Receives};
     ghost use Rattle.net_sim.specs.Networks.{network_value, HasPlaceAt};
     ghost use Rattle.net_sim.specs.Sending.{Sends};
+
+    /// Plays an event. Where memory runs out, nothing has changed.
+    pub fn step(&mut self, event: &Event) -> Result<Outcome, AllocError>
+        ensures router { self.new.router ≡ self.old.router }
+        ensures plays { MatchResult result
+            (λ outcome. Plays self.old.router.0
+            (network_value (λ d. tid d.terminus) (λ d. records d.terminus) self.old) (event_value event.now) (outcome_value outcome)
+            (network_value (λ d. tid d.terminus) (λ d. records d.terminus) self.new))
+            (λ _. Wants self.old.router.0
+            (network_value (λ d. tid d.terminus) (λ d. records d.terminus) self.old) (event_value event.now)
+            (network_value (λ d. tid d.terminus) (λ d. records d.terminus) self.new)) }
+    {
+        match event {
+            Event::Put { node, bytes } => self.put(*node, bytes),
+            Event::Move { flight, keep } => self.move_flight(*flight, *keep),
+            Event::Lose { flight } => Ok(self.lose(*flight)),
+            Event::Expire { node, key } => Ok(self.expire(*node, *key)),
+            Event::Answer { node } => self.answer(*node),
+        }
+    }
+
+    /// Moves a flight, or a copy of it.
+    fn move_flight(&mut self, number: u32, keep: bool) -> Result<Outcome, AllocError>
+        ensures router { self.new.router ≡ self.old.router }
+        ensures plays { MatchResult result
+            (λ outcome. Plays self.old.router.0
+            (network_value (λ d. tid d.terminus) (λ d. records d.terminus) self.old) (Move number keep) (outcome_value outcome)
+            (network_value (λ d. tid d.terminus) (λ d. records d.terminus) self.new))
+            (λ _. Wants self.old.router.0
+            (network_value (λ d. tid d.terminus) (λ d. records d.terminus) self.old) (Move number keep)
+            (network_value (λ d. tid d.terminus) (λ d. records d.terminus) self.new)) }
+    {
+        if keep {
+            self.move_copy(number)
+        } else {
+            self.move_itself(number)
+        }
+    }
 
     /// How many flight numbers are left.
     fn left(&self) -> usize
