@@ -7,6 +7,7 @@ pub mod Flights
 pub mod Routers
 pub mod Outcomes
 pub mod Standing
+pub mod Played
 pub mod Desks
 pub mod Placing
 pub mod Networks

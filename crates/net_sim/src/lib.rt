@@ -11,5 +11,6 @@ mod refusal;
 mod router;
 
 pub use assigning::{Assignment, assign, one_assignment};
+pub use network::{Network, Played};
 pub use outcome::Outcome;
 pub use refusal::Refusal;

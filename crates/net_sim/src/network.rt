@@ -1,5 +1,5 @@
 //! The network of a checked plan.
-ghost use Rattle.std.specs.Prelude.{◌≡◌, ℕ, ◌+◌, ◌-◌, ◌<◌, ◌≤◌, ◌↔◌, ◌++◌, ◌∷◌, [], IsTrue, IfSome, MatchResult, IfOk, OnOk, vec_capacity, length, map, option_map, slice_get, slice_set, Some, false, true};
+ghost use Rattle.std.specs.Prelude.{◌≡◌, ℕ, ◌+◌, ◌-◌, ◌<◌, ◌≤◌, ◌↔◌, ◌++◌, ◌∷◌, [], IsTrue, IfSome, MatchResult, IfOk, OnOk, OnErr, take, vec_capacity, length, map, option_map, slice_get, slice_set, Some, false, true};
 ghost use Rattle.mctp_transport.specs.declared.assembler.Assembler.{Assembler};
 ghost use Rattle.mctp_transport.specs.Assembly.{assembler_slots, assembler_limit};
 ghost use Rattle.mctp_transport.specs.Packets.{key_value};
@@ -27,6 +27,15 @@ struct Room {
     kept: Vec<u8>,
 }
 
+/// What came of a list of events.
+#[derive(Debug, Drop)]
+pub struct Played {
+    /// The outcomes of the events that were played, in their order.
+    pub outcomes: Vec<Outcome>,
+    /// Whether memory ran out at the event after those, which changed nothing.
+    pub stopped: bool,
+}
+
 /// The network of a checked plan at one moment: the packets on their way, the assembler of each node, and the terminus of
 /// each node that has one, with the messages that wait there.
 #[derive(Drop)]
@@ -48,6 +57,7 @@ impl<'a> Network<'a> {
     ghost use Rattle.net_sim.specs.Outcomes.{outcome_value, event_value};
     ghost use Rattle.net_sim.specs.Standing.{Plays, Wants, Receives};
     ghost use Rattle.net_sim.specs.Networks.{network_value, HasPlaceAt};
+    ghost use Rattle.net_sim.specs.Played.{PlaysAll, StopsAfter};
     ghost use Rattle.net_sim.specs.Sending.{Sends};
 
     /// Plays an event. Where memory runs out, nothing has changed.
@@ -68,6 +78,40 @@ impl<'a> Network<'a> {
             Event::Expire { node, key } => Ok(self.expire(*node, *key)),
             Event::Answer { node } => self.answer(*node),
         }
+    }
+
+    /// Plays events one after another, until memory runs out at one; room for the list of outcomes is made first, and where
+    /// that is refused nothing is played.
+    pub fn run(&mut self, events: &[Event]) -> Result<Played, AllocError>
+        ensures router { self.new.router ≡ self.old.router }
+        ensures plays { IfOk result (λ played. PlaysAll self.old.router.0
+            (network_value (λ d. tid d.terminus) (λ d. records d.terminus) self.old)
+            (take (length played.outcomes.items) (map event_value events.now)) (map outcome_value played.outcomes.items)
+            (network_value (λ d. tid d.terminus) (λ d. records d.terminus) self.new)) }
+        ensures whole { IfOk result (λ played. played.stopped ≡ false → length played.outcomes.items ≡ length events.now) }
+        ensures stopped { IfOk result (λ played. played.stopped ≡ true → StopsAfter self.old.router.0
+            (network_value (λ d. tid d.terminus) (λ d. records d.terminus) self.old)
+            (map event_value events.now) (map outcome_value played.outcomes.items)
+            (network_value (λ d. tid d.terminus) (λ d. records d.terminus) self.new)) }
+        ensures unplayed { OnErr result (network_value (λ d. tid d.terminus) (λ d. records d.terminus) self.new
+            ≡ network_value (λ d. tid d.terminus) (λ d. records d.terminus) self.old) }
+    {
+        let mut outcomes = Vec::with_capacity(self.alloc, events.len())?;
+        for event in events {
+            match self.step(event) {
+                Ok(outcome) => outcomes.push_reserved(outcome),
+                Err(_) => {
+                    return Ok(Played {
+                        outcomes,
+                        stopped: true,
+                    });
+                }
+            }
+        }
+        Ok(Played {
+            outcomes,
+            stopped: false,
+        })
     }
 
     /// Moves a flight, or a copy of it.

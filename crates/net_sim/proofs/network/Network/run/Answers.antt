@@ -1,0 +1,45 @@
+use Rattle.std.proofs.Common.{refl, ◌∙◌, ap, arith}
+use Rattle.net_sim.proofs.Playing.{played_start, played_plays, played_next, stopped_plays, stopped_after}
+use Rattle.net_sim.proofs.network.Network.run.Goals as goal
+
+pub loop-event-init : goal.loop-event-init
+loop-event-init g c =
+    (refl, played_start c.args.self.now.router.0 _ c.args.events.now _ c.in_ok-outcomes.ensures.items, c.in_ok-outcomes.ensures.capacity)
+
+pub push_reserved-requires : goal.push_reserved-requires
+push_reserved-requires g c =
+    omega (arith, c.loop-event.invariant.1.long, c.loop-event.invariant.2, c.loop-event-test.true, c.loop-event.outcomes.ok.0)
+
+pub loop-event-preserved : goal.loop-event-preserved
+loop-event-preserved g c =
+    let same = ap (λ r. r.0) c.loop-event.invariant.0 in
+    (
+      c.in-Ok.ensures.router ∙ c.loop-event.invariant.0,
+      played_next c.args.events.now c.loop-event.event-index c.event-item.result c.loop-event-test.true c.event-item.is c.args.self.now.router.0 c.loop-event.self.router.0 same
+          _ _ _ _ _ c.in-Ok.outcome c.push_reserved.ensures.items c.loop-event.invariant.1 c.in-Ok.ensures.plays,
+      omega (arith, c.loop-event.invariant.2, c.push_reserved.ensures.capacity),
+    )
+
+pub returns-in-Err-clause-router : goal.returns-in-Err-clause-router
+returns-in-Err-clause-router g c = c.in-Err.ensures.router ∙ c.loop-event.invariant.0
+
+pub returns-in-Err-clause-plays : goal.returns-in-Err-clause-plays
+returns-in-Err-clause-plays g c =
+    let same = ap (λ r. r.0) c.loop-event.invariant.0 in
+    stopped_plays c.args.events.now c.loop-event.event-index c.event-item.result c.loop-event-test.true c.event-item.is c.args.self.now.router.0 c.loop-event.self.router.0 same
+    _ _ _ _ c.loop-event.invariant.1 c.in-Err.ensures.plays
+
+pub returns-in-Err-clause-stopped : goal.returns-in-Err-clause-stopped
+returns-in-Err-clause-stopped g c = λ stopped.
+    let same = ap (λ r. r.0) c.loop-event.invariant.0 in
+    stopped_after c.args.events.now c.loop-event.event-index c.event-item.result c.loop-event-test.true c.event-item.is c.args.self.now.router.0 c.loop-event.self.router.0 same
+    _ _ _ _ c.loop-event.invariant.1 c.in-Err.ensures.plays
+
+pub returns-clause-router : goal.returns-clause-router
+returns-clause-router g c = c.loop-event.invariant.0
+
+pub returns-clause-plays : goal.returns-clause-plays
+returns-clause-plays g c = played_plays c.args.self.now.router.0 _ _ c.args.events.now c.loop-event.event-index _ c.loop-event.invariant.1
+
+pub returns-clause-whole : goal.returns-clause-whole
+returns-clause-whole g c = λ whole. omega (arith, c.loop-event.invariant.1.long)
