@@ -19,3 +19,4 @@ pub mod Moving
 pub mod Packing
 pub mod Asking
 pub mod Playing
+pub mod Dealt

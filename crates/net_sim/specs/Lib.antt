@@ -9,6 +9,7 @@ pub mod Outcomes
 pub mod Standing
 pub mod Played
 pub mod Desks
+pub mod Dealing
 pub mod Placing
 pub mod Networks
 pub mod Receiving

@@ -2,6 +2,7 @@
 #![tactic(auto)]
 
 mod assigning;
+mod dealing;
 mod desk;
 mod flights;
 mod network;

@@ -1,0 +1,32 @@
+-- How termini are dealt to the nodes of a plan.
+use Rattle.std.specs.Prelude.{◌≡◌, ℕ, List, [], ◌∷◌, length, map, Option, Some, None}
+use Rattle.std.specs.List.{filter_map, range_with_len}
+use Rattle.net_plan.specs.declared.plan.Plan.{Plan}
+use Rattle.net_plan.specs.declared.certificate.Certificate.{Certificate}
+use Rattle.net_plan.specs.declared.nodes.Node.{Node}
+use Rattle.net_plan.specs.declared.terminus.Terminus.{Terminus}
+use Rattle.pdr_repository.specs.Records.{Entry}
+use Rattle.net_check.specs.Termini.{TerminusState, terminus_at_start}
+
+-- a terminus at which nothing waits
+abbrev pub resting : {B : Type 0} → (B → ℕ) → (B → List Entry) → B → TerminusState
+resting tid records b = record { tid = tid b; records = records b; waiting = [] }
+
+-- one to each node that has a terminus, in the order of the nodes
+abbrev pub dealt_to : Option Terminus → List TerminusState → Option TerminusState
+dealt_to None termini = None
+dealt_to (Some t) [] = None
+dealt_to (Some t) (first ∷ rest) = Some first
+
+abbrev pub left_by : Option Terminus → List TerminusState → List TerminusState
+left_by None termini = termini
+left_by (Some t) [] = []
+left_by (Some t) (first ∷ rest) = rest
+
+abbrev pub dealt : List Node → List TerminusState → List (Option TerminusState)
+dealt [] termini = []
+dealt (node ∷ nodes) termini = dealt_to node.terminus termini ∷ dealt nodes (left_by node.terminus termini)
+
+-- the termini of a plan, in the order of its nodes, as they are planned
+abbrev pub planned_termini : Plan → Certificate → List TerminusState
+planned_termini plan cert = filter_map (terminus_at_start plan cert) (range_with_len 0 (length plan.nodes.items))

@@ -1,0 +1,44 @@
+//! Termini dealt to the nodes of a plan.
+ghost use Rattle.std.specs.Prelude.{◌≡◌, ◌∷◌, List, IfOk, map, option_map};
+ghost use Rattle.std.specs.Vec.Iter.{into_iter_items};
+ghost use Rattle.net_plan.specs.declared.nodes.Node.{Node};
+ghost use Rattle.net_sim.specs.Desks.{desk_state};
+ghost use Rattle.net_sim.specs.Dealing.{resting, dealt};
+
+use crate::desk::Desk;
+use net_plan::{Node, Plan};
+use pdr_repository::Terminus;
+use std::alloc::{AllocError, Global};
+use std::vec::IntoIter;
+
+/// A desk for each node that has a terminus, with the next of the termini.
+pub fn deal(
+    alloc: Global,
+    plan: &Plan,
+    termini: Vec<Box<dyn Terminus>>,
+) -> Result<Vec<Option<Desk>>, AllocError>
+    ensures { IfOk result (λ desks. map (option_map (desk_state (λ d. tid d.terminus) (λ d. records d.terminus))) desks.items
+        ≡ dealt plan.now.nodes.items (map (resting (λ b. tid b) (λ b. records b)) termini.items)) }
+{
+    let mut desks = Vec::new(alloc);
+    let mut left = termini.into_iter();
+    for node in &plan.nodes {
+        desks.push(deal_to(alloc, node, &mut left))?;
+    }
+    Ok(desks)
+}
+
+/// The desk of a node, if it has a terminus and one is left.
+fn deal_to(alloc: Global, node: &Node, left: &mut IntoIter<Box<dyn Terminus>>) -> Option<Desk>
+    ensures { (nodes : List Node) → dealt (node.now ∷ nodes) (map (resting (λ b. tid b) (λ b. records b)) (into_iter_items left.old))
+        ≡ option_map (desk_state (λ d. tid d.terminus) (λ d. records d.terminus)) result
+        ∷ dealt nodes (map (resting (λ b. tid b) (λ b. records b)) (into_iter_items left.new)) }
+{
+    if node.terminus.is_none() {
+        return None;
+    }
+    match left.next() {
+        Some(terminus) => Some(Desk::new(alloc, terminus)),
+        None => None,
+    }
+}
