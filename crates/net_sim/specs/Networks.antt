@@ -1,11 +1,17 @@
 -- What a network holds, as plain lists.
 use Rattle.std.specs.Prelude.{◌≡◌, ℕ, List, map, option_map, Option, Some, slice_get}
+use Rattle.net_plan.specs.declared.plan.Plan.{Plan}
+use Rattle.net_plan.specs.declared.certificate.Certificate.{Certificate}
 use Rattle.pdr_repository.specs.Records.{Entry}
 use Rattle.net_sim.specs.declared.desk.Desk.{Desk}
 use Rattle.net_sim.specs.declared.network.Network.{Network}
 use Rattle.net_sim.specs.Flights.{slots_of}
 use Rattle.net_sim.specs.Desks.{desk_state, HasPlace}
 use Rattle.net_sim.specs.Standing.{NetworkValue}
+
+-- the plan and the certificate of the network
+abbrev pub checked_of : {X : Type 0} {R : X → Type 0} → Network X R → Plan × Certificate
+checked_of network = network.router
 
 -- by the terminus IDs and the records that the termini mean
 abbrev pub network_value : {X : Type 0} {R : X → Type 0} → (Desk X R → ℕ) → (Desk X R → List Entry) → Network X R → NetworkValue

@@ -1,5 +1,5 @@
 -- Whole lists of events that a network plays.
-use Rattle.std.specs.Prelude.{◌≡◌, ℕ, List, map, take, length, slice_get, Some}
+use Rattle.std.specs.Prelude.{◌≡◌, List, map, take, length, slice_get, Some}
 use Rattle.net_plan.specs.declared.plan.Plan.{Plan}
 use Rattle.net_check.specs.States.{NetworkState}
 use Rattle.net_check.specs.Events.{EventValue, OutcomeValue}

@@ -1,6 +1,7 @@
 //! What comes of a checked plan: the requests that give its nodes their endpoint IDs and pools, and the steps of its network.
 #![tactic(auto)]
 
+mod assemblers;
 mod assigning;
 mod dealing;
 mod desk;

@@ -1,5 +1,5 @@
 //! The network of a checked plan.
-ghost use Rattle.std.specs.Prelude.{◌≡◌, ℕ, ◌+◌, ◌-◌, ◌<◌, ◌≤◌, ◌↔◌, ◌++◌, ◌∷◌, [], IsTrue, IfSome, MatchResult, IfOk, OnOk, OnErr, take, vec_capacity, length, map, option_map, slice_get, slice_set, Some, false, true};
+ghost use Rattle.std.specs.Prelude.{◌≡◌, ℕ, All, ◌+◌, ◌-◌, ◌<◌, ◌≤◌, ◌↔◌, ◌++◌, ◌∷◌, [], IsTrue, IfSome, MatchResult, IfOk, OnOk, OnErr, take, vec_capacity, length, map, option_map, slice_get, slice_set, Some, false, true};
 ghost use Rattle.mctp_transport.specs.declared.assembler.Assembler.{Assembler};
 ghost use Rattle.mctp_transport.specs.Assembly.{assembler_slots, assembler_limit};
 ghost use Rattle.mctp_transport.specs.Packets.{key_value};
@@ -8,6 +8,8 @@ ghost use Rattle.net_check.specs.Ranks.{rank};
 ghost use Rattle.net_sim.specs.Flights.{slots_of, flight_at, flight_value, begun, room_of};
 ghost use Rattle.net_sim.specs.Placing.{IsPlaced};
 
+use crate::assemblers::idle_assemblers;
+use crate::dealing::deal;
 use crate::desk::{Desk, answer_at, idle_at, reserve_at, wait_at};
 use crate::flights::{Flight, Flights};
 use crate::outcome::Outcome;
@@ -17,7 +19,9 @@ use crate::router::Router;
 use arrayvec::ArrayVec;
 use mctp_bridge::Decision;
 use mctp_transport::{Assembler, Key, PacketView, Packets, Seq, Wire};
+use net_check::Checked;
 use net_plan::Event;
+use pdr_repository::Terminus;
 use std::alloc::{AllocError, Global};
 
 /// Room for a message of 4096 bytes that is told, and for the same message that waits.
@@ -55,10 +59,37 @@ impl<'a> Network<'a> {
     ghost use Rattle.net_check.specs.Events.{most_flights, Put, Move, Lose, Expire, AnswerAt};
     ghost use Rattle.mctp_transport.specs.PacketsLeft.{frames_left};
     ghost use Rattle.net_sim.specs.Outcomes.{outcome_value, event_value};
-    ghost use Rattle.net_sim.specs.Standing.{Plays, Wants, Receives};
-    ghost use Rattle.net_sim.specs.Networks.{network_value, HasPlaceAt};
+    ghost use Rattle.net_check.specs.States.{at_start};
+    ghost use Rattle.net_sim.specs.Standing.{StandsFor, Plays, Wants, Receives};
+    ghost use Rattle.net_sim.specs.Networks.{network_value, checked_of, HasPlaceAt};
+    ghost use Rattle.net_sim.specs.Dealing.{resting, planned_termini};
     ghost use Rattle.net_sim.specs.Played.{PlaysAll, StopsAfter};
     ghost use Rattle.net_sim.specs.Sending.{Sends};
+
+    /// The network of a checked plan, in which nothing has happened yet. The termini are one for each node that has one, in the
+    /// plan's order; where they are as planned, it stands for the state at the start of each run.
+    #[tactic(auto, using(crate::proofs::Dealt::stands_at_start))]
+    pub fn new(
+        alloc: Global,
+        checked: Checked<'a>,
+        termini: Vec<Box<dyn Terminus>>,
+    ) -> Result<Network<'a>, AllocError>
+        ensures checked { IfOk result (λ network. checked_of network ≡ checked.entry) }
+        ensures stands { IfOk result (λ network. map (resting (λ b. tid b) (λ b. records b)) termini.items ≡ planned_termini checked.entry.0 checked.entry.1
+            → StandsFor (network_value (λ d. tid d.terminus) (λ d. records d.terminus) network) (at_start checked.entry.0 checked.entry.1)) }
+    {
+        let router = Router::new(alloc, checked)?;
+        let flights = Flights::new(alloc)?;
+        let assemblers = idle_assemblers(alloc, router.plan().nodes.len())?;
+        let desks = deal(alloc, router.plan(), termini)?;
+        Ok(Network {
+            alloc,
+            router,
+            flights,
+            assemblers,
+            desks,
+        })
+    }
 
     /// Plays an event. Where memory runs out, nothing has changed.
     pub fn step(&mut self, event: &Event) -> Result<Outcome, AllocError>

@@ -12,8 +12,7 @@ push_reserved-requires g c =
 
 pub loop-event-preserved : goal.loop-event-preserved
 loop-event-preserved g c =
-    let same = ap (λ r. r.0) c.loop-event.invariant.0 in
-    (
+    let same = ap (λ r. r.0) c.loop-event.invariant.0 in (
       c.in-Ok.ensures.router ∙ c.loop-event.invariant.0,
       played_next c.args.events.now c.loop-event.event-index c.event-item.result c.loop-event-test.true c.event-item.is c.args.self.now.router.0 c.loop-event.self.router.0 same
           _ _ _ _ _ c.in-Ok.outcome c.push_reserved.ensures.items c.loop-event.invariant.1 c.in-Ok.ensures.plays,

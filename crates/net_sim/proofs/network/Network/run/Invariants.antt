@@ -7,7 +7,7 @@ abbrev pub invariant-loop-event : goal.invariant-loop-event
 invariant-loop-event g l =
     (l.self.router ≡ l.initial.self.router)
     × HasPlayed l.initial.self.router.0
-        (network_value (λ d. (goal.Terminus-dyn g (d.terminus.vtable, d.terminus.value)).tid d.terminus.value) (λ d. (goal.Terminus-dyn g (d.terminus.vtable, d.terminus.value)).records d.terminus.value) l.initial.self)
-        l.events l.event-index l.outcomes.items
-        (network_value (λ d. (goal.Terminus-dyn g (d.terminus.vtable, d.terminus.value)).tid d.terminus.value) (λ d. (goal.Terminus-dyn g (d.terminus.vtable, d.terminus.value)).records d.terminus.value) l.self)
+    (network_value (λ d. (goal.Terminus-dyn g (d.terminus.vtable, d.terminus.value)).tid d.terminus.value) (λ d. (goal.Terminus-dyn g (d.terminus.vtable, d.terminus.value)).records d.terminus.value) l.initial.self)
+    l.events l.event-index l.outcomes.items
+    (network_value (λ d. (goal.Terminus-dyn g (d.terminus.vtable, d.terminus.value)).tid d.terminus.value) (λ d. (goal.Terminus-dyn g (d.terminus.vtable, d.terminus.value)).records d.terminus.value) l.self)
     × (length l.events ≤ vec_capacity l.outcomes)
