@@ -93,12 +93,12 @@ impl<'a> Network<'a> {
 
     /// Plays an event. Where memory runs out, nothing has changed.
     pub fn step(&mut self, event: &Event) -> Result<Outcome, AllocError>
-        ensures router { self.new.router ≡ self.old.router }
+        ensures checked { checked_of self.new ≡ checked_of self.old }
         ensures plays { MatchResult result
-            (λ outcome. Plays self.old.router.0
+            (λ outcome. Plays (checked_of self.old).0
             (network_value (λ d. tid d.terminus) (λ d. records d.terminus) self.old) (event_value event.now) (outcome_value outcome)
             (network_value (λ d. tid d.terminus) (λ d. records d.terminus) self.new))
-            (λ _. Wants self.old.router.0
+            (λ _. Wants (checked_of self.old).0
             (network_value (λ d. tid d.terminus) (λ d. records d.terminus) self.old) (event_value event.now)
             (network_value (λ d. tid d.terminus) (λ d. records d.terminus) self.new)) }
     {
@@ -114,13 +114,13 @@ impl<'a> Network<'a> {
     /// Plays events one after another, until memory runs out at one; room for the list of outcomes is made first, and where
     /// that is refused nothing is played.
     pub fn run(&mut self, events: &[Event]) -> Result<Played, AllocError>
-        ensures router { self.new.router ≡ self.old.router }
-        ensures plays { IfOk result (λ played. PlaysAll self.old.router.0
+        ensures checked { checked_of self.new ≡ checked_of self.old }
+        ensures plays { IfOk result (λ played. PlaysAll (checked_of self.old).0
             (network_value (λ d. tid d.terminus) (λ d. records d.terminus) self.old)
             (take (length played.outcomes.items) (map event_value events.now)) (map outcome_value played.outcomes.items)
             (network_value (λ d. tid d.terminus) (λ d. records d.terminus) self.new)) }
         ensures whole { IfOk result (λ played. played.stopped ≡ false → length played.outcomes.items ≡ length events.now) }
-        ensures stopped { IfOk result (λ played. played.stopped ≡ true → StopsAfter self.old.router.0
+        ensures stopped { IfOk result (λ played. played.stopped ≡ true → StopsAfter (checked_of self.old).0
             (network_value (λ d. tid d.terminus) (λ d. records d.terminus) self.old)
             (map event_value events.now) (map outcome_value played.outcomes.items)
             (network_value (λ d. tid d.terminus) (λ d. records d.terminus) self.new)) }

@@ -13,14 +13,14 @@ push_reserved-requires g c =
 pub loop-event-preserved : goal.loop-event-preserved
 loop-event-preserved g c =
     let same = ap (λ r. r.0) c.loop-event.invariant.0 in (
-      c.in-Ok.ensures.router ∙ c.loop-event.invariant.0,
+      c.in-Ok.ensures.checked ∙ c.loop-event.invariant.0,
       played_next c.args.events.now c.loop-event.event-index c.event-item.result c.loop-event-test.true c.event-item.is c.args.self.now.router.0 c.loop-event.self.router.0 same
           _ _ _ _ _ c.in-Ok.outcome c.push_reserved.ensures.items c.loop-event.invariant.1 c.in-Ok.ensures.plays,
       omega (arith, c.loop-event.invariant.2, c.push_reserved.ensures.capacity),
     )
 
-pub returns-in-Err-clause-router : goal.returns-in-Err-clause-router
-returns-in-Err-clause-router g c = c.in-Err.ensures.router ∙ c.loop-event.invariant.0
+pub returns-in-Err-clause-checked : goal.returns-in-Err-clause-checked
+returns-in-Err-clause-checked g c = c.in-Err.ensures.checked ∙ c.loop-event.invariant.0
 
 pub returns-in-Err-clause-plays : goal.returns-in-Err-clause-plays
 returns-in-Err-clause-plays g c =
@@ -34,8 +34,8 @@ returns-in-Err-clause-stopped g c = λ stopped.
     stopped_after c.args.events.now c.loop-event.event-index c.event-item.result c.loop-event-test.true c.event-item.is c.args.self.now.router.0 c.loop-event.self.router.0 same
     _ _ _ _ c.loop-event.invariant.1 c.in-Err.ensures.plays
 
-pub returns-clause-router : goal.returns-clause-router
-returns-clause-router g c = c.loop-event.invariant.0
+pub returns-clause-checked : goal.returns-clause-checked
+returns-clause-checked g c = c.loop-event.invariant.0
 
 pub returns-clause-plays : goal.returns-clause-plays
 returns-clause-plays g c = played_plays c.args.self.now.router.0 _ _ c.args.events.now c.loop-event.event-index _ c.loop-event.invariant.1
