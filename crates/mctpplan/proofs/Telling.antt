@@ -1,5 +1,9 @@
--- Why an input is not read, by the reader's error.
-use Rattle.std.proofs.Common.{◌≡◌, ◌+◌, ℕ, List, Option}
+-- Why an input is not read, by the reader's error, and what a printed fault tells.
+use Rattle.std.proofs.Common.{◌≡◌, ◌+◌, ℕ, List, Option, subst, sym}
+use Rattle.net_check.specs.declared.check_error.CheckError.{CheckError}
+use Rattle.net_check.specs.declared.check_error.CheckError.TheVariants as check_error
+use Rattle.net_check.specs.Errors.{NamesFirstFault}
+use Rattle.net_plan.specs.declared.certificate.Certificate.{Certificate}
 use Rattle.net_plan.specs.declared.plan.Plan.{Plan}
 use Rattle.net_plan.specs.declared.error.PlanError.{PlanError}
 use Rattle.net_plan.specs.declared.error.PlanError.TheVariants as error
@@ -7,7 +11,8 @@ use Rattle.net_plan.specs.PlanValues.{plan_value}
 use Rattle.net_plan.specs.TextFaults.{error_count}
 use Rattle.net_plan.specs.Unread.{GaveNoCertificate}
 use Rattle.mctpplan.specs.declared.refused.Input.TheVariants as input
-use Rattle.mctpplan.specs.Answers.{Stream, GavePlan, GaveNothing, AreUnread}
+use Rattle.mctpplan.specs.declared.status.Status.{Status}
+use Rattle.mctpplan.specs.Answers.{Stream, GavePlan, GaveNothing, AreUnread, AreGiven, PrintsFault, Tells}
 use Rattle.mctpplan.specs.Statuses.{refused_at}
 
 gave_nothing : (GaveNone : Option (List ℕ) → Option (List ℕ) → PlanError → Type 0) (stream : Stream) (e : PlanError) → GaveNone stream.before stream.after e
@@ -41,3 +46,11 @@ certificate_unread e p plans certificates given gave counted = told e (gave_noth
     told error.BadHex gave = (p, given, gave)
     told error.OverLimit gave = (p, given, gave)
     told error.Doubled gave = (p, given, gave)
+
+-- the printed fault is what the run tells, whatever would be told of an accepted plan
+pub tells_fault : (IsTold : Plan → Certificate → List ℕ → Type 0) (plan : Plan) (certificate : Certificate) (plans certificates output : Stream)
+    (error : CheckError) (ended : Status) → AreGiven plans certificates plan certificate → NamesFirstFault plan certificate error
+    → PrintsFault plan error ended output → Tells IsTold ended plans certificates output
+tells_fault IsTold plan certificate plans certificates output (check_error.Fault fault) ended given first (is, written) =
+    subst (λ s. Tells IsTold s plans certificates output) (sym is) (plan, certificate, fault, given, first, written)
+tells_fault IsTold plan certificate plans certificates output check_error.OutOfMemory ended given first printed = absurd printed

@@ -1,6 +1,8 @@
 -- What the end of a run of the program says of the bytes that it read and wrote.
 use Rattle.std.specs.Prelude.{◌≡◌, ℕ, ◌+◌, List, Option, ⊤}
 use Rattle.std.specs.Io.KnownBytes.{Appends}
+use Rattle.net_check.specs.declared.check_error.CheckError.{CheckError}
+use Rattle.net_check.specs.declared.check_error.CheckError.TheVariants as check_error
 use Rattle.net_check.specs.declared.fault.Fault.{Fault}
 use Rattle.net_plan.specs.declared.plan.Plan.{Plan}
 use Rattle.net_plan.specs.declared.certificate.Certificate.{Certificate}
@@ -55,10 +57,16 @@ pub record AreGiven (plans certificates : Stream) (plan : Plan) (certificate : C
   pub plan_text : GavePlan plans plan
   pub certificate_text : GaveCertificate plan certificates certificate
 
--- every rule holds of the plan and the certificate that were given, and the output was given `yes`
-abbrev pub TellsYes : Stream → Stream → Stream → Type 0
-TellsYes plans certificates output = Appends output.before output.after yes_line
-    × ((plan : Plan) × (certificate : Certificate) × AreGiven plans certificates plan certificate × Accepts plan certificate)
+-- the text is `yes`, whatever the plan and the certificate
+abbrev pub IsYes : Plan → Certificate → List ℕ → Type 0
+IsYes plan certificate text = text ≡ yes_line
+
+-- Every rule holds of the plan and the certificate that were given, and the output was given a text that is told of
+-- them.
+abbrev pub TellsOf : (Plan → Certificate → List ℕ → Type 0) → Stream → Stream → Stream → Type 0
+TellsOf IsTold plans certificates output = (plan : Plan) × (certificate : Certificate) × (text : List ℕ)
+    × AreGiven plans certificates plan certificate × Accepts plan certificate × IsTold plan certificate text
+    × Appends output.before output.after text
 
 -- the output was given the line of the first fault of the plan and the certificate that were given
 abbrev pub TellsFault : Stream → Stream → Stream → Type 0
@@ -66,11 +74,24 @@ TellsFault plans certificates output = (plan : Plan) × (certificate : Certifica
     × AreGiven plans certificates plan certificate × IsFirstFault plan certificate (place_of fault)
     × Appends output.before output.after (fault_text plan fault)
 
+-- the output was given the line of the fault that an error of `check` names
+abbrev pub PrintsFault : Plan → CheckError → Status → Stream → Type 0
+PrintsFault plan (check_error.Fault fault) ended output = (ended ≡ status.Fault) × Appends output.before output.after (fault_text plan fault)
+PrintsFault plan check_error.OutOfMemory ended output = ⊥
+
+-- a line was not written: the output failed, or memory ran out
+abbrev pub FailsToPrint : Refused → Stream → Type 0
+FailsToPrint refused.Unwritten output = Fails output
+FailsToPrint refused.NoMemory output = ⊤
+FailsToPrint _ output = ⊥
+
 -- why the plan was not read
 abbrev pub IsPlanUnread : Refused → Stream → Type 0
 IsPlanUnread refused.Usage plans = ⊥
 IsPlanUnread (refused.Unreadable input.Plan cause) plans = GaveNothing GaveNoPlan plans cause
 IsPlanUnread (refused.Unreadable input.Certificate cause) plans = ⊥
+IsPlanUnread (refused.Unreadable input.Events cause) plans = ⊥
+IsPlanUnread refused.UnknownNode plans = ⊥
 IsPlanUnread refused.UnreadableHex plans = ⊥
 IsPlanUnread refused.Unwritten plans = ⊥
 IsPlanUnread refused.NoMemory plans = ⊤
@@ -80,11 +101,13 @@ abbrev pub IsUnread : Input → PlanError → Stream → Stream → Type 0
 IsUnread input.Plan cause plans certificates = GaveNothing GaveNoPlan plans cause
 IsUnread input.Certificate cause plans certificates = (plan : Plan) × GavePlan plans plan
     × GaveNothing (GaveNoCertificate (plan_value plan)) certificates cause
+IsUnread input.Events cause plans certificates = ⊥
 
 -- why the inputs were not read
 abbrev pub AreUnread : Refused → Stream → Stream → Type 0
 AreUnread refused.Usage plans certificates = ⊥
 AreUnread (refused.Unreadable unread cause) plans certificates = IsUnread unread cause plans certificates
+AreUnread refused.UnknownNode plans certificates = ⊥
 AreUnread refused.UnreadableHex plans certificates = ⊥
 AreUnread refused.Unwritten plans certificates = ⊥
 AreUnread refused.NoMemory plans certificates = ⊤
@@ -93,13 +116,15 @@ AreUnread refused.NoMemory plans certificates = ⊤
 abbrev pub IsRefusedFor : Refused → Stream → Stream → Stream → Type 0
 IsRefusedFor refused.Usage plans certificates output = ⊥
 IsRefusedFor (refused.Unreadable unread cause) plans certificates output = IsUnread unread cause plans certificates
+IsRefusedFor refused.UnknownNode plans certificates output = ⊥
 IsRefusedFor refused.UnreadableHex plans certificates output = ⊥
 IsRefusedFor refused.Unwritten plans certificates output = Fails output
 IsRefusedFor refused.NoMemory plans certificates output = ⊤
 
--- what the end of a run says of what the sources gave and what was written
-abbrev pub Tells : Status → Stream → Stream → Stream → Type 0
-Tells status.Yes plans certificates output = TellsYes plans certificates output
-Tells status.Fault plans certificates output = TellsFault plans certificates output
-Tells status.Unreadable plans certificates output = (why : Refused) × (status_of why ≡ status.Unreadable) × IsRefusedFor why plans certificates output
-Tells status.NoMemory plans certificates output = ⊤
+-- what the end of a run says of what the sources gave and what was written, where such a text is told of an accepted plan
+abbrev pub Tells : (Plan → Certificate → List ℕ → Type 0) → Status → Stream → Stream → Stream → Type 0
+Tells IsTold status.Yes plans certificates output = TellsOf IsTold plans certificates output
+Tells IsTold status.Fault plans certificates output = TellsFault plans certificates output
+Tells IsTold status.Unreadable plans certificates output = (why : Refused) × (status_of why ≡ status.Unreadable)
+    × IsRefusedFor why plans certificates output
+Tells IsTold status.NoMemory plans certificates output = ⊤

@@ -52,6 +52,8 @@ abbrev pub IsUncertifiedFor : Refused → Stream → Stream → Type 0
 IsUncertifiedFor refused.Usage plans output = ⊥
 IsUncertifiedFor (refused.Unreadable input.Plan cause) plans output = GaveNothing GaveNoPlan plans cause
 IsUncertifiedFor (refused.Unreadable input.Certificate cause) plans output = ⊥
+IsUncertifiedFor (refused.Unreadable input.Events cause) plans output = ⊥
+IsUncertifiedFor refused.UnknownNode plans output = ⊥
 IsUncertifiedFor refused.UnreadableHex plans output = ⊥
 IsUncertifiedFor refused.Unwritten plans output = Fails output
 IsUncertifiedFor refused.NoMemory plans output = ⊤

@@ -59,6 +59,7 @@ Shows status.NoMemory asked hex output = ⊤
 abbrev pub IsNotShown : Refused → List ℕ → Stream → Type 0
 IsNotShown refused.Usage hex output = ⊥
 IsNotShown (refused.Unreadable input cause) hex output = ⊥
+IsNotShown refused.UnknownNode hex output = ⊥
 IsNotShown refused.UnreadableHex hex output = IsNoHex hex
 IsNotShown refused.Unwritten hex output = Fails output
 IsNotShown refused.NoMemory hex output = ⊤

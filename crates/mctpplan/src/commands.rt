@@ -4,31 +4,20 @@ ghost use Rattle.std.specs.Io.KnownBytes.{Appends};
 ghost use Rattle.mctpplan.specs.declared.refused.Refused.TheVariants.{Unwritten};
 ghost use Rattle.mctpplan.specs.declared.status.Status.TheVariants.{Unreadable, NoMemory};
 ghost use Rattle.mctpplan.specs.Statuses.{status_of};
-ghost use Rattle.mctpplan.specs.Answers.{stream, GavePlan, IsPlanUnread};
+ghost use Rattle.mctpplan.specs.Answers.{stream, PrintsFault, FailsToPrint};
 
 pub mod certify;
 pub mod check;
+pub mod inputs;
+pub mod walk;
 
-use crate::refused::{Input, Refused};
+use crate::refused::Refused;
 use crate::status::Status;
 use crate::texts::{self, NO_MEMORY};
-use net_plan::{Plan, Sink, Source, read_plan, write_whole};
+use net_check::CheckError;
+use net_plan::{Plan, Sink, write_whole};
 use std::alloc::{AllocError, Global};
 use std::borrow::CowStr;
-
-/// The plan that a source gives.
-pub fn given_plan<P: Source>(alloc: Global, plan: &mut P) -> Result<Plan, Refused>
-    requires { P.failures plan.old < 2 ^ 64 - 1 }
-    ensures given { let plans = stream (P.remaining plan.old) (P.failures plan.old) (P.remaining plan.new) (P.failures plan.new) in
-        IfOk result (λ read. GavePlan plans read) }
-    ensures unread { let plans = stream (P.remaining plan.old) (P.failures plan.old) (P.remaining plan.new) (P.failures plan.new) in
-        IfErr result (λ refused. IsPlanUnread refused plans) }
-{
-    match read_plan(alloc, plan) {
-        Ok(plan) => Ok(plan),
-        Err(error) => Err(Refused::at_input(Input::Plan, error)),
-    }
-}
 
 /// Says on `errors` why the program gives no answer, and how the run ends.
 pub fn refuse<E: Sink>(alloc: Global, refused: Refused, errors: &mut E) -> Status
@@ -53,6 +42,29 @@ pub fn print<O: Sink>(output: &mut O, line: &str) -> Result<(), Refused>
     ensures fails { OnErr result (O.failures output.new ≡ O.failures output.old + 1) }
 {
     write_whole(output, line.as_bytes()).map_err(|_| Refused::Unwritten)
+}
+
+/// Writes the fault for which a plan and its certificate are not accepted.
+pub fn print_fault<O: Sink>(
+    alloc: Global,
+    plan: &Plan,
+    error: &CheckError,
+    output: &mut O,
+) -> Result<Status, Refused>
+    requires { O.failures output.old < 2 ^ 64 - 1 }
+    ensures written { let outputs = stream (O.contents output.old) (O.failures output.old) (O.contents output.new) (O.failures output.new) in
+        IfOk result (λ status. PrintsFault plan.now error.now status outputs) }
+    ensures unwritten { let outputs = stream (O.contents output.old) (O.failures output.old) (O.contents output.new) (O.failures output.new) in
+        IfErr result (λ refused. FailsToPrint refused outputs) }
+    ensures untouched { IfErr result (λ refused. (refused ≡ Unwritten) ⊎ (output.new ≡ output.old)) }
+{
+    match error {
+        CheckError::Fault(fault) => {
+            print(output, &texts::fault_line(alloc, plan, fault)?)?;
+            Ok(Status::Fault)
+        }
+        CheckError::OutOfMemory => Err(Refused::NoMemory),
+    }
 }
 
 #[cfg(test)]

@@ -49,6 +49,7 @@ fn run(rt: &HostRuntime) -> Status {
             &mut errors,
         ),
         Ok(Command::Show { kind, hex }) => run_show(alloc, kind, hex, &mut output, &mut errors),
+        Ok(_) => refuse(alloc, Refused::Usage, &mut errors),
         Err(refused) => refuse(alloc, refused, &mut errors),
     }
 }

@@ -12,6 +12,7 @@ use std::io;
 pub enum Input {
     Plan,
     Certificate,
+    Events,
 }
 
 /// Why the program gives no answer on standard output.
@@ -21,6 +22,8 @@ pub enum Refused {
     Usage,
     /// A file can't be read. The cause is not want of memory, which `NoMemory` tells.
     Unreadable { input: Input, cause: PlanError },
+    /// The plan has no node of the name with a terminus.
+    UnknownNode,
     /// A hex text is no hex: an odd number of digits, or a character that is none.
     UnreadableHex,
     /// Standard output failed; a beginning of the answer may be out.
@@ -49,6 +52,7 @@ impl Refused {
         match self {
             Refused::Usage
             | Refused::Unreadable { .. }
+            | Refused::UnknownNode
             | Refused::UnreadableHex
             | Refused::Unwritten => Status::Unreadable,
             Refused::NoMemory => Status::NoMemory,

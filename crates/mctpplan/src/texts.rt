@@ -105,6 +105,7 @@ pub fn refusal_line(alloc: Global, refused: Refused) -> Result<CowStr<'static>, 
             let line = format!(in alloc; "unreadable {input}: {cause}\n")?;
             Ok(CowStr::Owned(line))
         }
+        Refused::UnknownNode => Ok(CowStr::Borrowed("unreadable node: J06\n")),
         Refused::UnreadableHex => Ok(CowStr::Borrowed("unreadable hex: J07\n")),
         Refused::Unwritten => Ok(CowStr::Borrowed("unreadable output: file\n")),
         Refused::NoMemory => Ok(CowStr::Borrowed(NO_MEMORY)),
@@ -116,6 +117,7 @@ impl fmt::Display for Input {
         f.write_str(match self {
             Input::Plan => "plan",
             Input::Certificate => "certificate",
+            Input::Events => "events",
         })
     }
 }

@@ -5,7 +5,8 @@ ghost use Rattle.mctpplan.specs.declared.status.Status.TheVariants.{Yes, Fault, 
 ghost use Rattle.mctpplan.specs.Answers.{stream};
 ghost use Rattle.mctpplan.specs.Certifying.{IsUncertifiedFor, Certifies};
 
-use crate::commands::{given_plan, print, refuse};
+use crate::commands::inputs::given_plan;
+use crate::commands::{print, refuse};
 use crate::refused::Refused;
 use crate::status::Status;
 use crate::texts;

@@ -1,5 +1,5 @@
 use Rattle.mctpplan.proofs.Telling.{certificate_unread}
-use Rattle.mctpplan.proofs.commands.check.read_inputs.Goals as goal
+use Rattle.mctpplan.proofs.commands.inputs.read_inputs.Goals as goal
 
 pub returns-in-Err-clause-unread : goal.returns-in-Err-clause-unread
 returns-in-Err-clause-unread g c =
