@@ -19,4 +19,5 @@ pub mod Moving
 pub mod Packing
 pub mod Asking
 pub mod Playing
+pub mod AsSent
 pub mod Dealt

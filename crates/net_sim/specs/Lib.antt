@@ -8,6 +8,7 @@ pub mod Routers
 pub mod Outcomes
 pub mod Standing
 pub mod Played
+pub mod AsSent
 pub mod Desks
 pub mod Dealing
 pub mod Placing

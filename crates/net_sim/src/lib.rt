@@ -5,6 +5,8 @@ mod assemblers;
 mod assigning;
 mod dealing;
 mod desk;
+#[cfg(test)]
+mod exact_tests;
 mod flights;
 mod network;
 mod outcome;

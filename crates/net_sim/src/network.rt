@@ -64,6 +64,7 @@ impl<'a> Network<'a> {
     ghost use Rattle.net_sim.specs.Networks.{network_value, checked_of, HasPlaceAt};
     ghost use Rattle.net_sim.specs.Dealing.{resting, planned_termini};
     ghost use Rattle.net_sim.specs.Played.{PlaysAll, StopsAfter};
+    ghost use Rattle.net_sim.specs.AsSent.{PlaysAsSent};
     ghost use Rattle.net_sim.specs.Sending.{Sends};
 
     /// The network of a checked plan, in which nothing has happened yet. The termini are one for each node that has one, in the
@@ -116,6 +117,12 @@ impl<'a> Network<'a> {
     pub fn run(&mut self, events: &[Event]) -> Result<Played, AllocError>
         ensures checked { checked_of self.new ≡ checked_of self.old }
         ensures plays { IfOk result (λ played. PlaysAll (checked_of self.old).0
+            (network_value (λ d. tid d.terminus) (λ d. records d.terminus) self.old)
+            (take (length played.outcomes.items) (map event_value events.now)) (map outcome_value played.outcomes.items)
+            (network_value (λ d. tid d.terminus) (λ d. records d.terminus) self.new)) }
+        // Where one message at a time is sent under a key to a destination, of five packets at most, what is told of it is
+        // that message.
+        ensures exact { IfOk result (λ played. PlaysAsSent 64 (checked_of self.old).0
             (network_value (λ d. tid d.terminus) (λ d. records d.terminus) self.old)
             (take (length played.outcomes.items) (map event_value events.now)) (map outcome_value played.outcomes.items)
             (network_value (λ d. tid d.terminus) (λ d. records d.terminus) self.new)) }
