@@ -1,23 +1,21 @@
 -- The outcomes of a tidy run tell what was sent.
-use Rattle.std.proofs.Common.{◌≡◌, ℕ, ◌<◌, ◌*◌, ◌≤◌, List, [], ◌∷◌, length, map, get_or, min, Some, refl, sym, ◌∙◌, ap, subst, arith, All}
+use Rattle.std.proofs.Common.{◌≡◌, ℕ, ◌<◌, List, [], ◌∷◌, length, map, get_or, Some, refl, sym, ◌∙◌, ap, subst, arith, All}
 use Rattle.std.specs.Prelude.{slice_get, option_map, Option, None}
 use Rattle.std.specs.List.{zip}
 use Rattle.std.proofs.lemmas.List.{length-map}
 use Rattle.std.proofs.lemmas.List.Elements.{All-get_or}
 use Rattle.std.proofs.lemmas.Option.{slice_get-map, slice_get_within, get_or_from_slice_get, none-some, same_Some}
 use Rattle.std.proofs.lemmas.Slice.Zip.{length-zip, get_or-zip}
-use Rattle.mctp_transport.specs.Frames.{KeyValue}
 use Rattle.mctp_transport.specs.Hearing.{Whole}
 use Rattle.net_plan.specs.declared.plan.Plan.{Plan}
-use Rattle.net_check.specs.Routing.{Holds}
 use Rattle.net_check.specs.States.{NetworkState}
 use Rattle.net_check.specs.Events.{EventValue, OutcomeValue, Entered}
 use Rattle.net_check.specs.Runs.{Turn, RunFrom}
-use Rattle.net_check.specs.ExactMessages.{Epoch, IsQuiet, TurnOfEpoch, IsTidyFrom, turns_of, TellsAsSent}
+use Rattle.net_check.specs.ExactMessages.{Epoch, TurnOfEpoch, turns_of, TellsAsSent}
 use Rattle.net_check.proofs.Exact.{runs_as_sent}
-use Rattle.net_sim.specs.Standing.{NetworkValue, StandsFor}
+use Rattle.net_sim.specs.Standing.{NetworkValue}
 use Rattle.net_sim.specs.Played.{IsRunOf, PlaysAll}
-use Rattle.net_sim.specs.AsSent.{TellWhatWasSent, IsToldAsSent, PlaysAsSent}
+use Rattle.net_sim.specs.AsSent.{IsToldAsSent, PlaysAsSent}
 
 turns_of-zip : (turns : List Turn) (epochs : List Epoch) → length epochs ≡ length turns → turns_of (zip turns epochs) ≡ turns
 turns_of-zip [] epochs long = refl
