@@ -23,7 +23,7 @@ turns_of-zip (turn ∷ turns) [] long = absurd (omega (arith, long))
 turns_of-zip (turn ∷ turns) (epoch ∷ epochs) long = ap (λ rest. turn ∷ rest) (turns_of-zip turns epochs (omega (arith, long)))
 
 -- the turn at the place of an outcome
-turn_at : (turns : List Turn) (i : ℕ) (outcome : OutcomeValue) → slice_get (map (λ (t : Turn). t.outcome) turns) i ≡ Some outcome
+pub turn_at : (turns : List Turn) (i : ℕ) (outcome : OutcomeValue) → slice_get (map (λ (t : Turn). t.outcome) turns) i ≡ Some outcome
     → (turn : Turn) × (slice_get turns i ≡ Some turn) × (turn.outcome ≡ outcome)
 turn_at turns i outcome is = by (slice_get turns i) refl
   where
@@ -46,7 +46,7 @@ pair_at P turns epochs i turn epoch all one other =
     subst Q left_is (subst R right_is (subst P (get_or-zip turns epochs i (turn, epoch) left right) (All-get_or P (zip turns epochs) i (turn, epoch) within all)))
 
 module _ (unit : ℕ) (plan : Plan) (w : NetworkState) (events : List EventValue) (outcomes : List OutcomeValue) (new : NetworkValue) (run : IsRunOf plan w events outcomes new) where
-  told_as_sent : IsToldAsSent unit run
+  pub told_as_sent : IsToldAsSent unit run
   told_as_sent key d first epochs long quiet tidy i number n message epoch tells of_epoch holds short =
       let each : length epochs ≡ length run.turns = long ∙ ap length (sym run.outcomes_are) ∙ length-map run.turns (λ (t : Turn). t.outcome) in
       let runs = subst (RunFrom plan w) (sym (turns_of-zip run.turns epochs each)) run.runs in

@@ -20,4 +20,5 @@ pub mod Packing
 pub mod Asking
 pub mod Playing
 pub mod AsSent
+pub mod SentRequests
 pub mod Dealt

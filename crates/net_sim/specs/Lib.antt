@@ -9,6 +9,7 @@ pub mod Outcomes
 pub mod Standing
 pub mod Played
 pub mod AsSent
+pub mod SentRequests
 pub mod Desks
 pub mod Dealing
 pub mod Placing

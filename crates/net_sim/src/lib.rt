@@ -15,6 +15,6 @@ mod refusal;
 mod router;
 
 pub use assigning::{Assignment, assign, one_assignment};
-pub use network::{Network, Played};
+pub use network::{Network, Played, requests_come_as_sent};
 pub use outcome::Outcome;
 pub use refusal::Refusal;

@@ -8,6 +8,8 @@ ghost use Rattle.net_check.specs.Ranks.{rank};
 ghost use Rattle.net_sim.specs.Flights.{slots_of, flight_at, flight_value, begun, room_of};
 ghost use Rattle.net_sim.specs.Placing.{IsPlaced};
 
+mod laws;
+
 use crate::assemblers::idle_assemblers;
 use crate::dealing::deal;
 use crate::desk::{Desk, answer_at, idle_at, reserve_at, wait_at};
@@ -17,6 +19,7 @@ use crate::receiving::{Receipt, feed, room_for_message};
 use crate::refusal::Refusal;
 use crate::router::Router;
 use arrayvec::ArrayVec;
+pub use laws::requests_come_as_sent;
 use mctp_bridge::Decision;
 use mctp_transport::{Assembler, Key, PacketView, Packets, Seq, Wire};
 use net_check::Checked;
