@@ -29,7 +29,7 @@ pub record HasHeard (w : NetworkState) (n made : ℕ) (ps : List Frame) : Type 0
   pub heard : w.history n ≡ arrivals ps
 
 -- nothing has happened, so all is quiet
-start_is_quiet : (plan : Plan) (cert : Certificate) (key : KeyValue) (d : ℕ) → IsQuiet plan (at_start plan cert) key d
+pub start_is_quiet : (plan : Plan) (cert : Certificate) (key : KeyValue) (d : ℕ) → IsQuiet plan (at_start plan cert) key d
 start_is_quiet plan cert key d = record { no_flight = λ number f is. absurd (cc); not_open = λ n holds opened. opened }
 
 module _ (plan : Plan) (n d : ℕ) (key : KeyValue) (epoch : Epoch) (there : n < length plan.nodes.items) (holds : Holds plan n d) where

@@ -4,12 +4,12 @@ ghost use Rattle.mctp_transport.specs.Frames.{KeyValue};
 ghost use Rattle.net_plan.specs.declared.plan.Plan.{Plan};
 ghost use Rattle.net_plan.specs.declared.certificate.Certificate.{Certificate};
 ghost use Rattle.net_check.specs.Termini.{TerminusState, HoldsBytes};
-ghost use Rattle.net_check.specs.States.{NetworkState};
+ghost use Rattle.net_check.specs.States.{NetworkState, at_start};
 ghost use Rattle.net_check.specs.Events.{EventValue};
 ghost use Rattle.net_check.specs.Networks.{GoesOn};
 ghost use Rattle.net_check.specs.ByteRuns.{RunsGoOn};
 ghost use Rattle.net_check.specs.Requests.{RequestsCanBeAnswered};
-ghost use Rattle.net_check.specs.ExactMessages.{TellsWhatComes, CanBeSent, SixAreTooMany};
+ghost use Rattle.net_check.specs.ExactMessages.{IsQuiet, TellsWhatComes, CanBeSent, SixAreTooMany};
 
 /// Whatever the event, the network has an outcome and a next state for it, where its termini hold bytes.
 #[tactic(auto, using(crate::proofs::Steps::some_step))]
@@ -21,6 +21,12 @@ pub fn never_stuck()
 /// Each run in which bytes are put in goes on, whatever the event.
 pub fn runs_go_on()
     ensures { (plan : Plan) (cert : Certificate) → RunsGoOn plan cert }
+{}
+
+/// At the start of a run each key is quiet for each destination.
+#[tactic(auto, using(crate::proofs::Sends::start_is_quiet))]
+pub fn every_key_is_quiet_at_the_start()
+    ensures { (plan : Plan) (cert : Certificate) (key : KeyValue) (d : ℕ) → IsQuiet plan (at_start plan cert) key d }
 {}
 
 /// A message that comes at a node is told by the outcome of the event with which it comes.

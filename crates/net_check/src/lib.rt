@@ -23,8 +23,8 @@ pub use check_error::CheckError;
 pub use checked::{Checked, check};
 pub use fault::Fault;
 pub use laws::{
-    messages_can_be_sent, never_stuck, requests_can_be_answered, runs_go_on, six_are_too_many,
-    what_comes_is_told,
+    every_key_is_quiet_at_the_start, messages_can_be_sent, never_stuck, requests_can_be_answered,
+    runs_go_on, six_are_too_many, what_comes_is_told,
 };
 pub use rule::Rule;
 

@@ -19,4 +19,6 @@ pub mod Moving
 pub mod Packing
 pub mod Asking
 pub mod Playing
+pub mod AsSent
+pub mod SentRequests
 pub mod Dealt

@@ -8,6 +8,8 @@ pub mod Routers
 pub mod Outcomes
 pub mod Standing
 pub mod Played
+pub mod AsSent
+pub mod SentRequests
 pub mod Desks
 pub mod Dealing
 pub mod Placing

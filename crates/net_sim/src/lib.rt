@@ -5,6 +5,8 @@ mod assemblers;
 mod assigning;
 mod dealing;
 mod desk;
+#[cfg(test)]
+mod exact_tests;
 mod flights;
 mod network;
 mod outcome;
@@ -13,6 +15,6 @@ mod refusal;
 mod router;
 
 pub use assigning::{Assignment, assign, one_assignment};
-pub use network::{Network, Played};
+pub use network::{Network, Played, requests_come_as_sent};
 pub use outcome::Outcome;
 pub use refusal::Refusal;

@@ -8,6 +8,8 @@ ghost use Rattle.net_check.specs.Ranks.{rank};
 ghost use Rattle.net_sim.specs.Flights.{slots_of, flight_at, flight_value, begun, room_of};
 ghost use Rattle.net_sim.specs.Placing.{IsPlaced};
 
+mod laws;
+
 use crate::assemblers::idle_assemblers;
 use crate::dealing::deal;
 use crate::desk::{Desk, answer_at, idle_at, reserve_at, wait_at};
@@ -17,6 +19,7 @@ use crate::receiving::{Receipt, feed, room_for_message};
 use crate::refusal::Refusal;
 use crate::router::Router;
 use arrayvec::ArrayVec;
+pub use laws::requests_come_as_sent;
 use mctp_bridge::Decision;
 use mctp_transport::{Assembler, Key, PacketView, Packets, Seq, Wire};
 use net_check::Checked;
@@ -64,6 +67,7 @@ impl<'a> Network<'a> {
     ghost use Rattle.net_sim.specs.Networks.{network_value, checked_of, HasPlaceAt};
     ghost use Rattle.net_sim.specs.Dealing.{resting, planned_termini};
     ghost use Rattle.net_sim.specs.Played.{PlaysAll, StopsAfter};
+    ghost use Rattle.net_sim.specs.AsSent.{PlaysAsSent};
     ghost use Rattle.net_sim.specs.Sending.{Sends};
 
     /// The network of a checked plan, in which nothing has happened yet. The termini are one for each node that has one, in the
@@ -116,6 +120,12 @@ impl<'a> Network<'a> {
     pub fn run(&mut self, events: &[Event]) -> Result<Played, AllocError>
         ensures checked { checked_of self.new ≡ checked_of self.old }
         ensures plays { IfOk result (λ played. PlaysAll (checked_of self.old).0
+            (network_value (λ d. tid d.terminus) (λ d. records d.terminus) self.old)
+            (take (length played.outcomes.items) (map event_value events.now)) (map outcome_value played.outcomes.items)
+            (network_value (λ d. tid d.terminus) (λ d. records d.terminus) self.new)) }
+        // Where one message at a time is sent under a key to a destination, of five packets at most, what is told of it is
+        // that message.
+        ensures exact { IfOk result (λ played. PlaysAsSent 64 (checked_of self.old).0
             (network_value (λ d. tid d.terminus) (λ d. records d.terminus) self.old)
             (take (length played.outcomes.items) (map event_value events.now)) (map outcome_value played.outcomes.items)
             (network_value (λ d. tid d.terminus) (λ d. records d.terminus) self.new)) }

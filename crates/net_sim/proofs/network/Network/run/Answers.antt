@@ -1,5 +1,6 @@
 use Rattle.std.proofs.Common.{refl, ◌∙◌, ap, arith}
 use Rattle.net_sim.proofs.Playing.{played_start, played_plays, played_next, stopped_plays, stopped_after}
+use Rattle.net_sim.proofs.AsSent.{plays_as_sent}
 use Rattle.net_sim.proofs.network.Network.run.Goals as goal
 
 pub loop-event-init : goal.loop-event-init
@@ -28,6 +29,9 @@ returns-in-Err-clause-plays g c =
     stopped_plays c.args.events.now c.loop-event.event-index c.event-item.result c.loop-event-test.true c.event-item.is c.args.self.now.router.0 c.loop-event.self.router.0 same
     _ _ _ _ c.loop-event.invariant.1 c.in-Err.ensures.plays
 
+pub returns-in-Err-clause-exact : goal.returns-in-Err-clause-exact
+returns-in-Err-clause-exact g c = plays_as_sent 64 c.args.self.now.router.0 _ _ _ _ (returns-in-Err-clause-plays g c)
+
 pub returns-in-Err-clause-stopped : goal.returns-in-Err-clause-stopped
 returns-in-Err-clause-stopped g c = λ stopped.
     let same = ap (λ r. r.0) c.loop-event.invariant.0 in
@@ -39,6 +43,9 @@ returns-clause-checked g c = c.loop-event.invariant.0
 
 pub returns-clause-plays : goal.returns-clause-plays
 returns-clause-plays g c = played_plays c.args.self.now.router.0 _ _ c.args.events.now c.loop-event.event-index _ c.loop-event.invariant.1
+
+pub returns-clause-exact : goal.returns-clause-exact
+returns-clause-exact g c = plays_as_sent 64 c.args.self.now.router.0 _ _ _ _ (returns-clause-plays g c)
 
 pub returns-clause-whole : goal.returns-clause-whole
 returns-clause-whole g c = λ whole. omega (arith, c.loop-event.invariant.1.long)

@@ -1,0 +1,32 @@
+-- Where what is sent keeps apart, the whole messages that a network tells are those that were sent.
+use Rattle.std.specs.Prelude.{◌≡◌, ℕ, ◌*◌, ◌≤◌, List, length, slice_get, Some}
+use Rattle.std.specs.List.{zip}
+use Rattle.mctp_transport.specs.Frames.{KeyValue}
+use Rattle.mctp_transport.specs.Hearing.{Whole}
+use Rattle.net_plan.specs.declared.plan.Plan.{Plan}
+use Rattle.net_check.specs.Routing.{Holds}
+use Rattle.net_check.specs.States.{NetworkState}
+use Rattle.net_check.specs.Events.{EventValue, OutcomeValue, Entered}
+use Rattle.net_check.specs.ExactMessages.{Epoch, IsQuiet, IsTidyFrom}
+use Rattle.net_sim.specs.Standing.{NetworkValue, StandsFor}
+use Rattle.net_sim.specs.Played.{IsRunOf}
+
+-- Each whole message that the outcomes tell under the key, at a node that holds d, is the message of the epoch at the
+-- outcome's place, where that is of five packets at most.
+abbrev pub TellWhatWasSent : (unit : ℕ) → Plan → KeyValue → ℕ → List OutcomeValue → List Epoch → Type 0
+TellWhatWasSent unit plan key d outcomes epochs = (i number n : ℕ) (message : List ℕ) (epoch : Epoch)
+    → slice_get outcomes i ≡ Some (Entered number n key (Whole message)) → slice_get epochs i ≡ Some epoch → Holds plan n d
+    → length epoch.message ≤ 5 * unit → message ≡ epoch.message
+
+-- Where a key is quiet for d at first, and the turns of the run are tidy in epochs, one for each turn, the outcomes tell
+-- what was sent.
+abbrev pub IsToldAsSent : (unit : ℕ) {plan : Plan} {w : NetworkState} {events : List EventValue} {outcomes : List OutcomeValue} {new : NetworkValue}
+    → IsRunOf plan w events outcomes new → Type 0
+IsToldAsSent unit {plan} {w} {events} {outcomes} run = (key : KeyValue) (d : ℕ) (first : Epoch) (epochs : List Epoch) → length epochs ≡ length outcomes
+    → IsQuiet plan w key d → IsTidyFrom unit plan key d w first (zip run.turns epochs) → TellWhatWasSent unit plan key d outcomes epochs
+
+-- From every state that the network stood for, these events with these outcomes are the turns of a run, and each such run
+-- is told as what was sent.
+abbrev pub PlaysAsSent : (unit : ℕ) → Plan → NetworkValue → List EventValue → List OutcomeValue → NetworkValue → Type 0
+PlaysAsSent unit plan old events outcomes new = (w : NetworkState) → StandsFor old w
+    → IsRunOf plan w events outcomes new × ((run : IsRunOf plan w events outcomes new) → IsToldAsSent unit run)
