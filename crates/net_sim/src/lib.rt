@@ -11,6 +11,8 @@ mod outcome;
 mod receiving;
 mod refusal;
 mod router;
+#[cfg(test)]
+mod tests;
 
 pub use assigning::{Assignment, assign, one_assignment};
 pub use network::{Network, Played};
