@@ -1,7 +1,7 @@
 //! Lines of bridges. The one at place i has the endpoint ID 8 + i, shares a bus with each of its neighbors alone, and has
 //! one row towards each neighbor, for all endpoint IDs on that side.
 use super::{expect_told, plan_of};
-use crate::Network;
+use crate::{Network, Outcome};
 use net_check::{certify, check};
 use net_plan::{Event, Plan};
 use std::alloc::{AllocError, Global};
@@ -80,34 +80,49 @@ fn wanted_on(alloc: Global, count: u8) -> Result<Vec<String>, AllocError> {
     Ok(wanted)
 }
 
-/// Plays the events on a line, and wants that.
-fn expect_line(
+/// Wants this to have come of the events, one after another.
+fn expect_outcomes(
     rt: &(impl Abort + AllocGlobal),
     plan: &Plan,
-    network: &mut Network,
+    outcomes: &[Outcome],
     count: u8,
 ) -> Result<(), Fail> {
-    let events = events_on(rt.alloc(), count)?;
     let wanted = wanted_on(rt.alloc(), count)?;
-    let played = network.run(&events)?;
-    assert!(rt; !played.stopped);
-    assert_eq!(rt; played.outcomes.len(), wanted.len());
-    for (outcome, wanted) in played.outcomes.iter().zip(&wanted) {
-        expect_told(rt, plan, outcome, "a move on a line", wanted)?;
+    assert_eq!(rt; outcomes.len(), wanted.len());
+    for (outcome, wanted) in outcomes.iter().zip(&wanted) {
+        expect_told(rt, plan, outcome, "an event on a line", wanted)?;
     }
     Ok(())
 }
 
 #[test]
-fn passes_each_bridge_of_a_line(rt: HostRuntime) -> Result<(), Fail> {
+fn steps_along_each_line(rt: HostRuntime) -> Result<(), Fail> {
     let alloc = rt.alloc();
     for count in 2..=64u8 {
-        let text = line_of(alloc, count)?;
-        let plan = plan_of(alloc, &text)?;
+        let plan = plan_of(alloc, &line_of(alloc, count)?)?;
         let certificate = certify(alloc, &plan)?;
         let checked = check(alloc, &plan, &certificate)?;
         let mut network = Network::new(alloc, checked, Vec::new(alloc))?;
-        expect_line(&rt, &plan, &mut network, count)?;
+        let mut outcomes = Vec::new(alloc);
+        for event in &events_on(alloc, count)? {
+            outcomes.push(network.step(event)?)?;
+        }
+        expect_outcomes(&rt, &plan, &outcomes, count)?;
+    }
+    Ok(())
+}
+
+#[test]
+fn runs_along_lines(rt: HostRuntime) -> Result<(), Fail> {
+    let alloc = rt.alloc();
+    for count in [2u8, 3, 33, 64] {
+        let plan = plan_of(alloc, &line_of(alloc, count)?)?;
+        let certificate = certify(alloc, &plan)?;
+        let checked = check(alloc, &plan, &certificate)?;
+        let mut network = Network::new(alloc, checked, Vec::new(alloc))?;
+        let played = network.run(&events_on(alloc, count)?)?;
+        assert!(rt; !played.stopped);
+        expect_outcomes(&rt, &plan, &played.outcomes, count)?;
     }
     Ok(())
 }

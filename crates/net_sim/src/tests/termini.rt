@@ -1,13 +1,36 @@
 //! Termini of either kind, whose terminus IDs are set and read in a run.
 use super::riser::{
     ANSWER_NIC, ANSWER_SSD, CERTIFICATE, GET_TID_OF_NIC, GET_TID_OF_SSD, MOVE_1, MOVE_2, MOVE_3,
-    MOVE_4, MOVE_5, MOVE_6, MOVE_7, MOVE_8, NIC, PLAN, SSD, TWO_TERMINI, TWO_TERMINI_CERTIFICATE,
+    MOVE_4, MOVE_5, MOVE_6, MOVE_7, MOVE_8, NIC, PLAN, SSD,
 };
 use super::{Row, block_at, certificate_of, expect_run, expect_steps, list_at, plan_of};
 use crate::Network;
 use net_check::check;
 use pdr_repository::Terminus;
+use std::alloc::{AllocError, Global};
 use std::test::Fail;
+
+/// The end of the plan's text, from ssd's address on.
+const NO_TERMINUS_AT_SSD: &str =
+    r#""32"}],"rows":[{"first":8,"size":9,"port":0,"next":"riser"}],"terminus":null}]}"#;
+
+/// The same with a terminus of terminus ID 2.
+const TERMINUS_AT_SSD: &str =
+    r#""32"}],"rows":[{"first":8,"size":9,"port":0,"next":"riser"}],"terminus":{"tid":2,"records":[{"handle":1,"next":0,"bytes":"01000000010100000900010001020000010112"}]}}]}"#;
+
+/// The places of the records of nic, and those of the records of both.
+const PLACES_OF_NIC: &str = r#"{"node":"nic","places":[0]}"#;
+const PLACES_OF_BOTH: &str = r#"{"node":"nic","places":[0]},{"node":"ssd","places":[0]}"#;
+
+/// The plan with a terminus at ssd too.
+fn plan_text(alloc: Global) -> Result<String, AllocError> {
+    PLAN.replacen(alloc, NO_TERMINUS_AT_SSD, TERMINUS_AT_SSD, 1)
+}
+
+/// A certificate of that plan.
+fn certificate_text(alloc: Global) -> Result<String, AllocError> {
+    CERTIFICATE.replacen(alloc, PLACES_OF_NIC, PLACES_OF_BOTH, 1)
+}
 
 /// SetTID from host to nic, of terminus ID 5.
 const SET_TID_OF_NIC: &str = r#"{"do":"put","node":"host","bytes":"011108cb0180000105"}"#;
@@ -134,8 +157,8 @@ fn sets_the_terminus_id_of_a_block(rt: HostRuntime) -> Result<(), Fail> {
 #[test]
 fn plays_a_list_beside_a_block(rt: HostRuntime) -> Result<(), Fail> {
     let alloc = rt.alloc();
-    let plan = plan_of(alloc, TWO_TERMINI)?;
-    let certificate = certificate_of(alloc, &plan, TWO_TERMINI_CERTIFICATE)?;
+    let plan = plan_of(alloc, &plan_text(alloc)?)?;
+    let certificate = certificate_of(alloc, &plan, &certificate_text(alloc)?)?;
     let mut termini: Vec<Box<dyn Terminus>> = Vec::new(alloc);
     termini.push(Box::new(alloc, list_at(alloc, &plan, NIC)?)?)?;
     termini.push(Box::new(alloc, block_at(alloc, &plan, SSD)?)?)?;
@@ -147,8 +170,8 @@ fn plays_a_list_beside_a_block(rt: HostRuntime) -> Result<(), Fail> {
 #[test]
 fn plays_a_block_beside_a_list(rt: HostRuntime) -> Result<(), Fail> {
     let alloc = rt.alloc();
-    let plan = plan_of(alloc, TWO_TERMINI)?;
-    let certificate = certificate_of(alloc, &plan, TWO_TERMINI_CERTIFICATE)?;
+    let plan = plan_of(alloc, &plan_text(alloc)?)?;
+    let certificate = certificate_of(alloc, &plan, &certificate_text(alloc)?)?;
     let mut termini: Vec<Box<dyn Terminus>> = Vec::new(alloc);
     termini.push(Box::new(alloc, block_at(alloc, &plan, NIC)?)?)?;
     termini.push(Box::new(alloc, list_at(alloc, &plan, SSD)?)?)?;
