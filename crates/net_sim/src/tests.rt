@@ -1,14 +1,13 @@
 //! Networks that are played from texts. A row is an event, as its text stands in a list of events, and what comes of it.
+mod events;
 mod lines;
-mod riser;
+pub mod riser;
 mod rows;
 mod telling;
 mod termini;
 
 use crate::{Network, Outcome};
-use net_plan::{
-    Certificate, Counted, Event, Plan, read_certificate, read_events, read_plan,
-};
+use net_plan::{Certificate, Counted, Event, Plan, read_certificate, read_events, read_plan};
 use pdr_repository::{BlockTerminus, ListTerminus, is_lawful_list};
 use pldm_message::Tid;
 use std::alloc::{AllocError, Global};
@@ -23,11 +22,7 @@ fn plan_of(alloc: Global, text: &str) -> Result<Plan, Fail> {
 }
 
 fn certificate_of(alloc: Global, plan: &Plan, text: &str) -> Result<Certificate, Fail> {
-    Ok(read_certificate(
-        alloc,
-        plan,
-        &mut Counted::new(text.as_bytes()),
-    )?)
+    Ok(read_certificate(alloc, plan, &mut Counted::new(text.as_bytes()))?)
 }
 
 /// The events of these rows.
@@ -38,11 +33,7 @@ fn events_of(alloc: Global, plan: &Plan, rows: &[Row]) -> Result<Vec<Event>, Fai
     }
     let list = list.as_slice().join(alloc, ",")?;
     let text = format!(in alloc; r#"{{"format":1,"events":[{list}]}}"#)?;
-    Ok(read_events(
-        alloc,
-        plan,
-        &mut Counted::new(text.as_str().as_bytes()),
-    )?)
+    Ok(read_events(alloc, plan, &mut Counted::new(text.as_str().as_bytes()))?)
 }
 
 /// The terminus ID and the records of a node's terminus, as the plan lists them.

@@ -1,4 +1,4 @@
-//! The riser network, whose texts are those of `examples/riser`, and events there.
+//! The riser network, whose texts are those of `examples/riser`.
 
 pub const PLAN: &str =
     r#"{"format":1,"buses":[{"name":"b0","binding":1,"media":4},{"name":"b1","binding":1,"media":4}],"nodes":[
@@ -16,20 +16,3 @@ pub const NIC: usize = 2;
 
 /// The place of ssd in the plan's list.
 pub const SSD: usize = 3;
-
-pub const MOVE_1: &str = r#"{"do":"move","flight":1,"keep":false}"#;
-pub const MOVE_2: &str = r#"{"do":"move","flight":2,"keep":false}"#;
-pub const MOVE_3: &str = r#"{"do":"move","flight":3,"keep":false}"#;
-pub const MOVE_4: &str = r#"{"do":"move","flight":4,"keep":false}"#;
-pub const MOVE_5: &str = r#"{"do":"move","flight":5,"keep":false}"#;
-pub const MOVE_6: &str = r#"{"do":"move","flight":6,"keep":false}"#;
-pub const MOVE_7: &str = r#"{"do":"move","flight":7,"keep":false}"#;
-pub const MOVE_8: &str = r#"{"do":"move","flight":8,"keep":false}"#;
-pub const ANSWER_NIC: &str = r#"{"do":"answer","node":"nic"}"#;
-pub const ANSWER_SSD: &str = r#"{"do":"answer","node":"ssd"}"#;
-
-/// GetTID from host to nic.
-pub const GET_TID_OF_NIC: &str = r#"{"do":"put","node":"host","bytes":"011108cb01800002"}"#;
-
-/// GetTID from host to ssd.
-pub const GET_TID_OF_SSD: &str = r#"{"do":"put","node":"host","bytes":"011208cb01800002"}"#;

@@ -1,8 +1,9 @@
 //! Lists of events on the riser network.
-use super::riser::{
-    ANSWER_NIC, ANSWER_SSD, CERTIFICATE, GET_TID_OF_NIC, GET_TID_OF_SSD, MOVE_1, MOVE_2, MOVE_3,
-    MOVE_4, MOVE_5, MOVE_6, NIC, PLAN,
+use super::events::{
+    ANSWER_NIC, ANSWER_SSD, GET_TID_OF_NIC, GET_TID_OF_SSD, MOVE_1, MOVE_2, MOVE_3, MOVE_4, MOVE_5,
+    MOVE_6,
 };
+use super::riser::{CERTIFICATE, NIC, PLAN};
 use super::{Row, certificate_of, expect_run, expect_steps, expect_told, list_at, plan_of};
 use crate::Network;
 use mctp_transport::{Eid, Key, Tag};
@@ -71,18 +72,18 @@ const ENDS: [Row; 17] = [
         r#"{"do":"put","node":"host","bytes":"01ff08cb00"}"#,
         "put 1 at host",
     ),
-    (MOVE_1, "stopped 1 B10"),
+    (MOVE_1, "dropped 1 B10"),
     (
         r#"{"do":"put","node":"host","bytes":"011e08cb00"}"#,
         "put 2 at host",
     ),
-    (MOVE_2, "stopped 2 B11"),
+    (MOVE_2, "dropped 2 B11"),
     (
         r#"{"do":"put","node":"host","bytes":"011308cb00"}"#,
         "put 3 at host",
     ),
     (MOVE_3, "moved 3 to riser hops 1"),
-    (MOVE_3, "stopped 3 B11"),
+    (MOVE_3, "dropped 3 B11"),
     (
         r#"{"do":"put","node":"ssd","bytes":"0112088b00"}"#,
         "put 4 at ssd",

@@ -45,13 +45,23 @@ pub fn told(alloc: Global, plan: &Plan, outcome: &Outcome) -> Result<String, All
             let key = key_text(alloc, *key)?;
             format!(in alloc; "held {number} at {node} {key}")
         }
-        Outcome::Whole { number, node, key, bytes } => {
+        Outcome::Whole {
+            number,
+            node,
+            key,
+            bytes,
+        } => {
             let node = name_of(plan, *node);
             let key = key_text(alloc, *key)?;
             let bytes = hex_of(alloc, bytes)?;
             format!(in alloc; "whole {number} at {node} {key} bytes {bytes}")
         }
-        Outcome::Dropped { number, node, key, why } => {
+        Outcome::Dropped {
+            number,
+            node,
+            key,
+            why,
+        } => {
             let node = name_of(plan, *node);
             let key = key_text(alloc, *key)?;
             let code = why.code();
@@ -59,7 +69,7 @@ pub fn told(alloc: Global, plan: &Plan, outcome: &Outcome) -> Result<String, All
         }
         Outcome::Stopped { number, why } => {
             let code = why.code();
-            format!(in alloc; "stopped {number} {code}")
+            format!(in alloc; "dropped {number} {code}")
         }
         Outcome::Lost { number } => format!(in alloc; "lost {number}"),
         Outcome::Expired { node, was_open } => {

@@ -1,8 +1,9 @@
 //! Termini of either kind, whose terminus IDs are set and read in a run.
-use super::riser::{
-    ANSWER_NIC, ANSWER_SSD, CERTIFICATE, GET_TID_OF_NIC, GET_TID_OF_SSD, MOVE_1, MOVE_2, MOVE_3,
-    MOVE_4, MOVE_5, MOVE_6, MOVE_7, MOVE_8, NIC, PLAN, SSD,
+use super::events::{
+    ANSWER_NIC, ANSWER_SSD, GET_TID_OF_NIC, GET_TID_OF_SSD, MOVE_1, MOVE_2, MOVE_3, MOVE_4, MOVE_5,
+    MOVE_6, MOVE_7, MOVE_8,
 };
+use super::riser::{CERTIFICATE, NIC, PLAN, SSD};
 use super::{Row, block_at, certificate_of, expect_run, expect_steps, list_at, plan_of};
 use crate::Network;
 use net_check::check;
@@ -20,6 +21,7 @@ const TERMINUS_AT_SSD: &str =
 
 /// The places of the records of nic, and those of the records of both.
 const PLACES_OF_NIC: &str = r#"{"node":"nic","places":[0]}"#;
+
 const PLACES_OF_BOTH: &str = r#"{"node":"nic","places":[0]},{"node":"ssd","places":[0]}"#;
 
 /// The plan with a terminus at ssd too.
