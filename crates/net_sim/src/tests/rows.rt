@@ -108,7 +108,29 @@ const ENDS: [Row; 17] = [
     (ANSWER_NIC, "refused N05"),
 ];
 
-const LISTS: [&[Row]; 4] = [&TO_SSD, &AND_BACK, &COPIED_AND_LOST, &ENDS];
+/// GetPDR from host to nic, for up to 32 bytes of the first record.
+const GET_RECORD_OF_NIC: &str =
+    r#"{"do":"put","node":"host","bytes":"011108cb0180025100000000000000000120000000"}"#;
+
+/// nic's record is read.
+const RECORD_READ: [Row; 8] = [
+    (GET_RECORD_OF_NIC, "put 1 at host"),
+    (MOVE_1, "moved 1 to riser hops 1"),
+    (MOVE_1, "moved 1 to nic hops 2"),
+    (
+        MOVE_1,
+        "whole 1 at nic source 8 tag 3 owner 1 bytes 0180025100000000000000000120000000",
+    ),
+    (ANSWER_NIC, "answered nic flights 2 to 2"),
+    (MOVE_2, "moved 2 to riser hops 1"),
+    (MOVE_2, "moved 2 to host hops 2"),
+    (
+        MOVE_2,
+        "whole 2 at host source 17 tag 3 owner 0 bytes 0100025100000000000000000005130001000000010100000900010001010000010111",
+    ),
+];
+
+const LISTS: [&[Row]; 5] = [&TO_SSD, &AND_BACK, &COPIED_AND_LOST, &ENDS, &RECORD_READ];
 
 #[test]
 fn plays_step_by_step(rt: HostRuntime) -> Result<(), Fail> {
