@@ -13,6 +13,8 @@ mod outcome;
 mod receiving;
 mod refusal;
 mod router;
+#[cfg(test)]
+mod tests;
 
 pub use assigning::{Assignment, assign, one_assignment};
 pub use network::{Network, Played, requests_come_as_sent};
