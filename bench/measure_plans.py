@@ -66,8 +66,11 @@ def table_of(folder, kind):
 
 
 def main():
+    kinds = sys.argv[1:] or list(plans.KINDS)
+    if not set(kinds) <= set(plans.KINDS):
+        sys.exit("usage: measure_plans.py [line] [bus] [termini]")
     with tempfile.TemporaryDirectory() as folder:
-        for kind in sys.argv[1:] or plans.KINDS:
+        for kind in kinds:
             table_of(folder, kind)
 
 
