@@ -11,7 +11,9 @@ import time
 from typing import NamedTuple, Optional
 
 TOP = pathlib.Path(__file__).resolve().parent.parent
-RUNS = 25
+# Of so many runs the best time is taken, and of more where these take fewer seconds.
+RUNS = 15
+SECONDS = 3
 # GNU time forks from a small process. A child of this one would be charged with the memory that Python has.
 TIME = "/usr/bin/time"
 
@@ -50,6 +52,13 @@ def seconds_of(command, refused):
     return time.perf_counter() - start
 
 
+def best_seconds_of(command, refused):
+    times = []
+    while len(times) < RUNS or sum(times) < SECONDS:
+        times.append(seconds_of(command, refused))
+    return min(times)
+
+
 def memory_of(command, refused):
     """The most memory of a run, None where there is no GNU time."""
     if not os.access(TIME, os.X_OK):
@@ -71,7 +80,7 @@ def instructions_of(command, refused):
 def cost_of(command, refused=""):
     """The cost of a command, one that is refused with these words where there are any."""
     return Cost(
-        min(seconds_of(command, refused) for _ in range(RUNS)),
+        best_seconds_of(command, refused),
         memory_of(command, refused),
         instructions_of(command, refused),
     )
