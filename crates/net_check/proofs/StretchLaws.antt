@@ -1,16 +1,22 @@
 -- Stretches of endpoint IDs on which no range, no row and no held endpoint ID begins or ends.
-use Rattle.std.proofs.Common.{◌≡◌, ℕ, zero, suc, ◌+◌, ◌<◌, ◌≤◌, List, [], ◌∷◌, length, get_or, Bool, true, false, Some, refl, sym, ◌∙◌, ap, subst, arith, ◌⊎◌, inl, inr, below_more, Option, None}
-use Rattle.std.specs.Prelude.{◌↔◌, ◌&&◌, slice_get, nat_le, nat_lt, find, option_map, unwrap_or}
+use Rattle.std.proofs.Common.{◌≡◌, ◌==◌, ◌≢◌, ℕ, zero, suc, ◌+◌, ◌<◌, ◌≤◌, List, [], ◌∷◌, length, get_or, Bool, true, false, Some, refl, sym, ◌∙◌, ap, subst, arith, ◌⊎◌, inl, inr, below_more, Option, None}
+use Rattle.std.specs.Prelude.{◌↔◌, MatchOption, ◌&&◌, slice_get, nat_le, nat_lt, find, option_map, unwrap_or}
 use Rattle.std.proofs.lemmas.Bool.{cases_Bool, and_parts, and_from, ltb-true, leb-true, lt-ltb, le-leb, false≢true}
 use Rattle.std.proofs.lemmas.Option.{same_Some, none-some, slice_get_within}
+use Rattle.mctp_transport.specs.declared.address.Eid.{Eid}
 use Rattle.net_plan.specs.declared.plan.Plan.{Plan}
+use Rattle.net_plan.specs.declared.certificate.Certificate.{Certificate}
 use Rattle.net_plan.specs.declared.nodes.Row.{Row}
 use Rattle.net_plan.specs.declared.nodes.Node.{Node}
 use Rattle.net_plan.specs.declared.certificate.RankRange.{RankRange}
+use Rattle.net_plan.specs.declared.certificate.NodeRanks.{NodeRanks}
 use Rattle.net_check.specs.Routing.{eid_of, Holds, Covers, HasRow, IsBridge, OfItem, rows_of}
-use Rattle.net_check.specs.Ranks.{rank_in, is_in_range}
+use Rattle.net_check.specs.Ranks.{rank_in, rank, is_in_range, Falls}
 use Rattle.net_check.specs.HeldEids.{IsLedOn}
-use Rattle.net_check.specs.Stretches.{IsStretch, HasOneRank}
+use Rattle.net_check.specs.Superfluous.{NeedsItsRank}
+use Rattle.net_check.specs.Faults.{eid_number}
+use Rattle.net_check.specs.Search.{IsFirstEid}
+use Rattle.net_check.specs.Stretches.{IsStretch, HasOneRank, IsLeastFailure, ranges_of}
 use Rattle.net_check.proofs.OtherSearches.{of_one_more, of_all_items}
 
 -- from first to before past
@@ -130,3 +136,104 @@ pub one_more_held : (plan : Plan) (n at end less : ℕ) → at < less → less �
     → (k : ℕ) → k < n + 1 → IsStretch (Holds plan k) at less
 one_more_held plan n at end less some le before here =
     below_more (λ k. IsStretch (Holds plan k) at less) n (λ k lt. shorter (Holds plan k) at end less some le (before k lt)) here
+
+led_along : (plan : Plan) (n m d e : ℕ) → ((k : ℕ) → Holds plan k d ↔ Holds plan k e) → (HasRow plan m d → HasRow plan m e) → IsLedOn plan n d m → IsLedOn plan n e m
+unfolding IsLedOn
+led_along plan n m d e held routed led = λ holder holds other. elim (led holder ((held holder).1 holds) other) [
+  | inl here ↦ inl ((held m).0 here)
+  | inr (bridge, row) ↦ inr (bridge, routed row)
+]
+
+-- the demands of the rules, where nothing that they look at begins or ends
+pub led_alike : (plan : Plan) (n m at end last less : ℕ) → ((k : ℕ) → IsStretch (Holds plan k) at end) → IsStretch (HasRow plan m) at last → at < less → less ≤ end → less ≤ last
+    → IsStretch (λ e. IsLedOn plan n e m) at less
+led_alike plan n m at end last less holders rows some le le' =
+    let held : (k : ℕ) → IsStretch (Holds plan k) at less = λ k. shorter (Holds plan k) at end less some le (holders k) in
+    let routed : IsStretch (HasRow plan m) at less = shorter (HasRow plan m) at last less some le' rows in
+    (
+      some,
+      λ e low high. (
+        led_along plan n m e at (λ k. (held k).1 e low high) ((routed.1 e low high).0),
+        led_along plan n m at e (λ k. (let h = (held k).1 e low high in (h.1, h.0))) ((routed.1 e low high).1),
+      ),
+    )
+
+-- that the rank falls where the node doesn't hold the endpoint ID
+abbrev pub FallsBy : Plan → ℕ → List RankRange → List RankRange → ℕ → Type 0
+FallsBy plan n ranges nexts e = ¬ Holds plan n e → rank_in nexts e < rank_in ranges e
+
+pub fall_alike : (plan : Plan) (n : ℕ) (ranges nexts : List RankRange) (at a b c less : ℕ) → HasOneRank ranges at a → HasOneRank nexts at b → IsStretch (Holds plan n) at c
+    → at < less → less ≤ a → less ≤ b → less ≤ c → IsStretch (FallsBy plan n ranges nexts) at less
+fall_alike plan n ranges nexts at a b c less here there held some le le' le'' = (
+  some,
+  λ e low high.
+      let rank : rank_in ranges e ≡ rank_in ranges at = here.1 e low (omega arith) in
+      let next : rank_in nexts e ≡ rank_in nexts at = there.1 e low (omega arith) in
+      let holds = held.1 e low (omega arith) in
+      (
+        λ falls not. (let lt = falls (λ h. not (holds.0 h)) in omega arith),
+        λ falls not. (let lt = falls (λ h. not (holds.1 h)) in omega arith),
+      ),
+)
+
+-- that a node needs the rank that its ranges give
+abbrev pub NeedsRankBy : Plan → ℕ → List RankRange → ℕ → Type 0
+NeedsRankBy plan n ranges e = rank_in ranges e ≢ 0 → ¬ Holds plan n e × HasRow plan n e
+
+pub need_alike : (plan : Plan) (n : ℕ) (ranges : List RankRange) (at a b c less : ℕ) → HasOneRank ranges at a → IsStretch (HasRow plan n) at b → IsStretch (Holds plan n) at c
+    → at < less → less ≤ a → less ≤ b → less ≤ c → IsStretch (NeedsRankBy plan n ranges) at less
+need_alike plan n ranges at a b c less here rows held some le le' le'' = (
+  some,
+  λ e low high.
+      let rank : rank_in ranges e ≡ rank_in ranges at = here.1 e low (omega arith) in
+      let holds = held.1 e low (omega arith) in
+      let row = rows.1 e low (omega arith) in
+      (
+        λ need given. (let met = need (omega arith) in (λ h. met.0 (holds.1 h), row.0 met.1)),
+        λ need given. (let met = need (omega arith) in (λ h. met.0 (holds.0 h), row.1 met.1)),
+      ),
+)
+
+-- from the ranges to the certificate
+rank_of_ranges : (cert : Certificate) (n e : ℕ) (ranges : List RankRange) → ranges ≡ ranges_of cert n → rank_in ranges e ≡ rank cert n e
+rank_of_ranges cert n e ranges same = ap (λ xs. rank_in xs e) same ∙ by (find (λ (given : NodeRanks). given.node == n) cert.ranks.items)
+  where
+    by : (o : Option NodeRanks) → rank_in (unwrap_or (option_map (λ (given : NodeRanks). given.ranges.items) o) []) e ≡ unwrap_or (option_map (λ (given : NodeRanks). rank_in given.ranges.items e) o) 0
+    by None = refl
+    by (Some given) = refl
+
+pub fall_of_ranges : (plan : Plan) (cert : Certificate) (n : ℕ) (row : Row) (ranges nexts : List RankRange) → ranges ≡ ranges_of cert n → nexts ≡ ranges_of cert row.next
+    → (e : ℕ) → FallsBy plan n ranges nexts e ↔ Falls plan cert n row e
+unfolding Falls
+fall_of_ranges plan cert n row ranges nexts here there e =
+    let here_rank : rank_in ranges e ≡ rank cert n e = rank_of_ranges cert n e ranges here in
+    let next_rank : rank_in nexts e ≡ rank cert row.next e = rank_of_ranges cert row.next e nexts there in
+    (
+      λ falls not. (let lt = falls not in omega arith),
+      λ falls not. (let lt = falls not in omega arith),
+    )
+
+pub first_of_row : (row : Row) (P Q : ℕ → Type 0) (end : ℕ) (found : Option ℕ) → ((e : ℕ) → Covers row e → e < end) → ((e : ℕ) → row.first.value ≤ e → e < end → Covers row e)
+    → ((e : ℕ) → P e ↔ Q e) → IsLeastFailure P row.first.value end found → IsFirstEid row Q found
+first_of_row row P Q end None low high same none = λ e covers. (same e).0 (none e covers.0 (low e covers))
+first_of_row row P Q end (Some e) low high same found = (
+  λ met. found.2 ((same e).1 (met (high e found.0 found.1))),
+  λ d less covers. (same d).0 (found.3 d covers.0 less),
+)
+
+need_of_ranges : (plan : Plan) (cert : Certificate) (n : ℕ) (ranges : List RankRange) (e : ℕ) → rank_in ranges e ≡ rank cert n e → (e ≤ 255 → NeedsRankBy plan n ranges e) → NeedsItsRank plan cert n e
+unfolding NeedsItsRank
+need_of_ranges plan cert n ranges e same need within small given = need small (λ none. given (sym same ∙ none))
+
+range_of_need : (plan : Plan) (cert : Certificate) (n : ℕ) (ranges : List RankRange) (e : ℕ) → rank_in ranges e ≡ rank cert n e → n < length plan.nodes.items → e ≤ 255 → NeedsItsRank plan cert n e → NeedsRankBy plan n ranges e
+unfolding NeedsItsRank
+range_of_need plan cert n ranges e same within small need given = need within small (λ none. given (same ∙ none))
+
+pub first_of_all_eids : (plan : Plan) (cert : Certificate) (n : ℕ) (ranges : List RankRange) (found : Option Eid) → n < length plan.nodes.items → ranges ≡ ranges_of cert n
+    → IsLeastFailure (NeedsRankBy plan n ranges) 0 256 (eid_number found)
+    → MatchOption found ((e : ℕ) → NeedsItsRank plan cert n e) (λ eid. ¬ NeedsItsRank plan cert n eid.value × ((d : ℕ) → d < eid.value → NeedsItsRank plan cert n d))
+first_of_all_eids plan cert n ranges None within same none = λ e. need_of_ranges plan cert n ranges e (rank_of_ranges cert n e ranges same) (λ small. none e (omega arith) (omega arith))
+first_of_all_eids plan cert n ranges (Some eid) within same found = (
+  λ need. found.2 (range_of_need plan cert n ranges eid.value (rank_of_ranges cert n eid.value ranges same) within (omega arith) need),
+  λ d less. need_of_ranges plan cert n ranges d (rank_of_ranges cert n d ranges same) (λ small. found.3 d (omega arith) less),
+)

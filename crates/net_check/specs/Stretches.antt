@@ -1,7 +1,12 @@
 -- Stretches of endpoint IDs, each from its first to before its end, and what is said of them.
-use Rattle.std.specs.Prelude.{◌≡◌, ◌↔◌, ℕ, ◌<◌, ◌≤◌, List, Option, Some, None}
+use Rattle.std.specs.Prelude.{◌≡◌, ◌↔◌, ℕ, ◌<◌, ◌≤◌, ◌==◌, List, [], Option, Some, None, option_map, unwrap_or, find}
 use Rattle.net_plan.specs.declared.certificate.RankRange.{RankRange}
+use Rattle.net_plan.specs.declared.certificate.Certificate.{Certificate}
 use Rattle.net_check.specs.Ranks.{rank_in}
+
+-- the ranges that give n its ranks
+abbrev pub ranges_of : Certificate → ℕ → List RankRange
+ranges_of cert n = unwrap_or (option_map (λ given. given.ranges.items) (find (λ given. given.node == n) cert.ranks.items)) []
 
 -- the fact holds all along the stretch, or nowhere on it
 abbrev pub IsStretch : (ℕ → Type 0) → ℕ → ℕ → Type 0

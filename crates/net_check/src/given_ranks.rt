@@ -1,12 +1,13 @@
 //! The certified ranks, as ranges of endpoint IDs.
-ghost use Rattle.std.specs.Prelude.{◌≡◌, ℕ};
-ghost use Rattle.net_check.specs.Ranks.{rank_in, rank};
+ghost use Rattle.std.specs.Prelude.{◌≡◌};
+ghost use Rattle.net_check.specs.Ranks.{rank_in};
+ghost use Rattle.net_check.specs.Stretches.{ranges_of};
 
 use net_plan::{Certificate, RankRange};
 
 /// The ranges that give a node its ranks, none where the certificate gives it no rank.
 pub fn ranges_at(certificate: &Certificate, node: usize) -> &[RankRange]
-    ensures { (e : ℕ) → rank_in result.now e ≡ rank certificate.now node e }
+    ensures { result.now ≡ ranges_of certificate.now node }
 {
     match certificate.ranks.iter().find(|given| given.node == node) {
         Some(given) => &given.ranges,
