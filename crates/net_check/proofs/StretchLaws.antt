@@ -58,8 +58,8 @@ same_test low high d e h =
     let test : ℕ → Bool = λ x. nat_le low x && nat_lt x high in
     let passes : (x : ℕ) → IsBetween low high x → test x ≡ true = λ x between. and_from (nat_le low x) (nat_lt x high) (le-leb low x between.0) (lt-ltb x high between.1) in
     let between : (x : ℕ) → test x ≡ true → IsBetween low high x = λ x is. (
-      let parts = and_parts (nat_le low x) (nat_lt x high) is in
-      (leb-true low x parts.0, ltb-true x high parts.1)) in
+    let parts = and_parts (nat_le low x) (nat_lt x high) is in
+    (leb-true low x parts.0, ltb-true x high parts.1)) in
     elim (cases_Bool (test d)) [
       | inl has ↦ passes e (h.1 (between d has)) ∙ sym has
       | inr lacks ↦ elim (cases_Bool (test e)) [
@@ -90,9 +90,8 @@ pub row_alike : (plan : Plan) (rows : List Row) (count n at end : ℕ) → rows 
 row_alike plan rows count n at end same all some most alike =
     let P : Row → Type 0 = λ row. IsStretch (IsBetween row.first.value (row.first.value + row.size)) at end in
     let each : (k : ℕ) → OfItem (rows_of plan n) k P = (
-      let Q : List Row → Type 0 = λ rs. (k : ℕ) → OfItem rs k P in
-      subst Q same (of_all_items rows count P all alike)) in
-    (
+    let Q : List Row → Type 0 = λ rs. (k : ℕ) → OfItem rs k P in
+    subst Q same (of_all_items rows count P all alike)) in (
       some,
       λ e from before. (
         row_along plan n e at (omega arith) (omega arith) (λ k row is. ((each k row is).1 e from before).0),
@@ -149,8 +148,7 @@ pub led_alike : (plan : Plan) (n m at end last less : ℕ) → ((k : ℕ) → Is
     → IsStretch (λ e. IsLedOn plan n e m) at less
 led_alike plan n m at end last less holders rows some le le' =
     let held : (k : ℕ) → IsStretch (Holds plan k) at less = λ k. shorter (Holds plan k) at end less some le (holders k) in
-    let routed : IsStretch (HasRow plan m) at less = shorter (HasRow plan m) at last less some le' rows in
-    (
+    let routed : IsStretch (HasRow plan m) at less = shorter (HasRow plan m) at last less some le' rows in (
       some,
       λ e low high. (
         led_along plan n m e at (λ k. (held k).1 e low high) ((routed.1 e low high).0),
@@ -169,8 +167,7 @@ fall_alike plan n ranges nexts at a b c less here there held some le le' le'' = 
   λ e low high.
       let rank : rank_in ranges e ≡ rank_in ranges at = here.1 e low (omega arith) in
       let next : rank_in nexts e ≡ rank_in nexts at = there.1 e low (omega arith) in
-      let holds = held.1 e low (omega arith) in
-      (
+      let holds = held.1 e low (omega arith) in (
         λ falls not. (let lt = falls (λ h. not (holds.0 h)) in omega arith),
         λ falls not. (let lt = falls (λ h. not (holds.1 h)) in omega arith),
       ),
@@ -187,8 +184,7 @@ need_alike plan n ranges at a b c less here rows held some le le' le'' = (
   λ e low high.
       let rank : rank_in ranges e ≡ rank_in ranges at = here.1 e low (omega arith) in
       let holds = held.1 e low (omega arith) in
-      let row = rows.1 e low (omega arith) in
-      (
+      let row = rows.1 e low (omega arith) in (
         λ need given. (let met = need (omega arith) in (λ h. met.0 (holds.1 h), row.0 met.1)),
         λ need given. (let met = need (omega arith) in (λ h. met.0 (holds.0 h), row.1 met.1)),
       ),
@@ -207,8 +203,7 @@ pub fall_of_ranges : (plan : Plan) (cert : Certificate) (n : ℕ) (row : Row) (r
 unfolding Falls
 fall_of_ranges plan cert n row ranges nexts here there e =
     let here_rank : rank_in ranges e ≡ rank cert n e = rank_of_ranges cert n e ranges here in
-    let next_rank : rank_in nexts e ≡ rank cert row.next e = rank_of_ranges cert row.next e nexts there in
-    (
+    let next_rank : rank_in nexts e ≡ rank cert row.next e = rank_of_ranges cert row.next e nexts there in (
       λ falls not. (let lt = falls not in omega arith),
       λ falls not. (let lt = falls not in omega arith),
     )

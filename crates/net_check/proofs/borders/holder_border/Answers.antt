@@ -12,7 +12,7 @@ loop-holder-preserved c =
     record {
       some = grind (arith, common_steps);
       alike = one_more_held plan c.loop-holder.holder at c.loop-holder.end less (grind (arith, common_steps)) (grind (arith, common_steps)) c.loop-holder.invariant.alike
-      (shorter (Holds plan c.loop-holder.holder) at c.held_border.result less (grind (arith, common_steps)) (grind (arith, common_steps)) c.held_border.ensures);
+          (shorter (Holds plan c.loop-holder.holder) at c.held_border.result less (grind (arith, common_steps)) (grind (arith, common_steps)) c.held_border.ensures);
     }
 
 pub returns : goal.returns

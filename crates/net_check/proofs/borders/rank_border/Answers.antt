@@ -9,9 +9,9 @@ loop-range-preserved c =
     record {
       some = c.cut-end.ensures.after;
       alike = one_more_alike c.args.ranges.now c.loop-range.range-index range (λ (one : RankRange). IsBetween one.first.value (one.first.value + one.size)) c.args.eid.value c.loop-range.end c.cut-end.result
-      (omega arith) c.range-item.is
-      (between_alike range.first.value (range.first.value + range.size) _ _ c.args.eid.value c.cut-end.result (omega arith) (omega arith) c.cut-end.ensures.alike)
-      c.cut-end.ensures.before c.loop-range.invariant.alike;
+          (omega arith) c.range-item.is
+          (between_alike range.first.value (range.first.value + range.size) _ _ c.args.eid.value c.cut-end.result (omega arith) (omega arith) c.cut-end.ensures.alike)
+          c.cut-end.ensures.before c.loop-range.invariant.alike;
     }
 
 pub returns : goal.returns

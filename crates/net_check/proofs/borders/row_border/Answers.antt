@@ -10,9 +10,9 @@ loop-row-preserved c =
       some = c.cut-end.ensures.after;
       most = omega arith;
       alike = one_more_alike c.rows_at-rows.result.now c.loop-row.row-index row (λ (one : Row). IsBetween one.first.value (one.first.value + one.size)) c.args.eid.value c.loop-row.end c.cut-end.result
-      (omega arith) c.row-item.is
-      (between_alike row.first.value (row.first.value + row.size) _ _ c.args.eid.value c.cut-end.result (omega arith) (omega arith) c.cut-end.ensures.alike)
-      c.cut-end.ensures.before c.loop-row.invariant.alike;
+          (omega arith) c.row-item.is
+          (between_alike row.first.value (row.first.value + row.size) _ _ c.args.eid.value c.cut-end.result (omega arith) (omega arith) c.cut-end.ensures.alike)
+          c.cut-end.ensures.before c.loop-row.invariant.alike;
     }
 
 pub returns : goal.returns
