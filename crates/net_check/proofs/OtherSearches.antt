@@ -7,7 +7,6 @@ use Rattle.net_plan.specs.declared.nodes.Row.{Row}
 use Rattle.net_plan.specs.declared.nodes.Node.{Node}
 use Rattle.net_plan.specs.declared.terminus.Terminus.{Terminus}
 use Rattle.net_plan.specs.declared.terminus.Record as listed
-use Rattle.net_plan.specs.declared.certificate.Certificate.{Certificate}
 use Rattle.net_check.specs.declared.spot.Spot.{Spot}
 use Rattle.net_check.specs.Routing.{Holds, HasRow, Covers, rows_of, OfItem}
 use Rattle.net_check.specs.Repositories.{terminus_of}

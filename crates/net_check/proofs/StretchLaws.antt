@@ -1,5 +1,5 @@
 -- Stretches of endpoint IDs on which no range, no row and no held endpoint ID begins or ends.
-use Rattle.std.proofs.Common.{◌≡◌, ◌==◌, ◌≢◌, ℕ, zero, suc, ◌+◌, ◌<◌, ◌≤◌, List, [], ◌∷◌, length, get_or, Bool, true, false, Some, refl, sym, ◌∙◌, ap, subst, arith, ◌⊎◌, inl, inr, below_more, Option, None}
+use Rattle.std.proofs.Common.{◌≡◌, ◌==◌, ◌≢◌, ℕ, suc, ◌+◌, ◌<◌, ◌≤◌, List, [], ◌∷◌, length, get_or, Bool, true, Some, refl, sym, ◌∙◌, ap, subst, arith, inl, inr, below_more, Option, None}
 use Rattle.std.specs.Prelude.{◌↔◌, MatchOption, ◌&&◌, slice_get, nat_le, nat_lt, find, option_map, unwrap_or}
 use Rattle.std.proofs.lemmas.Bool.{cases_Bool, and_parts, and_from, ltb-true, leb-true, lt-ltb, le-leb, false≢true}
 use Rattle.std.proofs.lemmas.Option.{same_Some, none-some, slice_get_within}
@@ -10,7 +10,7 @@ use Rattle.net_plan.specs.declared.nodes.Row.{Row}
 use Rattle.net_plan.specs.declared.nodes.Node.{Node}
 use Rattle.net_plan.specs.declared.certificate.RankRange.{RankRange}
 use Rattle.net_plan.specs.declared.certificate.NodeRanks.{NodeRanks}
-use Rattle.net_check.specs.Routing.{eid_of, Holds, Covers, HasRow, IsBridge, OfItem, rows_of}
+use Rattle.net_check.specs.Routing.{eid_of, Holds, Covers, HasRow, OfItem, rows_of}
 use Rattle.net_check.specs.Ranks.{rank_in, rank, is_in_range, Falls}
 use Rattle.net_check.specs.HeldEids.{IsLedOn}
 use Rattle.net_check.specs.Superfluous.{NeedsItsRank}
