@@ -4,6 +4,7 @@ pub mod SharedBuses
 pub mod PoolsOf
 pub mod OtherSpots
 pub mod OtherSearches
+pub mod StretchLaws
 pub mod RecordSpots
 pub mod Handles
 pub mod Beyond

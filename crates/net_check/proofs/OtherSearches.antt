@@ -7,12 +7,10 @@ use Rattle.net_plan.specs.declared.nodes.Row.{Row}
 use Rattle.net_plan.specs.declared.nodes.Node.{Node}
 use Rattle.net_plan.specs.declared.terminus.Terminus.{Terminus}
 use Rattle.net_plan.specs.declared.terminus.Record as listed
-use Rattle.net_plan.specs.declared.certificate.Certificate.{Certificate}
 use Rattle.net_check.specs.declared.spot.Spot.{Spot}
 use Rattle.net_check.specs.Routing.{Holds, HasRow, Covers, rows_of, OfItem}
 use Rattle.net_check.specs.Repositories.{terminus_of}
 use Rattle.net_check.specs.Locators.{IsEidLocator, HasOneByteAsEid, IsHeldByTerminus, LocatesTerminus}
-use Rattle.net_check.specs.Superfluous.{NeedsItsRank}
 use Rattle.net_check.specs.Rules.{AtNodeOrEid, AtItemOrEid}
 use Rattle.net_check.specs.Search.{IsFirstSpot}
 use Rattle.net_check.proofs.OtherSpots.{node_and_eids_meet, items_and_eids_meet, item_or_eid_fails}
@@ -115,8 +113,3 @@ pub found_no_item : {A : Type 0} (items others : List A) (n : ℕ) (P : A → Ty
 found_no_item {A} items others n P Q same end all =
     let R : List A → Type 0 = λ xs. IsFirstSpot (AtItemOrEid xs P Q) None in
     subst R same (items_and_eids_meet others P Q (of_all_items others n (λ item. P item × ((e : ℕ) → Q item e)) end all))
-
--- beyond 255 nothing is asked
-pub ranks_needed : (plan : Plan) (cert : Certificate) (n count : ℕ) → 256 ≤ count → ((e : ℕ) → e < count → NeedsItsRank plan cert n e) → (e : ℕ) → NeedsItsRank plan cert n e
-unfolding NeedsItsRank
-ranks_needed plan cert n count end below e within small given = below e (omega arith) within small given

@@ -6,7 +6,7 @@ pub mod Rows
 pub mod Owners
 pub mod Pools
 pub mod Ranks
-pub mod RankTables
+pub mod Stretches
 pub mod HeldEids
 pub mod Locators
 pub mod Superfluous

@@ -11,7 +11,6 @@ ghost use Rattle.net_check.specs.ExactMessages.{RunsAsSent};
 
 use crate::check_error::CheckError;
 use crate::first_fault::first_of_all;
-use crate::trial::Trial;
 use net_plan::{Certificate, Plan};
 use std::alloc::Global;
 use std::marker::Model;
@@ -54,7 +53,7 @@ impl<'a> Checked<'a> {
 }
 
 /// Whether each rule holds of the plan and the certificate. Otherwise the first fault is answered, or want of memory:
-/// it takes 256 bytes for each node, and sets of the handles and places of one terminus after the other.
+/// it takes sets of the handles and places of one terminus after the other.
 #[tactic(auto, using(crate::proofs::Ends::ends_within_rank, crate::proofs::Whole::whole_headline, crate::proofs::Whole::accepted_delivers, crate::proofs::Exact::runs_as_sent))]
 pub fn check<'a>(
     alloc: Global,
@@ -80,8 +79,7 @@ pub fn check<'a>(
     // that message.
     ensures exact { OnOk result ((key : KeyValue) (d : ℕ) (w : NetworkState) → RunsAsSent 64 plan.now key d w) }
 {
-    let trial = Trial::new(alloc, plan, certificate)?;
-    if let Some(fault) = first_of_all(alloc, &trial)? {
+    if let Some(fault) = first_of_all(alloc, plan, certificate)? {
         return Err(CheckError::Fault(fault));
     }
     Ok(Checked { plan, certificate })

@@ -8,15 +8,19 @@ use crate::plan_fault::first_of_plan_at;
 use crate::rule::{RULES, Rule};
 use crate::rules::{chains, owners, ranks, superfluous};
 use crate::spot::Spot;
-use crate::trial::Trial;
+use net_plan::{Certificate, Plan};
 use std::alloc::{AllocError, Global};
 
 /// The first fault, by the order of the rules.
-pub fn first_of_all(alloc: Global, trial: &Trial) -> Result<Option<Fault>, AllocError>
-    ensures { IfOk result (IsFirstOfAll trial.now.plan.now trial.now.certificate.now) }
+pub fn first_of_all(
+    alloc: Global,
+    plan: &Plan,
+    certificate: &Certificate,
+) -> Result<Option<Fault>, AllocError>
+    ensures { IfOk result (IsFirstOfAll plan.now certificate.now) }
 {
     for rule in RULES {
-        if let Some(fault) = first_of_rule(alloc, trial, rule)? {
+        if let Some(fault) = first_of_rule(alloc, plan, certificate, rule)? {
             return Ok(Some(fault));
         }
     }
@@ -24,11 +28,16 @@ pub fn first_of_all(alloc: Global, trial: &Trial) -> Result<Option<Fault>, Alloc
 }
 
 /// The rule's first fault.
-fn first_of_rule(alloc: Global, trial: &Trial, rule: Rule) -> Result<Option<Fault>, AllocError>
-    ensures { IfOk result (IsFirstOfRule trial.now.plan.now trial.now.certificate.now rule) }
+fn first_of_rule(
+    alloc: Global,
+    plan: &Plan,
+    certificate: &Certificate,
+    rule: Rule,
+) -> Result<Option<Fault>, AllocError>
+    ensures { IfOk result (IsFirstOfRule plan.now certificate.now rule) }
 {
-    for node in 0..trial.plan.nodes.len() {
-        if let Some(spot) = first_at(alloc, trial, rule, node)? {
+    for node in 0..plan.nodes.len() {
+        if let Some(spot) = first_at(alloc, plan, certificate, rule, node)? {
             return Ok(Some(Fault {
                 rule,
                 node,
@@ -43,18 +52,19 @@ fn first_of_rule(alloc: Global, trial: &Trial, rule: Rule) -> Result<Option<Faul
 /// The first place at the node where the rule is broken.
 fn first_at(
     alloc: Global,
-    trial: &Trial,
+    plan: &Plan,
+    certificate: &Certificate,
     rule: Rule,
     node: usize,
 ) -> Result<Option<Spot>, AllocError>
-    requires { node < length trial.now.plan.now.nodes.items }
-    ensures { IfOk result (IsFirstSpot (Demands trial.now.plan.now trial.now.certificate.now rule node)) }
+    requires { node < length plan.now.nodes.items }
+    ensures { IfOk result (IsFirstSpot (Demands plan.now certificate.now rule node)) }
 {
     match rule {
-        Rule::C07 => Ok(owners::unlawful_owner(trial.plan, trial.certificate, node)),
-        Rule::C10 => Ok(ranks::row_without_fall(trial, node)),
-        Rule::C14 => chains::unchained_record(alloc, trial.plan, trial.certificate, node),
-        Rule::C16 => Ok(superfluous::superfluous_entry(trial, node)),
-        rule => first_of_plan_at(alloc, trial.plan, rule, node),
+        Rule::C07 => Ok(owners::unlawful_owner(plan, certificate, node)),
+        Rule::C10 => Ok(ranks::row_without_fall(plan, certificate, node)),
+        Rule::C14 => chains::unchained_record(alloc, plan, certificate, node),
+        Rule::C16 => Ok(superfluous::superfluous_entry(plan, certificate, node)),
+        rule => first_of_plan_at(alloc, plan, rule, node),
     }
 }

@@ -1,20 +1,21 @@
 //! Whether a planned MCTP network routes its packets, gives its endpoint IDs and chains its records as it should.
 #![tactic(auto)]
 
+mod borders;
 mod certify_error;
 mod certifying;
 mod check_error;
 mod checked;
 mod fault;
 mod first_fault;
+mod given_ranks;
 mod laws;
 mod plan_fault;
-mod rank_tables;
 mod routing;
 mod rule;
 mod rules;
 mod spot;
-mod trial;
+mod stretches;
 
 pub use certify_error::CertifyError;
 pub use certifying::certify;

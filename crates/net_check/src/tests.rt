@@ -7,6 +7,7 @@ mod deliveries;
 mod owners_and_pools;
 mod records;
 mod riser;
+mod stretches;
 mod superfluous;
 
 use crate::{CheckError, Fault, Rule, check};

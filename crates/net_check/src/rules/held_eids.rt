@@ -6,9 +6,11 @@ ghost use Rattle.net_check.specs.Rules.{PlanDemands};
 ghost use Rattle.net_check.specs.Faults.{eid_number};
 ghost use Rattle.net_check.specs.Search.{IsFirstSpot, IsFirstEid};
 
+use crate::borders::{holder_border, row_border};
 use crate::routing::{holds, is_bridge, row_end, rows_at};
 use crate::rule::Rule;
 use crate::spot::Spot;
+use crate::stretches::{Stretched, first_broken};
 use mctp_transport::Eid;
 use net_plan::{Plan, Row};
 
@@ -33,13 +35,35 @@ pub fn row_without_way_on(plan: &Plan, node: usize) -> Option<Spot>
 fn first_without_way_on(plan: &Plan, node: usize, row: &Row) -> Option<Eid>
     ensures { IsFirstEid row.now (λ e. IsLedOn plan.now node e row.now.next) (eid_number result) }
 {
-    for value in u16::from(row.first.value)..row_end(row).min(256) {
-        let eid = Eid::new(value as u8);
-        if !is_led_on(plan, node, eid, row.next) {
-            return Some(eid);
-        }
+    let way_on = WayOn {
+        plan,
+        node,
+        next: row.next,
+    };
+    first_broken(&way_on, u16::from(row.first.value), row_end(row).min(256))
+}
+
+/// That a row leads on what other nodes hold.
+#[derive(Clone, Copy)]
+struct WayOn<'a> {
+    plan: &'a Plan,
+    node: usize,
+    next: usize,
+}
+
+impl<'a> Stretched for WayOn<'a> {
+    ghost use Rattle.std.specs.Prelude.{ℕ, ◌↔◌, IsTrue};
+    ghost use Rattle.net_check.specs.HeldEids.{IsLedOn};
+
+    ghost Demand = { λ way e. IsLedOn way.plan.now way.node e way.next };
+
+    fn is_met_at(&self, eid: Eid) -> bool {
+        is_led_on(self.plan, self.node, eid, self.next)
     }
-    None
+
+    fn stretch_end(&self, eid: Eid) -> u16 {
+        holder_border(self.plan, eid).min(row_border(self.plan, self.next, eid))
+    }
 }
 
 /// Whether no node other than this one holds the endpoint ID, or the next node holds it or is a bridge with a row for

@@ -1,24 +1,26 @@
 //! C10: along a row the rank falls, for each endpoint ID that the node does not hold.
-ghost use Rattle.std.specs.Prelude.{ℕ, ◌<◌, ◌↔◌, IsTrue, length};
+ghost use Rattle.std.specs.Prelude.{ℕ, ◌<◌};
 ghost use Rattle.net_check.specs.Ranks.{Falls};
 ghost use Rattle.net_check.specs.Rules.{CertificateDemands};
 ghost use Rattle.net_check.specs.Faults.{eid_number};
 ghost use Rattle.net_check.specs.Search.{IsFirstSpot, IsFirstEid};
 
+use crate::borders::{held_border, rank_border};
+use crate::given_ranks::{ranges_at, rank_in_ranges};
 use crate::routing::{holds, row_end, rows_at};
 use crate::rule::Rule;
 use crate::spot::Spot;
-use crate::trial::Trial;
+use crate::stretches::{Stretched, first_broken};
 use mctp_transport::Eid;
-use net_plan::Row;
+use net_plan::{Certificate, Plan, RankRange, Row};
 
 /// Where a row leads to a node of the same rank or a higher one.
-pub fn row_without_fall(trial: &Trial, node: usize) -> Option<Spot>
-    ensures { IsFirstSpot (CertificateDemands trial.now.plan.now trial.now.certificate.now Rule.C10 node) result }
+pub fn row_without_fall(plan: &Plan, certificate: &Certificate, node: usize) -> Option<Spot>
+    ensures { IsFirstSpot (CertificateDemands plan.now certificate.now Rule.C10 node) result }
 {
-    let rows = rows_at(trial.plan, node);
+    let rows = rows_at(plan, node);
     for (r, row) in rows.iter().enumerate() {
-        if let Some(eid) = first_without_fall(trial, node, row) {
+        if let Some(eid) = first_without_fall(plan, certificate, node, row) {
             return Some(Spot {
                 entry: Some(r),
                 eid: Some(eid),
@@ -29,22 +31,43 @@ pub fn row_without_fall(trial: &Trial, node: usize) -> Option<Spot>
 }
 
 /// The first of the row's endpoint IDs along which the rank does not fall.
-fn first_without_fall(trial: &Trial, node: usize, row: &Row) -> Option<Eid>
-    ensures { IsFirstEid row.now (Falls trial.now.plan.now trial.now.certificate.now node row.now) (eid_number result) }
+fn first_without_fall(plan: &Plan, certificate: &Certificate, node: usize, row: &Row) -> Option<Eid>
+    ensures { IsFirstEid row.now (Falls plan.now certificate.now node row.now) (eid_number result) }
 {
-    for value in u16::from(row.first.value)..row_end(row).min(256) {
-        let eid = Eid::new(value as u8);
-        if !falls(trial, node, row, eid) {
-            return Some(eid);
-        }
-    }
-    None
+    let fall = Fall {
+        plan,
+        node,
+        ranges: ranges_at(certificate, node),
+        next_ranges: ranges_at(certificate, row.next),
+    };
+    first_broken(&fall, u16::from(row.first.value), row_end(row).min(256))
 }
 
-/// Whether the node holds the endpoint ID, or the rank falls along the row.
-#[tactic(auto, unfolding(crate::specs::Ranks::Falls))]
-fn falls(trial: &Trial, node: usize, row: &Row, eid: Eid) -> bool
-    ensures { IsTrue result ↔ Falls trial.now.plan.now trial.now.certificate.now node row.now eid.value }
-{
-    holds(trial.plan, node, eid) || trial.rank(row.next, eid.value) < trial.rank(node, eid.value)
+/// That the rank falls along a row.
+#[derive(Clone, Copy)]
+struct Fall<'a> {
+    plan: &'a Plan,
+    node: usize,
+    ranges: &'a [RankRange],
+    next_ranges: &'a [RankRange],
+}
+
+impl<'a> Stretched for Fall<'a> {
+    ghost use Rattle.std.specs.Prelude.{ℕ, ◌<◌, ◌↔◌, IsTrue};
+    ghost use Rattle.net_check.specs.Routing.{Holds};
+    ghost use Rattle.net_check.specs.Ranks.{rank_in};
+
+    ghost Demand = { λ fall e. ¬ Holds fall.plan.now fall.node e → rank_in fall.next_ranges.now e < rank_in fall.ranges.now e };
+
+    /// Whether the node holds the endpoint ID, or the rank is less at the row's next node.
+    fn is_met_at(&self, eid: Eid) -> bool {
+        holds(self.plan, self.node, eid)
+            || rank_in_ranges(self.next_ranges, eid.value) < rank_in_ranges(self.ranges, eid.value)
+    }
+
+    fn stretch_end(&self, eid: Eid) -> u16 {
+        rank_border(self.ranges, eid)
+            .min(rank_border(self.next_ranges, eid))
+            .min(held_border(self.plan, self.node, eid))
+    }
 }

@@ -5,6 +5,8 @@ ghost use Rattle.net_check.specs.Superfluous.{NeedsItsLevel, NeedsItsPlaces, Nee
 ghost use Rattle.net_check.specs.Rules.{CertificateDemands};
 ghost use Rattle.net_check.specs.Search.{IsFirstSpot};
 
+use crate::borders::{held_border, rank_border, row_border};
+use crate::given_ranks::{ranges_at, rank_in_ranges};
 use crate::routing::holds;
 use crate::rule::Rule;
 use crate::rules::chains::places_at;
@@ -12,22 +14,22 @@ use crate::rules::held_eids::has_row;
 use crate::rules::owners::{given_level_of, owner_at};
 use crate::rules::records::records_at;
 use crate::spot::Spot;
-use crate::trial::Trial;
+use crate::stretches::{Stretched, first_broken};
 use mctp_transport::Eid;
-use net_plan::{Certificate, Plan};
+use net_plan::{Certificate, Plan, RankRange};
 
 /// Where the certificate gives the node a level, places or a rank that it has no use for.
-pub fn superfluous_entry(trial: &Trial, node: usize) -> Option<Spot>
-    requires { node < length trial.now.plan.now.nodes.items }
-    ensures { IsFirstSpot (CertificateDemands trial.now.plan.now trial.now.certificate.now Rule.C16 node) result }
+pub fn superfluous_entry(plan: &Plan, certificate: &Certificate, node: usize) -> Option<Spot>
+    requires { node < length plan.now.nodes.items }
+    ensures { IsFirstSpot (CertificateDemands plan.now certificate.now Rule.C16 node) result }
 {
-    if !needs_what_it_is_given(trial.plan, trial.certificate, node) {
+    if !needs_what_it_is_given(plan, certificate, node) {
         return Some(Spot {
             entry: None,
             eid: None,
         });
     }
-    match superfluous_rank(trial, node) {
+    match superfluous_rank(plan, certificate, node) {
         Some(eid) => Some(Spot {
             entry: None,
             eid: Some(eid),
@@ -37,29 +39,46 @@ pub fn superfluous_entry(trial: &Trial, node: usize) -> Option<Spot>
 }
 
 /// The first endpoint ID for which the node is given a rank and needs none.
-fn superfluous_rank(trial: &Trial, node: usize) -> Option<Eid>
-    requires { node < length trial.now.plan.now.nodes.items }
-    ensures { MatchOption result ((e : ℕ) → NeedsItsRank trial.now.plan.now trial.now.certificate.now node e)
-        (λ eid. ¬ NeedsItsRank trial.now.plan.now trial.now.certificate.now node eid.value
-        × ((d : ℕ) → d < eid.value → NeedsItsRank trial.now.plan.now trial.now.certificate.now node d)) }
+fn superfluous_rank(plan: &Plan, certificate: &Certificate, node: usize) -> Option<Eid>
+    requires { node < length plan.now.nodes.items }
+    ensures { MatchOption result ((e : ℕ) → NeedsItsRank plan.now certificate.now node e)
+        (λ eid. ¬ NeedsItsRank plan.now certificate.now node eid.value
+        × ((d : ℕ) → d < eid.value → NeedsItsRank plan.now certificate.now node d)) }
 {
-    for value in 0..256u16 {
-        let eid = Eid::new(value as u8);
-        if !needs_its_rank(trial, node, eid) {
-            return Some(eid);
-        }
-    }
-    None
+    let need = RankNeed {
+        plan,
+        node,
+        ranges: ranges_at(certificate, node),
+    };
+    first_broken(&need, 0, 256)
 }
 
-/// Whether the node is given no rank for the endpoint ID, or does not hold it and has a row for it.
-#[tactic(auto, unfolding(crate::specs::Superfluous::NeedsItsRank))]
-fn needs_its_rank(trial: &Trial, node: usize, eid: Eid) -> bool
-    requires { node < length trial.now.plan.now.nodes.items }
-    ensures { IsTrue result ↔ NeedsItsRank trial.now.plan.now trial.now.certificate.now node eid.value }
-{
-    trial.rank(node, eid.value) == 0
-        || (!holds(trial.plan, node, eid) && has_row(trial.plan, node, eid))
+/// That a node needs the ranks that it is given.
+#[derive(Clone, Copy)]
+struct RankNeed<'a> {
+    plan: &'a Plan,
+    node: usize,
+    ranges: &'a [RankRange],
+}
+
+impl<'a> Stretched for RankNeed<'a> {
+    ghost use Rattle.std.specs.Prelude.{◌≢◌, ℕ, ◌↔◌, IsTrue};
+    ghost use Rattle.net_check.specs.Routing.{Holds, HasRow};
+    ghost use Rattle.net_check.specs.Ranks.{rank_in};
+
+    ghost Demand = { λ need e. rank_in need.ranges.now e ≢ 0 → ¬ Holds need.plan.now need.node e × HasRow need.plan.now need.node e };
+
+    /// Whether the node is given no rank for the endpoint ID, or does not hold it and has a row for it.
+    fn is_met_at(&self, eid: Eid) -> bool {
+        rank_in_ranges(self.ranges, eid.value) == 0
+            || (!holds(self.plan, self.node, eid) && has_row(self.plan, self.node, eid))
+    }
+
+    fn stretch_end(&self, eid: Eid) -> u16 {
+        rank_border(self.ranges, eid)
+            .min(row_border(self.plan, self.node, eid))
+            .min(held_border(self.plan, self.node, eid))
+    }
 }
 
 /// Whether the node is given no level and no places beyond its need.

@@ -5,4 +5,4 @@ use Rattle.net_check.specs.Faults.{order_of}
 use Rattle.net_check.proofs.first_fault.first_of_all.Given as goal
 
 abbrev pub invariant-loop-rule : goal.invariant-loop-rule
-invariant-loop-rule l = (rule : Rule) → order_of rule < l.rule-index → RuleHolds l.trial.plan.now l.trial.certificate.now rule
+invariant-loop-rule l = (rule : Rule) → order_of rule < l.rule-index → RuleHolds l.plan l.certificate rule

@@ -1,6 +1,5 @@
-use Rattle.std.proofs.Common.{arith}
-use Rattle.net_check.proofs.OtherSearches.{ranks_needed}
+use Rattle.net_check.proofs.StretchLaws.{first_of_all_eids}
 use Rattle.net_check.proofs.rules.superfluous.superfluous_rank.Goals as goal
 
 pub returns : goal.returns
-returns c = ranks_needed c.args.trial.now.plan.now c.args.trial.now.certificate.now c.args.node c.loop-value.value (omega arith) c.loop-value.invariant
+returns c = first_of_all_eids c.args.plan.now c.args.certificate.now c.args.node c.ranges_at.result.now c.first_broken.result c.requires c.ranges_at.ensures c.first_broken.ensures
