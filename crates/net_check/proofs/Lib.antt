@@ -22,6 +22,7 @@ pub mod ChainLaws
 pub mod ChainPlaces
 pub mod TableLaws
 pub mod EidMoves
+pub mod StretchLaws
 pub mod RankRunLaws
 pub mod Filters
 pub mod RankLaws
