@@ -1,6 +1,8 @@
 -- Stretches of EIDs that the nodes send on alike.
-use Rattle.std.proofs.Common.{◌≡◌, ℕ, ◌<◌, ◌≤◌, List, [], ◌∷◌, length, Option, Some, None, refl, sym, ◌∙◌, subst, arith, inl, inr}
+use Rattle.std.proofs.Common.{◌≡◌, ℕ, ◌<◌, ◌≤◌, List, [], ◌∷◌, length, Option, Some, None, refl, sym, ◌∙◌, subst, arith, inl, inr, min, ◌+◌, ◌⊎◌}
+use Rattle.std.specs.Prelude.{Any, MatchOption, slice_get}
 use Rattle.std.proofs.lemmas.Bool.{cases_lt}
+use Rattle.std.proofs.Math.Nat.{min-eq_left, min-eq_right}
 use Rattle.mctp_bridge.specs.declared.row.Hop.{Hop}
 use Rattle.mctp_bridge.specs.declared.row.Row as bridge
 use Rattle.mctp_bridge.specs.declared.pieces.Piece.{Piece}
@@ -11,7 +13,7 @@ use Rattle.net_plan.specs.declared.plan.Plan.{Plan}
 use Rattle.net_check.specs.Routing.{MovesTo, rows_of}
 use Rattle.net_check.specs.RoutingLoops.{RowsAreApart, NamesFor}
 use Rattle.net_check.specs.Tables.{IsHopOf, SendsAs}
-use Rattle.net_check.specs.Stretches.{MovesAlike, MoveAlike, HoldsAlike, HaveOneHop}
+use Rattle.net_check.specs.Stretches.{MovesAlike, MoveAlike, HoldsAlike, HaveOneHop, HoldsBeside, HaveEdge, IsCutAt, IsCut}
 use Rattle.net_check.proofs.EidMoves.{same_next, moves_within}
 
 -- ---- the first piece
@@ -34,6 +36,32 @@ module _ (rows : List bridge.Row) (first last : ℕ) (piece : Piece) (later : Li
   piece_hop ordered =
       let routed = at_place (λ p. (e : ℕ) → cut.LiesIn e p → rule.IsNext rows e p.hop) (cut.piece_value piece ∷ later) 0 (cut.piece_value piece) are.routed (omega arith) refl in
       (piece.hop, λ e low high. routed e (omega (arith, low, piece_begins ordered), high))
+
+  -- it ends with the interval, or at an edge
+  ends_whole : last ≤ 255 → (hop : Option Hop) → MatchOption hop (cut.IsGap rows first last (cut.piece_value piece)) (λ h. Any (λ row. (row.hop ≡ h) × cut.IsPartOf first last (cut.piece_value piece) row) rows)
+      → (piece.last.value ≡ last) ⊎ HaveEdge rows piece.last.value
+  ends_whole small None gap = elim gap.above [
+    | inl is ↦ inl is
+    | inr (k, row, lt, at, covers) ↦ inr (k, row, lt, at, elim (cases_lt row.first.value (piece.last.value + 1)) [
+      | inr from ↦ inr (omega (arith, from, covers.0))
+      | inl before ↦
+          absurd (gap.bare piece.last.value (piece_inside.1, omega arith) (k, row, lt, at, (omega (arith, before), omega (arith, covers.1), omega (arith, piece_inside.2, small))))
+    ])
+  ]
+  ends_whole small (Some h) (k, row, lt, at, (goes, part)) = elim (cases_lt piece.last.value last) [
+    | inr from ↦ inl (omega (arith, from, piece_inside.2))
+    | inl less ↦ (
+        let covers = ((part piece.last.value).0 (piece_inside.1, omega arith)).2 in
+        inr (k, row, lt, at, elim (cases_lt (piece.last.value + 1) (row.first.value + row.size)) [
+          | inr past ↦ inl (omega (arith, past, covers.1))
+          | inl more ↦ (
+              let lies = (part (piece.last.value + 1)).1 (omega (arith, piece_inside.0, piece_inside.1), omega (arith, less), (omega (arith, covers.0), more, omega (arith, less, small))) in
+              absurd (omega (arith, lies.1)))
+        ]))
+  ]
+
+  pub piece_ends : last ≤ 255 → (piece.last.value ≡ last) ⊎ HaveEdge rows piece.last.value
+  piece_ends small = ends_whole small piece.hop (at_place (cut.IsWhole rows first last) (cut.piece_value piece ∷ later) 0 (cut.piece_value piece) are.whole (omega arith) refl)
 
 -- an interval has a piece
 pub some_piece : (rows : List bridge.Row) (first last : ℕ) → first ≤ last → ¬ cut.ArePieces rows first last []
@@ -63,3 +91,26 @@ all_alike plan first last each n e low high m = (
     λ move. (each n (moves_within plan first n m move) e low high m).0 move,
     λ move. (each n (moves_within plan e n m move) e low high m).1 move,
 )
+
+-- ---- where a stretch ends
+
+-- what holds of two numbers holds of the lesser
+pub of_lesser : (P : ℕ → Type 0) (a b least : ℕ) → least ≡ min a b → P a → P b → P least
+of_lesser P a b least is one other = elim (cases_lt a b) [
+  | inl before ↦ subst P (sym (is ∙ min-eq_left (omega (arith, before)))) one
+  | inr from ↦ subst P (sym (is ∙ min-eq_right from)) other
+]
+
+-- with the node's own EID or with one of its rows
+pub cut_by_held : (plan : Plan) (n e : ℕ) (rows : List bridge.Row) → (e ≡ 254) ⊎ HoldsBeside plan n e → (e ≡ 254) ⊎ IsCutAt plan n rows e
+cut_by_held plan n e rows (inl is) = inl is
+cut_by_held plan n e rows (inr held) = inr (inl held)
+
+pub cut_by_row : (plan : Plan) (n e : ℕ) (rows : List bridge.Row) → (e ≡ 254) ⊎ HaveEdge rows e → (e ≡ 254) ⊎ IsCutAt plan n rows e
+cut_by_row plan n e rows (inl is) = inl is
+cut_by_row plan n e rows (inr edge) = inr (inr edge)
+
+-- at one node, so at some
+pub cut_by_node : (plan : Plan) (tables : List (List bridge.Row)) (n e : ℕ) (rows : List bridge.Row) → slice_get tables n ≡ Some rows → (e ≡ 254) ⊎ IsCutAt plan n rows e → (e ≡ 254) ⊎ IsCut plan tables e
+cut_by_node plan tables n e rows is (inl last) = inl last
+cut_by_node plan tables n e rows is (inr at) = inr (n, rows, is, at)

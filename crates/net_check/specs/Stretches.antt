@@ -1,5 +1,5 @@
 -- Stretches of neighboring EIDs that the nodes of a plan send on alike.
-use Rattle.std.specs.Prelude.{◌↔◌, ℕ, ◌≤◌, List, Option}
+use Rattle.std.specs.Prelude.{◌≡◌, ◌⊎◌, ◌↔◌, ℕ, ◌+◌, ◌≤◌, List, Option, Some, Any, slice_get}
 use Rattle.mctp_bridge.specs.declared.row.Hop.{Hop}
 use Rattle.mctp_bridge.specs.declared.row.Row.{Row}
 use Rattle.mctp_bridge.specs.Rows.{IsNext}
@@ -21,3 +21,19 @@ HoldsAlike plan first last n = (e : ℕ) → first ≤ e → e ≤ last → Hold
 -- the EIDs from first to last have one hop, or none of them has any
 abbrev pub HaveOneHop : List Row → (first last : ℕ) → Type 0
 HaveOneHop rows first last = (hop : Option Hop) × ((e : ℕ) → first ≤ e → e ≤ last → IsNext rows e hop)
+
+-- n holds e or the EID after it
+abbrev pub HoldsBeside : Plan → (n e : ℕ) → Type 0
+HoldsBeside plan n e = Holds plan n e ⊎ Holds plan n (e + 1)
+
+-- one of the rows ends with e or begins after it
+abbrev pub HaveEdge : List Row → ℕ → Type 0
+HaveEdge rows e = Any (λ row. (row.first.value + row.size ≡ e + 1) ⊎ (row.first.value ≡ e + 1)) rows
+
+-- n, which has these rows, may send on what is for the EID after e otherwise than what is for e
+abbrev pub IsCutAt : Plan → (n : ℕ) → List Row → ℕ → Type 0
+IsCutAt plan n rows e = HoldsBeside plan n e ⊎ HaveEdge rows e
+
+-- and so may some node
+abbrev pub IsCut : Plan → List (List Row) → ℕ → Type 0
+IsCut plan tables e = (n : ℕ) × (rows : List Row) × (slice_get tables n ≡ Some rows) × IsCutAt plan n rows e

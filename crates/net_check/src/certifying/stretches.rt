@@ -1,9 +1,9 @@
 //! Stretches of endpoint IDs that each node sends on alike.
-ghost use Rattle.std.specs.Prelude.{◌≡◌, ◌+◌, ◌<◌, ◌≤◌, length, min};
+ghost use Rattle.std.specs.Prelude.{◌≡◌, ◌⊎◌, ◌+◌, ◌<◌, ◌≤◌, length, min};
 ghost use Rattle.net_check.specs.Routing.{rows_of};
 ghost use Rattle.net_check.specs.RoutingLoops.{RowsAreApart};
 ghost use Rattle.net_check.specs.Tables.{SendsAs, AreTables};
-ghost use Rattle.net_check.specs.Stretches.{MovesAlike, MoveAlike, HoldsAlike, HaveOneHop};
+ghost use Rattle.net_check.specs.Stretches.{MovesAlike, MoveAlike, HoldsAlike, HaveOneHop, HoldsBeside, HaveEdge, IsCutAt, IsCut};
 
 use mctp_bridge::RangeTable;
 use mctp_transport::Eid;
@@ -39,6 +39,7 @@ pub fn stretch_from(plan: &Plan, tables: &[RangeTable], first: Eid) -> Stretch
     requires tables { AreTables plan.now (length plan.now.nodes.items) tables.now }
     ensures starts { result.first.value ≡ first.value }
     ensures alike { MoveAlike plan.now result.first.value result.last.value }
+    ensures ends { (result.last.value ≡ 254) ⊎ IsCut plan.now tables.now result.last.value }
 {
     let mut last = Eid::new(LAST);
     for node in 0..plan.nodes.len() {
@@ -56,6 +57,7 @@ fn alike_until(plan: &Plan, table: &RangeTable, node: usize, first: Eid) -> Eid
     ensures ordered { first.value ≤ result.value }
     ensures held { result.value ≤ 254 }
     ensures alike { MovesAlike plan.now first.value result.value node }
+    ensures ends { (result.value ≡ 254) ⊎ IsCutAt plan.now node table.now result.value }
 {
     lesser(held_until(plan, node, first), routed_until(table, first))
 }
@@ -66,6 +68,7 @@ fn held_until(plan: &Plan, node: usize, first: Eid) -> Eid
     requires within { node < length plan.now.nodes.items }
     ensures ordered { first.value ≤ result.value }
     ensures held { HoldsAlike plan.now first.value result.value node }
+    ensures ends { (result.value ≡ 254) ⊎ HoldsBeside plan.now node result.value }
 {
     let own = plan.nodes[node].eid.value;
     if own < first.value {
@@ -80,6 +83,7 @@ fn routed_until(table: &RangeTable, first: Eid) -> Eid
     ensures ordered { first.value ≤ result.value }
     ensures within { result.value ≤ 254 }
     ensures routed { HaveOneHop table.now first.value result.value }
+    ensures ends { (result.value ≡ 254) ⊎ HaveEdge table.now result.value }
 {
     match table.pieces(first, Eid::new(LAST)).next() {
         Some(piece) => piece.last,

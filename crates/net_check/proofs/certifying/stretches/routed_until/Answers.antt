@@ -1,6 +1,6 @@
 use Rattle.std.proofs.Common.{ℕ, List, [], ◌∷◌, subst, arith}
 use Rattle.mctp_bridge.specs.Pieces.{PieceValue, piece_value, ArePieces}
-use Rattle.net_check.proofs.StretchLaws.{piece_inside, piece_hop, some_piece}
+use Rattle.net_check.proofs.StretchLaws.{piece_inside, piece_hop, piece_ends, some_piece}
 use Rattle.net_check.proofs.certifying.stretches.routed_until.Goals.{In-Some}
 use Rattle.net_check.proofs.certifying.stretches.routed_until.Goals as goal
 
@@ -27,3 +27,7 @@ returns-clause-within c =
 pub returns-clause-routed : goal.returns-clause-routed
 returns-clause-routed c =
     piece_hop c.args.table.now c.args.first.value 254 c.in-Some.piece c.next.new.self (pieces ((goal.at.returns-clause-routed c).In-Some)) c.requires
+
+pub returns-clause-ends : goal.returns-clause-ends
+returns-clause-ends c =
+    piece_ends c.args.table.now c.args.first.value 254 c.in-Some.piece c.next.new.self (pieces ((goal.at.returns-clause-ends c).In-Some)) (omega arith)
