@@ -10,7 +10,7 @@ use Rattle.mctp_bridge.specs.Rows as rule
 use Rattle.mctp_bridge.specs.Pieces as cut
 use Rattle.mctp_bridge.proofs.PieceLoops.{at_place, looked_before, inside_interval}
 use Rattle.net_plan.specs.declared.plan.Plan.{Plan}
-use Rattle.net_check.specs.Routing.{MovesTo, rows_of}
+use Rattle.net_check.specs.Routing.{rows_of}
 use Rattle.net_check.specs.RoutingLoops.{RowsAreApart, NamesFor}
 use Rattle.net_check.specs.Tables.{IsHopOf, SendsAs}
 use Rattle.net_check.specs.Stretches.{MovesAlike, MoveAlike, HoldsAlike, HaveOneHop, HoldsBeside, HaveEdge, IsCutAt, IsCut}
@@ -42,22 +42,34 @@ module _ (rows : List bridge.Row) (first last : ℕ) (piece : Piece) (later : Li
       → (piece.last.value ≡ last) ⊎ HaveEdge rows piece.last.value
   ends_whole small None gap = elim gap.above [
     | inl is ↦ inl is
-    | inr (k, row, lt, at, covers) ↦ inr (k, row, lt, at, elim (cases_lt row.first.value (piece.last.value + 1)) [
-      | inr from ↦ inr (omega (arith, from, covers.0))
-      | inl before ↦
-          absurd (gap.bare piece.last.value (piece_inside.1, omega arith) (k, row, lt, at, (omega (arith, before), omega (arith, covers.1), omega (arith, piece_inside.2, small))))
-    ])
+    | inr (k, row, lt, at, covers) ↦ inr (
+      k,
+      row,
+      lt,
+      at,
+      elim (cases_lt row.first.value (piece.last.value + 1)) [
+        | inr from ↦ inr (omega (arith, from, covers.0))
+        | inl before ↦
+            absurd (gap.bare piece.last.value (piece_inside.1, omega arith) (k, row, lt, at, (omega (arith, before), omega (arith, covers.1), omega (arith, piece_inside.2, small))))
+      ],
+    )
   ]
   ends_whole small (Some h) (k, row, lt, at, (goes, part)) = elim (cases_lt piece.last.value last) [
     | inr from ↦ inl (omega (arith, from, piece_inside.2))
     | inl less ↦ (
         let covers = ((part piece.last.value).0 (piece_inside.1, omega arith)).2 in
-        inr (k, row, lt, at, elim (cases_lt (piece.last.value + 1) (row.first.value + row.size)) [
-          | inr past ↦ inl (omega (arith, past, covers.1))
-          | inl more ↦ (
-              let lies = (part (piece.last.value + 1)).1 (omega (arith, piece_inside.0, piece_inside.1), omega (arith, less), (omega (arith, covers.0), more, omega (arith, less, small))) in
-              absurd (omega (arith, lies.1)))
-        ]))
+        inr (
+          k,
+          row,
+          lt,
+          at,
+          elim (cases_lt (piece.last.value + 1) (row.first.value + row.size)) [
+            | inr past ↦ inl (omega (arith, past, covers.1))
+            | inl more ↦ (
+                let lies = (part (piece.last.value + 1)).1 (omega (arith, piece_inside.0, piece_inside.1), omega (arith, less), (omega (arith, covers.0), more, omega (arith, less, small))) in
+                absurd (omega (arith, lies.1)))
+          ],
+        ))
   ]
 
   pub piece_ends : last ≤ 255 → (piece.last.value ≡ last) ⊎ HaveEdge rows piece.last.value
@@ -88,8 +100,8 @@ alike plan n first last table apart ordered sends holds (hop, routed) e low high
 -- from no other node does anything move
 pub all_alike : (plan : Plan) (first last : ℕ) → ((n : ℕ) → n < length plan.nodes.items → MovesAlike plan first last n) → MoveAlike plan first last
 all_alike plan first last each n e low high m = (
-    λ move. (each n (moves_within plan first n m move) e low high m).0 move,
-    λ move. (each n (moves_within plan e n m move) e low high m).1 move,
+  λ move. (each n (moves_within plan first n m move) e low high m).0 move,
+  λ move. (each n (moves_within plan e n m move) e low high m).1 move,
 )
 
 -- ---- where a stretch ends

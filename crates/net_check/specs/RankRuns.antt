@@ -50,4 +50,4 @@ pub record IsGrown (first last rank : ℕ) (old new : NodeRanks) : Type 0 where
 abbrev pub AreGrown : (first last : ℕ) → List ℕ → List NodeRanks → List NodeRanks → Type 0
 AreGrown first last counts old new = (length new ≡ length old)
     × ((n rank : ℕ) (one other : NodeRanks) → slice_get counts n ≡ Some rank → slice_get old n ≡ Some one → slice_get new n ≡ Some other
-        → IsGrown first last rank one other)
+    → IsGrown first last rank one other)

@@ -22,7 +22,11 @@ pub fn no_ranges(alloc: Global, count: usize) -> Result<Vec<NodeRanks>, AllocErr
 }
 
 /// Adds the stretch's rank at each node to the ranges of the endpoint IDs below it.
-pub fn add_ranks(given: &mut [NodeRanks], stretch: Stretch, ranks: &[usize]) -> Result<(), AllocError>
+pub fn add_ranks(
+    given: &mut [NodeRanks],
+    stretch: Stretch,
+    ranks: &[usize],
+) -> Result<(), AllocError>
     requires long { length ranks.now ≡ length given.old }
     requires small { (n rank : ℕ) → slice_get ranks.now n ≡ Some rank → rank < 256 }
     ensures { OnOk result (AreGrown stretch.first.value stretch.last.value ranks.now given.old given.new) }

@@ -32,7 +32,7 @@ impl Stretch {
     }
 }
 
-/// The stretch from the endpoint ID on, up to where the first node may send on otherwise.
+/// The stretch from the endpoint ID on. It ends with 254, or where some node may send on otherwise.
 pub fn stretch_from(plan: &Plan, tables: &[RangeTable], first: Eid) -> Stretch
     requires room { first.value ≤ 254 }
     requires apart { RowsAreApart plan.now }
@@ -74,7 +74,11 @@ fn held_until(plan: &Plan, node: usize, first: Eid) -> Eid
     if own < first.value {
         return Eid::new(LAST);
     }
-    if own == first.value { first } else { Eid::new(own - 1) }
+    if own == first.value {
+        first
+    } else {
+        Eid::new(own - 1)
+    }
 }
 
 /// The last endpoint ID up to which one row covers each, or none covers any.

@@ -49,7 +49,7 @@ returns-then-continues c = λ ranks level h.
     let rank = c.longer.ensures.rank ∙ ap (λ (r : RankRange). r.rank) (read_is d) in
     let end : c.longer.result.first.value + c.longer.result.size ≡ last + 1 = omega (arith, c.longer.ensures.first, c.longer.ensures.size, read_ends d, c.size.ensures) in
     let more =
-        extended ranks first (last + 1) c.args.rank items (omega (arith, c.args.stretch.ordered)) (level_to first last c.args.rank ranks level) h goes.0 c.longer.result goes.1 goes.2 starts rank end in
+    extended ranks first (last + 1) c.args.rank items (omega (arith, c.args.stretch.ordered)) (level_to first last c.args.rank ranks level) h goes.0 c.longer.result goes.1 goes.2 starts rank end in
     let P : ℕ → Type 0 = λ place. AreLongestRuns (below (last + 1) ranks) (slice_set items place c.longer.result) in
     subst P (sym (place_is d)) more
 

@@ -1,4 +1,4 @@
-use Rattle.std.proofs.Common.{ℕ, List, [], ◌∷◌, subst, arith}
+use Rattle.std.proofs.Common.{ℕ, List, ◌∷◌, subst, arith}
 use Rattle.mctp_bridge.specs.Pieces.{PieceValue, piece_value, ArePieces}
 use Rattle.net_check.proofs.StretchLaws.{piece_inside, piece_hop, piece_ends, some_piece}
 use Rattle.net_check.proofs.certifying.stretches.routed_until.Goals.{In-Some}
