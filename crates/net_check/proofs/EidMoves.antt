@@ -44,7 +44,7 @@ earlier_apart rows r q row other e apart before is here there =
     let P : Row → Type 0 = λ x. Covers x e in
     apart q other within e here (subst P (sym at) there)
 
-same_next : (plan : Plan) (n e : ℕ) → RowsAreApart plan → (r q : ℕ) (row other : Row) → slice_get (rows_of plan n) r ≡ Some row → slice_get (rows_of plan n) q ≡ Some other
+pub same_next : (plan : Plan) (n e : ℕ) → RowsAreApart plan → (r q : ℕ) (row other : Row) → slice_get (rows_of plan n) r ≡ Some row → slice_get (rows_of plan n) q ≡ Some other
     → Covers row e → Covers other e → row.next ≡ other.next
 unfolding AreApart IsApartFromEarlier
 same_next plan n e apart r q row other is is' here there = elim (cases_order r q) [

@@ -23,6 +23,7 @@ pub mod ChainLaws
 pub mod ChainPlaces
 pub mod TableLaws
 pub mod EidMoves
+pub mod AlikeLaws
 pub mod RankRunLaws
 pub mod Filters
 pub mod RankLaws

@@ -1,4 +1,4 @@
--- From one EID to the next, and from all of them to the certificate.
+-- From one stretch of EIDs to the next, and from all of them to the certificate.
 use Rattle.std.proofs.Common.{◌≡◌, ℕ, ◌+◌, ◌<◌, ◌≤◌, List, [], length, Some, refl, sym, ◌∙◌, ap, subst, arith, inl, inr, true, filter, nat_le, nat_lt}
 use Rattle.std.specs.Prelude.{slice_get, ◌==◌}
 use Rattle.std.proofs.lemmas.Bool.{cases_lt, cases_eq, and_parts, ltb-true, ltb-false, leb-true, eqb-true, eq-eqb, lt-ltb, le-leb, and_from, false≢true, cases_Bool}
@@ -9,11 +9,13 @@ use Rattle.net_plan.specs.declared.certificate.RankRange.{RankRange}
 use Rattle.net_plan.specs.declared.certificate.NodeRanks.{NodeRanks}
 use Rattle.net_check.specs.Routing.{MovesTo}
 use Rattle.net_check.specs.Ranks.{rank_given, rank_in, is_in_range}
-use Rattle.net_check.specs.Circles.{HasNoCircle, AreMovesToEnds}
+use Rattle.net_check.specs.Circles.{EndsAfter, HasNoCircle, AreMovesToEnds}
 use Rattle.net_check.specs.RoutingLoops.{IsRank, RowsAreApart, RowsAreInRange}
 use Rattle.net_check.specs.RankRuns.{AreLongestRuns, below, AreNone, AreGrown}
+use Rattle.net_check.specs.MovingAlike.{MoveAlike}
 use Rattle.net_check.specs.Certificates.{AreRoutedBelow, AreExactRanks, has_ranges}
 use Rattle.net_check.proofs.Circling.{circle_in}
+use Rattle.net_check.proofs.SameMoves.{EndsAfter-same, HasNoCircle-same}
 use Rattle.net_check.proofs.Elements.{element}
 use Rattle.net_check.proofs.Filters.{find_cases, in_filter, to_filter, filter_pairs}
 use Rattle.net_check.proofs.RankRunLaws.{below_here, below_past, runs_same}
@@ -50,8 +52,18 @@ counts_small plan e counts few none ends n k is = elim (cases_lt (length plan.no
       absurd (none circle.0 circle.1))
 ]
 
-pub routed_step : (plan : Plan) (e : ℕ) (given more : List NodeRanks) (counts : List ℕ) → RowsAreApart plan → AreRoutedBelow plan e given → HasNoCircle (MovesTo plan e) → AreMovesToEnds (MovesTo plan e) (length plan.nodes.items) counts → AreGrown e counts given more → AreRoutedBelow plan (e + 1) more
-routed_step plan e given more counts apart routed none ends grown =
+-- EIDs that are sent on alike have no circles alike, and equal ranks
+module _ (plan : Plan) (first last : ℕ) (alike : MoveAlike plan first last) where
+  circles_alike : (e : ℕ) → first ≤ e → e ≤ last → HasNoCircle (MovesTo plan first) → HasNoCircle (MovesTo plan e)
+  circles_alike e low high = HasNoCircle-same (MovesTo plan first) (MovesTo plan e) (λ n m. (alike n e low high m).0) (λ n m. (alike n e low high m).1)
+
+  ranks_alike : (n e k : ℕ) → first ≤ e → e ≤ last → EndsAfter (MovesTo plan first) n k → IsRank plan n e k
+  ranks_alike n e k low high ends =
+      rank_from_ends plan n e k (EndsAfter-same (MovesTo plan first) (MovesTo plan e) (λ n m. (alike n e low high m).0) (λ n m. (alike n e low high m).1) n k ends)
+
+pub routed_step : (plan : Plan) (first last : ℕ) (given more : List NodeRanks) (counts : List ℕ) → RowsAreApart plan → first ≤ last → MoveAlike plan first last → AreRoutedBelow plan first given
+    → HasNoCircle (MovesTo plan first) → AreMovesToEnds (MovesTo plan first) (length plan.nodes.items) counts → AreGrown first last counts given more → AreRoutedBelow plan (last + 1) more
+routed_step plan first last given more counts apart ordered alike routed none ends grown =
     let N = length plan.nodes.items in
     let old = λ (n : ℕ) (one : NodeRanks) (is : slice_get more n ≡ Some one). element given n (omega (arith, slice_get_within more n one is, grown.0)) in
     let count = λ (n : ℕ) (lt : n < N). element counts n (omega (arith, ends.0, lt)) in
@@ -60,20 +72,19 @@ routed_step plan e given more counts apart routed none ends grown =
     record {
       long = grown.0 ∙ routed.long;
       node = λ n one is. (step n one is).node ∙ routed.node n (old n one is).0 (old n one is).1;
-      circles = λ d less. elim (cases_lt d e) [
+      circles = λ d less. elim (cases_lt d first) [
         | inl lt ↦ routed.circles d lt
-        | inr le ↦ (let P : ℕ → Type 0 = λ k. HasNoCircle (MovesTo plan k) in let at : e ≡ d = omega (arith, less, le) in subst P at none)
+        | inr low ↦ circles_alike plan first last alike d low (omega (arith, less)) none
       ];
-      ranked = λ n d lt less. elim (cases_lt d e) [
+      ranked = λ n d lt less. elim (cases_lt d first) [
         | inl before ↦ routed.ranked n d lt before
-        | inr le ↦ (
-            let at : e ≡ d = omega (arith, less, le) in
-            let P : ℕ → Type 0 = λ k. IsRank plan n k (count n lt).0 in
-            ((count n lt).0, subst P at (rank_from_ends plan n e (count n lt).0 (ends.1 n (count n lt).0 (count n lt).1))))
+        | inr low ↦ ((count n lt).0, ranks_alike plan first last alike n d (count n lt).0 low (omega (arith, less)) (ends.1 n (count n lt).0 (count n lt).1))
       ];
       runs = λ n one ranks is right.
           let c = count n (within n one is) in
-          (step n one is).longest ranks (rank_only plan n e (ranks e) c.0 apart (right e (omega arith)) (rank_from_ends plan n e c.0 (ends.1 n c.0 c.1))) (routed.runs n (old n one is).0 ranks (old n one is).1 (λ d lt. right d (omega (arith, lt))));
+          (step n one is).longest ranks
+          (λ d low high. rank_only plan n d (ranks d) c.0 apart (right d (omega (arith, high))) (ranks_alike plan first last alike n d c.0 low high (ends.1 n c.0 c.1)))
+          (routed.runs n (old n one is).0 ranks (old n one is).1 (λ d lt. right d (omega (arith, lt, ordered))));
     }
 
 -- the certificate's rank is that of the run

@@ -1,4 +1,4 @@
--- The longest runs of ranks, one EID added after another.
+-- The longest runs of ranks, one stretch of EIDs of one rank added after another.
 use Rattle.std.proofs.Common.{◌≡◌, ℕ, ◌+◌, ◌-◌, ◌<◌, ◌≤◌, ◌≢◌, List, [], ◌∷◌, ◌++◌, length, get_or, Some, sym, ◌∙◌, ap, subst, arith, inl, inr}
 use Rattle.std.specs.Prelude.{slice_get, slice_set}
 use Rattle.std.proofs.lemmas.Bool.{cases_lt, cases_eq}
@@ -29,14 +29,14 @@ runs_same f g ranges same h = record {
   all = λ e some. h.all e (omega (arith, same e, some));
 }
 
--- The ranges of the EIDs below e.
-module _ (ranks : ℕ → ℕ) (e : ℕ) (ranges : List RankRange) (h : AreLongestRuns (below e ranks) ranges) where
+-- The ranges of the EIDs below e, and the rank of those from e up to the one before f.
+module _ (ranks : ℕ → ℕ) (e f rank : ℕ) (ranges : List RankRange) (filled : e < f) (level : (d : ℕ) → e ≤ d → d < f → ranks d ≡ rank) (h : AreLongestRuns (below e ranks) ranges) where
   ends_by : (i : ℕ) (range : RankRange) → slice_get ranges i ≡ Some range → range.first.value + range.size ≤ e
   ends_by i range is =
       let run = h.runs i range is in
       let last = range.first.value + range.size - 1 in
-      let rank = run.same last (omega (arith, range.some), omega (arith, range.some)) in
-      omega (arith, range.some, below_some e ranks last (omega (arith, rank, range.ranked)))
+      let same = run.same last (omega (arith, range.some), omega (arith, range.some)) in
+      omega (arith, range.some, below_some e ranks last (omega (arith, same, range.ranked)))
 
   ends_last : (i : ℕ) (range : RankRange) → slice_get ranges i ≡ Some range → range.first.value + range.size ≡ e → i ≡ length ranges - 1
   ends_last i range is ends =
@@ -49,19 +49,19 @@ module _ (ranks : ℕ → ℕ) (e : ℕ) (ranges : List RankRange) (h : AreLonge
             absurd (omega (arith, h.ascend i (i + 1) range other (omega arith) is next, other.some, ends_by (i + 1) other next, ends)))
       ]
 
-  pub skipped : ranks e ≡ 0 → AreLongestRuns (below (e + 1) ranks) ranges
-  skipped none = runs_same (below e ranks) (below (e + 1) ranks) ranges (λ d. elim (cases_lt d e) [
-    | inl lt ↦ below_here e ranks d lt ∙ sym (below_here (e + 1) ranks d (omega arith))
-    | inr le ↦ elim (cases_eq d e) [
-      | inl is ↦ below_past e ranks d le ∙ sym (below_here (e + 1) ranks d (omega arith) ∙ (ap ranks is ∙ none))
-      | inr other ↦ below_past e ranks d le ∙ sym (below_past (e + 1) ranks d (omega (arith, other)))
+  old_same : (d : ℕ) → d < e → below e ranks d ≡ below f ranks d
+  old_same d lt = below_here e ranks d lt ∙ sym (below_here f ranks d (omega (arith, filled)))
+
+  pub skipped : rank ≡ 0 → AreLongestRuns (below f ranks) ranges
+  skipped none = runs_same (below e ranks) (below f ranks) ranges (λ d. elim (cases_lt d e) [
+    | inl lt ↦ old_same d lt
+    | inr le ↦ elim (cases_lt d f) [
+      | inl inside ↦ below_past e ranks d le ∙ sym (below_here f ranks d inside ∙ (level d le inside ∙ none))
+      | inr past ↦ below_past e ranks d le ∙ sym (below_past f ranks d past)
     ]
   ]) h
 
-  old_same : (d : ℕ) → d < e → below e ranks d ≡ below (e + 1) ranks d
-  old_same d lt = below_here e ranks d lt ∙ sym (below_here (e + 1) ranks d (omega arith))
-
-  old_run : (i : ℕ) (range : RankRange) → slice_get ranges i ≡ Some range → (range.first.value + range.size ≡ e → range.rank ≢ ranks e) → IsLongestRun (below (e + 1) ranks) range
+  old_run : (i : ℕ) (range : RankRange) → slice_get ranges i ≡ Some range → (range.first.value + range.size ≡ e → range.rank ≢ rank) → IsLongestRun (below f ranks) range
   old_run i range is apart =
       let run = h.runs i range is in
       let ends = ends_by i range is in
@@ -72,33 +72,35 @@ module _ (ranks : ℕ → ℕ) (e : ℕ) (ranges : List RankRange) (h : AreLonge
         after = λ there. elim (cases_lt end e) [
           | inl lt ↦ run.after (old_same end lt ∙ there)
           | inr le ↦ (
-              let at : end ≡ e = omega (arith, ends, le) in
-              apart at (sym there ∙ (below_here (e + 1) ranks end (omega (arith, at)) ∙ ap ranks at)))
+              let inside : end < f = omega (arith, ends, filled) in
+              apart (omega (arith, ends, le)) (sym there ∙ (below_here f ranks end inside ∙ level end le inside)))
         ];
       }
 
-  -- a range of e alone is added
-  module _ (new : RankRange) (first : new.first.value ≡ e) (rank : new.rank ≡ ranks e) (size : new.size ≡ 1) (apart : ¬ Continues ranges e (ranks e)) where
-    new_run : IsLongestRun (below (e + 1) ranks) new
+  -- a range of the EIDs from e on is added
+  module _ (new : RankRange) (first : new.first.value ≡ e) (its_rank : new.rank ≡ rank) (end : new.first.value + new.size ≡ f) (apart : ¬ Continues ranges e rank) where
+    new_run : IsLongestRun (below f ranks) new
     unfolding Precedes
     new_run = record {
-      same = λ d lies. below_here (e + 1) ranks d (omega (arith, lies.1, first, size)) ∙ ((let at : d ≡ e = omega (arith, lies.0, lies.1, first, size) in ap ranks at) ∙ sym rank);
+      same = λ d lies.
+          let inside : d < f = omega (arith, lies.1, end) in
+          below_here f ranks d inside ∙ (level d (omega (arith, lies.0, first)) inside ∙ sym its_rank);
       before = λ d is_before there.
           let lt : d < e = omega (arith, is_before, first) in
-          let old_rank : below e ranks d ≡ ranks e = old_same d lt ∙ (there ∙ rank) in
-          let found = h.all d (omega (arith, old_rank, rank, new.ranked)) in
+          let old_rank : below e ranks d ≡ rank = old_same d lt ∙ (there ∙ its_rank) in
+          let found = h.all d (omega (arith, old_rank, its_rank, new.ranked)) in
           let range = found.1 in
           let ends : range.first.value + range.size ≡ e = omega (arith, ends_by found.0 range found.2, found.3.1, is_before, first) in
           apart (range, ap (λ k. slice_get ranges k) (sym (ends_last found.0 range found.2 ends)) ∙ found.2, (sym ((h.runs found.0 range found.2).same d found.3) ∙ old_rank, ends));
-      after = λ there. omega (arith, below_past (e + 1) ranks (new.first.value + new.size) (omega (arith, first, size)), there, new.ranked);
+      after = λ there. omega (arith, below_past f ranks (new.first.value + new.size) (omega (arith, end)), there, new.ranked);
     }
 
-    pub pushed : AreLongestRuns (below (e + 1) ranks) (ranges ++ new ∷ [])
+    pub pushed : AreLongestRuns (below f ranks) (ranges ++ new ∷ [])
     unfolding Precedes
     pushed = record {
       runs = λ i range is. elim (in_push ranges new i range is) [
         | inl old ↦ old_run i range old (λ ends same. apart (range, ap (λ k. slice_get ranges k) (sym (ends_last i range old ends)) ∙ old, (same, ends)))
-        | inr (at, same) ↦ subst (λ r. IsLongestRun (below (e + 1) ranks) r) same new_run
+        | inr (at, same) ↦ subst (λ r. IsLongestRun (below f ranks) r) same new_run
       ];
       ascend = λ i j one other lt is is'. elim (in_push ranges new i one is) [
         | inl old ↦ elim (in_push ranges new j other is') [
@@ -109,14 +111,14 @@ module _ (ranks : ℕ → ℕ) (e : ℕ) (ranges : List RankRange) (h : AreLonge
       ];
       all = λ d positive. elim (cases_lt d e) [
         | inl lt ↦ (let found = h.all d (omega (arith, old_same d lt, positive)) in (found.0, found.1, push_left ranges new found.0 found.1 found.2, found.3))
-        | inr le ↦ (length ranges, new, push_last ranges new, (omega (arith, le, first), omega (arith, first, size, below_some (e + 1) ranks d positive)))
+        | inr le ↦ (length ranges, new, push_last ranges new, (omega (arith, le, first), omega (arith, end, below_some f ranks d positive)))
       ];
     }
 
-  -- the last range is made longer by e
-  module _ (last new : RankRange) (is_last : slice_get ranges (length ranges - 1) ≡ Some last) (precedes : Precedes last e (ranks e))
-      (first : new.first.value ≡ last.first.value) (rank : new.rank ≡ last.rank) (size : new.size ≡ last.size + 1) where
-    same_rank : last.rank ≡ ranks e
+  -- the last range is made longer by the EIDs from e on
+  module _ (last new : RankRange) (is_last : slice_get ranges (length ranges - 1) ≡ Some last) (precedes : Precedes last e rank)
+      (first : new.first.value ≡ last.first.value) (its_rank : new.rank ≡ last.rank) (end : new.first.value + new.size ≡ f) where
+    same_rank : last.rank ≡ rank
     unfolding Precedes
     same_rank = precedes.0
 
@@ -124,26 +126,26 @@ module _ (ranks : ℕ → ℕ) (e : ℕ) (ranges : List RankRange) (h : AreLonge
     unfolding Precedes
     ends = precedes.1
 
-    longer_run : IsLongestRun (below (e + 1) ranks) new
+    longer_run : IsLongestRun (below f ranks) new
     longer_run =
         let run = h.runs (length ranges - 1) last is_last in
         record {
           same = λ d lies. elim (cases_lt d e) [
-            | inl before ↦ sym (old_same d before) ∙ (run.same d (omega (arith, lies.0, first), omega (arith, before, ends)) ∙ sym rank)
-            | inr le ↦ (let at : d ≡ e = omega (arith, lies.1, ends, first, size, le) in below_here (e + 1) ranks d (omega (arith, at)) ∙ (ap ranks at ∙ (sym same_rank ∙ sym rank)))
+            | inl before ↦ sym (old_same d before) ∙ (run.same d (omega (arith, lies.0, first), omega (arith, before, ends)) ∙ sym its_rank)
+            | inr le ↦ (let inside : d < f = omega (arith, lies.1, end) in below_here f ranks d inside ∙ (level d le inside ∙ (sym same_rank ∙ sym its_rank)))
           ];
-          before = λ d is_before there. run.before d (is_before ∙ first) (old_same d (omega (arith, ends, is_before, first, last.some)) ∙ (there ∙ rank));
-          after = λ there. omega (arith, below_past (e + 1) ranks (new.first.value + new.size) (omega (arith, ends, first, size)), there, new.ranked);
+          before = λ d is_before there. run.before d (is_before ∙ first) (old_same d (omega (arith, ends, is_before, first, last.some)) ∙ (there ∙ its_rank));
+          after = λ there. omega (arith, below_past f ranks (new.first.value + new.size) (omega (arith, end)), there, new.ranked);
         }
 
-    pub extended : AreLongestRuns (below (e + 1) ranks) (slice_set ranges (length ranges - 1) new)
+    pub extended : AreLongestRuns (below f ranks) (slice_set ranges (length ranges - 1) new)
     extended =
         let p = length ranges - 1 in
         let lt : p < length ranges = slice_get_within ranges p last is_last in
         record {
           runs = λ i range is. elim (in_set ranges new p i range lt is) [
             | inl (other, old) ↦ old_run i range old (λ at same. other (ends_last i range old at))
-            | inr (at, same) ↦ subst (λ r. IsLongestRun (below (e + 1) ranks) r) same longer_run
+            | inr (at, same) ↦ subst (λ r. IsLongestRun (below f ranks) r) same longer_run
           ];
           ascend = λ i j one other less is is'. elim (in_set ranges new p i one lt is) [
             | inl (_, old) ↦ elim (in_set ranges new p j other lt is') [
@@ -161,10 +163,10 @@ module _ (ranks : ℕ → ℕ) (e : ℕ) (ranges : List RankRange) (h : AreLonge
                   | inl at ↦ (
                       let same : found.1 ≡ last = same_Some found.1 last (sym found.2 ∙ (ap (λ k. slice_get ranges k) at ∙ is_last)) in
                       let lies : LiesIn last d = subst (λ r. LiesIn r d) same found.3 in
-                      (p, new, set_there ranges new p lt, (omega (arith, lies.0, first), omega (arith, lies.1, first, size))))
+                      (p, new, set_there ranges new p lt, (omega (arith, lies.0, first), omega (arith, before, end, filled))))
                   | inr other ↦ (found.0, found.1, set_other ranges new p found.0 found.1 other found.2, found.3)
                 ])
-            | inr le ↦ (p, new, set_there ranges new p lt, (omega (arith, le, ends, first), omega (arith, ends, first, size, below_some (e + 1) ranks d positive)))
+            | inr le ↦ (p, new, set_there ranges new p lt, (omega (arith, le, ends, first), omega (arith, end, below_some f ranks d positive)))
           ];
         }
 

@@ -36,5 +36,6 @@ pub mod OwnerLoops
 pub mod RoutingLoops
 pub mod RecordChains
 pub mod Tables
+pub mod MovingAlike
 pub mod RankRuns
 pub mod Certificates

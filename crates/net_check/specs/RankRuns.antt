@@ -37,11 +37,17 @@ abbrev pub AreNone : ℕ → List NodeRanks → Type 0
 AreNone count given = (length given ≡ count)
     × ((n : ℕ) (one : NodeRanks) → slice_get given n ≡ Some one → (one.node ≡ n) × (one.ranges.items ≡ []))
 
--- To a node's longest runs below e the rank of e was added.
-pub record IsGrown (e rank : ℕ) (old new : NodeRanks) : Type 0 where
-  pub node : new.node ≡ old.node
-  pub longest : (ranks : ℕ → ℕ) → ranks e ≡ rank → AreLongestRuns (below e ranks) old.ranges.items → AreLongestRuns (below (e + 1) ranks) new.ranges.items
+-- The longest runs of the EIDs below first become those of the EIDs up to last, where all from first to last have this rank.
+abbrev pub GrowsBy : (first last rank : ℕ) → List RankRange → List RankRange → Type 0
+GrowsBy first last rank old new = (ranks : ℕ → ℕ) → ((e : ℕ) → first ≤ e → e ≤ last → ranks e ≡ rank)
+    → AreLongestRuns (below first ranks) old → AreLongestRuns (below (last + 1) ranks) new
 
-abbrev pub AreGrown : ℕ → List ℕ → List NodeRanks → List NodeRanks → Type 0
-AreGrown e counts old new = (length new ≡ length old)
-    × ((n rank : ℕ) (one other : NodeRanks) → slice_get counts n ≡ Some rank → slice_get old n ≡ Some one → slice_get new n ≡ Some other → IsGrown e rank one other)
+-- To a node's longest runs below first the rank of the EIDs from first to last was added.
+pub record IsGrown (first last rank : ℕ) (old new : NodeRanks) : Type 0 where
+  pub node : new.node ≡ old.node
+  pub longest : GrowsBy first last rank old.ranges.items new.ranges.items
+
+abbrev pub AreGrown : (first last : ℕ) → List ℕ → List NodeRanks → List NodeRanks → Type 0
+AreGrown first last counts old new = (length new ≡ length old)
+    × ((n rank : ℕ) (one other : NodeRanks) → slice_get counts n ≡ Some rank → slice_get old n ≡ Some one → slice_get new n ≡ Some other
+    → IsGrown first last rank one other)

@@ -18,6 +18,7 @@ mod levels;
 mod next_nodes;
 mod rank_ranges;
 mod routes;
+mod stretches;
 mod tables;
 mod walks;
 

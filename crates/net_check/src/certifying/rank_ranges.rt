@@ -1,7 +1,8 @@
-//! Ranks as ranges, one endpoint ID added after another.
-ghost use Rattle.std.specs.Prelude.{◌≡◌, ℕ, ◌+◌, ◌<◌, ◌↔◌, length, IfOk, OnOk, IsTrue, slice_get, Some};
-ghost use Rattle.net_check.specs.RankRuns.{AreLongestRuns, Precedes, Continues, below, AreGrown, AreNone};
+//! Ranks as ranges, one stretch of endpoint IDs added after another.
+ghost use Rattle.std.specs.Prelude.{◌≡◌, ℕ, ◌+◌, ◌<◌, ◌≤◌, ◌↔◌, length, IfOk, OnOk, IsTrue, slice_get, Some};
+ghost use Rattle.net_check.specs.RankRuns.{Precedes, Continues, AreGrown, GrowsBy, AreNone};
 
+use crate::certifying::stretches::Stretch;
 use mctp_transport::Eid;
 use net_plan::{NodeRanks, RankRange};
 use std::alloc::{AllocError, Global};
@@ -20,33 +21,35 @@ pub fn no_ranges(alloc: Global, count: usize) -> Result<Vec<NodeRanks>, AllocErr
     Ok(given)
 }
 
-/// Adds the endpoint ID's rank at each node to the ranges of those below it.
-pub fn add_ranks(given: &mut [NodeRanks], eid: Eid, ranks: &[usize]) -> Result<(), AllocError>
-    requires room { eid.value < 255 }
+/// Adds the stretch's rank at each node to the ranges of the endpoint IDs below it.
+pub fn add_ranks(
+    given: &mut [NodeRanks],
+    stretch: Stretch,
+    ranks: &[usize],
+) -> Result<(), AllocError>
     requires long { length ranks.now ≡ length given.old }
     requires small { (n rank : ℕ) → slice_get ranks.now n ≡ Some rank → rank < 256 }
-    ensures { OnOk result (AreGrown eid.value ranks.now given.old given.new) }
+    ensures { OnOk result (AreGrown stretch.first.value stretch.last.value ranks.now given.old given.new) }
 {
     for node in 0..given.len() {
-        add_rank(&mut given[node].ranges, eid, ranks[node] as u8)?;
+        add_rank(&mut given[node].ranges, stretch, ranks[node] as u8)?;
     }
     Ok(())
 }
 
-/// Adds the endpoint ID's rank to the ranges of those below it.
-fn add_rank(ranges: &mut Vec<RankRange>, eid: Eid, rank: u8) -> Result<(), AllocError>
-    requires { eid.value < 255 }
-    ensures { OnOk result ((ranks : ℕ → ℕ) → ranks eid.value ≡ rank → AreLongestRuns (below eid.value ranks) ranges.old.items → AreLongestRuns (below (eid.value + 1) ranks) ranges.new.items) }
+/// Adds the stretch's rank to the ranges of the endpoint IDs below it.
+fn add_rank(ranges: &mut Vec<RankRange>, stretch: Stretch, rank: u8) -> Result<(), AllocError>
+    ensures { OnOk result (GrowsBy stretch.first.value stretch.last.value rank ranges.old.items ranges.new.items) }
 {
     if rank == 0 {
         return Ok(());
     }
-    if continues(ranges, eid, rank) {
+    if continues(ranges, stretch.first, rank) {
         let last = ranges.len() - 1;
-        ranges[last] = longer(ranges[last]);
+        ranges[last] = longer(ranges[last], stretch.size());
         return Ok(());
     }
-    ranges.push(one_eid(eid, rank))?;
+    ranges.push(range_of(stretch, rank))?;
     Ok(())
 }
 
@@ -75,30 +78,30 @@ fn range_end(range: &RankRange) -> u16
     u16::from(range.first.value) + u16::from(range.size)
 }
 
-/// The range with one endpoint ID more at its end.
-fn longer(range: RankRange) -> RankRange
-    requires { range.first.value + range.size < 255 }
+/// The range with so many endpoint IDs more at its end.
+fn longer(range: RankRange, more: u8) -> RankRange
+    requires { range.first.value + range.size + more ≤ 255 }
     ensures first { result.first.value ≡ range.first.value }
     ensures rank { result.rank ≡ range.rank }
-    ensures size { result.size ≡ range.size + 1 }
+    ensures size { result.size ≡ range.size + more }
 {
     RankRange {
         first: range.first,
         rank: range.rank,
-        size: range.size + 1,
+        size: range.size + more,
     }
 }
 
-/// The range of one endpoint ID.
-fn one_eid(eid: Eid, rank: u8) -> RankRange
+/// The range of a stretch.
+fn range_of(stretch: Stretch, rank: u8) -> RankRange
     requires { 0 < rank }
-    ensures first { result.first.value ≡ eid.value }
+    ensures first { result.first.value ≡ stretch.first.value }
     ensures rank { result.rank ≡ rank }
-    ensures size { result.size ≡ 1 }
+    ensures end { result.first.value + result.size ≡ stretch.last.value + 1 }
 {
     RankRange {
-        first: eid,
+        first: stretch.first,
         rank,
-        size: 1,
+        size: stretch.size(),
     }
 }

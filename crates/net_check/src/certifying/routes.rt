@@ -5,6 +5,7 @@ ghost use Rattle.net_check.specs.Certificates.{IsRouted, has_ranges};
 
 use crate::certifying::next_nodes::walk_for;
 use crate::certifying::rank_ranges::{add_ranks, no_ranges};
+use crate::certifying::stretches::stretch_from;
 use crate::certifying::tables::tables_of;
 use crate::certifying::walks::Walked;
 use mctp_transport::Eid;
@@ -28,12 +29,14 @@ pub fn route(alloc: Global, plan: &Plan) -> Result<Routed, AllocError>
 {
     let tables = tables_of(alloc, plan)?;
     let mut given = no_ranges(alloc, plan.nodes.len())?;
-    for value in 8..255u8 {
-        let eid = Eid::new(value);
-        match walk_for(alloc, plan, &tables, eid)? {
-            Walked::Ended(moves) => add_ranks(&mut given, eid, &moves)?,
-            Walked::Circled(nodes) => return Ok(Routed::Looped(eid, nodes)),
+    let mut first = 8;
+    while first < 255 {
+        let stretch = stretch_from(plan, &tables, Eid::new(first));
+        match walk_for(alloc, plan, &tables, stretch.first)? {
+            Walked::Ended(moves) => add_ranks(&mut given, stretch, &moves)?,
+            Walked::Circled(nodes) => return Ok(Routed::Looped(stretch.first, nodes)),
         }
+        first = stretch.last.value + 1;
     }
     keep_ranked(&mut given);
     Ok(Routed::Ranked(given))

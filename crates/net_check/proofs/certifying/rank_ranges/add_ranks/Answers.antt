@@ -11,6 +11,8 @@ pub loop-node-preserved : goal.loop-node-preserved
 loop-node-preserved c =
     let given = c.loop-node.given in
     let p = c.loop-node.node in
+    let first = c.args.stretch.first.value in
+    let last = c.args.stretch.last.value in
     let read = c.index-given-node.result in
     let r = get_or given p read in
     let new : NodeRanks = record { node = r.node; ranges = c.add_rank.new.ranges } in
@@ -23,9 +25,9 @@ loop-node-preserved c =
             let here : slice_get given n ≡ Some one = c.loop-node.invariant.same n (omega (arith, at)) ∙ before in
             let is_one : r ≡ one = get_or_from_slice_get given p one read (ap (λ k. slice_get given k) (sym at) ∙ here) in
             let its_rank : get_or c.args.ranks.now p 0 ≡ rank = get_or_from_slice_get c.args.ranks.now p rank 0 (ap (λ k. slice_get c.args.ranks.now k) (sym at) ∙ ranked) in
-            subst (λ o. IsGrown c.args.eid.value rank one o) same (record {
+            subst (λ o. IsGrown first last rank one o) same (record {
               node = ap (λ (o : NodeRanks). o.node) is_one;
-              longest = λ ranks is h. c.in_ok-add_rank.ensures ranks (is ∙ sym its_rank) (subst (λ (o : NodeRanks). AreLongestRuns (below c.args.eid.value ranks) o.ranges.items) (sym is_one) h);
+              longest = λ ranks level h. c.in_ok-add_rank.ensures ranks (λ d low high. level d low high ∙ sym its_rank) (subst (λ (o : NodeRanks). AreLongestRuns (below first ranks) o.ranges.items) (sym is_one) h);
             }))
       ];
       same = λ n less. set_elsewhere given p n new (λ at. omega (arith, at, less)) ∙ c.loop-node.invariant.same n (omega arith);

@@ -1,5 +1,12 @@
+use Rattle.std.proofs.Common.{◌-◌, ◌≤◌}
 use Rattle.net_check.specs.Certificates.{AreRoutedBelow}
 use Rattle.net_check.proofs.certifying.routes.route.Given as goal
 
-abbrev pub invariant-loop-value : goal.invariant-loop-value
-invariant-loop-value l = AreRoutedBelow l.plan l.value l.given.items
+abbrev pub invariant-loop-first : goal.invariant-loop-first
+invariant-loop-first l = record {
+  within : l.first ≤ 255;
+  routed : AreRoutedBelow l.plan l.first l.given.items;
+}
+
+abbrev pub decreases-loop-first : goal.decreases-loop-first
+decreases-loop-first l = 255 - l.first
