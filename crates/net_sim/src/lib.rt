@@ -5,8 +5,6 @@ mod assemblers;
 mod assigning;
 mod dealing;
 mod desk;
-#[cfg(test)]
-mod exact_tests;
 mod flights;
 mod network;
 mod outcome;

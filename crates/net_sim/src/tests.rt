@@ -1,5 +1,6 @@
 //! Networks that are played from texts. A row is an event, as its text stands in a list of events, and what comes of it.
 mod events;
+mod exact;
 mod lines;
 pub mod riser;
 mod rows;

@@ -1,37 +1,18 @@
-//! Messages of several packets from host to ssd in the riser network, whose texts are those of `examples/riser`.
+//! Messages of several packets from host to ssd in the riser network.
 ghost use Rattle.std.specs.Prelude.{◌<◌, ◌≤◌, length};
 
-use super::{Network, Outcome};
+use super::riser::{CERTIFICATE, NIC, PLAN, SSD};
+use super::{Network, Outcome, certificate_of, list_at, plan_of};
 use mctp_transport::{Eid, Key, MAX_MESSAGE, Packets, Seq, Tag, Why, Wire};
 use net_check::check;
-use net_plan::{Counted, Event, read_certificate, read_plan};
-use pdr_repository::{ListTerminus, Terminus, is_lawful_list};
-use pldm_message::Tid;
+use net_plan::Event;
+use pdr_repository::Terminus;
 use std::alloc::{AllocError, Global};
 use std::process::Abort;
 use std::test::Fail;
 
-const PLAN: &str =
-    r#"{"format":1,"buses":[{"name":"b0","binding":1,"media":4},{"name":"b1","binding":1,"media":4}],"nodes":[
-{"name":"host","kind":"bridge","eid":8,"owner":null,"pool":{"first":16,"size":8},"ports":[{"bus":"b0","address":"10"}],"rows":[{"first":16,"size":8,"port":0,"next":"riser"}],"terminus":null},
-{"name":"riser","kind":"bridge","eid":16,"owner":"host","pool":{"first":17,"size":7},"ports":[{"bus":"b0","address":"20"},{"bus":"b1","address":"22"}],"rows":[{"first":8,"size":1,"port":0,"next":"host"},{"first":17,"size":1,"port":1,"next":"nic"},{"first":18,"size":1,"port":1,"next":"ssd"}],"terminus":null},
-{"name":"nic","kind":"endpoint","eid":17,"owner":"riser","pool":null,"ports":[{"bus":"b1","address":"30"}],"rows":[{"first":8,"size":9,"port":0,"next":"riser"}],"terminus":{"tid":1,"records":[{"handle":1,"next":0,"bytes":"01000000010100000900010001010000010111"}]}},
-{"name":"ssd","kind":"endpoint","eid":18,"owner":"riser","pool":null,"ports":[{"bus":"b1","address":"32"}],"rows":[{"first":8,"size":9,"port":0,"next":"riser"}],"terminus":null}]}"#;
-
-const CERTIFICATE: &str =
-    r#"{"format":1,"levels":[{"level":1,"node":"riser"},{"level":2,"node":"nic"},{"level":2,"node":"ssd"}],"places":[{"node":"nic","places":[0]}],"ranks":[{"node":"host","ranges":[{"first":16,"rank":1,"size":1},{"first":17,"rank":2,"size":2},{"first":19,"rank":1,"size":5}]},{"node":"riser","ranges":[{"first":8,"rank":1,"size":1},{"first":17,"rank":1,"size":2}]},{"node":"nic","ranges":[{"first":8,"rank":2,"size":1},{"first":9,"rank":1,"size":8}]},{"node":"ssd","ranges":[{"first":8,"rank":2,"size":1},{"first":9,"rank":1,"size":8}]}]}
-"#;
-
-/// nic's only record.
-const LOCATOR: [u8; 19] = [
-    0x01, 0x00, 0x00, 0x00, 0x01, 0x01, 0x00, 0x00, 0x09, 0x00, 0x01, 0x00, 0x01, 0x01, 0x00, 0x00,
-    0x01, 0x01, 0x11,
-];
-
-/// The places of host and ssd in the plan.
+/// The place of host in the plan.
 const HOST: usize = 0;
-
-const SSD: usize = 3;
 
 /// The places of five packets in a row.
 const IN_A_ROW: [usize; 5] = [0, 1, 2, 3, 4];
@@ -41,14 +22,6 @@ const IN_A_ROW: [usize; 5] = [0, 1, 2, 3, 4];
 enum Goes {
     Itself,
     Copy,
-}
-
-/// nic's terminus.
-fn nic(rt: &impl Abort, alloc: Global) -> Result<ListTerminus, AllocError> {
-    let mut records = Vec::new(alloc);
-    records.push((1, LOCATOR.to_vec(alloc)?))?;
-    assert!(rt; records.len() <= 4096 && is_lawful_list(&records));
-    ListTerminus::new(alloc, Tid::new(1), records)
 }
 
 /// Tag 1 of host, which owns it.
@@ -264,11 +237,11 @@ fn send(
 #[test]
 fn five_packets_come_whole_or_not_at_all(rt: HostRuntime) -> Result<(), Fail> {
     let alloc = rt.alloc();
-    let plan = read_plan(alloc, &mut Counted::new(PLAN.as_bytes()))?;
-    let certificate = read_certificate(alloc, &plan, &mut Counted::new(CERTIFICATE.as_bytes()))?;
+    let plan = plan_of(alloc, PLAN)?;
+    let certificate = certificate_of(alloc, &plan, CERTIFICATE)?;
     let checked = check(alloc, &plan, &certificate).expect(&rt, "it is accepted");
     let mut termini: Vec<Box<dyn Terminus>> = Vec::new(alloc);
-    termini.push(Box::new(alloc, nic(&rt, alloc)?)?)?;
+    termini.push(Box::new(alloc, list_at(alloc, &plan, NIC)?)?)?;
     let mut network = Network::new(alloc, checked, termini)?;
     let message = message_of(alloc, 320)?;
     assert_eq!(rt; message.len(), 320);
@@ -309,11 +282,11 @@ fn five_packets_come_whole_or_not_at_all(rt: HostRuntime) -> Result<(), Fail> {
 #[test]
 fn of_six_packets_two_come_as_a_message(rt: HostRuntime) -> Result<(), Fail> {
     let alloc = rt.alloc();
-    let plan = read_plan(alloc, &mut Counted::new(PLAN.as_bytes()))?;
-    let certificate = read_certificate(alloc, &plan, &mut Counted::new(CERTIFICATE.as_bytes()))?;
+    let plan = plan_of(alloc, PLAN)?;
+    let certificate = certificate_of(alloc, &plan, CERTIFICATE)?;
     let checked = check(alloc, &plan, &certificate).expect(&rt, "it is accepted");
     let mut termini: Vec<Box<dyn Terminus>> = Vec::new(alloc);
-    termini.push(Box::new(alloc, nic(&rt, alloc)?)?)?;
+    termini.push(Box::new(alloc, list_at(alloc, &plan, NIC)?)?)?;
     let mut network = Network::new(alloc, checked, termini)?;
     let message = message_of(alloc, 384)?;
     assert_eq!(rt; message.len(), 384);
