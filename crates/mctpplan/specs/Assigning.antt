@@ -1,5 +1,5 @@
 -- What `assign` prints of an accepted plan.
-use Rattle.std.specs.Prelude.{◌≡◌, ℕ, List, ◌++◌, Option, option_map, slice_get, string_bytes, unwrap_or, codes}
+use Rattle.std.specs.Prelude.{◌≡◌, ℕ, ◌<◌, List, length, ◌++◌, All, Option, option_map, slice_get, string_bytes, unwrap_or, codes}
 use Rattle.std.specs.List.{flat_map}
 use Rattle.hex.specs.Hex.{encode_lower}
 use Rattle.mctp_control.specs.Requests.{request_bytes}
@@ -26,6 +26,10 @@ assignment_text plan asked = bus_name_or_dash plan asked.bus ++ (codes " " ++ (n
 abbrev pub assignment_lines : Plan → List AssignmentValue → List ℕ
 assignment_lines plan list = flat_map (assignment_text plan) list
 
+-- the plan has the request's bus and its node, so that no dash stands for a name
+abbrev pub IsNamed : Plan → AssignmentValue → Type 0
+IsNamed plan asked = (asked.bus < length plan.buses.items) × (asked.node < length plan.nodes.items)
+
 -- The text is the lines of the requests that give each owned node its endpoint ID and pool. They can be carried out; however
 -- they are replied to, each is accepted, and all is assigned then.
 pub record IsAssignmentText (plan : Plan) (certificate : Certificate) (text : List ℕ) : Type 0 where
@@ -34,4 +38,5 @@ pub record IsAssignmentText (plan : Plan) (certificate : Certificate) (text : Li
   pub possible : CanBeCarriedOut plan list
   pub accepted : IsAcceptedThroughout plan list
   pub assigned : AssignsAll plan list
+  pub named : All (IsNamed plan) list
   pub written : text ≡ assignment_lines plan list
