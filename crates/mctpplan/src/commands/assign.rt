@@ -1,5 +1,5 @@
 //! The command `assign`: the requests that give the nodes of a checked plan their endpoint IDs and pools.
-ghost use Rattle.std.specs.Prelude.{◌≡◌, ◌⊎◌, ◌<◌, ◌^◌, ◌-◌, IfOk, IfErr};
+ghost use Rattle.std.specs.Prelude.{◌≡◌, ◌⊎◌, ◌<◌, ◌^◌, ◌-◌, IfOk, IfErr, string_bytes};
 ghost use Rattle.mctpplan.specs.declared.refused.Refused.TheVariants.{Unwritten};
 ghost use Rattle.mctpplan.specs.declared.status.Status.TheVariants.{Yes, Fault, NoMemory};
 ghost use Rattle.mctpplan.specs.Answers.{stream, IsRefusedFor, Tells};
@@ -10,10 +10,10 @@ use crate::commands::{print, print_fault, refuse};
 use crate::refused::Refused;
 use crate::status::Status;
 use crate::texts::assignments::assignment_lines;
-use net_check::check;
+use net_check::{Checked, check};
 use net_plan::{Sink, Source};
 use net_sim::assign;
-use std::alloc::Global;
+use std::alloc::{AllocError, Global};
 
 /// Gives on `output` the requests that assign what a plan gives its nodes, where the certificate fits the plan. Where a file
 /// can't be read, says so on `errors`; of two such files, the plan is told and the certificate is not read.
@@ -68,10 +68,17 @@ fn answer_assign<P: Source, C: Source, O: Sink>(
     let (plan, certificate) = read_inputs(alloc, plan, certificate)?;
     match check(alloc, &plan, &certificate) {
         Ok(checked) => {
-            let list = assign(alloc, &checked)?;
-            print(output, &assignment_lines(alloc, &plan, &list)?)?;
+            print(output, &requests_text(alloc, &checked)?)?;
             Ok(Status::Yes)
         }
         Err(error) => print_fault(alloc, &plan, &error, output),
     }
+}
+
+/// The requests that assign what a checked plan gives its nodes.
+fn requests_text(alloc: Global, checked: &Checked) -> Result<String, AllocError>
+    ensures { IfOk result (λ text. IsAssignmentText checked.now.0 checked.now.1 (string_bytes text)) }
+{
+    let list = assign(alloc, checked)?;
+    assignment_lines(alloc, checked.plan(), &list)
 }
