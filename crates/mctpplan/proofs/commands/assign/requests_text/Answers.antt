@@ -28,4 +28,4 @@ returns c =
     let made = c.in_ok-list in
     let lines = rw c.deref.ensures.value at c.assignment_lines.ensures in
     lines_of (λ lines. string_bytes lines) checked.0 c.plan.result.now checked.1 (map assignment_value made.list.items) c.assignment_lines.result made.ensures.listed
-        made.ensures.possible made.ensures.accepted made.ensures.assigned c.plan.ensures.plan lines
+    made.ensures.possible made.ensures.accepted made.ensures.assigned c.plan.ensures.plan lines
