@@ -4,3 +4,4 @@ pub mod Answers
 pub mod Shown
 pub mod Show
 pub mod Certifying
+pub mod Assigning

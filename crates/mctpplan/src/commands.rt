@@ -6,6 +6,7 @@ ghost use Rattle.mctpplan.specs.declared.status.Status.TheVariants.{Unreadable, 
 ghost use Rattle.mctpplan.specs.Statuses.{status_of};
 ghost use Rattle.mctpplan.specs.Answers.{stream, PrintsFault, FailsToPrint};
 
+pub mod assign;
 pub mod certify;
 pub mod check;
 pub mod inputs;

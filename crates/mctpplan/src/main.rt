@@ -10,6 +10,7 @@ mod status;
 mod texts;
 
 use command_line::{Command, words};
+use commands::assign::run_assign;
 use commands::certify::run_certify;
 use commands::check::run_check;
 use commands::refuse;
@@ -45,6 +46,13 @@ fn run(rt: &HostRuntime) -> Status {
         Ok(Command::Certify { plan }) => run_certify(
             alloc,
             &mut Counted::new(FileAtPath::new(rt, plan)),
+            &mut output,
+            &mut errors,
+        ),
+        Ok(Command::Assign { plan, certificate }) => run_assign(
+            alloc,
+            &mut Counted::new(FileAtPath::new(rt, plan)),
+            &mut Counted::new(FileAtPath::new(rt, certificate)),
             &mut output,
             &mut errors,
         ),

@@ -8,6 +8,7 @@ use std::io::{self, ErrorKind, Read, Write};
 use std::process::Abort;
 use std::test::Fail;
 
+mod assign;
 mod bridges;
 mod riser;
 
