@@ -1,1 +1,4 @@
 pub mod Telling
+pub mod Exchanging
+pub mod Walked
+pub mod Ordering
