@@ -1,10 +1,11 @@
 //! The command `walk`: the records that a walk over a node's terminus collects.
 ghost use Rattle.std.specs.Prelude.{◌≡◌, ◌↔◌, ◌⊎◌, ◌<◌, ◌≤◌, ◌^◌, ◌-◌, Some, IsSome, IfSome, IfOk, IfErr, string_bytes};
 ghost use Rattle.net_check.specs.Repositories.{terminus_of, records_by_place};
+ghost use Rattle.net_check.specs.Rules.{Accepts};
 ghost use Rattle.mctpplan.specs.declared.refused.Refused.TheVariants.{Unwritten};
 ghost use Rattle.mctpplan.specs.declared.status.Status.TheVariants.{Yes, Fault, NoMemory};
 ghost use Rattle.mctpplan.specs.Answers.{stream};
-ghost use Rattle.mctpplan.specs.Collecting.{EndsEarlyFor};
+ghost use Rattle.mctpplan.specs.Collecting.{EndsEarlyFor, PrintsWalk, FailsToWalk};
 ghost use Rattle.mctpplan.specs.Walking.{walk_text, IsNotWalkedFor, Walks};
 
 mod collecting;
@@ -18,8 +19,8 @@ use crate::refused::Refused;
 use crate::status::Status;
 use collecting::collect;
 use naming::named_terminus;
-use net_check::{Checked, check};
-use net_plan::{Sink, Source, Terminus};
+use net_check::check;
+use net_plan::{Certificate, Plan, Sink, Source, Terminus};
 use ordering::terminus_by_place;
 use std::alloc::Global;
 use texts::walk_text;
@@ -74,7 +75,7 @@ pub fn run_walk<P: Source, C: Source, O: Sink, E: Sink>(
     }
 }
 
-#[tactic(auto, using(crate::proofs::Walked::tells_walk_fault, crate::proofs::Walked::not_walked))]
+#[tactic(auto, using(crate::proofs::Walked::tells_walk_fault))]
 fn answer_walk<P: Source, C: Source, O: Sink>(
     alloc: Global,
     plan: &mut P,
@@ -104,27 +105,50 @@ fn answer_walk<P: Source, C: Source, O: Sink>(
         return Err(Refused::UnknownNode);
     };
     match check(alloc, &plan, &certificate) {
-        Ok(checked) => {
-            print(output, &walked_text(alloc, &checked, place, terminus, part)?)?;
-            Ok(Status::Yes)
-        }
+        Ok(_) => print_walk(alloc, &plan, &certificate, (place, terminus), part, output),
         Err(error) => print_fault(alloc, &plan, &error, output),
     }
 }
 
-/// What is told of a walk over the terminus of a node of a checked plan.
+/// Writes which records a walk over the terminus of a node of an accepted plan collects.
+fn print_walk<O: Sink>(
+    alloc: Global,
+    plan: &Plan,
+    certificate: &Certificate,
+    found: (usize, &Terminus),
+    part: PartSize,
+    output: &mut O,
+) -> Result<Status, Refused>
+    requires accepted { Accepts plan.now certificate.now }
+    requires there { terminus_of plan.now found.0 ≡ Some found.1.now }
+    requires output { O.failures output.old < 2 ^ 64 - 1 }
+    ensures written { let outputs = stream (O.contents output.old) (O.failures output.old) (O.contents output.new) (O.failures output.new) in
+        IfOk result (λ status. PrintsWalk part.bytes (records_by_place plan.now certificate.now found.entry.0) status outputs) }
+    ensures unwritten { let outputs = stream (O.contents output.old) (O.failures output.old) (O.contents output.new) (O.failures output.new) in
+        IfErr result (λ refused. FailsToWalk (records_by_place plan.now certificate.now found.entry.0) refused outputs) }
+    ensures untouched { IfErr result (λ refused. (refused ≡ Unwritten) ⊎ (output.new ≡ output.old)) }
+{
+    let (node, terminus) = found;
+    let text = walked_text(alloc, plan, certificate, node, terminus, part)?;
+    print(output, &text)?;
+    Ok(Status::Yes)
+}
+
+/// What is told of a walk over the terminus of a node of an accepted plan.
 fn walked_text(
     alloc: Global,
-    checked: &Checked,
+    plan: &Plan,
+    certificate: &Certificate,
     node: usize,
     terminus: &Terminus,
     part: PartSize,
 ) -> Result<String, Refused>
-    requires { terminus_of checked.now.0 node ≡ Some terminus.now }
-    ensures text { IfOk result (λ text. string_bytes text ≡ walk_text part.bytes (records_by_place checked.now.0 checked.now.1 node)) }
-    ensures early { IfErr result (EndsEarlyFor (records_by_place checked.now.0 checked.now.1 node)) }
+    requires accepted { Accepts plan.now certificate.now }
+    requires there { terminus_of plan.now node ≡ Some terminus.now }
+    ensures text { IfOk result (λ text. string_bytes text ≡ walk_text part.bytes (records_by_place plan.now certificate.now node)) }
+    ensures early { IfErr result (EndsEarlyFor (records_by_place plan.now certificate.now node)) }
 {
-    let mut list = terminus_by_place(alloc, checked, node, terminus)?;
+    let mut list = terminus_by_place(alloc, plan, certificate, node, terminus)?;
     let walker = collect(alloc, &mut list, part)?;
     Ok(walk_text(alloc, walker.records(), walker.taken())?)
 }
