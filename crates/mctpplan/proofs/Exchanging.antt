@@ -25,7 +25,6 @@ use Rattle.pdr_repository.proofs.Walks.{Within, stands, one_step, every_walk_col
 use Rattle.mctpplan.specs.Walking.{bytes_of}
 use Rattle.mctpplan.specs.Collecting.{IsUnderWay, IsFurther, HasCollected}
 
-
 -- the answer that was written
 answered_bytes : (said : Bool) (out bytes : List ℕ) → answer_of said out ≡ Some bytes → out ≡ bytes
 answered_bytes true out bytes is = same_Some out bytes is
@@ -119,10 +118,9 @@ bytes_up_to : (records : List Entry) (place : ℕ) (e : Entry) → slice_get rec
 bytes_up_to records place e here =
     let within = slice_get_within records place e here in
     let there : get_or (bytes_by_place records) place [] ≡ e.bytes =
-        get_or-map (λ (f : Entry). f.bytes) records place e [] within ∙ ap (λ (f : Entry). f.bytes) (get_or_from_slice_get records place e e here) in
+    get_or-map (λ (f : Entry). f.bytes) records place e [] within ∙ ap (λ (f : Entry). f.bytes) (get_or_from_slice_get records place e e here) in
     let all = sum_by_more_le length (bytes_by_place records) place [] (omega (arith, length-map records (λ (f : Entry). f.bytes))) in
-    let taken : take place (bytes_by_place records) ≡ bytes_by_place (take place records) = take-map (λ (f : Entry). f.bytes) place records in
-    (
+    let taken : take place (bytes_by_place records) ≡ bytes_by_place (take place records) = take-map (λ (f : Entry). f.bytes) place records in (
       omega (arith, length-map (take place records) (λ (f : Entry). f.bytes), length-take place records),
       within,
       omega (arith, all, ap (sum_by length) taken, ap length there),

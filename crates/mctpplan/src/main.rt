@@ -50,12 +50,14 @@ fn run(rt: &HostRuntime) -> Status {
             &mut errors,
         ),
         Ok(Command::Show { kind, hex }) => run_show(alloc, kind, hex, &mut output, &mut errors),
-        Ok(Command::Walk {
-            plan,
-            certificate,
-            node,
-            part,
-        }) => run_walk(
+        Ok(
+            Command::Walk {
+                plan,
+                certificate,
+                node,
+                part,
+            },
+        ) => run_walk(
             alloc,
             &mut Counted::new(FileAtPath::new(rt, plan)),
             &mut Counted::new(FileAtPath::new(rt, certificate)),

@@ -40,10 +40,7 @@ fn expect_walk<P: Read + Drop, C: Read + Drop>(
 
 #[test]
 fn tells_each_record_by_place(rt: HostRuntime) -> Result<(), Fail> {
-    let one = (
-        Status::Yes,
-        "record 1 length 9\nrecords 1 requests 2\n",
-    );
+    let one = (Status::Yes, "record 1 length 9\nrecords 1 requests 2\n");
     expect_walk(&rt, PLAN.as_bytes(), CERTIFICATE.as_bytes(), "nic", one);
     let plan = replaced(rt.alloc(), PLAN, RECORD, TWO_RECORDS)?;
     let places = r#""places":[1,0]"#;
@@ -86,12 +83,6 @@ fn tells_files_before_the_node(rt: HostRuntime) {
 fn tells_the_fault_of_a_plan(rt: HostRuntime) -> Result<(), Fail> {
     let plan = replaced(rt.alloc(), PLAN, r#""eid":18"#, r#""eid":17"#)?;
     let fault = (Status::Fault, "fault C03 node ssd entry - eid 17\n");
-    expect_walk(
-        &rt,
-        plan.as_bytes(),
-        CERTIFICATE.as_bytes(),
-        "nic",
-        fault,
-    );
+    expect_walk(&rt, plan.as_bytes(), CERTIFICATE.as_bytes(), "nic", fault);
     Ok(())
 }

@@ -56,11 +56,7 @@ fn in_order(
 }
 
 /// The first record that is given the place.
-fn record_at<'a>(
-    records: &'a [Record],
-    places: &[RecordPlace],
-    place: usize,
-) -> Option<&'a Record>
+fn record_at<'a>(records: &'a [Record], places: &[RecordPlace], place: usize) -> Option<&'a Record>
     ensures { option_map (λ r. r.now) result ≡ record_at records.now (map (λ p. p.value) places.now) place }
 {
     match first_given(places, place) {

@@ -10,11 +10,7 @@ use std::alloc::{AllocError, Global};
 const HEADER_LENGTH: usize = 10;
 
 /// The line of each record, and the line of their number and of the requests that they took.
-pub fn walk_text(
-    alloc: Global,
-    records: &[Vec<u8>],
-    requests: usize,
-) -> Result<String, AllocError>
+pub fn walk_text(alloc: Global, records: &[Vec<u8>], requests: usize) -> Result<String, AllocError>
     ensures { IfOk result (λ text. string_bytes text ≡ flat_map record_line (map (λ v. v.items) records.now) ++ count_line (length records.now) requests) }
 {
     let mut text = String::new(alloc);
