@@ -1,5 +1,5 @@
 -- The records of a terminus by place.
-use Rattle.std.proofs.Common.{◌≡◌, ◌≢◌, ℕ, zero, suc, ◌+◌, ◌≤◌, nat_eq, position, List, [], ◌∷◌, ◌++◌, length, Option, Some, None, Result, Ok, Err, map, sym, ap, ◌∙◌, subst, refl, arith, add-one}
+use Rattle.std.proofs.Common.{◌≡◌, ℕ, zero, suc, ◌+◌, ◌≤◌, nat_eq, position, List, [], ◌∷◌, ◌++◌, length, Option, Some, None, Result, Ok, Err, map, sym, ap, ◌∙◌, subst, refl, arith, add-one}
 use Rattle.std.specs.Prelude.{Vec, IfOk, option_map, slice_get, unwrap_or}
 use Rattle.std.specs.Option.{option_and_then}
 use Rattle.std.specs.List.{position_or_len, filter_map, cons_option, range_with_len}

@@ -1,5 +1,5 @@
 -- What the end of a walk tells of the plan and the certificate that were given.
-use Rattle.std.proofs.Common.{◌≡◌, ◌<◌, ℕ, List, Option, Result, Ok, Err, refl, subst, sym, inl, inr}
+use Rattle.std.proofs.Common.{ℕ, List, Result, Ok, Err, refl, subst, sym, inl, inr}
 use Rattle.std.specs.Prelude.{IfOk, IfErr}
 use Rattle.net_check.specs.declared.check_error.CheckError.{CheckError}
 use Rattle.net_check.specs.declared.check_error.CheckError.TheVariants as check_error
@@ -9,7 +9,6 @@ use Rattle.net_check.specs.Rules.{Accepts}
 use Rattle.net_plan.specs.declared.certificate.Certificate.{Certificate}
 use Rattle.net_plan.specs.declared.plan.Plan.{Plan}
 use Rattle.mctpplan.specs.declared.refused.Refused.{Refused}
-use Rattle.mctpplan.specs.declared.refused.Refused.TheVariants as refused
 use Rattle.mctpplan.specs.declared.status.Status.{Status}
 use Rattle.mctpplan.specs.Answers.{Stream, AreGiven, PrintsFault}
 use Rattle.mctpplan.specs.Collecting.{PrintsWalk, FailsToWalk}

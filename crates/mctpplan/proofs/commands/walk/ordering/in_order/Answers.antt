@@ -1,7 +1,7 @@
 use Rattle.std.proofs.Common.{[], ◌++◌, ap, ◌∙◌}
 use Rattle.std.specs.Prelude.{option_map}
 use Rattle.std.specs.List.{cons_option}
-use Rattle.net_check.specs.Repositories.{entry_of, record_at}
+use Rattle.net_check.specs.Repositories.{entry_of}
 use Rattle.pdr_repository.specs.Records.{entries}
 use Rattle.mctpplan.proofs.Ordering.{one_more_found}
 use Rattle.mctpplan.proofs.commands.walk.ordering.in_order.Goals as goal

@@ -1,4 +1,4 @@
-use Rattle.std.proofs.Common.{arith, refl, ◌≤◌, ◌≡◌, ℕ, ◌<◌, List, Option, Some, None, sym, ap, ◌∙◌, slice_get, length, Bor}
+use Rattle.std.proofs.Common.{arith, refl, ◌≡◌, ℕ, List, Option, Some, None, sym, ◌∙◌, slice_get, length, Bor}
 use Rattle.std.specs.Prelude.{option_map}
 use Rattle.std.specs.Slice.{IsItemAt}
 use Rattle.std.proofs.lemmas.Option.{slice_get_read, slice_get_past}

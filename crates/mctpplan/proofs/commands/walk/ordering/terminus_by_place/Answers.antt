@@ -1,6 +1,6 @@
-use Rattle.std.proofs.Common.{length, arith, ap, ◌∙◌}
+use Rattle.std.proofs.Common.{arith}
 use Rattle.std.proofs.lemmas.List.{length-map}
-use Rattle.pdr_repository.specs.Records.{entries, entry_of}
+use Rattle.pdr_repository.specs.Records.{entry_of}
 use Rattle.mctpplan.proofs.Ordering.{few_in_order, lawful_in_order, few_kept, lawful_kept}
 use Rattle.mctpplan.proofs.commands.walk.ordering.terminus_by_place.Goals as goal
 
