@@ -1,2 +1,5 @@
 pub mod Telling
 pub mod Named
+pub mod Exchanging
+pub mod Walked
+pub mod Ordering

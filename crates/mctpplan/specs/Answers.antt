@@ -93,6 +93,7 @@ IsPlanUnread (refused.Unreadable input.Certificate cause) plans = ⊥
 IsPlanUnread (refused.Unreadable input.Events cause) plans = ⊥
 IsPlanUnread refused.UnknownNode plans = ⊥
 IsPlanUnread refused.UnreadableHex plans = ⊥
+IsPlanUnread refused.TooMuch plans = ⊥
 IsPlanUnread refused.Unwritten plans = ⊥
 IsPlanUnread refused.NoMemory plans = ⊤
 
@@ -109,6 +110,7 @@ AreUnread refused.Usage plans certificates = ⊥
 AreUnread (refused.Unreadable unread cause) plans certificates = IsUnread unread cause plans certificates
 AreUnread refused.UnknownNode plans certificates = ⊥
 AreUnread refused.UnreadableHex plans certificates = ⊥
+AreUnread refused.TooMuch plans certificates = ⊥
 AreUnread refused.Unwritten plans certificates = ⊥
 AreUnread refused.NoMemory plans certificates = ⊤
 
@@ -118,6 +120,7 @@ IsRefusedFor refused.Usage plans certificates output = ⊥
 IsRefusedFor (refused.Unreadable unread cause) plans certificates output = IsUnread unread cause plans certificates
 IsRefusedFor refused.UnknownNode plans certificates output = ⊥
 IsRefusedFor refused.UnreadableHex plans certificates output = ⊥
+IsRefusedFor refused.TooMuch plans certificates output = ⊥
 IsRefusedFor refused.Unwritten plans certificates output = Fails output
 IsRefusedFor refused.NoMemory plans certificates output = ⊤
 

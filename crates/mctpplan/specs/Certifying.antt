@@ -55,6 +55,7 @@ IsUncertifiedFor (refused.Unreadable input.Certificate cause) plans output = ⊥
 IsUncertifiedFor (refused.Unreadable input.Events cause) plans output = ⊥
 IsUncertifiedFor refused.UnknownNode plans output = ⊥
 IsUncertifiedFor refused.UnreadableHex plans output = ⊥
+IsUncertifiedFor refused.TooMuch plans output = ⊥
 IsUncertifiedFor refused.Unwritten plans output = Fails output
 IsUncertifiedFor refused.NoMemory plans output = ⊤
 

@@ -5,3 +5,5 @@ pub mod Shown
 pub mod Show
 pub mod Certifying
 pub mod Assigning
+pub mod Walking
+pub mod Collecting

@@ -61,5 +61,6 @@ IsNotShown refused.Usage hex output = ⊥
 IsNotShown (refused.Unreadable input cause) hex output = ⊥
 IsNotShown refused.UnknownNode hex output = ⊥
 IsNotShown refused.UnreadableHex hex output = IsNoHex hex
+IsNotShown refused.TooMuch hex output = ⊥
 IsNotShown refused.Unwritten hex output = Fails output
 IsNotShown refused.NoMemory hex output = ⊤

@@ -14,6 +14,7 @@ use commands::assign::run_assign;
 use commands::certify::run_certify;
 use commands::check::run_check;
 use commands::refuse;
+use commands::walk::run_walk;
 use files::FileAtPath;
 use net_plan::Counted;
 use refused::Refused;
@@ -57,6 +58,22 @@ fn run(rt: &HostRuntime) -> Status {
             &mut errors,
         ),
         Ok(Command::Show { kind, hex }) => run_show(alloc, kind, hex, &mut output, &mut errors),
+        Ok(
+            Command::Walk {
+                plan,
+                certificate,
+                node,
+                part,
+            },
+        ) => run_walk(
+            alloc,
+            &mut Counted::new(FileAtPath::new(rt, plan)),
+            &mut Counted::new(FileAtPath::new(rt, certificate)),
+            node,
+            part,
+            &mut output,
+            &mut errors,
+        ),
         Ok(_) => refuse(alloc, Refused::Usage, &mut errors),
         Err(refused) => refuse(alloc, refused, &mut errors),
     }

@@ -26,6 +26,8 @@ pub enum Refused {
     UnknownNode,
     /// A hex text is no hex: an odd number of digits, or a character that is none.
     UnreadableHex,
+    /// The records of a terminus have more bytes than a walk collects.
+    TooMuch,
     /// Standard output failed; a beginning of the answer may be out.
     Unwritten,
     /// There is too little memory to tell.
@@ -54,6 +56,7 @@ impl Refused {
             | Refused::Unreadable { .. }
             | Refused::UnknownNode
             | Refused::UnreadableHex
+            | Refused::TooMuch
             | Refused::Unwritten => Status::Unreadable,
             Refused::NoMemory => Status::NoMemory,
         }

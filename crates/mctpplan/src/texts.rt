@@ -109,6 +109,7 @@ pub fn refusal_line(alloc: Global, refused: Refused) -> Result<CowStr<'static>, 
         }
         Refused::UnknownNode => Ok(CowStr::Borrowed("unreadable node: J06\n")),
         Refused::UnreadableHex => Ok(CowStr::Borrowed("unreadable hex: J07\n")),
+        Refused::TooMuch => Ok(CowStr::Borrowed("unreadable walk: G09\n")),
         Refused::Unwritten => Ok(CowStr::Borrowed("unreadable output: file\n")),
         Refused::NoMemory => Ok(CowStr::Borrowed(NO_MEMORY)),
     }

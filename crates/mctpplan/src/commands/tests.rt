@@ -11,6 +11,7 @@ use std::test::Fail;
 mod assign;
 mod bridges;
 mod riser;
+mod walk;
 
 /// A plan of two endpoints on one bus, up to a's rows.
 const TO_ROWS: &str =
@@ -274,6 +275,7 @@ fn tells_each_refusal(rt: HostRuntime) {
     let rows = [
         (Refused::Usage, 2, "usage\n"),
         (Refused::UnreadableHex, 2, "unreadable hex: J07\n"),
+        (Refused::TooMuch, 2, "unreadable walk: G09\n"),
         (Refused::Unwritten, 2, "unreadable output: file\n"),
         (Refused::NoMemory, 3, "no memory\n"),
         (over_limit, 2, "unreadable plan: J08\n"),

@@ -18,7 +18,8 @@ pub(super) const CERTIFICATE: &str =
 "#;
 
 /// nic's only record.
-const RECORD: &str = r#"{"handle":1,"next":0,"bytes":"01000000010100000900010001010000010111"}"#;
+pub(super) const RECORD: &str =
+    r#"{"handle":1,"next":0,"bytes":"01000000010100000900010001010000010111"}"#;
 
 /// Two records in a circle.
 const CIRCLE: &str =
@@ -29,7 +30,12 @@ const TWO_ENDS: &str =
     r#"{"handle":1,"next":0,"bytes":"01000000010100000900010001010000010111"},{"handle":2,"next":0,"bytes":"02000000010100000900010001010000010111"}"#;
 
 /// A text with another in the place of one that stands in it.
-fn replaced(alloc: Global, text: &str, old: &str, new: &str) -> Result<String, AllocError> {
+pub(super) fn replaced(
+    alloc: Global,
+    text: &str,
+    old: &str,
+    new: &str,
+) -> Result<String, AllocError> {
     text.replacen(alloc, old, new, 1)
 }
 
