@@ -4,3 +4,5 @@ pub mod Answers
 pub mod Shown
 pub mod Show
 pub mod Certifying
+pub mod OutcomeLines
+pub mod Simulating

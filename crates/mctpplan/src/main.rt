@@ -13,6 +13,7 @@ use command_line::{Command, words};
 use commands::certify::run_certify;
 use commands::check::run_check;
 use commands::refuse;
+use commands::sim::files::simulate;
 use files::FileAtPath;
 use net_plan::Counted;
 use refused::Refused;
@@ -45,6 +46,18 @@ fn run(rt: &HostRuntime) -> Status {
         Ok(Command::Certify { plan }) => run_certify(
             alloc,
             &mut Counted::new(FileAtPath::new(rt, plan)),
+            &mut output,
+            &mut errors,
+        ),
+        Ok(Command::Sim {
+            plan,
+            certificate,
+            events,
+        }) => simulate(
+            alloc,
+            &mut Counted::new(FileAtPath::new(rt, plan)),
+            &mut Counted::new(FileAtPath::new(rt, certificate)),
+            &mut Counted::new(FileAtPath::new(rt, events)),
             &mut output,
             &mut errors,
         ),

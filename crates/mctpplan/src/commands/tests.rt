@@ -9,6 +9,7 @@ use std::test::Fail;
 
 mod bridges;
 mod riser;
+mod sim;
 
 /// A plan of two endpoints on one bus, up to a's rows.
 const TO_ROWS: &str =

@@ -5,7 +5,7 @@ use crate::status::Status;
 use std::alloc::{AllocError, Global};
 use std::test::Fail;
 
-const PLAN: &str =
+pub(super) const PLAN: &str =
     r#"{"format":1,"buses":[{"name":"b0","binding":1,"media":4},{"name":"b1","binding":1,"media":4}],"nodes":[
 {"name":"host","kind":"bridge","eid":8,"owner":null,"pool":{"first":16,"size":8},"ports":[{"bus":"b0","address":"10"}],"rows":[{"first":16,"size":8,"port":0,"next":"riser"}],"terminus":null},
 {"name":"riser","kind":"bridge","eid":16,"owner":"host","pool":{"first":17,"size":7},"ports":[{"bus":"b0","address":"20"},{"bus":"b1","address":"22"}],"rows":[{"first":8,"size":1,"port":0,"next":"host"},{"first":17,"size":1,"port":1,"next":"nic"},{"first":18,"size":1,"port":1,"next":"ssd"}],"terminus":null},
@@ -13,7 +13,7 @@ const PLAN: &str =
 {"name":"ssd","kind":"endpoint","eid":18,"owner":"riser","pool":null,"ports":[{"bus":"b1","address":"32"}],"rows":[{"first":8,"size":9,"port":0,"next":"riser"}],"terminus":null}]}
 "#;
 
-const CERTIFICATE: &str =
+pub(super) const CERTIFICATE: &str =
     r#"{"format":1,"levels":[{"level":1,"node":"riser"},{"level":2,"node":"nic"},{"level":2,"node":"ssd"}],"places":[{"node":"nic","places":[0]}],"ranks":[{"node":"host","ranges":[{"first":16,"rank":1,"size":1},{"first":17,"rank":2,"size":2},{"first":19,"rank":1,"size":5}]},{"node":"riser","ranges":[{"first":8,"rank":1,"size":1},{"first":17,"rank":1,"size":2}]},{"node":"nic","ranges":[{"first":8,"rank":2,"size":1},{"first":9,"rank":1,"size":8}]},{"node":"ssd","ranges":[{"first":8,"rank":2,"size":1},{"first":9,"rank":1,"size":8}]}]}
 "#;
 
