@@ -1,5 +1,6 @@
 use super::*;
 use std::test::Fail;
+use std::process::Abort;
 
 #[test]
 fn gives_the_command_or_usage(rt: HostRuntime) -> Result<(), Fail> {

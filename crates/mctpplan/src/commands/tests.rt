@@ -2,6 +2,7 @@ use super::*;
 use crate::commands::certify::run_certify;
 use crate::commands::check::run_check;
 use crate::files::FileAtPath;
+use crate::refused::Input;
 use net_plan::{Counted, PlanError};
 use std::io::{self, ErrorKind, Read, Write};
 use std::process::Abort;
