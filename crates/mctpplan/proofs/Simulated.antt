@@ -1,5 +1,5 @@
 -- Lines of outcomes, and runs of which they are.
-use Rattle.std.proofs.Common.{◌≡◌, ℕ, zero, suc, ◌+◌, ◌<◌, ◌≤◌, Bool, true, false, List, [], ◌∷◌, ◌++◌, length, map, take, get_or, Option, Some, Result, Ok, Err, refl, sym, ◌∙◌, ap, subst, append_assoc, append-nil, arith}
+use Rattle.std.proofs.Common.{◌≡◌, ℕ, zero, suc, ◌+◌, ◌<◌, ◌≤◌, Bool, true, false, List, [], ◌∷◌, ◌++◌, length, map, take, get_or, Option, Some, Err, refl, sym, ◌∙◌, ap, subst, append_assoc, append-nil, arith}
 use Rattle.std.specs.Prelude.{slice_get, option_map}
 use Rattle.std.specs.Io.KnownBytes.{Appends}
 use Rattle.std.proofs.KnownBytes.{Appends-nil, Appends-trans}
@@ -19,7 +19,7 @@ use Rattle.mctpplan.specs.declared.refused.Refused.TheVariants as refused
 use Rattle.mctpplan.specs.declared.refused.Input.TheVariants as input
 use Rattle.mctpplan.specs.declared.status.Status.{Status}
 use Rattle.mctpplan.specs.declared.status.Status.TheVariants as status
-use Rattle.mctpplan.specs.Answers.{Stream, AreGiven, AreUnread, GaveNothing, PrintsFault, FailsToPrint}
+use Rattle.mctpplan.specs.Answers.{Stream, AreGiven, GaveNothing, PrintsFault, FailsToPrint}
 use Rattle.mctpplan.specs.Statuses.{refused_at}
 use Rattle.mctpplan.proofs.Telling.{gave_nothing}
 use Rattle.net_check.specs.declared.check_error.CheckError.{CheckError}
@@ -67,8 +67,8 @@ module _ (plan : Plan) (outcomes : List Outcome) (index : ℕ) (outcome : Outcom
       let before_it = take index (map outcome_value outcomes) in
       let number : 1 + length before_it ≡ index + 1 = omega (arith, many) in
       let all : outcome_lines plan before_it ++ line ≡ outcome_lines plan (take (index + 1) (map outcome_value outcomes)) =
-          ap (λ z. outcome_lines plan before_it ++ z) (told ∙ ap (λ n. outcome_line plan n (outcome_value outcome)) (sym number))
-          ∙ (sym (lines_more plan 1 before_it (outcome_value outcome)) ∙ ap (outcome_lines plan) (sym one_more)) in
+      ap (λ z. outcome_lines plan before_it ++ z) (told ∙ ap (λ n. outcome_line plan n (outcome_value outcome)) (sym number))
+      ∙ (sym (lines_more plan 1 before_it (outcome_value outcome)) ∙ ap (outcome_lines plan) (sym one_more)) in
       subst (Appends old new) all (Appends-trans old mid new (outcome_lines plan before_it) line before pushed)
 
 -- ---- runs

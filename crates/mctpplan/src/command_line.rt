@@ -9,11 +9,19 @@ use std::alloc::{AllocError, Global};
 #[derive(Clone, Copy, Debug, PartialEq, Eq)]
 pub enum Command<'a> {
     /// Does the certificate in one file fit the plan in another?
-    Check { plan: &'a str, certificate: &'a str },
+    Check {
+        plan: &'a str,
+        certificate: &'a str,
+    },
     /// What is the certificate of the plan in a file?
-    Certify { plan: &'a str },
+    Certify {
+        plan: &'a str,
+    },
     /// Which requests give the nodes of the plan in one file, certified by another, their endpoint IDs and pools?
-    Assign { plan: &'a str, certificate: &'a str },
+    Assign {
+        plan: &'a str,
+        certificate: &'a str,
+    },
     /// What comes of the events in a file?
     Sim {
         plan: &'a str,
@@ -28,7 +36,10 @@ pub enum Command<'a> {
         part: PartSize,
     },
     /// What are the bytes of a hex text?
-    Show { kind: Kind, hex: &'a str },
+    Show {
+        kind: Kind,
+        hex: &'a str,
+    },
 }
 
 /// The command that a list of words stands for. The first word is the program's name.

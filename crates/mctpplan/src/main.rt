@@ -49,11 +49,13 @@ fn run(rt: &HostRuntime) -> Status {
             &mut output,
             &mut errors,
         ),
-        Ok(Command::Sim {
-            plan,
-            certificate,
-            events,
-        }) => simulate(
+        Ok(
+            Command::Sim {
+                plan,
+                certificate,
+                events,
+            },
+        ) => simulate(
             alloc,
             &mut Counted::new(FileAtPath::new(rt, plan)),
             &mut Counted::new(FileAtPath::new(rt, certificate)),

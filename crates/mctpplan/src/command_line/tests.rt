@@ -1,6 +1,6 @@
 use super::*;
-use std::test::Fail;
 use std::process::Abort;
+use std::test::Fail;
 
 #[test]
 fn gives_the_command_or_usage(rt: HostRuntime) -> Result<(), Fail> {

@@ -87,7 +87,9 @@ fn record_in(records: &[Record], listed: usize) -> Option<&Record>
 fn listed_at(places: &[RecordPlace], place: usize) -> Option<usize>
     ensures { result ≡ position (λ p. p.value == place) places.now }
 {
-    places.iter().position(|given| given.value as usize == place)
+    places
+        .iter()
+        .position(|given| given.value as usize == place)
 }
 
 /// A record's handle and a copy of its bytes.

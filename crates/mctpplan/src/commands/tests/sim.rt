@@ -201,8 +201,10 @@ fn plays_over_a_terminus_that_is_given(rt: HostRuntime) -> Result<(), Fail> {
     ];
     for (room, status, written, said) in rows {
         let plan = plan_of_text(alloc, PLAN.as_bytes()).expect(&rt, "the plan reads");
-        let certificate = certificate_of_text(alloc, &plan, CERTIFICATE.as_bytes())
-            .expect(&rt, "the certificate reads");
+        let certificate = certificate_of_text(alloc, &plan, CERTIFICATE.as_bytes()).expect(
+            &rt,
+            "the certificate reads",
+        );
         let played = events_of_text(alloc, &plan, events.as_bytes()).expect(&rt, "the events read");
         let records = records_by_place(alloc, &plan, &certificate, 2)?;
         assert!(rt; is_lawful_list(&records));

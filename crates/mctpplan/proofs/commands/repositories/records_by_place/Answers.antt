@@ -1,6 +1,4 @@
-use Rattle.std.proofs.Common.{◌∙◌, ap, sym, ◌++◌, map, option_map}
-use Rattle.std.specs.Option.{option_to_list}
-use Rattle.net_check.specs.Repositories.{entry_of, record_at}
+use Rattle.std.proofs.Common.{map}
 use Rattle.mctpplan.proofs.Repositories.{one_record_more}
 use Rattle.mctpplan.proofs.commands.repositories.records_by_place.Goals as goal
 

@@ -1,4 +1,4 @@
-use Rattle.std.proofs.Common.{◌≡◌, map, take}
+use Rattle.std.proofs.Common.{◌≡◌, map}
 use Rattle.net_sim.specs.Outcomes.{outcome_value}
 use Rattle.mctpplan.specs.Answers.{stream}
 use Rattle.mctpplan.specs.Simulating.{ShowsLines}
