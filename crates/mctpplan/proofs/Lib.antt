@@ -3,3 +3,5 @@ pub mod Named
 pub mod Exchanging
 pub mod Walked
 pub mod Ordering
+pub mod Repositories
+pub mod Simulated

@@ -15,7 +15,7 @@ use Rattle.mctpplan.specs.declared.status.Status.{Status}
 use Rattle.mctpplan.specs.Answers.{Stream, GavePlan, GaveNothing, AreUnread, AreGiven, PrintsFault, Tells}
 use Rattle.mctpplan.specs.Statuses.{refused_at}
 
-gave_nothing : (GaveNone : Option (List ℕ) → Option (List ℕ) → PlanError → Type 0) (stream : Stream) (e : PlanError) → GaveNone stream.before stream.after e
+pub gave_nothing : (GaveNone : Option (List ℕ) → Option (List ℕ) → PlanError → Type 0) (stream : Stream) (e : PlanError) → GaveNone stream.before stream.after e
     → stream.failures_after ≡ stream.failures_before + error_count e → GaveNothing GaveNone stream e
 gave_nothing GaveNone stream error.Device gave counted = counted
 gave_nothing GaveNone stream error.NotJson gave counted = gave

@@ -7,3 +7,5 @@ pub mod Certifying
 pub mod Assigning
 pub mod Walking
 pub mod Collecting
+pub mod OutcomeLines
+pub mod Simulating

@@ -10,6 +10,8 @@ pub mod assign;
 pub mod certify;
 pub mod check;
 pub mod inputs;
+pub mod repositories;
+pub mod sim;
 pub mod walk;
 
 use crate::refused::Refused;
@@ -41,6 +43,7 @@ pub fn print<O: Sink>(output: &mut O, line: &str) -> Result<(), Refused>
     ensures written { OnOk result (Appends (O.contents output.old) (O.contents output.new) line.now) }
     ensures unwritten { IfErr result (λ refused. refused ≡ Unwritten) }
     ensures fails { OnErr result (O.failures output.new ≡ O.failures output.old + 1) }
+    ensures kept { OnOk result (O.failures output.new ≡ O.failures output.old) }
 {
     write_whole(output, line.as_bytes()).map_err(|_| Refused::Unwritten)
 }

@@ -1,4 +1,4 @@
-//! The program `mctpplan`: it checks a planned MCTP network against its certificate, and makes certificates.
+//! The program `mctpplan`: it checks a planned MCTP network against its certificate, makes certificates, and plays the network.
 #![tactic(auto)]
 
 mod command_line;
@@ -14,6 +14,7 @@ use commands::assign::run_assign;
 use commands::certify::run_certify;
 use commands::check::run_check;
 use commands::refuse;
+use commands::sim::files::simulate;
 use commands::walk::run_walk;
 use files::FileAtPath;
 use net_plan::Counted;
@@ -57,7 +58,20 @@ fn run(rt: &HostRuntime) -> Status {
             &mut output,
             &mut errors,
         ),
-        Ok(Command::Show { kind, hex }) => run_show(alloc, kind, hex, &mut output, &mut errors),
+        Ok(
+            Command::Sim {
+                plan,
+                certificate,
+                events,
+            },
+        ) => simulate(
+            alloc,
+            &mut Counted::new(FileAtPath::new(rt, plan)),
+            &mut Counted::new(FileAtPath::new(rt, certificate)),
+            &mut Counted::new(FileAtPath::new(rt, events)),
+            &mut output,
+            &mut errors,
+        ),
         Ok(
             Command::Walk {
                 plan,
@@ -74,7 +88,7 @@ fn run(rt: &HostRuntime) -> Status {
             &mut output,
             &mut errors,
         ),
-        Ok(_) => refuse(alloc, Refused::Usage, &mut errors),
+        Ok(Command::Show { kind, hex }) => run_show(alloc, kind, hex, &mut output, &mut errors),
         Err(refused) => refuse(alloc, refused, &mut errors),
     }
 }

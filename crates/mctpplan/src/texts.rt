@@ -4,6 +4,7 @@ ghost use Rattle.mctpplan.specs.declared.refused.Refused.TheVariants.{Unwritten}
 ghost use Rattle.mctpplan.specs.Lines.{name_or_dash, names_text, fault_text, owner_loop_text, loop_text, chain_text, obstacle_text};
 
 pub mod assignments;
+pub mod outcomes;
 
 use crate::refused::{Input, Refused};
 use mctp_transport::Eid;

@@ -12,6 +12,7 @@ mod assign;
 mod bridges;
 mod riser;
 mod walk;
+mod sim;
 
 /// A plan of two endpoints on one bus, up to a's rows.
 const TO_ROWS: &str =
