@@ -2,6 +2,5 @@ pub mod Telling
 pub mod Named
 pub mod Exchanging
 pub mod Walked
-pub mod Ordering
 pub mod Repositories
 pub mod Simulated

@@ -1,6 +1,6 @@
 -- Records one place after another.
-use Rattle.std.proofs.Common.{◌≡◌, ◌≢◌, ℕ, zero, suc, ◌+◌, Bool, cond, List, [], ◌∷◌, ◌++◌, length, map, position, Option, Some, None, refl, sym, ◌∙◌, ap, subst, add-one, add-zero, arith, Bor}
-use Rattle.std.specs.Prelude.{◌≤◌, not, nat_lt, option_map, unwrap_or}
+use Rattle.std.proofs.Common.{◌≡◌, ◌≢◌, ℕ, zero, suc, ◌+◌, Bool, cond, List, [], ◌∷◌, ◌++◌, length, map, position, Option, Some, None, Result, Ok, Err, refl, sym, ◌∙◌, ap, subst, add-one, add-zero, arith, Bor}
+use Rattle.std.specs.Prelude.{◌≤◌, not, nat_lt, option_map, unwrap_or, IfOk}
 use Rattle.std.specs.List.{prefix_len, position_or_len, cons_option, filter_map, range_with_len}
 use Rattle.std.specs.Option.{option_to_list}
 use Rattle.std.proofs.lemmas.List.{length-map, map-append}
@@ -8,6 +8,8 @@ use Rattle.net_plan.specs.declared.certificate.Certificate.{Certificate}
 use Rattle.net_plan.specs.declared.plan.Plan.{Plan}
 use Rattle.net_plan.specs.declared.terminus.Record.{Record}
 use Rattle.net_plan.specs.declared.terminus.Terminus.{Terminus}
+use Rattle.pdr_repository.specs.declared.list_terminus.ListTerminus.{ListTerminus}
+use Rattle.pdr_repository.specs.ListTermini.{list_records}
 use Rattle.pdr_repository.specs.Records.{Entry, IsLawful}
 use Rattle.net_check.specs.Repositories.{terminus_of, records_of, places_of, entry_of, record_at, records_by_place}
 use Rattle.net_check.specs.Rules.{Accepts}
@@ -94,3 +96,19 @@ lawful_records plan cert n records accepted there is =
     let order = accepted_orders plan cert accepted n there in
     let many = by_place_length (records_of plan n) (places_of cert n) order in
     (omega (arith, ap length is, many, few_records plan n), subst IsLawful (sym is) (is_lawful (records_of plan n) (places_of cert n) order))
+
+pub known_terminus : (plan : Plan) (n : ℕ) (t : Terminus) → terminus_of plan n ≡ Some t → terminus_of plan n ≢ None
+known_terminus plan n t there none =
+    let never : Some t ≡ None = sym there ∙ none in
+    absurd (cc)
+
+-- what is said of the entries is said of the terminus that is made over them
+pub few_kept : {E : Type 0} (made : Result ListTerminus E) (records : List Entry) → IfOk made (λ list. list_records list ≡ records) → length records ≤ 4096
+    → IfOk made (λ list. length (list_records list) ≤ 4096)
+few_kept (Ok list) records is few = omega (arith, few, ap length is)
+few_kept (Err e) records is few = tt
+
+pub lawful_kept : {E : Type 0} (made : Result ListTerminus E) (records : List Entry) → IfOk made (λ list. list_records list ≡ records) → IsLawful records
+    → IfOk made (λ list. IsLawful (list_records list))
+lawful_kept (Ok list) records is lawful = subst IsLawful (sym is) lawful
+lawful_kept (Err e) records is lawful = tt

@@ -133,18 +133,13 @@ lists_some plan count output outcomes k few shown =
     let part : length (take k outcomes) ≤ length outcomes = omega (arith, length-take k outcomes) in
     (length (take k outcomes), omega (arith, few, part), (take k outcomes, refl, shown))
 
-pub lists_all : (plan : Plan) (count : ℕ) (output : Stream) (outcomes : List OutcomeValue) (k : ℕ) → length outcomes ≡ count → length outcomes ≤ k
-    → ShowsLines plan outcomes k output → ShowsOutcomes plan count output
-lists_all plan count output outcomes k many all shown =
-    let S : List OutcomeValue → Type 0 = λ os. Appends output.before output.after (outcome_lines plan os) in
-    (outcomes, many, subst S (take_all k outcomes all) shown)
-
 -- the part that is shown where not all is may be told otherwise
 pub cut_short : (why : Refused) (P A P' A' : Type 0) (output : Stream) → ShowsAllOr {T = Unit {0}} (Err why) P A output → (P → P') → ShowsAllOr {T = Unit {0}} (Err why) P' A' output
 cut_short refused.Usage P A P' A' output h other = h
 cut_short (refused.Unreadable unread cause) P A P' A' output h other = h
 cut_short refused.UnknownNode P A P' A' output h other = h
 cut_short refused.UnreadableHex P A P' A' output h other = h
+cut_short refused.TooMuch P A P' A' output h other = h
 cut_short refused.Unwritten P A P' A' output h other = h
 cut_short refused.NoMemory P A P' A' output h other = other h
 
@@ -197,6 +192,7 @@ files_unread refused.Usage plans certificates happenings output h = h
 files_unread (refused.Unreadable unread cause) plans certificates happenings output h = h
 files_unread refused.UnknownNode plans certificates happenings output h = h
 files_unread refused.UnreadableHex plans certificates happenings output h = h
+files_unread refused.TooMuch plans certificates happenings output h = h
 files_unread refused.Unwritten plans certificates happenings output h = absurd h
 files_unread refused.NoMemory plans certificates happenings output h = h
 
@@ -206,6 +202,7 @@ files_unwritten refused.Usage plans certificates happenings output h = h
 files_unwritten (refused.Unreadable unread cause) plans certificates happenings output h = absurd h
 files_unwritten refused.UnknownNode plans certificates happenings output h = h
 files_unwritten refused.UnreadableHex plans certificates happenings output h = h
+files_unwritten refused.TooMuch plans certificates happenings output h = h
 files_unwritten refused.Unwritten plans certificates happenings output h = h
 files_unwritten refused.NoMemory plans certificates happenings output h = h
 

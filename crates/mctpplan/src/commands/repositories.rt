@@ -89,7 +89,7 @@ fn listed_at(places: &[RecordPlace], place: usize) -> Option<usize>
 {
     places
         .iter()
-        .position(|given| given.value as usize == place)
+        .position(|given| usize::from(given.value) == place)
 }
 
 /// A record's handle and a copy of its bytes.
