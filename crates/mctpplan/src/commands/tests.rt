@@ -11,8 +11,8 @@ use std::test::Fail;
 mod assign;
 mod bridges;
 mod riser;
-mod walk;
 mod sim;
+mod walk;
 
 /// A plan of two endpoints on one bus, up to a's rows.
 const TO_ROWS: &str =

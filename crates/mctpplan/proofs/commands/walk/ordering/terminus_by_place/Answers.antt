@@ -1,4 +1,4 @@
-use Rattle.std.proofs.Common.{◌≡◌, length, arith}
+use Rattle.std.proofs.Common.{arith}
 use Rattle.std.proofs.lemmas.List.{length-map}
 use Rattle.pdr_repository.specs.Records.{entries, entry_of}
 use Rattle.mctpplan.proofs.Repositories.{lawful_records, known_terminus, few_kept, lawful_kept}
