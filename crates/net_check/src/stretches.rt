@@ -32,6 +32,10 @@ pub fn first_broken<D: Stretched>(demand: &D, first: u16, end: u16) -> Option<Ei
         if !demand.is_met_at(eid) {
             return Some(eid);
         }
+        // Most rows have one endpoint ID, and an end takes longer to find than an endpoint ID to test.
+        if start + 1 == end {
+            return None;
+        }
         start = demand.stretch_end(eid);
     }
     None

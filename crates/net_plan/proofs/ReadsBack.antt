@@ -146,7 +146,7 @@ module _ (p : PlanValue) (bytes : List ℕ) (v : CertificateValue) (stands : Sta
       same_value (node_names p.nodes) stands.0 w v ((certificate_tells p).whole stands.0 w here) ((certificate_tells p).whole stands.0 v stands.2)
 
   not_faulty : (f : Fault) → IsFaulty (certificate (node_names p.nodes)) (IsCertificateOf p) f bytes → ⊥
-  not_faulty f h = h.3 v (subst (λ d. IsCertificateOf p d v) (same_data bytes stands.0 h.0 stands.1.1 h.1.1) stands.2)
+  not_faulty f h = h.2.1 v (subst (λ d. IsCertificateOf p d v) (same_data bytes stands.0 h.0 stands.1.1 h.1.1) stands.2)
 
   pub not_refused : (e : PlanError) → IsRefused (certificate (node_names p.nodes)) (IsCertificateOf p) bytes e → (e ≡ errors.OutOfMemory) ⊎ (e ≡ errors.OverLimit)
   not_refused errors.OutOfMemory h = inl refl

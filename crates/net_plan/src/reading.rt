@@ -3,7 +3,7 @@ ghost use Rattle.std.specs.Prelude.{◌≡◌, ◌<◌, ◌≤◌, ◌+◌, ◌-
 ghost use Rattle.std.specs.List.{list_all};
 ghost use Rattle.serde_json.specs.View.{view};
 ghost use Rattle.net_plan.specs.Texts.{IsJson, StandsFor, Gave};
-ghost use Rattle.net_plan.specs.Refusals.{IsNoValue, IsRefused};
+ghost use Rattle.net_plan.specs.Refusals.{IsNoValue, IsNoneFor, IsRefused, GaveNoValue};
 ghost use Rattle.net_plan.specs.Unread.{GaveNoPlan, GaveNoCertificate, GaveNoEvents};
 ghost use Rattle.net_plan.specs.EventReading.{events};
 ghost use Rattle.net_plan.specs.EventText.{AreEventsOf};
@@ -37,10 +37,7 @@ pub fn plan_of_text(alloc: Global, text: &[u8]) -> Result<Plan, PlanError>
     ensures too_long { 16777216 < length text.now → result ≡ Err PlanError.OverLimit }
 {
     let value = json_of(alloc, text)?;
-    match read_plan_value(alloc, &value) {
-        Ok(plan) => Ok(plan),
-        Err(fault) => Err(PlanError::from(fault)),
-    }
+    plan_of_value(alloc, &value)
 }
 
 /// The certificate of a plan that a text stands for.
@@ -55,10 +52,7 @@ pub fn certificate_of_text(
     ensures too_long { 16777216 < length text.now → result ≡ Err PlanError.OverLimit }
 {
     let value = json_of(alloc, text)?;
-    match read_certificate_value(alloc, plan, &value) {
-        Ok(certificate) => Ok(certificate),
-        Err(fault) => Err(PlanError::from(fault)),
-    }
+    certificate_of_value(alloc, plan, &value)
 }
 
 /// The events at a plan's nodes that a text stands for.
@@ -70,10 +64,7 @@ pub fn events_of_text(alloc: Global, plan: &Plan, text: &[u8]) -> Result<Vec<Eve
     ensures too_long { 16777216 < length text.now → result ≡ Err PlanError.OverLimit }
 {
     let value = json_of(alloc, text)?;
-    match read_events_value(alloc, plan, &value) {
-        Ok(events) => Ok(events),
-        Err(fault) => Err(PlanError::from(fault)),
-    }
+    events_of_value(alloc, plan, &value)
 }
 
 /// The plan that a source gives.
@@ -83,8 +74,8 @@ pub fn read_plan<S: Source>(alloc: Global, source: &mut S) -> Result<Plan, PlanE
     ensures refused { IfErr result (λ e. GaveNoPlan (S.remaining source.old) (S.remaining source.new) e) }
     ensures counts { S.failures source.new ≡ S.failures source.old + failed_count result }
 {
-    let text = read_within(alloc, source, TEXT_LIMIT)?;
-    plan_of_text(alloc, text.as_slice())
+    let value = given_json(alloc, source)?;
+    plan_of_value(alloc, &value)
 }
 
 /// The certificate of a plan that a source gives.
@@ -100,8 +91,8 @@ pub fn read_certificate<S: Source>(
     ensures refused { IfErr result (λ e. GaveNoCertificate (plan_value plan.now) (S.remaining source.old) (S.remaining source.new) e) }
     ensures counts { S.failures source.new ≡ S.failures source.old + failed_count result }
 {
-    let text = read_within(alloc, source, TEXT_LIMIT)?;
-    certificate_of_text(alloc, plan, text.as_slice())
+    let value = given_json(alloc, source)?;
+    certificate_of_value(alloc, plan, &value)
 }
 
 /// The events at a plan's nodes that a source gives.
@@ -118,8 +109,59 @@ pub fn read_events<S: Source>(
     ensures refused { IfErr result (λ e. GaveNoEvents (plan_value plan.now) (S.remaining source.old) (S.remaining source.new) e) }
     ensures counts { S.failures source.new ≡ S.failures source.old + failed_count result }
 {
+    let value = given_json(alloc, source)?;
+    events_of_value(alloc, plan, &value)
+}
+
+/// The plan that the JSON value of a text is.
+fn plan_of_value(alloc: Global, value: &Value) -> Result<Plan, PlanError>
+    ensures ok { IfOk result (λ plan. IsPlanOf (view value.now) (plan_value plan)) }
+    ensures refused { IfErr result (λ e. IsNoneFor plan IsPlanOf (view value.now) e) }
+{
+    match read_plan_value(alloc, value) {
+        Ok(plan) => Ok(plan),
+        Err(fault) => Err(PlanError::from(fault)),
+    }
+}
+
+/// The certificate of a plan that the JSON value of a text is.
+fn certificate_of_value(
+    alloc: Global,
+    plan: &Plan,
+    value: &Value,
+) -> Result<Certificate, PlanError>
+    ensures ok { IfOk result (λ certificate. IsCertificateOf (plan_value plan.now) (view value.now) (certificate_value certificate)) }
+    ensures known { IfOk result (λ certificate. IsTrue (are_known (length plan.now.nodes.items) (certificate_value certificate))) }
+    ensures refused { IfErr result (λ e. IsNoneFor (certificate (node_names (plan_value plan.now).nodes)) (IsCertificateOf (plan_value plan.now)) (view value.now) e) }
+{
+    match read_certificate_value(alloc, plan, value) {
+        Ok(certificate) => Ok(certificate),
+        Err(fault) => Err(PlanError::from(fault)),
+    }
+}
+
+/// The events at a plan's nodes that the JSON value of a text is.
+fn events_of_value(alloc: Global, plan: &Plan, value: &Value) -> Result<Vec<Event>, PlanError>
+    ensures ok { IfOk result (λ events. AreEventsOf (plan_value plan.now) (view value.now) (map event_entry events.items)) }
+    ensures known { IfOk result (λ events. IsTrue (list_all (is_known_event (length plan.now.nodes.items)) (map event_entry events.items))) }
+    ensures within { IfOk result (λ events. vec_len events ≤ 100000) }
+    ensures refused { IfErr result (λ e. IsNoneFor (events (node_names (plan_value plan.now).nodes)) (AreEventsOf (plan_value plan.now)) (view value.now) e) }
+{
+    match read_events_value(alloc, plan, value) {
+        Ok(events) => Ok(events),
+        Err(fault) => Err(PlanError::from(fault)),
+    }
+}
+
+/// The JSON value of the text that a source gives. The text is let go before anything is made of the value.
+fn given_json<S: Source>(alloc: Global, source: &mut S) -> Result<Value, PlanError>
+    requires { S.failures source.old < 2 ^ 64 - 1 }
+    ensures ok { IfOk result (λ value. Gave 16777216 (S.remaining source.old) (S.remaining source.new) (λ text. IsJson text (view value))) }
+    ensures refused { IfErr result (λ e. GaveNoValue (S.remaining source.old) (S.remaining source.new) e) }
+    ensures counts { S.failures source.new ≡ S.failures source.old + failed_count result }
+{
     let text = read_within(alloc, source, TEXT_LIMIT)?;
-    events_of_text(alloc, plan, text.as_slice())
+    json_of(alloc, text.as_slice())
 }
 
 /// The JSON value of a text.
