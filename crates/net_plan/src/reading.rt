@@ -125,11 +125,7 @@ fn plan_of_value(alloc: Global, value: &Value) -> Result<Plan, PlanError>
 }
 
 /// The certificate of a plan that the JSON value of a text is.
-fn certificate_of_value(
-    alloc: Global,
-    plan: &Plan,
-    value: &Value,
-) -> Result<Certificate, PlanError>
+fn certificate_of_value(alloc: Global, plan: &Plan, value: &Value) -> Result<Certificate, PlanError>
     ensures ok { IfOk result (λ certificate. IsCertificateOf (plan_value plan.now) (view value.now) (certificate_value certificate)) }
     ensures known { IfOk result (λ certificate. IsTrue (are_known (length plan.now.nodes.items) (certificate_value certificate))) }
     ensures refused { IfErr result (λ e. IsNoneFor (certificate (node_names (plan_value plan.now).nodes)) (IsCertificateOf (plan_value plan.now)) (view value.now) e) }
