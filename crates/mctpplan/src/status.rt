@@ -4,7 +4,7 @@ ghost use Rattle.std.specs.Prelude.{◌≡◌};
 /// How a run of the program ends; the number is its exit status.
 #[derive(Clone, Copy, Debug, PartialEq, Eq)]
 pub enum Status {
-    /// The certificate fits the plan, the plan has a certificate, or the bytes are shown.
+    /// The certificate fits the plan, the plan has a certificate, or what was asked for is told.
     Yes = 0,
     /// The plan has a fault, something rules certificates of it out, or the bytes are refused.
     Fault = 1,
