@@ -10,6 +10,7 @@ use Rattle.net_plan.specs.declared.plan.Plan.{Plan}
 use Rattle.net_check.specs.Events.{EventValue, OutcomeValue}
 use Rattle.net_check.specs.Runs.{Turn, RunFrom}
 use Rattle.net_check.specs.States.{NetworkState}
+use Rattle.net_check.specs.TwoPlans.{one_plan}
 use Rattle.net_sim.specs.declared.outcome.Outcome.{Outcome}
 use Rattle.net_sim.specs.Outcomes.{event_value, outcome_value}
 use Rattle.net_sim.specs.Played.{IsRunOf, StopsAfter}
@@ -81,7 +82,7 @@ take_twice (suc k) (suc n) (x ∷ xs) =
     let (m, is) = take_twice k n xs in (suc m, ap (λ ys. x ∷ ys) is)
 
 -- each beginning of a run is a run
-run_begins : (plan : Plan) (w : NetworkState) (k : ℕ) (turns : List Turn) → RunFrom plan w turns → RunFrom plan w (take k turns)
+run_begins : (plan : Plan) (w : NetworkState) (k : ℕ) (turns : List Turn) → RunFrom (one_plan plan) w turns → RunFrom (one_plan plan) w (take k turns)
 run_begins plan w zero turns run = tt
 run_begins plan w (suc k) [] run = tt
 run_begins plan w (suc k) (turn ∷ turns) (step, rest) = (step, run_begins plan turn.after k turns rest)

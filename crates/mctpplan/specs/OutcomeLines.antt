@@ -6,7 +6,7 @@ use Rattle.mctp_transport.specs.Causes.{cause_code}
 use Rattle.mctp_transport.specs.Hearing.{Answer, Whole, Held, Dropped}
 use Rattle.mctp_bridge.specs.Decisions.{obstacle_code}
 use Rattle.net_plan.specs.declared.plan.Plan.{Plan}
-use Rattle.net_check.specs.Events.{OutcomeValue, PutIn, Moved, Entered, Stopped, Lost, Expired, Answered, Silent, Refused, Refusal, N01, N02, N03, N04, N05, N06}
+use Rattle.net_check.specs.Events.{OutcomeValue, PutIn, Moved, Entered, Stopped, Lost, Expired, Answered, Silent, Switched, Refused, Refusal, N01, N02, N03, N04, N05, N06, N07}
 use Rattle.mctpplan.specs.Lines.{name_or_dash}
 
 -- the code of a cause for which an event is refused
@@ -17,6 +17,7 @@ refusal_text N03 = codes "N03"
 refusal_text N04 = codes "N04"
 refusal_text N05 = codes "N05"
 refusal_text N06 = codes "N06"
+refusal_text N07 = codes "N07"
 
 -- whether a message of the key was open
 abbrev pub open_text : Bool → List ℕ
@@ -43,6 +44,7 @@ outcome_text plan (Lost number) = codes "lost " ++ decimal number
 outcome_text plan (Expired node was_open) = codes "expired " ++ (name_or_dash plan node ++ (codes " " ++ open_text was_open))
 outcome_text plan (Answered node first last) = codes "answered " ++ (name_or_dash plan node ++ (codes " flights " ++ (decimal first ++ (codes " to " ++ decimal last))))
 outcome_text plan (Silent node) = codes "silent " ++ name_or_dash plan node
+outcome_text plan (Switched node) = codes "switched " ++ name_or_dash plan node
 outcome_text plan (Refused why) = codes "refused " ++ refusal_text why
 
 -- the line of what comes of the event of a number

@@ -14,6 +14,7 @@ use Rattle.net_check.specs.Events.{EventValue, OutcomeValue}
 use Rattle.net_check.specs.Rules.{Accepts}
 use Rattle.net_check.specs.Runs.{Turn, RunFrom}
 use Rattle.net_check.specs.States.{NetworkState, at_start}
+use Rattle.net_check.specs.TwoPlans.{one_plan}
 use Rattle.mctpplan.specs.declared.refused.Input.{Input}
 use Rattle.mctpplan.specs.declared.refused.Input.TheVariants as input
 use Rattle.mctpplan.specs.declared.refused.Refused.{Refused}
@@ -28,7 +29,7 @@ use Rattle.mctpplan.specs.Statuses.{status_of}
 pub record ShowsRun (plan : Plan) (w : NetworkState) (events : List EventValue) (output : Stream) : Type 0 where
   pub turns : List Turn
   pub events_are : map (λ (t : Turn). t.event) turns ≡ events
-  pub runs : RunFrom plan w turns
+  pub runs : RunFrom (one_plan plan) w turns
   pub shown : Appends output.before output.after (outcome_lines plan (map (λ (t : Turn). t.outcome) turns))
 
 -- so it is of a beginning of the events
