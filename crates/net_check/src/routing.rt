@@ -1,9 +1,10 @@
 //! What a plan says of its nodes and their rows.
-ghost use Rattle.std.specs.Prelude.{◌≡◌, ℕ, ◌+◌, ◌<◌, ◌↔◌, IsTrue, Any};
+ghost use Rattle.std.specs.Prelude.{◌≡◌, ℕ, ◌+◌, ◌<◌, ◌↔◌, IsTrue, Any, option_map};
 ghost use Rattle.net_check.specs.Routing.{Holds, Covers, IsBridge, rows_of, ports_of};
+ghost use Rattle.net_check.specs.Repositories.{terminus_of};
 
 use mctp_transport::Eid;
-use net_plan::{Kind, Plan, Port, Row};
+use net_plan::{Kind, Plan, Port, Row, Terminus};
 
 /// The ports of a node, none where there is no such node.
 pub fn ports_at(plan: &Plan, node: usize) -> &[Port]
@@ -25,24 +26,25 @@ pub fn rows_at(plan: &Plan, node: usize) -> &[Row]
     }
 }
 
+/// The terminus of a node; none where it has none, and where there is no such node.
+pub fn terminus_at(plan: &Plan, node: usize) -> Option<&Terminus>
+    ensures { option_map (λ t. t.now) result ≡ terminus_of plan.now node }
+{
+    plan.nodes.get(node)?.terminus.as_ref()
+}
+
 /// Whether there is such a node, and it is a bridge.
 pub fn is_bridge(plan: &Plan, node: usize) -> bool
     ensures { IsTrue result ↔ IsBridge plan.now node }
 {
-    match plan.nodes.get(node) {
-        Some(node) => node.kind == Kind::Bridge,
-        None => false,
-    }
+    node < plan.nodes.len() && plan.nodes[node].kind == Kind::Bridge
 }
 
 /// Whether there is such a node, and it holds the endpoint ID.
 pub fn holds(plan: &Plan, node: usize, eid: Eid) -> bool
     ensures { IsTrue result ↔ Holds plan.now node eid.value }
 {
-    match plan.nodes.get(node) {
-        Some(node) => node.eid == eid,
-        None => false,
-    }
+    node < plan.nodes.len() && plan.nodes[node].eid == eid
 }
 
 /// The number after that of the row's last endpoint ID.

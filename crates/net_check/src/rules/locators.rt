@@ -6,7 +6,7 @@ ghost use Rattle.net_check.specs.Locators.{IsEidLocator, HasOneByteAsEid, IsHeld
 ghost use Rattle.net_check.specs.Rules.{PlanDemands, AtNodeOrEid};
 ghost use Rattle.net_check.specs.Search.{IsFirstSpot};
 
-use crate::routing::holds;
+use crate::routing::{holds, terminus_at};
 use crate::rule::Rule;
 use crate::rules::records::records_at;
 use crate::spot::Spot;
@@ -100,11 +100,8 @@ fn is_holder(plan: &Plan, node: usize, tid: u8, eid: Eid) -> bool
 fn has_tid(plan: &Plan, node: usize, tid: u8) -> bool
     ensures { IsTrue result ↔ (option_map (λ t. t.tid) (terminus_of plan.now node) ≡ Some tid) }
 {
-    match plan.nodes.get(node) {
-        Some(node) => match &node.terminus {
-            Some(terminus) => terminus.tid == tid,
-            None => false,
-        },
+    match terminus_at(plan, node) {
+        Some(terminus) => terminus.tid == tid,
         None => false,
     }
 }

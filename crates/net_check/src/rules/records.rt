@@ -7,6 +7,7 @@ ghost use Rattle.net_check.specs.Repositories.{records_of, HasRecords, HasNewHan
 ghost use Rattle.net_check.specs.Rules.{PlanDemands};
 ghost use Rattle.net_check.specs.Search.{IsFirstItem, IsFirstSpot};
 
+use crate::routing::terminus_at;
 use crate::rule::Rule;
 use crate::spot::Spot;
 use mctp_transport::Wire;
@@ -49,11 +50,8 @@ pub fn at_record(found: Option<usize>) -> Option<Spot>
 pub fn records_at(plan: &Plan, node: usize) -> &[Record]
     ensures { result.now ≡ records_of plan.now node }
 {
-    match plan.nodes.get(node) {
-        Some(node) => match &node.terminus {
-            Some(terminus) => &terminus.records,
-            None => &[],
-        },
+    match terminus_at(plan, node) {
+        Some(terminus) => &terminus.records,
         None => &[],
     }
 }
@@ -63,11 +61,8 @@ pub fn records_at(plan: &Plan, node: usize) -> &[Record]
 fn has_records(plan: &Plan, node: usize) -> bool
     ensures { IsTrue result ↔ HasRecords plan.now node }
 {
-    match plan.nodes.get(node) {
-        Some(node) => match &node.terminus {
-            Some(terminus) => !terminus.records.is_empty(),
-            None => true,
-        },
+    match terminus_at(plan, node) {
+        Some(terminus) => !terminus.records.is_empty(),
         None => true,
     }
 }
