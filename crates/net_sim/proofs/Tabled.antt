@@ -10,23 +10,30 @@ use Rattle.net_plan.specs.declared.nodes.Row.{Row}
 use Rattle.net_plan.specs.declared.certificate.Certificate.{Certificate}
 use Rattle.net_check.specs.declared.rule.Rule.TheVariants.{C04, C05}
 use Rattle.net_check.specs.Routing.{rows_of}
-use Rattle.net_check.specs.Rules.{Accepts}
+use Rattle.net_check.specs.Rules.{RuleHolds}
+use Rattle.net_check.specs.MoveRules.{Before, After, AcceptsMove}
 use Rattle.net_check.specs.Tables.{AreRows, table_row}
 use Rattle.net_check.proofs.Elements.{in_push}
+use Rattle.net_sim.specs.Accepted.{AreAccepted}
+use Rattle.net_sim.specs.Routers.{HasLawfulRows, AreTabled, AreTabledAfter}
+use Rattle.net_sim.proofs.Deciding.{same_count}
 
 -- the rows of a node of the plan
 pub rows_at : (plan : Plan) (n : ℕ) (node : Node) → slice_get plan.nodes.items n ≡ Some node → rows_of plan n ≡ node.rows.items
 rows_at plan n node here = ap (λ (o : Option Node). unwrap_or (option_map (λ (m : Node). m.rows.items) o) []) here
 
-pub are_rows : (plan : Plan) (cert : Certificate) (n : ℕ) (node : Node) → Accepts plan cert → slice_get plan.nodes.items n ≡ Some node → AreRows node.rows.items
-are_rows plan cert n node accepted here =
+-- by C04 and C05 they make a routing table
+are_rows : (plan : Plan) (cert : Certificate) → RuleHolds plan cert C04 → RuleHolds plan cert C05 → HasLawfulRows plan
+are_rows plan cert ranges parts n node here =
     let P : List Row → Type 0 = AreRows in
-    subst P (rows_at plan n node here) (λ r row is. ((accepted C05 n (Some r) None).0 row is, (accepted C04 n (Some r) None).0 row is))
+    subst P (rows_at plan n node here) (λ r row is. ((parts n (Some r) None).0 row is, (ranges n (Some r) None).0 row is))
 
--- so many nodes have their tables
-pub record AreTabled (plan : Plan) (count : ℕ) (tables : List (List bridge.Row)) : Type 0 where
-  pub as_many : length tables ≡ count
-  pub same : (n : ℕ) (table : List bridge.Row) → slice_get tables n ≡ Some table → HasSameRoutes (map table_row (rows_of plan n)) table
+pub are_rows_before : (plan : Plan) (after : Option Plan) (cert : Certificate) → AreAccepted plan after cert → HasLawfulRows plan
+are_rows_before plan None cert accepted = are_rows plan cert (accepted C04) (accepted C05)
+are_rows_before plan (Some after) cert accepted = are_rows plan cert (accepted (Before C04)) (accepted (Before C05))
+
+pub are_rows_after : (plan after : Plan) (cert : Certificate) → AcceptsMove plan after cert → HasLawfulRows after
+are_rows_after plan after cert accepted = are_rows after cert (accepted (After C04)) (accepted (After C05))
 
 pub none_tabled : (plan : Plan) → AreTabled plan 0 []
 none_tabled plan = record { as_many = refl; same = λ n table is. absurd (cc) }
