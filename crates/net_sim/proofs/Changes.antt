@@ -1,5 +1,5 @@
 -- What a network stands for after one of its parts has changed.
-use Rattle.std.proofs.Common.{◌≡◌, ℕ, ◌+◌, ◌<◌, Bool, true, cond, eqb, List, [], ◌∷◌, ◌++◌, length, Option, Some, None, sym, ◌∙◌, ap, subst, inl, inr, arith}
+use Rattle.std.proofs.Common.{◌≡◌, ℕ, ◌+◌, ◌<◌, Bool, cond, eqb, List, [], ◌∷◌, ◌++◌, length, Option, Some, None, sym, ◌∙◌, ap, subst, inl, inr, arith}
 use Rattle.std.specs.Prelude.{slice_get, slice_set}
 use Rattle.std.proofs.lemmas.Bool.Decides.{eqb_tells}
 use Rattle.std.proofs.lemmas.List.{length_push, length-set}
@@ -9,9 +9,13 @@ use Rattle.mctp_transport.specs.Histories.{Input, after}
 use Rattle.net_check.specs.Termini.{TerminusState}
 use Rattle.net_check.specs.States.{NetworkState, Flight, with_made, with_input, with_terminus}
 use Rattle.net_check.proofs.Elements.{in_set}
-use Rattle.net_sim.specs.Routers.{has_switched}
+use Rattle.net_sim.specs.Routers.{RouterValue, has_switched}
 use Rattle.net_sim.specs.Standing.{NetworkValue, StandsFor, at_place}
 use Rattle.net_sim.proofs.Slots.{set_slot, push_slot, push_none}
+
+-- the same marks in the same router
+pub same_marks : (r q : RouterValue) → r ≡ q → r.switched ≡ q.switched
+same_marks r q same = ap (λ (x : RouterValue). x.switched) same
 
 -- the state with this flight, or none, under the number
 abbrev pub with_slot : NetworkState → ℕ → Option Flight → NetworkState

@@ -1,5 +1,5 @@
 //! What the nodes of a network go by.
-ghost use Rattle.std.specs.Prelude.{◌≡◌, option_map};
+ghost use Rattle.std.specs.Prelude.{◌≡◌, option_map, IfSome};
 
 use net_check::{Checked, CheckedMove};
 use net_plan::Plan;
@@ -12,6 +12,7 @@ pub enum Accepted<'a> {
 }
 
 impl<'a> Accepted<'a> {
+    ghost use Rattle.net_check.specs.MoveRules.{AcceptsMove};
     ghost use Rattle.net_sim.specs.Accepted.{tables_of, certificate_of, IsAccepted};
 
     /// The plan that the nodes start on.
@@ -28,7 +29,7 @@ impl<'a> Accepted<'a> {
     /// The plan whose rows they switch to, if any.
     pub fn after(&self) -> Option<&'a Plan>
         ensures plan { option_map (λ plan. plan.now) result ≡ (tables_of self.now).after }
-        ensures accepted { IsAccepted (tables_of self.now) (certificate_of self.now) }
+        ensures accepted { IfSome result (λ after. AcceptsMove (tables_of self.now).plan after.now (certificate_of self.now)) }
     {
         match self {
             Accepted::Plan(_) => None,

@@ -109,9 +109,9 @@ impl<'a> Network<'a> {
         accepted: Accepted<'a>,
         termini: Vec<Box<dyn Terminus>>,
     ) -> Result<Network<'a>, AllocError>
-        ensures checked { IfOk result (λ network. checked_of network ≡ (tables_of accepted, certificate_of accepted)) }
-        ensures stands { IfOk result (λ network. map (resting (λ b. tid b) (λ b. records b)) termini.items ≡ planned_termini (tables_of accepted).plan (certificate_of accepted)
-            → StandsFor (network_value (λ d. tid d.terminus) (λ d. records d.terminus) network) (at_start (tables_of accepted).plan (certificate_of accepted))) }
+        ensures checked { IfOk result (λ network. checked_of network ≡ (tables_of accepted.entry, certificate_of accepted.entry)) }
+        ensures stands { IfOk result (λ network. map (resting (λ b. tid b) (λ b. records b)) termini.items ≡ planned_termini (tables_of accepted.entry).plan (certificate_of accepted.entry)
+            → StandsFor (network_value (λ d. tid d.terminus) (λ d. records d.terminus) network) (at_start (tables_of accepted.entry).plan (certificate_of accepted.entry))) }
     {
         let router = Router::new(alloc, accepted)?;
         let flights = Flights::new(alloc)?;
