@@ -1,5 +1,5 @@
 //! The search for the first fault of a move.
-ghost use Rattle.std.specs.Prelude.{OnOk, IfOk, IfErr};
+ghost use Rattle.std.specs.Prelude.{◌≡◌, OnOk, IfOk, IfErr};
 ghost use Rattle.net_check.specs.TwoPlans.{moving};
 ghost use Rattle.net_check.specs.Rules.{AtRowEid, AtNodeOrEid};
 ghost use Rattle.net_check.specs.Superfluous.{NeedsWhatItIsGiven};
@@ -35,10 +35,10 @@ pub fn meet_rules_of_move(
         return Err(MoveError::Differ(Some(node)));
     }
     if let Some(fault) = first_of_old(alloc, before, certificate)? {
-        return Err(MoveError::Old(MoveFault::of_plan(fault)));
+        return Err(MoveError::Old(fault_of_plan(fault)));
     }
     if let Some(fault) = first_of_new(alloc, after, certificate)? {
-        return Err(MoveError::New(MoveFault::of_plan(fault)));
+        return Err(MoveError::New(fault_of_plan(fault)));
     }
     if let Some(fault) = first_without_way_on(before, after, before) {
         return Err(MoveError::Old(fault));
@@ -50,6 +50,18 @@ pub fn meet_rules_of_move(
         return Err(MoveError::Both(fault));
     }
     Ok(())
+}
+
+/// The fault of a rule of one plan, as a fault of the move.
+fn fault_of_plan(fault: Fault) -> MoveFault
+    ensures { result ≡ record { rule = MoveRule.OfPlan fault.rule; node = fault.node; entry = fault.entry; eid = fault.eid } }
+{
+    MoveFault {
+        rule: MoveRule::OfPlan(fault.rule),
+        node: fault.node,
+        entry: fault.entry,
+        eid: fault.eid,
+    }
 }
 
 /// The old plan's first fault, by all rules but C16.

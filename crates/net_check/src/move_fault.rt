@@ -2,7 +2,6 @@
 ghost use Rattle.std.specs.Prelude.{◌≡◌};
 ghost use Rattle.net_check.specs.MoveFaults.{code_of_move};
 
-use crate::fault::Fault;
 use crate::rule::Rule;
 use mctp_transport::Eid;
 
@@ -42,21 +41,4 @@ pub struct MoveFault {
     pub entry: Option<usize>,
     /// The endpoint ID, where the rule speaks of one.
     pub eid: Option<Eid>,
-}
-
-impl MoveFault {
-    /// The fault of a rule of one plan, as a fault of the move.
-    pub fn of_plan(fault: Fault) -> MoveFault
-        ensures rule { result.rule ≡ MoveRule.OfPlan fault.rule }
-        ensures node { result.node ≡ fault.node }
-        ensures entry { result.entry ≡ fault.entry }
-        ensures eid { result.eid ≡ fault.eid }
-    {
-        MoveFault {
-            rule: MoveRule::OfPlan(fault.rule),
-            node: fault.node,
-            entry: fault.entry,
-            eid: fault.eid,
-        }
-    }
 }

@@ -127,8 +127,8 @@ fn are_same_records(records: &[Record], others: &[Record]) -> bool
     true
 }
 
-fn is_same_record(record: &Record, other: &Record) -> bool
-    ensures { IsTrue result ↔ record_value record.now ≡ record_value other.now }
+fn is_same_record(one: &Record, other: &Record) -> bool
+    ensures { IsTrue result ↔ record_value one.now ≡ record_value other.now }
 {
-    record.handle == other.handle && record.next == other.next && record.bytes == other.bytes
+    one.handle == other.handle && one.next == other.next && one.bytes == other.bytes
 }
