@@ -23,3 +23,4 @@ pub mod Playing
 pub mod AsSent
 pub mod SentRequests
 pub mod Dealt
+pub mod Settled

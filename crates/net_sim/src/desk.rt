@@ -1,11 +1,13 @@
 //! The termini of nodes, and the messages that wait at them.
-ghost use Rattle.std.specs.Prelude.{◌≡◌, ◌<◌, ◌≤◌, [], length, vec_capacity, option_map, OnOk, IfSome, IfNone, Some};
+ghost use Rattle.std.specs.Prelude.{◌≡◌, ◌≢◌, ◌↔◌, ◌<◌, ◌≤◌, [], length, vec_capacity, option_map, All, IsTrue, OnOk, IfSome, IfNone, Some};
 ghost use Rattle.mctp_transport.specs.Packets.{key_value};
 ghost use Rattle.net_check.specs.Termini.{with_waiting};
 ghost use Rattle.std.specs.VecDeque.{deque_len, deque_capacity};
 ghost use Rattle.net_sim.specs.Desks.{desk_state, with_message, HasPlace, AnswersOldest, IsIdle, IsIdleFor};
+ghost use Rattle.net_sim.specs.Settling.{NoneWaits};
 ghost use Rattle.pdr_repository.specs.Answers.{Answers, answer_of};
 
+use crate::flights::is_same_key;
 use crate::refusal::Refusal;
 use arrayvec::ArrayVec;
 use mctp_transport::{Key, MAX_MESSAGE};
@@ -59,6 +61,15 @@ impl Desk {
             key: oldest.key,
             answered,
         })
+    }
+
+    /// Whether no message of the key waits.
+    fn none_waits(&self, key: Key) -> bool
+        ensures { IsTrue result ↔ All (λ message. key_value message.key ≢ key_value key) self.now.waiting.items }
+    {
+        self.waiting
+            .iter()
+            .all(|message| is_of_another_key(message, key))
     }
 
     /// Makes room for a message more.
@@ -118,6 +129,23 @@ pub fn answer_at(desk: &mut Option<Desk>, out: &mut ArrayVec<u8, MAX_ANSWER>) ->
         (option_map (desk_state (λ d. tid d.terminus) (λ d. records d.terminus)) desk.new)) }
 {
     desk.as_mut()?.answer_oldest(out)
+}
+
+/// Whether a message is of another key.
+fn is_of_another_key(message: &Waiting, key: Key) -> bool
+    ensures { IsTrue result ↔ (key_value message.now.key ≢ key_value key) }
+{
+    !is_same_key(message.key, key)
+}
+
+/// Whether no message of the key waits there.
+pub fn none_waits_at(desk: &Option<Desk>, key: Key) -> bool
+    ensures { IsTrue result ↔ NoneWaits (key_value key) (option_map (desk_state (λ d. tid d.terminus) (λ d. records d.terminus)) desk.now) }
+{
+    match desk {
+        Some(desk) => desk.none_waits(key),
+        None => true,
+    }
 }
 
 /// Makes room for a message more, where there is a terminus.

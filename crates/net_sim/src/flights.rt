@@ -1,7 +1,9 @@
 //! The packets on their way, by number.
-ghost use Rattle.std.specs.Prelude.{◌≡◌, ℕ, ◌+◌, ◌-◌, ◌<◌, ◌≤◌, ◌^◌, ◌++◌, ◌∷◌, [], length, Option, None, option_map, slice_set, is_some, IfOk, OnOk};
+ghost use Rattle.std.specs.Prelude.{◌≡◌, ◌↔◌, ℕ, ◌+◌, ◌-◌, ◌<◌, ◌≤◌, ◌^◌, ◌++◌, ◌∷◌, [], length, Option, None, option_map, slice_set, is_some, All, IsTrue, IfOk, OnOk};
+ghost use Rattle.mctp_transport.specs.Packets.{key_value};
+ghost use Rattle.net_sim.specs.Settling.{IsTo, IsNotTo};
 
-use mctp_transport::{Packet, PacketView};
+use mctp_transport::{Eid, Key, Packet, PacketView};
 use std::alloc::{AllocError, Global};
 
 /// A packet on its way.
@@ -41,6 +43,23 @@ impl Flight {
             origin: self.origin,
             node: self.node,
             hops: self.hops,
+        }
+    }
+
+    /// Whether its packet is of the key and goes to the endpoint ID.
+    fn is_to(&self, key: Key, eid: Eid) -> bool
+        ensures { IsTrue result ↔ IsTo (key_value key) eid.value (flight_value self.now) }
+    {
+        self.packet.header.destination == eid && is_same_key(self.packet.view().key(), key)
+    }
+
+    /// Whether there is no flight of the key to the endpoint ID in the place.
+    fn is_not_to(slot: &Option<Flight>, key: Key, eid: Eid) -> bool
+        ensures { IsTrue result ↔ IsNotTo (key_value key) eid.value (option_map flight_value slot.now) }
+    {
+        match slot {
+            Some(flight) => !flight.is_to(key, eid),
+            None => true,
         }
     }
 
@@ -104,6 +123,15 @@ impl Flights {
         }
     }
 
+    /// Whether no packet of the key is on its way to the endpoint ID. It looks at the place of each number that was given.
+    pub fn none_is_to(&self, key: Key, eid: Eid) -> bool
+        ensures { IsTrue result ↔ All (λ slot. IsNotTo (key_value key) eid.value (option_map flight_value slot)) self.now.slots.items }
+    {
+        self.slots
+            .iter()
+            .all(|slot| Flight::is_not_to(slot, key, eid))
+    }
+
     /// Makes room for so many flights more.
     pub fn reserve(&mut self, count: usize) -> Result<(), AllocError>
         ensures same { slots_of self.new ≡ slots_of self.old }
@@ -129,4 +157,11 @@ impl Flights {
     {
         self.slots[number as usize] = flight;
     }
+}
+
+/// Whether two keys are the same.
+pub fn is_same_key(key: Key, other: Key) -> bool
+    ensures { IsTrue result ↔ (key_value key ≡ key_value other) }
+{
+    key == other
 }

@@ -13,7 +13,7 @@ mod laws;
 use crate::accepted::Accepted;
 use crate::assemblers::idle_assemblers;
 use crate::dealing::deal;
-use crate::desk::{Desk, answer_at, idle_at, reserve_at, wait_at};
+use crate::desk::{Desk, answer_at, idle_at, none_waits_at, reserve_at, wait_at};
 use crate::flights::{Flight, Flights};
 use crate::outcome::Outcome;
 use crate::receiving::{Receipt, feed, room_for_message};
@@ -22,7 +22,7 @@ use crate::router::Router;
 use arrayvec::ArrayVec;
 pub use laws::requests_come_as_sent;
 use mctp_bridge::Decision;
-use mctp_transport::{Assembler, Key, PacketView, Packets, Seq, Wire};
+use mctp_transport::{Assembler, Eid, Key, PacketView, Packets, Seq, Wire};
 use net_check::{Checked, CheckedMove};
 use net_plan::Event;
 use pdr_repository::Terminus;
@@ -73,6 +73,10 @@ impl<'a> Network<'a> {
     ghost use Rattle.net_sim.specs.Played.{PlaysAll, StopsAfter};
     ghost use Rattle.net_sim.specs.AsSent.{PlaysAsSent};
     ghost use Rattle.net_sim.specs.Sending.{Sends};
+    ghost use Rattle.net_check.specs.States.{NetworkState};
+    ghost use Rattle.net_check.specs.Routing.{Holds};
+    ghost use Rattle.net_check.specs.ExactMessages.{IsSettled};
+    ghost use Rattle.net_sim.specs.Settling.{IsClearAt};
 
     /// The network of a checked plan, in which nothing has happened yet. The termini are dealt to the nodes that have one, in
     /// the plan's order; where they are as planned, it stands for the state at the start of each run.
@@ -304,6 +308,48 @@ impl<'a> Network<'a> {
         ensures { IsTrue result ↔ (node < length self.now.router.tables.plan.nodes.items) }
     {
         node < self.router.plan().nodes.len()
+    }
+
+    /// Whether no packet of the key is on its way to the endpoint ID, and none of its messages is open or waits at the nodes
+    /// that hold that.
+    fn is_settled(&self, key: Key, eid: Eid) -> bool
+        ensures { (w : NetworkState) → StandsFor (network_value (λ d. tid d.terminus) (λ d. records d.terminus) self.now) w
+            → IsTrue result ↔ IsSettled self.now.router.tables.plan w (key_value key) eid.value }
+    {
+        if !self.flights.none_is_to(key, eid) {
+            return false;
+        }
+        for node in 0..self.router.plan().nodes.len() {
+            if !self.is_clear_for(node, key, eid) {
+                return false;
+            }
+        }
+        true
+    }
+
+    /// Whether the node does not hold the endpoint ID, or is clear of the key.
+    fn is_clear_for(&self, node: usize, key: Key, eid: Eid) -> bool
+        requires { node < length self.now.router.tables.plan.nodes.items }
+        ensures { (w : NetworkState) → StandsFor (network_value (λ d. tid d.terminus) (λ d. records d.terminus) self.now) w
+            → IsTrue result ↔ (Holds self.now.router.tables.plan node eid.value → IsClearAt w (key_value key) node) }
+    {
+        if self.router.plan().nodes[node].eid == eid {
+            self.is_clear_at(node, key)
+        } else {
+            true
+        }
+    }
+
+    /// Whether no message of the key is open at the node, and none waits there.
+    fn is_clear_at(&self, node: usize, key: Key) -> bool
+        requires { node < length self.now.router.tables.plan.nodes.items }
+        ensures { (w : NetworkState) → StandsFor (network_value (λ d. tid d.terminus) (λ d. records d.terminus) self.now) w
+            → IsTrue result ↔ IsClearAt w (key_value key) node }
+    {
+        if self.assemblers[node].is_open(key) {
+            return false;
+        }
+        none_waits_at(&self.desks[node], key)
     }
 
     /// Room for what a packet can lead to at a node: a message that is told, and one that waits.

@@ -1,0 +1,24 @@
+-- What a network that has settled for a key and a destination holds, part by part.
+use Rattle.std.specs.Prelude.{◌≡◌, ◌≢◌, ℕ, Option, Some, None, All}
+use Rattle.mctp_transport.specs.Frames.{KeyValue, key_of}
+use Rattle.mctp_transport.specs.Histories.{IsOpen}
+use Rattle.net_check.specs.Termini.{TerminusState}
+use Rattle.net_check.specs.States.{NetworkState, Flight, destination, slots, limit}
+
+-- its packet is of the key and goes to d
+abbrev pub IsTo : KeyValue → ℕ → Flight → Type 0
+IsTo key d f = (key_of f.packet ≡ key) × (destination f ≡ d)
+
+-- no flight is there, or one that isn't
+abbrev pub IsNotTo : KeyValue → ℕ → Option Flight → Type 0
+IsNotTo key d None = Unit {0}
+IsNotTo key d (Some f) = ¬ IsTo key d f
+
+-- no message of the key waits at the terminus, if there is one
+abbrev pub NoneWaits : KeyValue → Option TerminusState → Type 0
+NoneWaits key None = Unit {0}
+NoneWaits key (Some t) = All (λ message. message.key ≢ key) t.waiting
+
+-- at node n no message of the key is open, and none waits
+abbrev pub IsClearAt : NetworkState → KeyValue → ℕ → Type 0
+IsClearAt w key n = (¬ IsOpen slots limit (w.history n) key) × NoneWaits key (w.terminus n)
