@@ -24,3 +24,4 @@ pub mod AsSent
 pub mod SentRequests
 pub mod Dealt
 pub mod Settled
+pub mod Handing

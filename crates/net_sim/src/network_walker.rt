@@ -1,12 +1,14 @@
 //! A walker at a node of a network.
-ghost use Rattle.std.specs.Prelude.{◌≡◌, ◌↔◌, ◌≤◌, IsTrue, IfOk, map};
+ghost use Rattle.std.specs.Prelude.{◌≡◌, ◌↔◌, ◌≤◌, ℕ, IsTrue, IfOk, Some, Err, map};
+ghost use Rattle.pldm_message.specs.InstanceIds.{TakesBack};
+ghost use Rattle.pldm_message.specs.InstanceIdValues.{id_value, ids_of};
+ghost use Rattle.pdr_repository.specs.WalkerStates.{state_of};
 ghost use Rattle.mctp_transport.specs.Packets.{key_value};
-ghost use Rattle.net_check.specs.Walkers.{fresh_walker, asking_key, answering_key};
-ghost use Rattle.net_sim.specs.NetworkWalkers.{walker_value};
+ghost use Rattle.net_check.specs.Walkers.{fresh_walker, asking_key, answering_key, ended_after};
 
 use mctp_transport::{Eid, Key, Tag};
-use pdr_repository::{WalkFault, Walker};
-use pldm_message::InstanceIds;
+use pdr_repository::{Step, WalkFault, Walker};
+use pldm_message::{InstanceId, InstanceIds};
 use std::alloc::{AllocError, Global};
 
 /// The most records that a walker collects.
@@ -24,11 +26,17 @@ pub struct NetworkWalker {
     walker: Walker,
     /// The instance IDs of its requests.
     ids: InstanceIds,
+    /// The one of the outstanding request.
+    outstanding: Option<InstanceId>,
     /// The fault that ended the walk.
     ended: Option<WalkFault>,
+    ghost waits: { id_value outstanding ≡ (state_of walker).waiting },
 }
 
 impl NetworkWalker {
+    ghost use Rattle.pdr_repository.specs.WalkerRooms.{HasRoom};
+    ghost use Rattle.net_sim.specs.NetworkWalkers.{walker_value, HasTakenMessage};
+
     /// A walker that has asked nothing yet, for parts of at most `count` bytes, 8 to 4079.
     pub fn new(
         alloc: Global,
@@ -48,6 +56,7 @@ impl NetworkWalker {
             tag,
             walker,
             ids,
+            outstanding: None,
             ended: None,
         })
     }
@@ -81,10 +90,48 @@ impl NetworkWalker {
         }
     }
 
+    /// Takes a message that came under the key of its answers, where room was made before. The instance ID of the outstanding
+    /// request is free again where the message is its answer.
+    pub fn take(&mut self, message: &[u8]) -> Result<Step, WalkFault>
+        requires { HasRoom self.old.walker }
+        ensures { HasTakenMessage (walker_value self.old) message.now result (walker_value self.new) }
+    {
+        match self.walker.take(message) {
+            Ok(step) => {
+                give_back(&mut self.ids, self.outstanding);
+                self.outstanding = None;
+                Ok(step)
+            }
+            Err(fault) => {
+                self.ended = ended_by(self.ended, fault);
+                Err(fault)
+            }
+        }
+    }
+
     /// The records that it has collected, by place.
     pub fn records(&self) -> &[Vec<u8>]
         ensures { map (λ v. v.items) result.now ≡ (walker_value self.now).walk.records }
     {
         self.walker.records()
+    }
+}
+
+/// Gives an ID back, if there is one.
+fn give_back(ids: &mut InstanceIds, id: Option<InstanceId>)
+    ensures { (k : ℕ) → id_value id ≡ Some k → TakesBack (ids_of ids.old) k (ids_of ids.new) }
+{
+    if let Some(id) = id {
+        ids.give_back(id);
+    }
+}
+
+/// The fault that has ended a walk, after one more.
+fn ended_by(before: Option<WalkFault>, fault: WalkFault) -> Option<WalkFault>
+    ensures { result ≡ ended_after before (Err fault) }
+{
+    match fault {
+        WalkFault::FailedBefore | WalkFault::NotAsked => before,
+        _ => Some(fault),
     }
 }
