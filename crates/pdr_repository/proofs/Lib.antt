@@ -11,6 +11,8 @@ pub mod OneLentParts
 pub mod Handles
 pub mod Judging
 pub mod Taking
+pub mod Wanting
+pub mod FivePackets
 pub mod Following
 pub mod Telling
 pub mod LawfulLists

@@ -14,3 +14,5 @@ pub mod Faults
 pub mod Dues
 pub mod Walkers
 pub mod WalkerStates
+pub mod WalkerRooms
+pub mod FivePackets

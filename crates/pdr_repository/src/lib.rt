@@ -26,7 +26,7 @@ pub use laws::{
     walks_collect_all,
 };
 pub use list_terminus::ListTerminus;
-pub use parts::MAX_PART;
+pub use parts::{MAX_PART, five_packets};
 pub use terminus::{MAX_ANSWER, Terminus};
 pub use walk_fault::{Step, WalkFault};
 pub use walker::Walker;

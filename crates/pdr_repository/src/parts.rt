@@ -1,16 +1,32 @@
 //! Parts of a record, as a terminus gives them (DSP0248, section 26.2).
-ghost use Rattle.std.specs.Prelude.{◌≡◌, ◌<◌, ◌≤◌, ◌^◌, length, option_map, IfOk};
+ghost use Rattle.std.specs.Prelude.{◌≡◌, ◌+◌, ◌-◌, ◌*◌, ◌<◌, ◌≤◌, ◌^◌, min, length, option_map, IfOk};
 ghost use Rattle.pldm_message.specs.PdrValues.{part, part_request};
 ghost use Rattle.pldm_message.specs.Heads.{outcome_value};
 ghost use Rattle.pdr_repository.specs.Records.{change_in};
 ghost use Rattle.pdr_repository.specs.Parts.{IsPartOf, IsWithin};
 ghost use Rattle.pdr_repository.specs.Found.{AnswersFound, RefusesPart};
+ghost use Rattle.pdr_repository.specs.FivePackets.{FitFive, PassFive};
 
 use crate::crc::crc8;
 use pldm_message::{ErrorCode, GetPdrRequest, PdrPart, TransferFlag, TransferOperation};
 
 /// The most bytes of a record that an answer has.
 pub const MAX_PART: u16 = 4079;
+
+/// How many bytes of an answer are not the record's, its check byte among them.
+const AROUND_PART: u16 = 17;
+
+/// The most bytes of a record that a request may ask for, so that its answer is sent in at most five packets of this
+/// transmission unit: what stands around them in an answer takes 17 bytes.
+pub fn five_packets(unit: u16) -> u16
+    requires least { 64 ≤ unit }
+    requires most { unit ≤ 1024 }
+    ensures count { result ≡ min (5 * unit - 17) 4079 }
+    ensures fit { FitFive unit result }
+    ensures pass { result < 4079 → PassFive unit (result + 1) }
+{
+    (5 * unit - AROUND_PART).min(MAX_PART)
+}
 
 /// A record that a request means.
 #[derive(Clone, Copy, Debug)]

@@ -1,5 +1,5 @@
 //! A walk through the records of a terminus, fed one answer at a time.
-ghost use Rattle.std.specs.Prelude.{◌≡◌, ◌≢◌, ◌+◌, ◌<◌, ◌≤◌, ◌^◌, length, sum_by, map, true, false, Some, is_some};
+ghost use Rattle.std.specs.Prelude.{◌≡◌, ◌≢◌, ◌⊎◌, ◌+◌, ◌<◌, ◌≤◌, ◌^◌, length, sum_by, map, true, false, Some, is_some};
 ghost use Rattle.pdr_repository.specs.declared.walker.due.Due.{Due};
 
 mod due;
@@ -48,14 +48,16 @@ pub struct Walker {
 }
 
 impl Walker {
-    ghost use Rattle.std.specs.Prelude.{◌⊎◌, List, IfOk, Ok, None, [], option_map};
+    ghost use Rattle.std.specs.Prelude.{List, IfOk, OnOk, OnErr, Ok, None, [], option_map, vec_len, vec_capacity};
     ghost use Rattle.pldm_message.specs.PdrValues.{part};
+    ghost use Rattle.pldm_message.specs.Pdrs.{Part};
     ghost use Rattle.pldm_message.specs.Heads.{outcome_value};
     ghost use Rattle.pdr_repository.specs.Walks.{Exchange, Collects, first_part};
     ghost use Rattle.pdr_repository.specs.Faults.{Judges};
     ghost use Rattle.pdr_repository.specs.Dues.{request_of};
     ghost use Rattle.pdr_repository.specs.Walkers.{room_of, fresh, StandsFor, Asks, AsksWhatIsDue, Fails, Proceeds, TakesOutcome, TakesMessage, Takes, Tells, GoesOn};
     ghost use Rattle.pdr_repository.specs.WalkerStates.{state_of};
+    ghost use Rattle.pdr_repository.specs.WalkerRooms.{HasRoom, LacksRoom, BringsTooMuch};
 
     /// A walk that has not begun, with parts of at most `count` bytes, 8 to 4079. It collects at most `max_records`
     /// records and `max_bytes` bytes, which is below `usize::MAX`.
@@ -121,7 +123,8 @@ impl Walker {
         requires fits { self.old.bytes + length given.now.bytes.now ≤ self.old.max_bytes }
         requires goes_on { (given.now.flag.value ≡ 0) ⊎ (given.now.flag.value ≡ 1) }
         requires starts { given.now.flag.value ≡ 0 → self.old.under_way.items ≡ [] }
-        ensures { Proceeds (state_of self.old) (request_of self.old.count due) (part given.now) result (state_of self.new) }
+        ensures proceeds { Proceeds (state_of self.old) (request_of self.old.count due) (part given.now) result (state_of self.new) }
+        ensures wants { OnErr result (vec_capacity self.old.under_way < vec_len self.old.under_way + length given.now.bytes.now) }
     {
         if self.under_way.extend_from_slice(given.bytes).is_err() {
             return Err(WalkFault::OutOfMemory);
@@ -150,7 +153,9 @@ impl Walker {
         requires fits { self.old.bytes + length given.now.bytes.now ≤ self.old.max_bytes }
         requires completes { (given.now.flag.value ≡ 4) ⊎ (given.now.flag.value ≡ 5) }
         requires starts { given.now.flag.value ≡ 5 → self.old.under_way.items ≡ [] }
-        ensures { Proceeds (state_of self.old) (first_part self.old.count 0) (part given.now) result (state_of self.new) }
+        ensures proceeds { Proceeds (state_of self.old) (first_part self.old.count 0) (part given.now) result (state_of self.new) }
+        ensures wants { OnErr result ((vec_capacity self.old.under_way < vec_len self.old.under_way + length given.now.bytes.now)
+            ⊎ (vec_capacity self.old.records ≤ vec_len self.old.records)) }
     {
         if self.records.reserve(1).is_err()
             || self.under_way.extend_from_slice(given.bytes).is_err()
@@ -210,7 +215,8 @@ impl Walker {
     fn take_part(&mut self, due: Due, given: &PdrPart) -> Result<Step, WalkFault>
         requires due { self.old.due ≡ Some due }
         requires goes { self.old.failed ≡ false }
-        ensures { TakesOutcome (state_of self.old) (request_of self.old.count due) (Ok (part given.now)) result (state_of self.new) }
+        ensures takes { TakesOutcome (state_of self.old) (request_of self.old.count due) (Ok (part given.now)) result (state_of self.new) }
+        ensures wants { result ≡ Err WalkFault.OutOfMemory → LacksRoom self.old (part given.now) }
     {
         match self.first_fault(&due, given) {
             Some(fault) => self.fail(fault),
@@ -232,7 +238,8 @@ impl Walker {
     ) -> Result<Step, WalkFault>
         requires due { self.old.due ≡ Some due }
         requires goes { self.old.failed ≡ false }
-        ensures { TakesOutcome (state_of self.old) (request_of self.old.count due) (outcome_value part outcome.now) result (state_of self.new) }
+        ensures takes { TakesOutcome (state_of self.old) (request_of self.old.count due) (outcome_value part outcome.now) result (state_of self.new) }
+        ensures wants { result ≡ Err WalkFault.OutOfMemory → (p : Part) × (outcome_value part outcome.now ≡ Ok p) × LacksRoom self.old p }
     {
         match outcome {
             Err(code) => self.fail(if code.value == 0x83 {
@@ -248,7 +255,8 @@ impl Walker {
     fn take_message(&mut self, due: Due, answer: &[u8]) -> Result<Step, WalkFault>
         requires due { self.old.due ≡ Some due }
         requires goes { self.old.failed ≡ false }
-        ensures { TakesMessage (state_of self.old) answer.now result (state_of self.new) }
+        ensures takes { TakesMessage (state_of self.old) answer.now result (state_of self.new) }
+        ensures wants { result ≡ Err WalkFault.OutOfMemory → BringsTooMuch self.old answer.now }
     {
         match GetPdrAnswer::read(answer) {
             Ok(read) => self.take_outcome(due, &read.outcome),
@@ -256,20 +264,35 @@ impl Walker {
         }
     }
 
-    /// Takes the bytes of an answer to the outstanding request.
+    /// Makes room, so that the next `take` wants no memory, whatever bytes it is given: for a record more, and for as many
+    /// bytes of the record under way as are asked for. Where memory was refused, the walker stands for the same.
+    pub fn reserve(&mut self) -> Result<(), AllocError>
+        ensures state { state_of self.new ≡ state_of self.old }
+        ensures room { OnOk result (HasRoom self.new) }
+        ensures full { OnErr result (¬ HasRoom self.old) }
+    {
+        self.records.reserve(1)?;
+        self.under_way.reserve(usize::from(self.count))
+    }
+
+    /// Takes the bytes of an answer to the outstanding request. Want of memory is answered only where the room did not
+    /// suffice for the part that they bring.
     ///
     /// Against the answers of a terminus over a lawful list there is no fault but G09 and want of memory.
     pub fn take(&mut self, answer: &[u8]) -> Result<Step, WalkFault>
         ensures takes { Takes (state_of self.old) answer.now result (state_of self.new) }
         ensures tells { Tells result (state_of self.old) (state_of self.new) }
         ensures goes_on { GoesOn (state_of self.old) answer.now result (state_of self.new) }
+        ensures wants { result ≡ Err WalkFault.OutOfMemory → BringsTooMuch self.old answer.now }
+        ensures room { HasRoom self.old → result ≢ Err WalkFault.OutOfMemory }
     {
         self.take_bytes(answer)
     }
 
     /// Takes bytes, by the tests in their order.
     fn take_bytes(&mut self, answer: &[u8]) -> Result<Step, WalkFault>
-        ensures { Takes (state_of self.old) answer.now result (state_of self.new) }
+        ensures takes { Takes (state_of self.old) answer.now result (state_of self.new) }
+        ensures wants { result ≡ Err WalkFault.OutOfMemory → BringsTooMuch self.old answer.now }
     {
         if self.failed {
             return Err(WalkFault::FailedBefore);
