@@ -121,6 +121,3 @@ fn part_size_of(word: &str) -> Option<PartSize> {
     }
     PartSize::of(word.parse().ok()?)
 }
-
-#[cfg(test)]
-mod tests;

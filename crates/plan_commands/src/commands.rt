@@ -70,6 +70,3 @@ pub fn print_fault<O: Sink>(
         CheckError::OutOfMemory => Err(Refused::NoMemory),
     }
 }
-
-#[cfg(test)]
-mod tests;

@@ -99,6 +99,3 @@ fn shown_record(alloc: Global, bytes: &[u8]) -> Result<(Status, String), AllocEr
         Err(error) => Ok((Status::Fault, texts::refused_text(alloc, error.code())?)),
     }
 }
-
-#[cfg(test)]
-mod tests;

@@ -2,9 +2,8 @@
 
 use super::expect_told;
 use super::riser::{CERTIFICATE, PLAN, RECORD, replaced};
-use crate::commands::walk::{PartSize, run_walk};
-use crate::status::Status;
 use net_plan::Counted;
+use plan_commands::{PartSize, Status, run_walk};
 use std::io::Read;
 use std::process::Abort;
 use std::test::Fail;

@@ -1,5 +1,8 @@
-use super::*;
+//! What `show` tells of packets, of records and of texts that are no hex.
+
+use super::expect_told;
 use net_plan::Counted;
+use plan_commands::{Kind, Status, run_show};
 use std::process::Abort;
 use std::test::Fail;
 
@@ -9,25 +12,24 @@ fn expect_show(rt: &(impl Abort + AllocGlobal), kind: Kind, hex: &str, status: S
     let mut output = Counted::new(Vec::new(rt.alloc()));
     let mut errors = Counted::new(Vec::new(rt.alloc()));
     let ended = run_show(rt.alloc(), kind, hex, &mut output, &mut errors);
-    assert_eq!(rt; ended, status, "at {hex}");
-    let (told, silent) = match status {
-        Status::Yes | Status::Fault => (output.inner(), errors.inner()),
-        Status::Unreadable | Status::NoMemory => (errors.inner(), output.inner()),
-    };
-    assert_eq!(rt; told.as_slice(), text.as_bytes());
-    assert!(rt; silent.is_empty());
+    expect_told(rt, (ended, output.inner(), errors.inner()), status, text);
 }
 
 #[test]
 fn shows_packets(rt: HostRuntime) {
-    let request = "010a08cb01800002";
-    let line =
-        "packet reserved 0 destination 10 source 8 som 1 eom 1 number 0 owner 1 tag 3 payload 01800002\n";
-    expect_show(&rt, Kind::Packet, request, Status::Yes, line);
-    let upper = "F1FF007F0A";
-    let line =
-        "packet reserved 15 destination 255 source 0 som 0 eom 1 number 3 owner 1 tag 7 payload 0a\n";
-    expect_show(&rt, Kind::Packet, upper, Status::Yes, line);
+    let rows = [
+        (
+            "010a08cb01800002",
+            "packet reserved 0 destination 10 source 8 som 1 eom 1 number 0 owner 1 tag 3 payload 01800002\n",
+        ),
+        (
+            "F1FF007F0A",
+            "packet reserved 15 destination 255 source 0 som 0 eom 1 number 3 owner 1 tag 7 payload 0a\n",
+        ),
+    ];
+    for (hex, text) in rows {
+        expect_show(&rt, Kind::Packet, hex, Status::Yes, text);
+    }
 }
 
 #[test]
@@ -117,20 +119,10 @@ fn tells_refused_bytes(rt: HostRuntime) {
 
 #[test]
 fn tells_texts_that_are_no_hex(rt: HostRuntime) {
-    for hex in ["0g", "0", "0x00", " 00", "é"] {
-        expect_show(
-            &rt,
-            Kind::Packet,
-            hex,
-            Status::Unreadable,
-            "unreadable hex: J07\n",
-        );
-        expect_show(
-            &rt,
-            Kind::Record,
-            hex,
-            Status::Unreadable,
-            "unreadable hex: J07\n",
-        );
+    let line = "unreadable hex: J07\n";
+    for kind in [Kind::Packet, Kind::Record] {
+        for hex in ["0g", "0", "0x00", " 00", "é"] {
+            expect_show(&rt, kind, hex, Status::Unreadable, line);
+        }
     }
 }

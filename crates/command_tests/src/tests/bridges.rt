@@ -2,7 +2,7 @@
 //! one row towards each neighbor, for all endpoint IDs on that side.
 
 use super::{expect_certify, expect_check};
-use crate::status::Status;
+use plan_commands::Status;
 use std::alloc::{AllocError, Global};
 use std::test::Fail;
 

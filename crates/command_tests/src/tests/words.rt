@@ -1,4 +1,6 @@
-use super::*;
+//! Which words are which command.
+
+use plan_commands::{Command, Kind, PartSize, Refused, words};
 use std::process::Abort;
 use std::test::Fail;
 

@@ -2,10 +2,9 @@
 //! read or written.
 
 use super::riser::{CERTIFICATE, PLAN};
-use super::{CutOff, NO_NODES, NO_RANKS, Narrow, expect_told};
-use crate::commands::assign::run_assign;
-use crate::status::Status;
+use super::{CutOff, NO_NODES, NO_RANKS, Narrow, expect_told, expect_written};
 use net_plan::Counted;
+use plan_commands::{Status, run_assign};
 use std::io::Read;
 use std::process::Abort;
 use std::test::Fail;
@@ -105,8 +104,6 @@ fn tells_an_output_that_fails(rt: HostRuntime) {
             &mut output,
             &mut errors,
         );
-        assert_eq!(rt; ended, status, "at {room}");
-        assert_eq!(rt; output.inner().kept.as_slice(), written.as_bytes());
-        assert_eq!(rt; errors.inner().as_slice(), said.as_bytes());
+        expect_written(&rt, (ended, &output, &errors), (status, written, said));
     }
 }

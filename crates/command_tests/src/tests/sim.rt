@@ -1,14 +1,11 @@
 //! `sim` on the riser network of `examples/riser` and changes of it.
 
 use super::riser::{CERTIFICATE, PLAN};
-use super::{CutOff, Narrow, expect_told};
-use crate::commands::repositories::records_by_place;
-use crate::commands::sim::files::simulate;
-use crate::commands::sim::run_sim;
-use crate::status::Status;
+use super::{CutOff, Narrow, expect_told, expect_written};
 use net_check::check;
 use net_plan::{Counted, certificate_of_text, events_of_text, plan_of_text};
 use pdr_repository::{ListTerminus, Terminus, is_lawful_list};
+use plan_commands::{Status, run_sim, simulate};
 use pldm_message::Tid;
 use std::alloc::{AllocError, Global};
 use std::io::Read;
@@ -61,6 +58,9 @@ fn expect_outcomes(
     expect_sim(rt, files, Status::Yes, lines);
     Ok(())
 }
+
+/// The bytes of nic's only record.
+const RECORD_BYTES: &str = "01000000010100000900010001010000010111";
 
 const TO_SSD: &str = r#"{"do":"put","node":"host","bytes":"011208cb01800002"}"#;
 
@@ -206,7 +206,8 @@ fn plays_over_a_terminus_that_is_given(rt: HostRuntime) -> Result<(), Fail> {
             "the certificate reads",
         );
         let played = events_of_text(alloc, &plan, events.as_bytes()).expect(&rt, "the events read");
-        let records = records_by_place(alloc, &plan, &certificate, 2)?;
+        let mut records = Vec::new(alloc);
+        records.push((1, hex::decode(alloc, RECORD_BYTES).expect(&rt, "hex")))?;
         assert!(rt; is_lawful_list(&records));
         let terminus = ListTerminus::new(alloc, Tid::new(1), records)?;
         let mut termini: Vec<Box<dyn Terminus>> = Vec::new(alloc);
@@ -216,9 +217,7 @@ fn plays_over_a_terminus_that_is_given(rt: HostRuntime) -> Result<(), Fail> {
         let mut output = Counted::new(Narrow { kept, room });
         let mut errors = Counted::new(Vec::new(alloc));
         let ended = run_sim(alloc, checked, termini, &played, &mut output, &mut errors);
-        assert_eq!(rt; ended, status, "at {room}");
-        assert_eq!(rt; output.inner().kept.as_slice(), written.as_bytes());
-        assert_eq!(rt; errors.inner().as_slice(), said.as_bytes());
+        expect_written(&rt, (ended, &output, &errors), (status, written, said));
     }
     Ok(())
 }

@@ -1,7 +1,7 @@
 //! The riser network of `examples/riser` and changes of it.
 
 use super::{expect_certify, expect_check};
-use crate::status::Status;
+use plan_commands::Status;
 use std::alloc::{AllocError, Global};
 use std::test::Fail;
 

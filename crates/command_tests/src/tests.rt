@@ -1,9 +1,6 @@
-use super::*;
-use crate::commands::certify::run_certify;
-use crate::commands::check::run_check;
-use crate::files::FileAtPath;
-use crate::refused::Input;
 use net_plan::{Counted, PlanError};
+use plan_commands::{FileAtPath, Input, Refused, Status, refuse, run_certify, run_check};
+use std::alloc::{AllocError, Global};
 use std::io::{self, ErrorKind, Read, Write};
 use std::process::Abort;
 use std::test::Fail;
@@ -11,8 +8,10 @@ use std::test::Fail;
 mod assign;
 mod bridges;
 mod riser;
+mod show;
 mod sim;
 mod walk;
+mod words;
 
 /// A plan of two endpoints on one bus, up to a's rows.
 const TO_ROWS: &str =
@@ -68,14 +67,13 @@ fn plan_of(alloc: Global, rows: &str, eid: &str, further: &str) -> Result<String
 /// Wants a run to have ended with this status and this text: an answer on standard output, anything else on standard
 /// error.
 fn expect_told(rt: &impl Abort, ended: (Status, &[u8], &[u8]), status: Status, text: &str) {
-    let (with, output, errors) = ended;
-    assert_eq!(rt; with, status, "for {text}");
-    let (told, silent) = match status {
-        Status::Yes | Status::Fault => (output, errors),
-        Status::Unreadable | Status::NoMemory => (errors, output),
+    let text = text.as_bytes();
+    let nothing = b"".as_slice();
+    let wanted = match status {
+        Status::Yes | Status::Fault => (status, text, nothing),
+        Status::Unreadable | Status::NoMemory => (status, nothing, text),
     };
-    assert_eq!(rt; told, text.as_bytes());
-    assert!(rt; silent.is_empty());
+    assert_eq!(rt; ended, wanted);
 }
 
 /// Wants `check` on two files to end so.
@@ -128,13 +126,16 @@ fn expect_unreadable<P: Read + Drop, C: Read + Drop>(
 
 #[test]
 fn answers_by_the_ranks(rt: HostRuntime) -> Result<(), Fail> {
-    let text = plan_of(rt.alloc(), ROW, "254", "")?;
-    let plan = text.as_bytes();
-    expect_check(&rt, plan, RANKS.as_bytes(), Status::Yes, "yes\n");
+    let two_nodes = plan_of(rt.alloc(), ROW, "254", "")?;
     let fault = "fault C10 node a entry 0 eid 254\n";
-    expect_check(&rt, plan, NO_RANKS.as_bytes(), Status::Fault, fault);
-    let empty = NO_NODES.as_bytes();
-    expect_check(&rt, empty, NO_RANKS.as_bytes(), Status::Yes, "yes\n");
+    let rows = [
+        (two_nodes.as_str(), RANKS, Status::Yes, "yes\n"),
+        (two_nodes.as_str(), NO_RANKS, Status::Fault, fault),
+        (NO_NODES, NO_RANKS, Status::Yes, "yes\n"),
+    ];
+    for (plan, certificate, status, text) in rows {
+        expect_check(&rt, plan.as_bytes(), certificate.as_bytes(), status, text);
+    }
     Ok(())
 }
 
@@ -232,6 +233,20 @@ impl Write for Narrow {
     }
 }
 
+/// Wants a run over a narrow output to have ended with this status, this part of the answer and this text on standard error.
+fn expect_written(
+    rt: &impl Abort,
+    (with, output, errors): (Status, &Counted<Narrow>, &Counted<Vec<u8>>),
+    (status, written, said): (Status, &str, &str),
+) {
+    let ended = (
+        with,
+        output.inner().kept.as_slice(),
+        errors.inner().as_slice(),
+    );
+    assert_eq!(rt; ended, (status, written.as_bytes(), said.as_bytes()));
+}
+
 #[test]
 fn tells_files_that_fail(rt: HostRuntime) {
     let plan = NO_NODES.as_bytes();
@@ -263,9 +278,7 @@ fn tells_an_output_that_fails(rt: HostRuntime) {
             &mut output,
             &mut errors,
         );
-        assert_eq!(rt; ended, status, "at {room}");
-        assert_eq!(rt; output.inner().kept.as_slice(), written.as_bytes());
-        assert_eq!(rt; errors.inner().as_slice(), said.as_bytes());
+        expect_written(&rt, (ended, &output, &errors), (status, written, said));
     }
 }
 
@@ -285,7 +298,7 @@ fn tells_each_refusal(rt: HostRuntime) {
     for (refused, number, text) in rows {
         let mut errors = Counted::new(Vec::new(rt.alloc()));
         let status = refuse(rt.alloc(), refused, &mut errors);
-        assert_eq!(rt; status.number(), number);
-        assert_eq!(rt; errors.inner().as_slice(), text.as_bytes());
+        let told = (status.number(), errors.inner().as_slice());
+        assert_eq!(rt; told, (number, text.as_bytes()));
     }
 }
