@@ -1,0 +1,90 @@
+//! The command `sim`: what comes of events in the network of a checked plan.
+ghost use Rattle.std.specs.Prelude.{◌≡◌, ℕ, ◌<◌, ◌^◌, ◌-◌, length, map};
+ghost use Rattle.plan_commands.specs.declared.status.Status.TheVariants.{Yes};
+ghost use Rattle.net_check.specs.States.{at_start};
+ghost use Rattle.net_sim.specs.Dealing.{resting, planned_termini};
+ghost use Rattle.net_sim.specs.Outcomes.{event_value, outcome_value};
+ghost use Rattle.plan_commands.specs.Answers.{stream};
+ghost use Rattle.plan_commands.specs.Simulating.{ShowsRun, ShowsBeginning, ShowsAllOr, EndsShowing, Simulates, ShowsLines, ShowsOutcomes, ShowsAtMost};
+
+pub mod files;
+
+use crate::commands::{print, refuse};
+use crate::refused::Refused;
+use crate::status::Status;
+use crate::texts::outcomes::outcome_line;
+use net_check::Checked;
+use net_plan::{Event, Plan, Sink};
+use net_sim::{Network, Outcome};
+use pdr_repository::Terminus;
+use std::alloc::Global;
+
+/// Plays events in the network of a checked plan, and gives on `output` what comes of each. The termini are one for each node
+/// that has one, in the plan's order; where they are as planned, the outcomes are those of a run from the start. Where memory
+/// runs out, the lines of what was played before are out, and `errors` says so.
+pub fn run_sim<O: Sink, E: Sink>(
+    alloc: Global,
+    checked: Checked,
+    termini: Vec<Box<dyn Terminus>>,
+    events: &[Event],
+    output: &mut O,
+    errors: &mut E,
+) -> Status
+    requires output { O.failures output.old < 2 ^ 64 - 1 }
+    requires errors { E.failures errors.old < 2 ^ 64 - 1 }
+    ensures plays { let outputs = stream (O.contents output.old) (O.failures output.old) (O.contents output.new) (O.failures output.new) in
+        map (resting (λ b. tid b) (λ b. records b)) termini.items ≡ planned_termini checked.entry.0 checked.entry.1
+        → Simulates checked.entry.0 checked.entry.1 (map event_value events.now) result outputs }
+    ensures lists { let outputs = stream (O.contents output.old) (O.failures output.old) (O.contents output.new) (O.failures output.new) in
+        EndsShowing result (ShowsAtMost checked.entry.0 (length events.now) outputs) (ShowsOutcomes checked.entry.0 (length events.now) outputs) outputs }
+    ensures silent { result ≡ Yes → errors.new ≡ errors.old }
+{
+    match answer_sim(alloc, checked, termini, events, output) {
+        Ok(()) => Status::Yes,
+        Err(refused) => refuse(alloc, refused, errors),
+    }
+}
+
+fn answer_sim<O: Sink>(
+    alloc: Global,
+    checked: Checked,
+    termini: Vec<Box<dyn Terminus>>,
+    events: &[Event],
+    output: &mut O,
+) -> Result<(), Refused>
+    requires { O.failures output.old < 2 ^ 64 - 1 }
+    ensures plays { let outputs = stream (O.contents output.old) (O.failures output.old) (O.contents output.new) (O.failures output.new) in
+        map (resting (λ b. tid b) (λ b. records b)) termini.items ≡ planned_termini checked.entry.0 checked.entry.1
+        → ShowsAllOr result (ShowsBeginning checked.entry.0 (at_start checked.entry.0 checked.entry.1) (map event_value events.now) outputs)
+        (ShowsRun checked.entry.0 (at_start checked.entry.0 checked.entry.1) (map event_value events.now) outputs) outputs }
+    ensures lists { let outputs = stream (O.contents output.old) (O.failures output.old) (O.contents output.new) (O.failures output.new) in
+        ShowsAllOr result (ShowsAtMost checked.entry.0 (length events.now) outputs) (ShowsOutcomes checked.entry.0 (length events.now) outputs) outputs }
+{
+    let plan = checked.plan();
+    let mut network = Network::new(alloc, checked, termini)?;
+    let played = network.run(events)?;
+    print_outcomes(alloc, plan, &played.outcomes, output)?;
+    if played.stopped {
+        return Err(Refused::NoMemory);
+    }
+    Ok(())
+}
+
+/// Writes the line of each outcome, as soon as it is made.
+fn print_outcomes<O: Sink>(
+    alloc: Global,
+    plan: &Plan,
+    outcomes: &[Outcome],
+    output: &mut O,
+) -> Result<(), Refused>
+    requires { O.failures output.old < 2 ^ 64 - 1 }
+    ensures { let outputs = stream (O.contents output.old) (O.failures output.old) (O.contents output.new) (O.failures output.new) in
+        ShowsAllOr result ((shown : ℕ) × ShowsLines plan.now (map outcome_value outcomes.now) shown outputs)
+        (ShowsLines plan.now (map outcome_value outcomes.now) (length outcomes.now) outputs) outputs }
+{
+    for (index, outcome) in outcomes.iter().enumerate() {
+        let line = outcome_line(alloc, plan, index + 1, outcome)?;
+        print(output, &line)?;
+    }
+    Ok(())
+}
