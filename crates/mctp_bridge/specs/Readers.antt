@@ -1,5 +1,5 @@
 -- An entry reader is fed the answers to its requests, one by one.
-use Rattle.std.specs.Prelude.{◌≡◌, ◌≢◌, ◌⊎◌, ℕ, ◌+◌, ◌<◌, Bool, true, false, List, [], ◌++◌, length, map, Option, Some, None, option_map, Result, Ok, Err, MatchOption, ◌==◌, if◌then◌else◌}
+use Rattle.std.specs.Prelude.{◌≡◌, ◌≢◌, ◌⊎◌, ℕ, ◌+◌, ◌<◌, Bool, true, false, List, [], ◌++◌, length, map, Option, Some, None, option_map, Result, Ok, Err, MatchOption, ◌==◌, if◌then◌else◌, vec_capacity}
 use Rattle.mctp_control.specs.Headers.{HeaderValue}
 use Rattle.mctp_control.specs.RouteEntries.{EntryValue, entry_value}
 use Rattle.mctp_control.specs.Requests.{request_bytes, GetsEntries}
@@ -23,6 +23,10 @@ reader_state r = record {
   waiting = option_map (λ id. id.value) r.waiting;
   failed = r.failed;
 }
+
+-- for how many entries the reader has memory
+abbrev pub reader_memory : EntryReader → ℕ
+reader_memory r = vec_capacity r.entries
 
 -- nothing was asked yet, and the first handle is 0
 abbrev pub new_reader : ReaderState
