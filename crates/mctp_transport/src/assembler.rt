@@ -313,6 +313,3 @@ impl Assembler {
         }
     }
 }
-
-#[cfg(test)]
-mod tests;
