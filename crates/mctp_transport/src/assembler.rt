@@ -324,6 +324,3 @@ impl Assembler {
         }
     }
 }
-
-#[cfg(test)]
-mod tests;

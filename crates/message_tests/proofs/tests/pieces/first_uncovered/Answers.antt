@@ -8,7 +8,7 @@ use Rattle.mctp_bridge.specs.declared.pieces.Piece.{Piece}
 use Rattle.mctp_bridge.specs.Rows.{IsNext}
 use Rattle.mctp_bridge.specs.Pieces.{PieceValue, piece_value, LiesIn, IsCovered}
 use Rattle.mctp_bridge.proofs.PieceLoops.{at_place, yielded_hold, holds_before, holds_throughout, inside_interval}
-use Rattle.mctp_bridge.proofs.pieces.tests.first_uncovered.Goals as goal
+use Rattle.message_tests.proofs.tests.pieces.first_uncovered.Goals as goal
 
 -- the piece's hop is that of its EIDs
 abbrev IsRouted : List Row → PieceValue → Type 0

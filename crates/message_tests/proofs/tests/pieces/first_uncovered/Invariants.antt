@@ -1,5 +1,5 @@
 use Rattle.std.specs.Prelude.{All, IsSome}
-use Rattle.mctp_bridge.proofs.pieces.tests.first_uncovered.Given as goal
+use Rattle.message_tests.proofs.tests.pieces.first_uncovered.Given as goal
 
 -- each piece so far has a row
 abbrev pub invariant-loop-piece : goal.invariant-loop-piece

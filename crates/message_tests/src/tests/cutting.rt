@@ -1,10 +1,8 @@
 //! Messages that are cut, as the bytes of their packets.
 ghost use Rattle.std.specs.Prelude.{◌<◌, ◌≤◌, length};
 
-use super::*;
-use crate::address::Tag;
-use crate::packet::HEADER_LENGTH;
-use crate::wire::Wire;
+use mctp_transport::{Eid, HEADER_LENGTH, Key, MAX_MESSAGE, Packets, Seq, Tag, UNIT, Wire};
+use std::process::Abort;
 use std::test::Fail;
 
 /// Tag 1 of source 8, which owns it.
@@ -32,21 +30,19 @@ fn next_written(packets: &mut Packets) -> Option<(u8, usize)> {
     Some((out[3], len - HEADER_LENGTH))
 }
 
+/// Wants packets of these flag bytes and payload lengths, and none after them.
+fn expect_packets(rt: &impl Abort, mut packets: Packets, wanted: &[(u8, usize)]) {
+    for row in wanted {
+        assert_eq!(rt; next_written(&mut packets), Some(*row));
+    }
+    assert_eq!(rt; next_written(&mut packets), None);
+}
+
 #[test]
-fn cuts_by_the_unit(rt: HostRuntime) -> Result<(), Fail> {
-    let mut packets = cut(&[7; 130]);
-    assert_eq!(rt; next_written(&mut packets), Some((0x89, 64)));
-    assert_eq!(rt; next_written(&mut packets), Some((0x19, 64)));
-    assert_eq!(rt; next_written(&mut packets), Some((0x69, 2)));
-    assert_eq!(rt; next_written(&mut packets), None);
-    let mut packets = cut(&[7; 64]);
-    assert_eq!(rt; next_written(&mut packets), Some((0xC9, 64)));
-    assert_eq!(rt; next_written(&mut packets), None);
-    let mut packets = cut(&[7; 65]);
-    assert_eq!(rt; next_written(&mut packets), Some((0x89, 64)));
-    assert_eq!(rt; next_written(&mut packets), Some((0x59, 1)));
-    assert_eq!(rt; next_written(&mut packets), None);
-    Ok(())
+fn cuts_by_the_unit(rt: HostRuntime) {
+    expect_packets(&rt, cut(&[7; 130]), &[(0x89, 64), (0x19, 64), (0x69, 2)]);
+    expect_packets(&rt, cut(&[7; 64]), &[(0xC9, 64)]);
+    expect_packets(&rt, cut(&[7; 65]), &[(0x89, 64), (0x59, 1)]);
 }
 
 #[test]

@@ -2,7 +2,7 @@
 ghost use Rattle.std.specs.Prelude.{ℕ, ◌<◌, ◌≤◌, IfNone, IfSome};
 ghost use Rattle.mctp_bridge.specs.Pieces.{IsCovered};
 
-use crate::*;
+use mctp_bridge::{Hop, RangeTable, Row};
 use mctp_transport::Eid;
 use std::test::Fail;
 
@@ -20,12 +20,18 @@ fn row(first: u8, size: u8, hop: Hop) -> Row {
     }
 }
 
-fn piece(first: u8, last: u8, hop: Option<Hop>) -> Option<Piece> {
-    Some(Piece {
-        first: Eid::new(first),
-        last: Eid::new(last),
-        hop,
-    })
+/// Whether the interval is cut into pieces of these first and last endpoint IDs and hops, and no others.
+fn is_cut_so(table: &RangeTable, first: u8, last: u8, wanted: &[(u8, u8, Option<Hop>)]) -> bool
+    requires { first ≤ last }
+{
+    let mut pieces = table.pieces(Eid::new(first), Eid::new(last));
+    for row in wanted {
+        match pieces.next() {
+            Some(piece) if (piece.first.value, piece.last.value, piece.hop) == *row => {}
+            _ => return false,
+        }
+    }
+    pieces.next().is_none() && pieces.next().is_none()
 }
 
 /// The least endpoint ID of the interval that no row covers.
@@ -48,14 +54,14 @@ fn first_uncovered(table: &RangeTable, first: Eid, last: Eid) -> Option<Eid>
 fn rows_and_gaps_are_pieces(rt: HostRuntime) -> Result<(), Fail> {
     let rows = [row(17, 1, NIC), row(8, 1, HOST), row(18, 1, SSD)];
     let table = RangeTable::build(rt.alloc(), &rows).ok().ok_or("no table")?;
-    let mut pieces = table.pieces(Eid::new(8), Eid::new(23));
-    assert_eq!(rt; pieces.next(), piece(8, 8, Some(HOST)));
-    assert_eq!(rt; pieces.next(), piece(9, 16, None));
-    assert_eq!(rt; pieces.next(), piece(17, 17, Some(NIC)));
-    assert_eq!(rt; pieces.next(), piece(18, 18, Some(SSD)));
-    assert_eq!(rt; pieces.next(), piece(19, 23, None));
-    assert_eq!(rt; pieces.next(), None);
-    assert_eq!(rt; pieces.next(), None);
+    let wanted = [
+        (8, 8, Some(HOST)),
+        (9, 16, None),
+        (17, 17, Some(NIC)),
+        (18, 18, Some(SSD)),
+        (19, 23, None),
+    ];
+    assert!(rt; is_cut_so(&table, 8, 23, &wanted));
     Ok(())
 }
 
@@ -63,12 +69,13 @@ fn rows_and_gaps_are_pieces(rt: HostRuntime) -> Result<(), Fail> {
 fn every_number_is_in_a_piece(rt: HostRuntime) -> Result<(), Fail> {
     let rows = [row(8, 9, HOST), row(17, 40, HOST)];
     let table = RangeTable::build(rt.alloc(), &rows).ok().ok_or("no table")?;
-    let mut pieces = table.pieces(Eid::new(0), Eid::new(255));
-    assert_eq!(rt; pieces.next(), piece(0, 7, None));
-    assert_eq!(rt; pieces.next(), piece(8, 16, Some(HOST)));
-    assert_eq!(rt; pieces.next(), piece(17, 56, Some(HOST)));
-    assert_eq!(rt; pieces.next(), piece(57, 255, None));
-    assert_eq!(rt; pieces.next(), None);
+    let wanted = [
+        (0, 7, None),
+        (8, 16, Some(HOST)),
+        (17, 56, Some(HOST)),
+        (57, 255, None),
+    ];
+    assert!(rt; is_cut_so(&table, 0, 255, &wanted));
     Ok(())
 }
 
@@ -76,24 +83,16 @@ fn every_number_is_in_a_piece(rt: HostRuntime) -> Result<(), Fail> {
 fn an_interval_inside_a_row_or_a_gap_is_one_piece(rt: HostRuntime) -> Result<(), Fail> {
     let rows = [row(16, 8, NIC), row(40, 8, SSD)];
     let table = RangeTable::build(rt.alloc(), &rows).ok().ok_or("no table")?;
-    let mut in_row = table.pieces(Eid::new(18), Eid::new(20));
-    assert_eq!(rt; in_row.next(), piece(18, 20, Some(NIC)));
-    assert_eq!(rt; in_row.next(), None);
-    let mut in_gap = table.pieces(Eid::new(24), Eid::new(39));
-    assert_eq!(rt; in_gap.next(), piece(24, 39, None));
-    assert_eq!(rt; in_gap.next(), None);
-    let mut broadcast = table.pieces(Eid::new(255), Eid::new(255));
-    assert_eq!(rt; broadcast.next(), piece(255, 255, None));
-    assert_eq!(rt; broadcast.next(), None);
+    assert!(rt; is_cut_so(&table, 18, 20, &[(18, 20, Some(NIC))]));
+    assert!(rt; is_cut_so(&table, 24, 39, &[(24, 39, None)]));
+    assert!(rt; is_cut_so(&table, 255, 255, &[(255, 255, None)]));
     Ok(())
 }
 
 #[test]
 fn a_table_without_rows_is_one_gap(rt: HostRuntime) -> Result<(), Fail> {
     let table = RangeTable::build(rt.alloc(), &[]).ok().ok_or("no table")?;
-    let mut pieces = table.pieces(Eid::new(0), Eid::new(255));
-    assert_eq!(rt; pieces.next(), piece(0, 255, None));
-    assert_eq!(rt; pieces.next(), None);
+    assert!(rt; is_cut_so(&table, 0, 255, &[(0, 255, None)]));
     Ok(())
 }
 
@@ -101,14 +100,11 @@ fn a_table_without_rows_is_one_gap(rt: HostRuntime) -> Result<(), Fail> {
 fn a_loop_looks_at_every_number(rt: HostRuntime) -> Result<(), Fail> {
     let rows = [row(8, 8, NIC), row(16, 8, SSD)];
     let table = RangeTable::build(rt.alloc(), &rows).ok().ok_or("no table")?;
-    assert_eq!(rt; first_uncovered(&table, Eid::new(10), Eid::new(23)), None);
-    assert_eq!(rt;
-        first_uncovered(&table, Eid::new(10), Eid::new(40)),
-        Some(Eid::new(24))
-    );
-    assert_eq!(rt;
-        first_uncovered(&table, Eid::new(5), Eid::new(40)),
-        Some(Eid::new(5))
-    );
+    let rows = [(10, 23, None), (10, 40, Some(24)), (5, 40, Some(5))];
+    for (first, last, wanted) in rows {
+        assert!(rt; first <= last);
+        let uncovered = first_uncovered(&table, Eid::new(first), Eid::new(last));
+        assert_eq!(rt; uncovered.map(|eid| eid.value), wanted);
+    }
     Ok(())
 }
