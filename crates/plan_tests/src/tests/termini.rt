@@ -1,14 +1,13 @@
 //! Termini of either kind, whose terminus IDs are set and read in a run.
-use super::events::{
+use super::Row;
+use super::playing::{Rows, Storage, Texts, Way, play_on_texts};
+use super::riser::{CERTIFICATE, NIC, PLAN, SSD};
+use super::riser_events::{
     ANSWER_NIC, ANSWER_SSD, GET_TID_OF_NIC, GET_TID_OF_SSD, MOVE_1, MOVE_2, MOVE_3, MOVE_4, MOVE_5,
     MOVE_6, MOVE_7, MOVE_8,
 };
-use super::riser::{CERTIFICATE, NIC, PLAN, SSD};
-use super::{Row, block_at, certificate_of, expect_run, expect_steps, list_at, plan_of};
-use crate::Network;
-use net_check::check;
-use pdr_repository::Terminus;
 use std::alloc::{AllocError, Global};
+use std::process::Abort;
 use std::test::Fail;
 
 /// The end of the plan's text, from ssd's address on.
@@ -132,52 +131,62 @@ const SET_AND_READ_BOTH: [Row; 32] = [
     ),
 ];
 
+/// Plays on the riser network with these termini.
+fn expect_of_nic(
+    rt: &(impl Abort + AllocGlobal),
+    termini: &[(usize, Storage)],
+    way: Way,
+) -> Result<(), Fail> {
+    let texts = Texts {
+        plan: PLAN,
+        certificate: CERTIFICATE,
+        termini,
+    };
+    let rows = &SET_AND_READ;
+    play_on_texts(rt, texts, &Rows { rows, way })
+}
+
+/// Plays on the riser network with a terminus at ssd too.
+fn expect_of_both(
+    rt: &(impl Abort + AllocGlobal),
+    termini: &[(usize, Storage)],
+    way: Way,
+) -> Result<(), Fail> {
+    let plan = plan_text(rt.alloc())?;
+    let certificate = certificate_text(rt.alloc())?;
+    let texts = Texts {
+        plan: plan.as_str(),
+        certificate: certificate.as_str(),
+        termini,
+    };
+    let rows = &SET_AND_READ_BOTH;
+    play_on_texts(rt, texts, &Rows { rows, way })
+}
+
 #[test]
 fn sets_the_terminus_id_of_a_list(rt: HostRuntime) -> Result<(), Fail> {
-    let alloc = rt.alloc();
-    let plan = plan_of(alloc, PLAN)?;
-    let certificate = certificate_of(alloc, &plan, CERTIFICATE)?;
-    let mut termini: Vec<Box<dyn Terminus>> = Vec::new(alloc);
-    termini.push(Box::new(alloc, list_at(alloc, &plan, NIC)?)?)?;
-    let checked = check(alloc, &plan, &certificate)?;
-    let mut network = Network::new(alloc, checked, termini)?;
-    expect_steps(&rt, &plan, &mut network, &SET_AND_READ)
+    expect_of_nic(&rt, &[(NIC, Storage::List)], Way::OneByOne)
 }
 
 #[test]
 fn sets_the_terminus_id_of_a_block(rt: HostRuntime) -> Result<(), Fail> {
-    let alloc = rt.alloc();
-    let plan = plan_of(alloc, PLAN)?;
-    let certificate = certificate_of(alloc, &plan, CERTIFICATE)?;
-    let mut termini: Vec<Box<dyn Terminus>> = Vec::new(alloc);
-    termini.push(Box::new(alloc, block_at(alloc, &plan, NIC)?)?)?;
-    let checked = check(alloc, &plan, &certificate)?;
-    let mut network = Network::new(alloc, checked, termini)?;
-    expect_run(&rt, &plan, &mut network, &SET_AND_READ)
+    expect_of_nic(&rt, &[(NIC, Storage::Block)], Way::AsOneList)
 }
 
 #[test]
 fn plays_a_list_beside_a_block(rt: HostRuntime) -> Result<(), Fail> {
-    let alloc = rt.alloc();
-    let plan = plan_of(alloc, &plan_text(alloc)?)?;
-    let certificate = certificate_of(alloc, &plan, &certificate_text(alloc)?)?;
-    let mut termini: Vec<Box<dyn Terminus>> = Vec::new(alloc);
-    termini.push(Box::new(alloc, list_at(alloc, &plan, NIC)?)?)?;
-    termini.push(Box::new(alloc, block_at(alloc, &plan, SSD)?)?)?;
-    let checked = check(alloc, &plan, &certificate)?;
-    let mut network = Network::new(alloc, checked, termini)?;
-    expect_steps(&rt, &plan, &mut network, &SET_AND_READ_BOTH)
+    expect_of_both(
+        &rt,
+        &[(NIC, Storage::List), (SSD, Storage::Block)],
+        Way::OneByOne,
+    )
 }
 
 #[test]
 fn plays_a_block_beside_a_list(rt: HostRuntime) -> Result<(), Fail> {
-    let alloc = rt.alloc();
-    let plan = plan_of(alloc, &plan_text(alloc)?)?;
-    let certificate = certificate_of(alloc, &plan, &certificate_text(alloc)?)?;
-    let mut termini: Vec<Box<dyn Terminus>> = Vec::new(alloc);
-    termini.push(Box::new(alloc, block_at(alloc, &plan, NIC)?)?)?;
-    termini.push(Box::new(alloc, list_at(alloc, &plan, SSD)?)?)?;
-    let checked = check(alloc, &plan, &certificate)?;
-    let mut network = Network::new(alloc, checked, termini)?;
-    expect_run(&rt, &plan, &mut network, &SET_AND_READ_BOTH)
+    expect_of_both(
+        &rt,
+        &[(NIC, Storage::Block), (SSD, Storage::List)],
+        Way::AsOneList,
+    )
 }

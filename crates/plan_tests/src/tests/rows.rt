@@ -1,15 +1,15 @@
 //! Lists of events on the riser network.
-use super::events::{
+use super::Row;
+use super::playing::{Play, Rows, Way, play_on};
+use super::riser_events::{
     ANSWER_NIC, ANSWER_SSD, GET_TID_OF_NIC, GET_TID_OF_SSD, MOVE_1, MOVE_2, MOVE_3, MOVE_4, MOVE_5,
     MOVE_6,
 };
-use super::riser::{CERTIFICATE, NIC, PLAN};
-use super::{Row, certificate_of, expect_run, expect_steps, expect_told, list_at, plan_of};
-use crate::Network;
 use mctp_transport::{Eid, Key, Tag};
-use net_check::check;
-use net_plan::Event;
-use pdr_repository::Terminus;
+use net_plan::{Event, Plan};
+use net_sim::{Network, Outcome, Refusal};
+use std::alloc::{AllocError, Global};
+use std::process::Abort;
 use std::test::Fail;
 
 /// A request goes to ssd.
@@ -134,59 +134,61 @@ const LISTS: [&[Row]; 5] = [&TO_SSD, &AND_BACK, &COPIED_AND_LOST, &ENDS, &RECORD
 
 #[test]
 fn plays_step_by_step(rt: HostRuntime) -> Result<(), Fail> {
-    let alloc = rt.alloc();
-    let plan = plan_of(alloc, PLAN)?;
-    let certificate = certificate_of(alloc, &plan, CERTIFICATE)?;
     for rows in LISTS {
-        let mut termini: Vec<Box<dyn Terminus>> = Vec::new(alloc);
-        termini.push(Box::new(alloc, list_at(alloc, &plan, NIC)?)?)?;
-        let checked = check(alloc, &plan, &certificate)?;
-        let mut network = Network::new(alloc, checked, termini)?;
-        expect_steps(&rt, &plan, &mut network, rows)?;
+        let way = Way::OneByOne;
+        play_on(&rt, &Rows { rows, way })?;
     }
     Ok(())
 }
 
 #[test]
 fn runs_whole_lists(rt: HostRuntime) -> Result<(), Fail> {
-    let alloc = rt.alloc();
-    let plan = plan_of(alloc, PLAN)?;
-    let certificate = certificate_of(alloc, &plan, CERTIFICATE)?;
     for rows in LISTS {
-        let mut termini: Vec<Box<dyn Terminus>> = Vec::new(alloc);
-        termini.push(Box::new(alloc, list_at(alloc, &plan, NIC)?)?)?;
-        let checked = check(alloc, &plan, &certificate)?;
-        let mut network = Network::new(alloc, checked, termini)?;
-        expect_run(&rt, &plan, &mut network, rows)?;
+        let way = Way::AsOneList;
+        play_on(&rt, &Rows { rows, way })?;
     }
     Ok(())
 }
 
-#[test]
-fn refuses_nodes_beyond_the_plan(rt: HostRuntime) -> Result<(), Fail> {
-    let alloc = rt.alloc();
-    let plan = plan_of(alloc, PLAN)?;
-    let certificate = certificate_of(alloc, &plan, CERTIFICATE)?;
-    let mut termini: Vec<Box<dyn Terminus>> = Vec::new(alloc);
-    termini.push(Box::new(alloc, list_at(alloc, &plan, NIC)?)?)?;
-    let checked = check(alloc, &plan, &certificate)?;
-    let mut network = Network::new(alloc, checked, termini)?;
+/// Whether an event is refused since there is no such node.
+fn is_refused(network: &mut Network, event: &Event) -> Result<bool, AllocError> {
+    let outcome = network.step(event)?;
+    Ok(matches!(outcome, Outcome::Refused(Refusal::NoNode)))
+}
+
+/// Whether each event that names this node is refused.
+fn refuses(alloc: Global, network: &mut Network, node: usize) -> Result<bool, AllocError> {
+    let bytes = [1, 10, 8].to_vec(alloc)?;
     let key = Key {
         source: Eid::new(8),
         tag: Tag::new(3),
         owner: true,
     };
-    for node in [4, usize::MAX] {
-        let bytes = [1, 10, 8].to_vec(alloc)?;
-        let events = [
-            Event::Put { node, bytes },
-            Event::Expire { node, key },
-            Event::Answer { node },
-        ];
-        for event in &events {
-            let outcome = network.step(event)?;
-            expect_told(&rt, &plan, &outcome, "an event", "refused N01")?;
+    Ok(
+        is_refused(network, &Event::Put { node, bytes })?
+            && is_refused(network, &Event::Expire { node, key })?
+            && is_refused(network, &Event::Answer { node })?,
+    )
+}
+
+/// Events at nodes beyond the plan's four are refused.
+struct BeyondThePlan;
+
+impl Play for BeyondThePlan {
+    fn play(
+        &self,
+        rt: &(impl Abort + AllocGlobal),
+        _plan: &Plan,
+        network: &mut Network,
+    ) -> Result<(), Fail> {
+        for node in [4, usize::MAX] {
+            assert!(rt; refuses(rt.alloc(), network, node)?, "{node}");
         }
+        Ok(())
     }
-    Ok(())
+}
+
+#[test]
+fn refuses_nodes_beyond_the_plan(rt: HostRuntime) -> Result<(), Fail> {
+    play_on(&rt, &BeyondThePlan)
 }

@@ -1,8 +1,9 @@
 //! Outcomes as texts, each with all that it tells.
-use crate::Outcome;
 use mctp_transport::Key;
 use net_plan::Plan;
+use net_sim::Outcome;
 use std::alloc::{AllocError, Global};
+use std::fmt;
 
 /// The name of the node at a place.
 fn name_of(plan: &Plan, place: usize) -> &str {
@@ -12,21 +13,30 @@ fn name_of(plan: &Plan, place: usize) -> &str {
     }
 }
 
-fn hex_of(alloc: Global, bytes: &[u8]) -> Result<String, AllocError> {
-    let mut text = String::new(alloc);
-    for byte in bytes {
-        let digits = format!(in alloc; "{byte:02x}")?;
-        text.push_str(&digits)?;
+/// Bytes as hex.
+#[derive(Clone, Copy)]
+struct Hex<'a>(&'a [u8]);
+
+impl fmt::Display for Hex<'_> {
+    fn fmt<W: fmt::Write>(&self, f: &mut fmt::Formatter<W>) -> fmt::Result {
+        for byte in self.0 {
+            write!(f, "{byte:02x}")?;
+        }
+        Ok(())
     }
-    Ok(text)
 }
 
 /// A key as its three parts.
-fn key_text(alloc: Global, key: Key) -> Result<String, AllocError> {
-    let source = key.source.value;
-    let tag = key.tag.value;
-    let owner = u8::from(key.owner);
-    format!(in alloc; "source {source} tag {tag} owner {owner}")
+#[derive(Clone, Copy)]
+struct Parts(Key);
+
+impl fmt::Display for Parts {
+    fn fmt<W: fmt::Write>(&self, f: &mut fmt::Formatter<W>) -> fmt::Result {
+        let source = self.0.source.value;
+        let tag = self.0.tag.value;
+        let owner = u8::from(self.0.owner);
+        write!(f, "source {source} tag {tag} owner {owner}")
+    }
 }
 
 /// What an outcome says.
@@ -42,7 +52,7 @@ pub fn told(alloc: Global, plan: &Plan, outcome: &Outcome) -> Result<String, All
         }
         Outcome::Held { number, node, key } => {
             let node = name_of(plan, *node);
-            let key = key_text(alloc, *key)?;
+            let key = Parts(*key);
             format!(in alloc; "held {number} at {node} {key}")
         }
         Outcome::Whole {
@@ -52,8 +62,8 @@ pub fn told(alloc: Global, plan: &Plan, outcome: &Outcome) -> Result<String, All
             bytes,
         } => {
             let node = name_of(plan, *node);
-            let key = key_text(alloc, *key)?;
-            let bytes = hex_of(alloc, bytes)?;
+            let key = Parts(*key);
+            let bytes = Hex(bytes.as_slice());
             format!(in alloc; "whole {number} at {node} {key} bytes {bytes}")
         }
         Outcome::Dropped {
@@ -63,7 +73,7 @@ pub fn told(alloc: Global, plan: &Plan, outcome: &Outcome) -> Result<String, All
             why,
         } => {
             let node = name_of(plan, *node);
-            let key = key_text(alloc, *key)?;
+            let key = Parts(*key);
             let code = why.code();
             format!(in alloc; "dropped {number} at {node} {key} {code}")
         }

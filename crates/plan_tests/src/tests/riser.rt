@@ -1,4 +1,10 @@
-//! The texts of the riser network, as `examples/riser` has them.
+//! The riser network, whose texts are those of `examples/riser`, and changes of them.
+use super::networks::{FaultAt, is_at};
+use super::{Changes, edited, found};
+use net_check::Fault;
+use net_plan::{certificate_of_text, plan_of_text};
+use std::alloc::Global;
+use std::test::Fail;
 
 pub const PLAN: &str =
     r#"{"format":1,"buses":[{"name":"b0","binding":1,"media":4},{"name":"b1","binding":1,"media":4}],"nodes":[
@@ -13,3 +19,38 @@ pub const CERTIFICATE: &str =
 
 pub const EVENTS: &str =
     r#"{"format":1,"events":[{"do":"put","node":"host","bytes":"011108cb01800002"},{"do":"move","flight":1,"keep":false},{"do":"move","flight":1,"keep":false},{"do":"move","flight":1,"keep":false},{"do":"answer","node":"nic"},{"do":"move","flight":2,"keep":false},{"do":"move","flight":2,"keep":false},{"do":"move","flight":2,"keep":false}]}"#;
+
+/// The place of host in the plan's list.
+pub const HOST: usize = 0;
+
+/// The place of nic in the plan's list.
+pub const NIC: usize = 2;
+
+/// The place of ssd in the plan's list.
+pub const SSD: usize = 3;
+
+/// The fault of the riser network with these changes of its plan and its certificate.
+pub fn found_with(
+    alloc: Global,
+    plan: &[(&str, &str)],
+    certificate: &[(&str, &str)],
+) -> Result<Option<Fault>, Fail> {
+    let text = edited(alloc, PLAN, plan)?;
+    let plan = plan_of_text(alloc, text.as_str().as_bytes())?;
+    let text = edited(alloc, CERTIFICATE, certificate)?;
+    let certificate = certificate_of_text(alloc, &plan, text.as_str().as_bytes())?;
+    Ok(found(alloc, &plan, &certificate)?)
+}
+
+/// Changes of the riser network's plan and of its certificate, and the fault of what they make.
+pub type Changed = (Changes, Changes, Option<FaultAt>);
+
+/// The place of the first row with another fault.
+pub fn first_wrong(alloc: Global, rows: &[Changed]) -> Result<Option<usize>, Fail> {
+    for (place, (plan, certificate, wanted)) in rows.iter().enumerate() {
+        if !is_at(found_with(alloc, *plan, *certificate)?, wanted) {
+            return Ok(Some(place));
+        }
+    }
+    Ok(None)
+}
