@@ -8,6 +8,7 @@ mod events;
 mod exact;
 mod json_texts;
 mod lines;
+mod moves;
 mod names;
 mod networks;
 mod owners_and_pools;
