@@ -515,13 +515,13 @@ impl<'a> Network<'a> {
             (network_value (λ d. tid d.terminus) (λ d. records d.terminus) self.new) }
     {
         if !self.has_node(node) {
-            return Outcome::Refused(Refusal::NoNode);
+            Outcome::Refused(Refusal::NoNode)
+        } else if !self.router.can_switch(node) {
+            Outcome::Refused(Refusal::NoSwitch)
+        } else {
+            self.router.switch(node);
+            Outcome::Switched { node }
         }
-        if !self.router.can_switch(node) {
-            return Outcome::Refused(Refusal::NoSwitch);
-        }
-        self.router.switch(node);
-        Outcome::Switched { node }
     }
 
     /// Loses a flight.

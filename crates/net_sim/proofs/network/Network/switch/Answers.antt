@@ -15,8 +15,8 @@ invariant_of-self g c =
       placed = λ number f is. subst (λ (r : RouterValue). IsPlaced r.tables.plan r.certificate f) (sym c.switch.ensures) (now.placed number f is);
     }
 
-pub returns-clause-plays : goal.returns-clause-plays
-returns-clause-plays g c =
+pub returns-else-not-can_switch-clause-plays : goal.returns-else-not-can_switch-clause-plays
+returns-else-not-can_switch-clause-plays g c =
     let now = c.args.self.now in
     let can = subst (λ (b : Bool). TellsIfSwitchable now.router c.args.node b) c.if-not-can_switch.false c.can_switch.ensures in
     switches now.router.tables _ _ c.args.node (c.has_node.ensures.0 c.if-not-has_node.false) can.0 can.1 refl refl refl
