@@ -15,7 +15,7 @@ invariant_of-self g c =
       placed = λ number f is. subst (λ (r : RouterValue). IsPlaced r.tables.plan r.certificate f) (sym c.switch.ensures) (now.placed number f is);
     }
 
-pub returns-else-not-can_switch-clause-plays : goal.returns-clause-plays
+pub returns-else-not-can_switch-clause-plays : goal.returns-else-not-can_switch-clause-plays
 returns-else-not-can_switch-clause-plays g c =
     let now = c.args.self.now in
     let can = subst (λ (b : Bool). TellsIfSwitchable now.router c.args.node b) c.if-not-can_switch.false c.can_switch.ensures in
