@@ -1,8 +1,8 @@
 //! Messages of several packets from host to ssd in the riser network.
-use super::playing::{Play, play_on};
+use super::playing::{Scenario, play_on};
 use super::riser::{HOST, SSD};
 use mctp_transport::{Eid, Key, MAX_MESSAGE, Packets, Seq, Tag, Why, Wire};
-use net_plan::{Event, Plan};
+use net_plan::Event;
 use net_sim::{Network, Outcome};
 use std::alloc::{AllocError, Global};
 use std::process::Abort;
@@ -273,36 +273,30 @@ const ORDERS: [(usize, usize); 7] = [
     (6, 15625),
 ];
 
-/// Five packets come whole or not at all.
-struct FivePackets;
-
-impl Play for FivePackets {
-    fn play(
-        &self,
-        rt: &(impl Abort + AllocGlobal),
-        _plan: &Plan,
-        network: &mut Network,
-    ) -> Result<(), Fail> {
-        let message = message_of(rt.alloc(), 320)?;
-        let packets = written(rt.alloc(), &message)?;
-        let flags = flags(rt.alloc(), &packets)?;
-        let mut orders: u32 = 0;
-        let mut whole: u32 = 0;
-        for order in ORDERS {
-            let sent = send_in_orders(rt, network, &message, &packets, order)?;
-            orders = orders.saturating_add(sent.orders);
-            whole = whole.saturating_add(sent.whole);
-        }
-        assert_eq!(rt; flags.as_slice(), [0x89, 0x19, 0x29, 0x39, 0x49].as_slice());
-        // without a packet twice 1 + 5 + 20 + 60 + 120 + 120, with one twice 5 + 60 + 360 + 1200 + 1800
-        assert_eq!(rt; (message.len(), orders, whole), (320, 3751, 11));
-        Ok(())
+/// Wants five packets to come whole or not at all, in all orders.
+pub fn expect_whole_or_nothing(
+    rt: &(impl Abort + AllocGlobal),
+    network: &mut Network,
+) -> Result<(), Fail> {
+    let message = message_of(rt.alloc(), 320)?;
+    let packets = written(rt.alloc(), &message)?;
+    let flags = flags(rt.alloc(), &packets)?;
+    let mut orders: u32 = 0;
+    let mut whole: u32 = 0;
+    for order in ORDERS {
+        let sent = send_in_orders(rt, network, &message, &packets, order)?;
+        orders = orders.saturating_add(sent.orders);
+        whole = whole.saturating_add(sent.whole);
     }
+    assert_eq!(rt; flags.as_slice(), [0x89, 0x19, 0x29, 0x39, 0x49].as_slice());
+    // without a packet twice 1 + 5 + 20 + 60 + 120 + 120, with one twice 5 + 60 + 360 + 1200 + 1800
+    assert_eq!(rt; (message.len(), orders, whole), (320, 3751, 11));
+    Ok(())
 }
 
 #[test]
 fn five_packets_come_whole_or_not_at_all(rt: HostRuntime) -> Result<(), Fail> {
-    play_on(&rt, &FivePackets)
+    play_on(&rt, Scenario::FivePackets)
 }
 
 /// Whether the first of six packets is held and the last makes its first and its last bytes whole, after six puts, four
@@ -320,36 +314,30 @@ fn come_as_a_message(outcomes: &[Outcome], ends: &[u8]) -> bool {
         && how_it_comes(&outcomes[15], ends) == Some(Comes::Whole)
 }
 
-/// The first and the last of six packets come as a message that was not sent.
-struct SixPackets;
-
-impl Play for SixPackets {
-    fn play(
-        &self,
-        rt: &(impl Abort + AllocGlobal),
-        _plan: &Plan,
-        network: &mut Network,
-    ) -> Result<(), Fail> {
-        let alloc = rt.alloc();
-        let message = message_of(alloc, 384)?;
-        let packets = written(alloc, &message)?;
-        let flags = flags(alloc, &packets)?;
-        let ends = ends(alloc, &message)?;
-        let played = network.run(&first_and_last(alloc, &packets, 6)?)?;
-        assert_eq!(rt;
-            flags.as_slice(),
-            [0x89, 0x19, 0x29, 0x39, 0x09, 0x59].as_slice()
-        );
-        assert_eq!(rt;
-            (message.len(), ends.len(), played.stopped),
-            (384, 128, false)
-        );
-        assert!(rt; come_as_a_message(&played.outcomes, &ends));
-        Ok(())
-    }
+/// Wants the first and the last of six packets to come as a message that was not sent.
+pub fn expect_two_of_six(
+    rt: &(impl Abort + AllocGlobal),
+    network: &mut Network,
+) -> Result<(), Fail> {
+    let alloc = rt.alloc();
+    let message = message_of(alloc, 384)?;
+    let packets = written(alloc, &message)?;
+    let flags = flags(alloc, &packets)?;
+    let ends = ends(alloc, &message)?;
+    let played = network.run(&first_and_last(alloc, &packets, 6)?)?;
+    assert_eq!(rt;
+        flags.as_slice(),
+        [0x89, 0x19, 0x29, 0x39, 0x09, 0x59].as_slice()
+    );
+    assert_eq!(rt;
+        (message.len(), ends.len(), played.stopped),
+        (384, 128, false)
+    );
+    assert!(rt; come_as_a_message(&played.outcomes, &ends));
+    Ok(())
 }
 
 #[test]
 fn of_six_packets_two_come_as_a_message(rt: HostRuntime) -> Result<(), Fail> {
-    play_on(&rt, &SixPackets)
+    play_on(&rt, Scenario::SixPackets)
 }

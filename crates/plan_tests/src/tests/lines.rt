@@ -1,6 +1,5 @@
 //! Lines of bridges. The one at place i has the endpoint ID 8 + i, shares a bus with each of its neighbors alone, and has
 //! one row towards each neighbor, for all endpoint IDs on that side.
-use super::playing::Way;
 use super::{expect_told, plan_of};
 use net_check::{certify, check};
 use net_plan::{Event, Plan};
@@ -138,6 +137,13 @@ fn ran(network: &mut Network, events: &[Event]) -> Result<Vec<Outcome>, Fail> {
         return Err(Fail::new("it stopped"));
     }
     Ok(played.outcomes)
+}
+
+/// How events are played.
+#[derive(Clone, Copy)]
+enum Way {
+    OneByOne,
+    AsOneList,
 }
 
 /// Plays the events on a line of so many bridges, and wants the request to come to the last.

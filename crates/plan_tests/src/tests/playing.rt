@@ -1,5 +1,7 @@
 //! Networks that are played from texts. A row is an event, as its text stands in a list of events, and what comes of it.
+use super::exact::{expect_two_of_six, expect_whole_or_nothing};
 use super::riser::{CERTIFICATE, NIC, PLAN};
+use super::rows::expect_refusals;
 use super::telling::told;
 use net_check::check;
 use net_plan::{Certificate, Counted, Event, Plan, read_certificate, read_events, read_plan};
@@ -71,21 +73,19 @@ pub enum Storage {
     Block,
 }
 
-/// How events are played.
+/// What is played on a network.
 #[derive(Clone, Copy)]
-pub enum Way {
-    OneByOne,
-    AsOneList,
-}
-
-/// What is done with a network.
-pub trait Play {
-    fn play(
-        &self,
-        rt: &(impl Abort + AllocGlobal),
-        plan: &Plan,
-        network: &mut Network,
-    ) -> Result<(), Fail>;
+pub enum Scenario<'a> {
+    /// Rows' events, one by one.
+    Steps(&'a [Row]),
+    /// Rows' events as one list.
+    Run(&'a [Row]),
+    /// Messages of five packets, in all orders.
+    FivePackets,
+    /// Six packets, of which the first and the last come.
+    SixPackets,
+    /// Events at nodes beyond the plan.
+    BeyondThePlan,
 }
 
 /// The texts of a plan and a certificate, and the places of the nodes with termini.
@@ -97,24 +97,24 @@ pub struct Texts<'a> {
 }
 
 /// Plays on the riser network with a list at nic.
-pub fn play_on(rt: &(impl Abort + AllocGlobal), player: &impl Play) -> Result<(), Fail> {
+pub fn play_on(rt: &(impl Abort + AllocGlobal), scenario: Scenario<'_>) -> Result<(), Fail> {
     let texts = Texts {
         plan: PLAN,
         certificate: CERTIFICATE,
         termini: &[(NIC, Storage::List)],
     };
-    play_on_texts(rt, texts, player)
+    play_on_texts(rt, texts, scenario)
 }
 
 /// Plays on the network of these texts.
 pub fn play_on_texts(
     rt: &(impl Abort + AllocGlobal),
     texts: Texts<'_>,
-    player: &impl Play,
+    scenario: Scenario<'_>,
 ) -> Result<(), Fail> {
     let plan = plan_of(rt.alloc(), texts.plan)?;
     let certificate = certificate_of(rt.alloc(), &plan, texts.certificate)?;
-    play_on_plan(rt, &plan, &certificate, texts.termini, player)
+    play_on_plan(rt, &plan, &certificate, texts.termini, scenario)
 }
 
 /// Plays on the network of this plan and this certificate, with termini at these places.
@@ -123,7 +123,7 @@ fn play_on_plan(
     plan: &Plan,
     certificate: &Certificate,
     termini: &[(usize, Storage)],
-    player: &impl Play,
+    scenario: Scenario<'_>,
 ) -> Result<(), Fail> {
     let alloc = rt.alloc();
     let mut boxed: Vec<Box<dyn Terminus>> = Vec::new(alloc);
@@ -135,27 +135,21 @@ fn play_on_plan(
     }
     let checked = check(alloc, plan, certificate)?;
     let mut network = Network::new(alloc, checked, boxed)?;
-    player.play(rt, plan, &mut network)
+    play(rt, plan, &mut network, scenario)
 }
 
-/// Rows to be played.
-#[derive(Clone, Copy)]
-pub struct Rows<'a> {
-    pub rows: &'a [Row],
-    pub way: Way,
-}
-
-impl Play for Rows<'_> {
-    fn play(
-        &self,
-        rt: &(impl Abort + AllocGlobal),
-        plan: &Plan,
-        network: &mut Network,
-    ) -> Result<(), Fail> {
-        match self.way {
-            Way::OneByOne => expect_steps(rt, plan, network, self.rows),
-            Way::AsOneList => expect_run(rt, plan, network, self.rows),
-        }
+fn play(
+    rt: &(impl Abort + AllocGlobal),
+    plan: &Plan,
+    network: &mut Network,
+    scenario: Scenario<'_>,
+) -> Result<(), Fail> {
+    match scenario {
+        Scenario::Steps(rows) => expect_steps(rt, plan, network, rows),
+        Scenario::Run(rows) => expect_run(rt, plan, network, rows),
+        Scenario::FivePackets => expect_whole_or_nothing(rt, network),
+        Scenario::SixPackets => expect_two_of_six(rt, network),
+        Scenario::BeyondThePlan => expect_refusals(rt, network),
     }
 }
 

@@ -1,12 +1,12 @@
 //! Lists of events on the riser network.
 use super::Row;
-use super::playing::{Play, Rows, Way, play_on};
+use super::playing::{Scenario, play_on};
 use super::riser_events::{
     ANSWER_NIC, ANSWER_SSD, GET_TID_OF_NIC, GET_TID_OF_SSD, MOVE_1, MOVE_2, MOVE_3, MOVE_4, MOVE_5,
     MOVE_6,
 };
 use mctp_transport::{Eid, Key, Tag};
-use net_plan::{Event, Plan};
+use net_plan::Event;
 use net_sim::{Network, Outcome, Refusal};
 use std::alloc::{AllocError, Global};
 use std::process::Abort;
@@ -135,8 +135,7 @@ const LISTS: [&[Row]; 5] = [&TO_SSD, &AND_BACK, &COPIED_AND_LOST, &ENDS, &RECORD
 #[test]
 fn plays_step_by_step(rt: HostRuntime) -> Result<(), Fail> {
     for rows in LISTS {
-        let way = Way::OneByOne;
-        play_on(&rt, &Rows { rows, way })?;
+        play_on(&rt, Scenario::Steps(rows))?;
     }
     Ok(())
 }
@@ -144,8 +143,7 @@ fn plays_step_by_step(rt: HostRuntime) -> Result<(), Fail> {
 #[test]
 fn runs_whole_lists(rt: HostRuntime) -> Result<(), Fail> {
     for rows in LISTS {
-        let way = Way::AsOneList;
-        play_on(&rt, &Rows { rows, way })?;
+        play_on(&rt, Scenario::Run(rows))?;
     }
     Ok(())
 }
@@ -171,24 +169,15 @@ fn refuses(alloc: Global, network: &mut Network, node: usize) -> Result<bool, Al
     )
 }
 
-/// Events at nodes beyond the plan's four are refused.
-struct BeyondThePlan;
-
-impl Play for BeyondThePlan {
-    fn play(
-        &self,
-        rt: &(impl Abort + AllocGlobal),
-        _plan: &Plan,
-        network: &mut Network,
-    ) -> Result<(), Fail> {
-        for node in [4, usize::MAX] {
-            assert!(rt; refuses(rt.alloc(), network, node)?, "{node}");
-        }
-        Ok(())
+/// Wants events at nodes beyond the plan's four to be refused.
+pub fn expect_refusals(rt: &(impl Abort + AllocGlobal), network: &mut Network) -> Result<(), Fail> {
+    for node in [4, usize::MAX] {
+        assert!(rt; refuses(rt.alloc(), network, node)?, "{node}");
     }
+    Ok(())
 }
 
 #[test]
 fn refuses_nodes_beyond_the_plan(rt: HostRuntime) -> Result<(), Fail> {
-    play_on(&rt, &BeyondThePlan)
+    play_on(&rt, Scenario::BeyondThePlan)
 }

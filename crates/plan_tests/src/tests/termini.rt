@@ -1,6 +1,6 @@
 //! Termini of either kind, whose terminus IDs are set and read in a run.
 use super::Row;
-use super::playing::{Rows, Storage, Texts, Way, play_on_texts};
+use super::playing::{Scenario, Storage, Texts, play_on_texts};
 use super::riser::{CERTIFICATE, NIC, PLAN, SSD};
 use super::riser_events::{
     ANSWER_NIC, ANSWER_SSD, GET_TID_OF_NIC, GET_TID_OF_SSD, MOVE_1, MOVE_2, MOVE_3, MOVE_4, MOVE_5,
@@ -135,22 +135,21 @@ const SET_AND_READ_BOTH: [Row; 32] = [
 fn expect_of_nic(
     rt: &(impl Abort + AllocGlobal),
     termini: &[(usize, Storage)],
-    way: Way,
+    scenario: Scenario<'_>,
 ) -> Result<(), Fail> {
     let texts = Texts {
         plan: PLAN,
         certificate: CERTIFICATE,
         termini,
     };
-    let rows = &SET_AND_READ;
-    play_on_texts(rt, texts, &Rows { rows, way })
+    play_on_texts(rt, texts, scenario)
 }
 
 /// Plays on the riser network with a terminus at ssd too.
 fn expect_of_both(
     rt: &(impl Abort + AllocGlobal),
     termini: &[(usize, Storage)],
-    way: Way,
+    scenario: Scenario<'_>,
 ) -> Result<(), Fail> {
     let plan = plan_text(rt.alloc())?;
     let certificate = certificate_text(rt.alloc())?;
@@ -159,18 +158,17 @@ fn expect_of_both(
         certificate: certificate.as_str(),
         termini,
     };
-    let rows = &SET_AND_READ_BOTH;
-    play_on_texts(rt, texts, &Rows { rows, way })
+    play_on_texts(rt, texts, scenario)
 }
 
 #[test]
 fn sets_the_terminus_id_of_a_list(rt: HostRuntime) -> Result<(), Fail> {
-    expect_of_nic(&rt, &[(NIC, Storage::List)], Way::OneByOne)
+    expect_of_nic(&rt, &[(NIC, Storage::List)], Scenario::Steps(&SET_AND_READ))
 }
 
 #[test]
 fn sets_the_terminus_id_of_a_block(rt: HostRuntime) -> Result<(), Fail> {
-    expect_of_nic(&rt, &[(NIC, Storage::Block)], Way::AsOneList)
+    expect_of_nic(&rt, &[(NIC, Storage::Block)], Scenario::Run(&SET_AND_READ))
 }
 
 #[test]
@@ -178,7 +176,7 @@ fn plays_a_list_beside_a_block(rt: HostRuntime) -> Result<(), Fail> {
     expect_of_both(
         &rt,
         &[(NIC, Storage::List), (SSD, Storage::Block)],
-        Way::OneByOne,
+        Scenario::Steps(&SET_AND_READ_BOTH),
     )
 }
 
@@ -187,6 +185,6 @@ fn plays_a_block_beside_a_list(rt: HostRuntime) -> Result<(), Fail> {
     expect_of_both(
         &rt,
         &[(NIC, Storage::Block), (SSD, Storage::List)],
-        Way::AsOneList,
+        Scenario::Run(&SET_AND_READ_BOTH),
     )
 }
