@@ -31,6 +31,7 @@ use Rattle.net_plan.specs.declared.error.Fault.{Fault}
 use Rattle.net_plan.specs.declared.error.Fault.TheVariants as fault
 use Rattle.net_plan.specs.declared.error.PlanError.{PlanError}
 use Rattle.net_plan.specs.declared.error.PlanError.TheVariants as errors
+use Rattle.net_plan.proofs.SingleKeys.{not_doubled}
 use Rattle.net_plan.proofs.CertificateLaw.{certificate_tells}
 use Rattle.net_plan.proofs.KeysLaw.{keys_sound}
 use Rattle.net_plan.proofs.Telling.{both, same_Ok}
@@ -142,11 +143,11 @@ same_data bytes d e p q = let both : Some d ≡ Some e = sym p ∙ q in cc
 module _ (p : PlanValue) (bytes : List ℕ) (v : CertificateValue) (stands : StandsFor (IsCertificateOf p) bytes v) where
   pub one_certificate : (w : CertificateValue) → StandsFor (IsCertificateOf p) bytes w → w ≡ v
   one_certificate w other =
-      let here : IsCertificateOf p stands.0 w = subst (λ d. IsCertificateOf p d w) (same_data bytes other.0 stands.0 other.1.1 stands.1.1) other.2 in
-      same_value (node_names p.nodes) stands.0 w v ((certificate_tells p).whole stands.0 w here) ((certificate_tells p).whole stands.0 v stands.2)
+      let here : IsCertificateOf p stands.0 w = subst (λ d. IsCertificateOf p d w) (same_data bytes other.0 stands.0 other.1.1 stands.1.1) other.3 in
+      same_value (node_names p.nodes) stands.0 w v ((certificate_tells p).whole stands.0 w here) ((certificate_tells p).whole stands.0 v stands.3)
 
   not_faulty : (f : Fault) → IsFaulty (certificate (node_names p.nodes)) (IsCertificateOf p) f bytes → ⊥
-  not_faulty f h = h.2.1 v (subst (λ d. IsCertificateOf p d v) (same_data bytes stands.0 h.0 stands.1.1 h.1.1) stands.2)
+  not_faulty f h = h.2.1 v (subst (λ d. IsCertificateOf p d v) (same_data bytes stands.0 h.0 stands.1.1 h.1.1) stands.3)
 
   pub not_refused : (e : PlanError) → IsRefused (certificate (node_names p.nodes)) (IsCertificateOf p) bytes e → (e ≡ errors.OutOfMemory) ⊎ (e ≡ errors.OverLimit)
   not_refused errors.OutOfMemory h = inl refl
@@ -159,7 +160,8 @@ module _ (p : PlanValue) (bytes : List ℕ) (v : CertificateValue) (stands : Sta
   not_refused errors.MissingKey h = absurd (not_faulty fault.MissingKey h)
   not_refused errors.UnknownKey h = absurd (not_faulty fault.UnknownKey h)
   not_refused errors.OutOfRange h = absurd (not_faulty fault.OutOfRange h)
-  not_refused errors.UnknownName h = absurd (not_faulty fault.UnknownName h)
+  not_refused errors.UnknownName h = absurd (not_faulty fault.UnknownName h.0)
   not_refused errors.BadHex h = absurd (not_faulty fault.BadHex h)
-  not_refused errors.Doubled h = absurd (not_faulty fault.Doubled h)
+  not_refused errors.Doubled (inl h) = absurd (not_faulty fault.Doubled h)
+  not_refused errors.Doubled (inr h) = absurd (not_doubled bytes stands.2 h.2)
   not_refused errors.Device h = absurd h

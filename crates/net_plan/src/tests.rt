@@ -1,9 +1,11 @@
 //! What is read and written of the riser network and of texts like its.
 mod certificates;
+mod doubled_keys;
 mod events;
 mod plans;
 mod riser;
 mod streams;
+mod switches;
 
 use std::alloc::{AllocError, Global};
 

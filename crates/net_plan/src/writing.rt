@@ -7,7 +7,7 @@ ghost use Rattle.serde_json.specs.Written.{compact_text};
 ghost use Rattle.net_plan.specs.CertificateValues.{certificate_value};
 ghost use Rattle.net_plan.specs.PlanValues.{node_names, plan_value};
 ghost use Rattle.net_plan.specs.CertificateText.{IsCertificateOf};
-ghost use Rattle.net_plan.specs.Texts.{StandsFor};
+ghost use Rattle.net_plan.specs.Texts.{StandsFor, HasSingleKeys};
 ghost use Rattle.net_plan.specs.WellFormed.{IsWellFormed};
 ghost use Rattle.net_plan.specs.Stream.{AppendsBeginning};
 ghost use Rattle.net_plan.specs.TextFaults.{failed_count};
@@ -39,6 +39,7 @@ pub fn text_of_certificate(
 fn compact_text(alloc: Global, plan: &Plan, certificate: &Certificate) -> Result<String, AllocError>
     ensures text { IfOk result (λ text. string_bytes text ≡ compact_text (certificate_data (node_names (plan_value plan.now).nodes) (certificate_value certificate.now))) }
     ensures reads_back { IfOk result (λ text. read (string_bytes text) ≡ Some (certificate_data (node_names (plan_value plan.now).nodes) (certificate_value certificate.now))) }
+    ensures single { IfOk result (λ text. HasSingleKeys (string_bytes text)) }
 {
     certificate_json(alloc, plan.nodes.as_slice(), certificate)?.to_string(alloc)
 }
