@@ -4,6 +4,7 @@ mod certificates;
 mod certifying;
 mod codes;
 mod deliveries;
+mod doubled_keys;
 mod events;
 mod exact;
 mod json_texts;
@@ -22,6 +23,7 @@ mod rules;
 mod streams;
 mod stretches;
 mod superfluous;
+mod switches;
 mod telling;
 mod termini;
 
