@@ -2,6 +2,7 @@
 mod certificates;
 mod doubled_keys;
 mod events;
+mod names;
 mod plans;
 mod riser;
 mod streams;
