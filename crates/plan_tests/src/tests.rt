@@ -11,6 +11,7 @@ mod json_texts;
 mod lines;
 mod moves;
 mod names;
+mod names_in_code;
 mod networks;
 mod owners_and_pools;
 mod plans;
