@@ -3,7 +3,7 @@ use super::spelling::{is_kept, is_written_as};
 use mctp_transport::{Wire, round_trip};
 use pldm_message::{
     AnswerHead, ErrorCode, GetPdrAnswer, GetPdrRequest, GetPldmTypes, GetPldmTypesAnswer, GetTid,
-    GetTidAnswer, InstanceId, InstanceIds, MessageKind, PldmError, PldmHeader, PldmType,
+    GetTidAnswer, InstanceId, InstanceIds, MessageKind, PdrPart, PldmError, PldmHeader, PldmType,
     RequestHead, SetTid, SetTidAnswer, Tid, TransferFlag, TransferOperation,
 };
 use std::test::Fail;
@@ -109,13 +109,23 @@ fn reads_and_writes_requests_for_parts(rt: HostRuntime) -> Result<(), Fail> {
     Ok(())
 }
 
+/// The part that an answer of these bytes has.
+fn part_of(answer: &[u8]) -> Option<PdrPart<'_>> {
+    GetPdrAnswer::read(answer).ok()?.outcome.ok()
+}
+
 #[test]
-fn reads_answers_with_parts(rt: HostRuntime) -> Result<(), Fail> {
-    let part = GetPdrAnswer::read(&START)?.outcome.ok().ok_or("no part")?;
+fn reads_a_first_part(rt: HostRuntime) -> Result<(), Fail> {
+    let part = part_of(&START).ok_or("no part")?;
     let numbers = (part.next_record, part.next_transfer, part.flag, part.check);
     assert_eq!(rt; numbers, (0, 16, TransferFlag::START, None));
     assert_eq!(rt; part.bytes, &START[16..]);
-    let part = GetPdrAnswer::read(&END)?.outcome.ok().ok_or("no part")?;
+    Ok(())
+}
+
+#[test]
+fn reads_a_last_part(rt: HostRuntime) -> Result<(), Fail> {
+    let part = part_of(&END).ok_or("no part")?;
     assert_eq!(rt; (part.flag, part.check), (TransferFlag::END, Some(0xa6)));
     assert_eq!(rt; part.bytes, [0x01, 0x01, 0x0a].as_slice());
     Ok(())
@@ -153,9 +163,16 @@ fn reads_and_writes_set_tid(rt: HostRuntime) -> Result<(), Fail> {
 }
 
 #[test]
-fn reads_and_writes_get_tid(rt: HostRuntime) -> Result<(), Fail> {
-    assert!(rt; is_kept::<GetTid>(&[0x01, 0x80, 0x00, 0x02]));
+fn requests_without_data_have_four_bytes(rt: HostRuntime) {
+    assert!(rt;
+        is_kept::<GetTid>(&[0x01, 0x80, 0x00, 0x02])
+            && is_kept::<GetPldmTypes>(&[0x01, 0x80, 0x00, 0x04])
+    );
     assert_eq!(rt; code(GetTid::read(&[0x01, 0x80, 0x00, 0x02, 0x00])), "L04");
+}
+
+#[test]
+fn reads_and_writes_tids(rt: HostRuntime) -> Result<(), Fail> {
     let answer = [0x01, 0x00, 0x00, 0x02, 0x00, 0x01];
     assert!(rt; is_kept::<GetTidAnswer>(&answer));
     assert_eq!(rt; GetTidAnswer::read(&answer)?.outcome, Ok(Tid::new(1)));
@@ -171,7 +188,6 @@ fn termini_have_tids_from_1_to_254(rt: HostRuntime) {
 
 #[test]
 fn reads_and_writes_pldm_types(rt: HostRuntime) -> Result<(), Fail> {
-    assert!(rt; is_kept::<GetPldmTypes>(&[0x01, 0x80, 0x00, 0x04]));
     let bytes = [0x01, 0x00, 0x00, 0x04, 0x00, 0x05, 0, 0, 0, 0, 0, 0, 0];
     assert!(rt; is_kept::<GetPldmTypesAnswer>(&bytes));
     let types = GetPldmTypesAnswer::read(&bytes)?

@@ -183,7 +183,7 @@ fn numeric_sensors_are_refused_by_the_first_cause(rt: HostRuntime) {
 }
 
 #[test]
-fn writes_what_was_read(rt: HostRuntime) -> Result<(), Fail> {
+fn writes_what_was_read(rt: HostRuntime) {
     for bytes in [TERMINUS, STATE, ASSOCIATION, OTHER, EMPTY] {
         assert!(rt; is_kept::<Record>(bytes));
     }
@@ -191,6 +191,10 @@ fn writes_what_was_read(rt: HostRuntime) -> Result<(), Fail> {
         let mut bytes = [0; 110];
         assert!(rt; is_kept::<Record>(numeric(&mut bytes, data_size, format, length)));
     }
+}
+
+#[test]
+fn round_trips(rt: HostRuntime) -> Result<(), Fail> {
     let mut out = [0; 30];
     let record = Record::read(STATE)?;
     assert_eq!(rt; round_trip(&record, &mut out)?, record);

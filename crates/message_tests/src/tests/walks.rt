@@ -40,8 +40,14 @@ fn has_collected(alloc: Global, walker: &Walker, rows: &[(u8, u32)]) -> Result<b
     Ok(walker.records().len() == rows.len())
 }
 
-/// Wants a walk in parts of at most `count` bytes to collect the terminus's records, all of these handles and lengths,
-/// with so many requests.
+/// Whether the walker asks for nothing and takes nothing more.
+fn is_over(walker: &mut Walker) -> bool {
+    walker.next_request(InstanceId::new(9)).is_none()
+        && walker.take(&[]) == Err(WalkFault::NotAsked)
+}
+
+/// Wants a walk in parts of at most `count` bytes, with room for exactly the records of these handles and lengths, to
+/// collect them with so many requests.
 fn expect_walk(
     rt: &impl Abort,
     alloc: Global,
@@ -58,9 +64,7 @@ fn expect_walk(
     let mut walker = Walker::new(alloc, count, rows.len(), bytes.min(100_000))?;
     assert_eq!(rt; walk(&mut walker, terminus), Ok(requests));
     assert!(rt; has_collected(alloc, &walker, rows)?);
-    assert_eq!(rt; walker.taken(), requests);
-    assert!(rt; walker.next_request(InstanceId::new(9)).is_none());
-    assert_eq!(rt; walker.take(&[]), Err(WalkFault::NotAsked));
+    assert!(rt; walker.taken() == requests && is_over(&mut walker));
     Ok(())
 }
 
