@@ -8,7 +8,7 @@ mod events;
 mod exact;
 mod json_texts;
 mod lines;
-mod names;
+mod name_bounds;
 mod networks;
 mod owners_and_pools;
 mod plans;
