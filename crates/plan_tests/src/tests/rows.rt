@@ -154,19 +154,29 @@ fn is_refused(network: &mut Network, event: &Event) -> Result<bool, AllocError> 
     Ok(matches!(outcome, Outcome::Refused(Refusal::NoNode)))
 }
 
-/// Whether each event that names this node is refused.
-fn refuses(alloc: Global, network: &mut Network, node: usize) -> Result<bool, AllocError> {
+/// Events that name a node.
+fn events_at(alloc: Global, node: usize) -> Result<Vec<Event>, AllocError> {
     let bytes = [1, 10, 8].to_vec(alloc)?;
     let key = Key {
         source: Eid::new(8),
         tag: Tag::new(3),
         owner: true,
     };
-    Ok(
-        is_refused(network, &Event::Put { node, bytes })?
-            && is_refused(network, &Event::Expire { node, key })?
-            && is_refused(network, &Event::Answer { node })?,
-    )
+    let mut events = Vec::new(alloc);
+    events.push(Event::Put { node, bytes })?;
+    events.push(Event::Expire { node, key })?;
+    events.push(Event::Answer { node })?;
+    Ok(events)
+}
+
+/// Whether each event that names this node is refused.
+fn refuses(alloc: Global, network: &mut Network, node: usize) -> Result<bool, AllocError> {
+    for event in &events_at(alloc, node)? {
+        if !is_refused(network, event)? {
+            return Ok(false);
+        }
+    }
+    Ok(true)
 }
 
 /// Wants events at nodes beyond the plan's four to be refused.
