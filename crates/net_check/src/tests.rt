@@ -4,6 +4,7 @@ ghost use Rattle.net_plan.specs.NameText.{is_name};
 
 mod certificates;
 mod deliveries;
+mod moves;
 mod owners_and_pools;
 mod records;
 mod riser;
