@@ -2,6 +2,7 @@
 mod events;
 mod exact;
 mod lines;
+mod moves;
 pub mod riser;
 mod rows;
 mod telling;
