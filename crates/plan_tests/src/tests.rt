@@ -25,6 +25,7 @@ mod streams;
 mod stretches;
 mod superfluous;
 mod switches;
+mod switching;
 mod telling;
 mod termini;
 

@@ -95,6 +95,10 @@ pub fn told(alloc: Global, plan: &Plan, outcome: &Outcome) -> Result<String, All
             let node = name_of(plan, *node);
             format!(in alloc; "silent {node}")
         }
+        Outcome::Switched { node } => {
+            let node = name_of(plan, *node);
+            format!(in alloc; "switched {node}")
+        }
         Outcome::Refused(why) => {
             let code = why.code();
             format!(in alloc; "refused {code}")
