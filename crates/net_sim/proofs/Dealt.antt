@@ -16,7 +16,7 @@ use Rattle.net_check.specs.States.{Flight, at_start}
 use Rattle.net_sim.specs.Flights.{flight_at}
 use Rattle.net_sim.specs.Routers.{has_switched}
 use Rattle.net_sim.specs.Standing.{NetworkValue, StandsFor, at_place}
-use Rattle.net_sim.specs.Dealing.{dealt_to, left_by, dealt, planned_termini}
+use Rattle.net_sim.specs.Dealing.{dealt_to, left_by, dealt, at_rest, planned_termini}
 
 module _ {D : Type 0} (see : D → Option TerminusState) (nodes : List Node) where
   pub none_dealt : (desks : List D) (termini : List TerminusState) → desks ≡ [] → map see desks ++ dealt (drop 0 nodes) termini ≡ dealt nodes termini
@@ -110,20 +110,31 @@ dealt_planned plan cert n =
 
 -- ---- a network in which nothing has happened
 
-pub stands_at_start : (plan : Plan) (cert : Certificate) (v : NetworkValue) → v.flights ≡ None ∷ []
-    → ((n : ℕ) (a : Assembler) → slice_get v.assemblers n ≡ Some a → assembly.StandsFor a []) → v.termini ≡ dealt plan.nodes.items (planned_termini plan cert)
-    → ((n : ℕ) → has_switched v.switched n ≡ false) → StandsFor v (at_start plan cert)
-stands_at_start plan cert v flights idle termini unswitched = record {
+pub stands_at_rest : (plan : Plan) (given : List TerminusState) (v : NetworkValue) → v.flights ≡ None ∷ []
+    → ((n : ℕ) (a : Assembler) → slice_get v.assemblers n ≡ Some a → assembly.StandsFor a []) → v.termini ≡ dealt plan.nodes.items given
+    → ((n : ℕ) → has_switched v.switched n ≡ false) → StandsFor v (at_rest plan given)
+stands_at_rest plan given v flights idle termini unswitched = record {
   flights = λ number. no_flight number ∙ ap (λ fs. flight_at fs number) (sym flights);
   made = ap length (sym flights);
   histories = idle;
-  termini = λ n. sym (ap (λ ts. at_place ts n) termini ∙ dealt_planned plan cert n);
+  termini = λ n. sym (ap (λ ts. at_place ts n) termini);
   switched = λ n. sym (unswitched n);
 }
   where
     no_flight : (number : ℕ) → None ≡ flight_at (None ∷ []) number
     no_flight zero = refl
     no_flight (suc k) = refl
+
+-- with the planned termini that is the state at the start of each run
+pub rest_is_start : (plan : Plan) (cert : Certificate) (given : List TerminusState) (v : NetworkValue) → StandsFor v (at_rest plan given)
+    → given ≡ planned_termini plan cert → StandsFor v (at_start plan cert)
+rest_is_start plan cert given v s planned = record {
+  flights = s.flights;
+  made = s.made;
+  histories = s.histories;
+  termini = λ n. sym (dealt_planned plan cert n) ∙ (ap (λ ts. at_place (dealt plan.nodes.items ts) n) (sym planned) ∙ s.termini n);
+  switched = s.switched;
+}
 
 pub all_at : {X : Type 0} (P : X → Type 0) (xs : List X) → All P xs → (n : ℕ) (x : X) → slice_get xs n ≡ Some x → P x
 all_at P xs all n x is = subst P (get_or_from_slice_get xs n x x is) (all n x (slice_get_within xs n x is))

@@ -1,5 +1,5 @@
 -- How termini are dealt to the nodes of a plan.
-use Rattle.std.specs.Prelude.{◌≡◌, ℕ, List, [], ◌∷◌, length, Option, Some, None}
+use Rattle.std.specs.Prelude.{◌≡◌, ℕ, List, [], ◌∷◌, length, Option, Some, None, false}
 use Rattle.std.specs.List.{filter_map, range_with_len}
 use Rattle.mctp_transport.specs.declared.assembler.Assembler.{Assembler}
 use Rattle.mctp_transport.specs.Assembly.{assembler_slots, assembler_limit, StandsFor}
@@ -9,6 +9,8 @@ use Rattle.net_plan.specs.declared.nodes.Node.{Node}
 use Rattle.net_plan.specs.declared.terminus.Terminus.{Terminus}
 use Rattle.pdr_repository.specs.Records.{Entry}
 use Rattle.net_check.specs.Termini.{TerminusState, terminus_at_start}
+use Rattle.net_check.specs.States.{NetworkState}
+use Rattle.net_sim.specs.Standing.{at_place}
 
 -- a terminus at which nothing waits
 abbrev pub resting : {B : Type 0} → (B → ℕ) → (B → List Entry) → B → TerminusState
@@ -28,6 +30,16 @@ left_by (Some t) (first ∷ rest) = rest
 abbrev pub dealt : List Node → List TerminusState → List (Option TerminusState)
 dealt [] termini = []
 dealt (node ∷ nodes) termini = dealt_to node.terminus termini ∷ dealt nodes (left_by node.terminus termini)
+
+-- the state in which nothing has happened, with these termini, one to each node of the plan that has one
+abbrev pub at_rest : Plan → List TerminusState → NetworkState
+at_rest plan termini = record {
+  flight = λ _. None;
+  made = 0;
+  history = λ _. [];
+  terminus = at_place (dealt plan.nodes.items termini);
+  switched = λ _. false;
+}
 
 -- the termini of a plan, in the order of its nodes, as they are planned
 abbrev pub planned_termini : Plan → Certificate → List TerminusState

@@ -69,19 +69,21 @@ impl<'a> Network<'a> {
     ghost use Rattle.net_check.specs.States.{at_start};
     ghost use Rattle.net_sim.specs.Standing.{StandsFor, Plays, Wants, Receives};
     ghost use Rattle.net_sim.specs.Networks.{network_value, checked_of, HasPlaceAt};
-    ghost use Rattle.net_sim.specs.Dealing.{resting, planned_termini};
+    ghost use Rattle.net_sim.specs.Dealing.{resting, at_rest, planned_termini};
     ghost use Rattle.net_sim.specs.Played.{PlaysAll, StopsAfter};
     ghost use Rattle.net_sim.specs.AsSent.{PlaysAsSent};
     ghost use Rattle.net_sim.specs.Sending.{Sends};
 
-    /// The network of a checked plan, in which nothing has happened yet. The termini are one for each node that has one, in the
-    /// plan's order; where they are as planned, it stands for the state at the start of each run.
+    /// The network of a checked plan, in which nothing has happened yet. The termini are dealt to the nodes that have one, in
+    /// the plan's order; where they are as planned, it stands for the state at the start of each run.
     pub fn new(
         alloc: Global,
         checked: Checked<'a>,
         termini: Vec<Box<dyn Terminus>>,
     ) -> Result<Network<'a>, AllocError>
         ensures checked { IfOk result (λ network. checked_of network ≡ (one_plan checked.entry.0, checked.entry.1)) }
+        ensures at_rest { IfOk result (λ network. StandsFor (network_value (λ d. tid d.terminus) (λ d. records d.terminus) network)
+            (at_rest checked.entry.0 (map (resting (λ b. tid b) (λ b. records b)) termini.items))) }
         ensures stands { IfOk result (λ network. map (resting (λ b. tid b) (λ b. records b)) termini.items ≡ planned_termini checked.entry.0 checked.entry.1
             → StandsFor (network_value (λ d. tid d.terminus) (λ d. records d.terminus) network) (at_start checked.entry.0 checked.entry.1)) }
     {
@@ -96,6 +98,8 @@ impl<'a> Network<'a> {
         termini: Vec<Box<dyn Terminus>>,
     ) -> Result<Network<'a>, AllocError>
         ensures checked { IfOk result (λ network. checked_of network ≡ (moving checked.entry.0 checked.entry.1, checked.entry.2)) }
+        ensures at_rest { IfOk result (λ network. StandsFor (network_value (λ d. tid d.terminus) (λ d. records d.terminus) network)
+            (at_rest checked.entry.0 (map (resting (λ b. tid b) (λ b. records b)) termini.items))) }
         ensures stands { IfOk result (λ network. map (resting (λ b. tid b) (λ b. records b)) termini.items ≡ planned_termini checked.entry.0 checked.entry.2
             → StandsFor (network_value (λ d. tid d.terminus) (λ d. records d.terminus) network) (at_start checked.entry.0 checked.entry.2)) }
     {
@@ -103,13 +107,15 @@ impl<'a> Network<'a> {
     }
 
     /// The network of what was checked, in which nothing has happened yet.
-    #[tactic(auto, using(crate::proofs::Dealt::stands_at_start))]
+    #[tactic(auto, using(crate::proofs::Dealt::stands_at_rest))]
     fn start(
         alloc: Global,
         accepted: Accepted<'a>,
         termini: Vec<Box<dyn Terminus>>,
     ) -> Result<Network<'a>, AllocError>
         ensures checked { IfOk result (λ network. checked_of network ≡ (tables_of accepted.entry, certificate_of accepted.entry)) }
+        ensures at_rest { IfOk result (λ network. StandsFor (network_value (λ d. tid d.terminus) (λ d. records d.terminus) network)
+            (at_rest (tables_of accepted.entry).plan (map (resting (λ b. tid b) (λ b. records b)) termini.items))) }
         ensures stands { IfOk result (λ network. map (resting (λ b. tid b) (λ b. records b)) termini.items ≡ planned_termini (tables_of accepted.entry).plan (certificate_of accepted.entry)
             → StandsFor (network_value (λ d. tid d.terminus) (λ d. records d.terminus) network) (at_start (tables_of accepted.entry).plan (certificate_of accepted.entry))) }
     {
