@@ -4,3 +4,4 @@ pub mod Exchanging
 pub mod Walked
 pub mod Repositories
 pub mod Simulated
+pub mod Naming

@@ -1,12 +1,14 @@
 -- Lines of outcomes, and runs of which they are.
-use Rattle.std.proofs.Common.{◌≡◌, ℕ, zero, suc, ◌+◌, ◌<◌, ◌≤◌, Bool, true, false, List, [], ◌∷◌, ◌++◌, length, map, take, get_or, Option, Some, Err, refl, sym, ◌∙◌, ap, subst, append_assoc, append-nil, arith}
-use Rattle.std.specs.Prelude.{slice_get, option_map}
+use Rattle.std.proofs.Common.{◌≡◌, ℕ, zero, suc, ◌+◌, ◌<◌, ◌≤◌, Bool, true, false, List, [], ◌∷◌, ◌++◌, length, map, take, get_or, Option, Some, Result, Err, inl, inr, refl, sym, ◌∙◌, ap, subst, append_assoc, append-nil, length-append, arith}
+use Rattle.std.proofs.Math.Seq.{take-append-add}
+use Rattle.std.specs.Prelude.{slice_get, option_map, ◌⊎◌, IfErr}
 use Rattle.std.specs.Io.KnownBytes.{Appends}
 use Rattle.std.proofs.KnownBytes.{Appends-nil, Appends-trans}
 use Rattle.std.proofs.lemmas.List.{length-map, length-take, length-take-le, take_more, take_all, take-map}
 use Rattle.std.proofs.lemmas.Option.{slice_get-map, slice_get-get_or, slice_get_within, get_or_from_slice_get}
 use Rattle.net_plan.specs.declared.event.Event.{Event}
 use Rattle.net_plan.specs.declared.plan.Plan.{Plan}
+use Rattle.net_plan.specs.Stream.{AppendsBeginning}
 use Rattle.net_check.specs.Events.{EventValue, OutcomeValue}
 use Rattle.net_check.specs.Runs.{Turn, RunFrom}
 use Rattle.net_check.specs.States.{NetworkState}
@@ -20,21 +22,20 @@ use Rattle.plan_commands.specs.declared.refused.Refused.TheVariants as refused
 use Rattle.plan_commands.specs.declared.refused.Input.TheVariants as input
 use Rattle.plan_commands.specs.declared.status.Status.{Status}
 use Rattle.plan_commands.specs.declared.status.Status.TheVariants as status
-use Rattle.plan_commands.specs.Answers.{Stream, AreGiven, GaveNothing, PrintsFault, FailsToPrint}
+use Rattle.plan_commands.specs.Answers.{Stream, BreaksOff, AreGiven, IsErrorText, PrintsFault, FailsToPrint}
 use Rattle.plan_commands.specs.Statuses.{refused_at}
-use Rattle.plan_commands.proofs.Telling.{gave_nothing}
+use Rattle.plan_commands.proofs.Telling.{refusal_at, breaks_off_also, untouched_also}
 use Rattle.net_check.specs.declared.check_error.CheckError.{CheckError}
 use Rattle.net_check.specs.declared.check_error.CheckError.TheVariants as check_error
 use Rattle.net_check.specs.Errors.{NamesFirstFault}
 use Rattle.net_check.specs.Rules.{Accepts}
 use Rattle.net_plan.specs.declared.certificate.Certificate.{Certificate}
 use Rattle.net_plan.specs.declared.error.PlanError.{PlanError}
-use Rattle.net_plan.specs.declared.error.PlanError.TheVariants as error
 use Rattle.net_plan.specs.PlanValues.{plan_value}
 use Rattle.net_plan.specs.TextFaults.{error_count}
 use Rattle.net_plan.specs.Unread.{GaveNoEvents}
 use Rattle.plan_commands.specs.OutcomeLines.{outcome_line, lines_from, outcome_lines}
-use Rattle.plan_commands.specs.Simulating.{ShowsRun, ShowsBeginning, ShowsAllOr, EndsShowing, ShowsLines, ShowsOutcomes, ShowsAtMost, GaveEvents, AreUnreadAmong, IsUnsimulatedFor, SimulatesFiles}
+use Rattle.plan_commands.specs.Simulating.{IsRunText, ShowsRun, ShowsBeginning, ShowsAllOr, EndsShowing, AreFirstLines, AreLinesAtMost, ShowsLines, ShowsOutcomes, ShowsAtMost, GaveEvents, TellsBeginning, IsSimAnswer, AreUnreadAmong, IsUnsimulatedFor, SimulatesFiles}
 
 -- ---- lines
 
@@ -61,16 +62,43 @@ module _ (plan : Plan) (outcomes : List Outcome) (index : ℕ) (outcome : Outcom
   many = length-take-le index (map outcome_value outcomes) (omega (arith, length-map outcomes outcome_value, within))
 
   -- the lines of so many outcomes, and that of the next
+  all_lines : (line : List ℕ) → line ≡ outcome_line plan (index + 1) (outcome_value outcome)
+      → outcome_lines plan (take index (map outcome_value outcomes)) ++ line ≡ outcome_lines plan (take (index + 1) (map outcome_value outcomes))
+  all_lines line told =
+      let before_it = take index (map outcome_value outcomes) in
+      let number : 1 + length before_it ≡ index + 1 = omega (arith, many) in
+      ap (λ z. outcome_lines plan before_it ++ z) (told ∙ ap (λ n. outcome_line plan n (outcome_value outcome)) (sym number))
+      ∙ (sym (lines_more plan 1 before_it (outcome_value outcome)) ∙ ap (outcome_lines plan) (sym one_more))
+
   pub shows_more : (line : List ℕ) (old mid new : Option (List ℕ)) → line ≡ outcome_line plan (index + 1) (outcome_value outcome)
       → Appends old mid (outcome_lines plan (take index (map outcome_value outcomes))) → Appends mid new line
       → Appends old new (outcome_lines plan (take (index + 1) (map outcome_value outcomes)))
   shows_more line old mid new told before pushed =
       let before_it = take index (map outcome_value outcomes) in
-      let number : 1 + length before_it ≡ index + 1 = omega (arith, many) in
-      let all : outcome_lines plan before_it ++ line ≡ outcome_lines plan (take (index + 1) (map outcome_value outcomes)) =
-      ap (λ z. outcome_lines plan before_it ++ z) (told ∙ ap (λ n. outcome_line plan n (outcome_value outcome)) (sym number))
-      ∙ (sym (lines_more plan 1 before_it (outcome_value outcome)) ∙ ap (outcome_lines plan) (sym one_more)) in
-      subst (Appends old new) all (Appends-trans old mid new (outcome_lines plan before_it) line before pushed)
+      subst (Appends old new) (all_lines line told) (Appends-trans old mid new (outcome_lines plan before_it) line before pushed)
+
+  -- a beginning of the next line, where the output fails in it
+  pub breaks_in_line : (line : List ℕ) (output middle : Stream) → line ≡ outcome_line plan (index + 1) (outcome_value outcome)
+      → Appends output.before middle.before (outcome_lines plan (take index (map outcome_value outcomes)))
+      → AppendsBeginning middle.before output.after line → output.failures_after ≡ output.failures_before + 1
+      → BreaksOff (AreFirstLines plan (map outcome_value outcomes)) output
+  breaks_in_line line output middle told before (k, few, pushed) fails =
+      let earlier = outcome_lines plan (take index (map outcome_value outcomes)) in
+      let whole = outcome_lines plan (take (index + 1) (map outcome_value outcomes)) in
+      let part = Appends-trans output.before middle.before output.after earlier (take k line) before pushed in
+      let at = length earlier + k in
+      let all : length earlier + length line ≡ length whole = sym (length-append earlier line) ∙ ap (λ z. length z) (all_lines line told) in
+      record {
+        text = whole;
+        answer = (index + 1, refl);
+        fails = fails;
+        beginning = (
+          at,
+          omega (arith, few, all),
+          subst (λ z. Appends output.before output.after (take at z)) (all_lines line told)
+              (subst (Appends output.before output.after) (sym (take-append-add earlier line k)) part),
+        );
+      }
 
 -- ---- runs
 
@@ -103,6 +131,18 @@ module _ (plan : Plan) (w : NetworkState) (events : List EventValue) (output : S
         },
       )
 
+  pub run_text : (new : NetworkValue) (n : ℕ) (outcomes : List OutcomeValue) (text : List ℕ) → IsRunOf plan w (take n events) outcomes new
+      → AreFirstLines plan outcomes text → IsRunText plan w events text
+  run_text new n outcomes text run (k, is) =
+      let (m, same) = take_twice k n events in
+      record {
+        played = m;
+        turns = take k run.turns;
+        events_are = sym (take-map (λ (t : Turn). t.event) k run.turns) ∙ (ap (take k) run.events_are ∙ same);
+        runs = run_begins plan w k run.turns run.runs;
+        written = is ∙ ap (outcome_lines plan) (ap (take k) (sym run.outcomes_are) ∙ take-map (λ (t : Turn). t.outcome) k run.turns);
+      }
+
   -- the lines of all outcomes of a run over all events
   pub shows_run : (new : NetworkValue) (n : ℕ) (outcomes : List OutcomeValue) (k : ℕ) → length events ≤ n → length outcomes ≤ k
       → IsRunOf plan w (take n events) outcomes new → ShowsLines plan outcomes k output → ShowsRun plan w events output
@@ -134,15 +174,22 @@ lists_some plan count output outcomes k few shown =
     let part : length (take k outcomes) ≤ length outcomes = omega (arith, length-take k outcomes) in
     (length (take k outcomes), omega (arith, few, part), (take k outcomes, refl, shown))
 
+pub lines_at_most : (plan : Plan) (count : ℕ) (outcomes : List OutcomeValue) (text : List ℕ) → length outcomes ≤ count → AreFirstLines plan outcomes text
+    → AreLinesAtMost plan count text
+lines_at_most plan count outcomes text few (k, is) =
+    let part : length (take k outcomes) ≤ length outcomes = omega (arith, length-take k outcomes) in
+    (take k outcomes, omega (arith, few, part), is)
+
 -- the part that is shown where not all is may be told otherwise
-pub cut_short : (why : Refused) (P A P' A' : Type 0) (output : Stream) → ShowsAllOr {T = Unit {0}} (Err why) P A output → (P → P') → ShowsAllOr {T = Unit {0}} (Err why) P' A' output
-cut_short refused.Usage P A P' A' output h other = h
-cut_short (refused.Unreadable unread cause) P A P' A' output h other = h
-cut_short refused.UnknownNode P A P' A' output h other = h
-cut_short refused.UnreadableHex P A P' A' output h other = h
-cut_short refused.TooMuch P A P' A' output h other = h
-cut_short refused.Unwritten P A P' A' output h other = h
-cut_short refused.NoMemory P A P' A' output h other = other h
+pub cut_short : (why : Refused) (P A P' A' : Type 0) (Q Q' : List ℕ → Type 0) (output : Stream) → ShowsAllOr {T = Unit {0}} (Err why) P A Q output → (P → P')
+    → ((text : List ℕ) → Q text → Q' text) → ShowsAllOr {T = Unit {0}} (Err why) P' A' Q' output
+cut_short refused.Usage P A P' A' Q Q' output h other also = h
+cut_short (refused.Unreadable unread cause) P A P' A' Q Q' output h other also = h
+cut_short refused.UnknownNode P A P' A' Q Q' output h other also = h
+cut_short refused.UnreadableHex P A P' A' Q Q' output h other also = h
+cut_short refused.TooMuch P A P' A' Q Q' output h other also = h
+cut_short refused.Unwritten P A P' A' Q Q' output h other also = breaks_off_also Q Q' output also h
+cut_short refused.NoMemory P A P' A' Q Q' output h other also = other h
 
 -- as many outcomes as events at most
 pub few_outcomes : (plan : Plan) (old : NetworkValue) (events : List Event) (outcomes : List Outcome) (new : NetworkValue) (stopped : Bool)
@@ -166,25 +213,19 @@ lines_in plan plan' outcomes outcomes' count output same listed shown =
     let Q : Plan → Type 0 = λ p. ShowsLines p (map outcome_value outcomes') count output in
     subst P listed (subst Q same shown)
 
+pub first_lines_in : (plan plan' : Plan) (outcomes outcomes' : List Outcome) (text : List ℕ) → plan' ≡ plan → outcomes' ≡ outcomes
+    → AreFirstLines plan' (map outcome_value outcomes') text → AreFirstLines plan (map outcome_value outcomes) text
+first_lines_in plan plan' outcomes outcomes' text same listed (k, is) =
+    (k, is ∙ (ap (λ (p : Plan). outcome_lines p (take k (map outcome_value outcomes'))) same ∙ ap (λ os. outcome_lines plan (take k (map outcome_value os))) listed))
+
 -- ---- files
 
 pub events_unread : (e : PlanError) (plan : Plan) (cert : Certificate) (plans certificates happenings : Stream) → AreGiven plans certificates plan cert
     → GaveNoEvents (plan_value plan) happenings.before happenings.after e → happenings.failures_after ≡ happenings.failures_before + error_count e
     → AreUnreadAmong (refused_at input.Events e) plans certificates happenings
-events_unread e plan cert plans certificates happenings given gave counted = told e (gave_nothing (GaveNoEvents (plan_value plan)) happenings e gave counted)
-  where
-    told : (e : PlanError) → GaveNothing (GaveNoEvents (plan_value plan)) happenings e → AreUnreadAmong (refused_at input.Events e) plans certificates happenings
-    told error.OutOfMemory gave = tt
-    told error.Device gave = (plan, cert, given, gave)
-    told error.NotJson gave = (plan, cert, given, gave)
-    told error.WrongKind gave = (plan, cert, given, gave)
-    told error.MissingKey gave = (plan, cert, given, gave)
-    told error.UnknownKey gave = (plan, cert, given, gave)
-    told error.OutOfRange gave = (plan, cert, given, gave)
-    told error.UnknownName gave = (plan, cert, given, gave)
-    told error.BadHex gave = (plan, cert, given, gave)
-    told error.OverLimit gave = (plan, cert, given, gave)
-    told error.Doubled gave = (plan, cert, given, gave)
+events_unread e plan cert plans certificates happenings given gave counted =
+    refusal_at (λ why. AreUnreadAmong why plans certificates happenings) (GaveNoEvents (plan_value plan)) happenings input.Events e gave counted tt
+    (λ cause nothing. (plan, cert, given, nothing))
 
 -- where the inputs were not read, nothing is simulated
 pub files_unread : (why : Refused) (plans certificates happenings output : Stream) → AreUnreadAmong why plans certificates happenings
@@ -214,26 +255,56 @@ files_fault plan cert plans certificates happenings output (check_error.Fault fa
     subst (λ s. SimulatesFiles s plans certificates happenings output) (sym is) (plan, cert, fault, given, first, written)
 files_fault plan cert plans certificates happenings output check_error.OutOfMemory ended given first printed = absurd printed
 
-pub files_played : (plan : Plan) (cert : Certificate) (events : List Event) (plans certificates happenings output : Stream) (ended : Status)
-    → AreGiven plans certificates plan cert → GaveEvents plan happenings events → Accepts plan cert
-    → EndsShowing ended (ShowsAtMost plan (length events) output) (ShowsOutcomes plan (length events) output) output
-    → SimulatesFiles ended plans certificates happenings output
-files_played plan cert events plans certificates happenings output status.Yes given gave accepted shown = (plan, cert, events, given, gave, accepted, shown)
-files_played plan cert events plans certificates happenings output status.Fault given gave accepted shown = absurd shown
-files_played plan cert events plans certificates happenings output status.Unreadable given gave accepted shown = (refused.Unwritten, refl, shown)
-files_played plan cert events plans certificates happenings output status.NoMemory given gave accepted shown = tt
+module _ (plan : Plan) (cert : Certificate) (plans certificates happenings output : Stream) (events : List Event)
+    (given : AreGiven plans certificates plan cert) (gave : GaveEvents plan happenings events) where
+  -- so an output that failed in the line of an error failed in an answer
+  pub files_fault_broken : (error : CheckError) (Same : Type 0) (result : Result Status Refused) → NamesFirstFault plan cert error
+      → IfErr result (λ why. ((why ≡ refused.Unwritten) × BreaksOff (IsErrorText plan error) output) ⊎ Same)
+      → IfErr result (λ why. ((why ≡ refused.Unwritten) × BreaksOff (IsSimAnswer plans certificates happenings) output) ⊎ Same)
+  files_fault_broken error Same result first left =
+      untouched_also (IsErrorText plan error) (IsSimAnswer plans certificates happenings) output Same result (answers error first) left
+    where
+      answers : (error : CheckError) → NamesFirstFault plan cert error → (text : List ℕ) → IsErrorText plan error text
+          → IsSimAnswer plans certificates happenings text
+      answers (check_error.Fault fault) first text is = (plan, cert, events, given, gave, inr (fault, first, is))
+      answers check_error.OutOfMemory first text is = absurd is
+
+  module _ (ended : Status) (accepted : Accepts plan cert)
+      (shown : EndsShowing ended (ShowsAtMost plan (length events) output) (ShowsOutcomes plan (length events) output) (AreLinesAtMost plan (length events)) output) where
+    pub files_played : SimulatesFiles ended plans certificates happenings output
+    files_played = by ended shown
+      where
+        by : (ended : Status) → EndsShowing ended (ShowsAtMost plan (length events) output) (ShowsOutcomes plan (length events) output) (AreLinesAtMost plan (length events)) output
+            → SimulatesFiles ended plans certificates happenings output
+        by status.Yes shown = (plan, cert, events, given, gave, accepted, shown)
+        by status.Fault shown = absurd shown
+        by status.Unreadable shown = (refused.Unwritten, refl, shown.fails)
+        by status.NoMemory shown = tt
+
+    abbrev ends : Status → Type 0
+    ends s = EndsShowing s (ShowsAtMost plan (length events) output) (ShowsOutcomes plan (length events) output) (AreLinesAtMost plan (length events)) output
+
+    -- the output failed in what came of the events
+    pub files_broken : ended ≡ status.Unreadable → BreaksOff (IsSimAnswer plans certificates happenings) output
+    files_broken is =
+        breaks_off_also (AreLinesAtMost plan (length events)) (IsSimAnswer plans certificates happenings) output
+        (λ text lines. (plan, cert, events, given, gave, inl (accepted, lines))) (subst ends is shown)
+
+    -- memory ran out in them
+    pub files_begun : ended ≡ status.NoMemory → TellsBeginning plans certificates happenings output
+    files_begun is = (plan, cert, events, given, gave, accepted, subst ends is shown)
 
 pub shown_in : (plan plan' : Plan) (count count' : ℕ) (ended : Status) (output : Stream) → plan' ≡ plan → count' ≡ count
-    → EndsShowing ended (ShowsAtMost plan' count' output) (ShowsOutcomes plan' count' output) output
-    → EndsShowing ended (ShowsAtMost plan count output) (ShowsOutcomes plan count output) output
+    → EndsShowing ended (ShowsAtMost plan' count' output) (ShowsOutcomes plan' count' output) (AreLinesAtMost plan' count') output
+    → EndsShowing ended (ShowsAtMost plan count output) (ShowsOutcomes plan count output) (AreLinesAtMost plan count) output
 shown_in plan plan' count count' ended output same many shown =
-    let P : ℕ → Type 0 = λ n. EndsShowing ended (ShowsAtMost plan n output) (ShowsOutcomes plan n output) output in
-    let Q : Plan → Type 0 = λ p. EndsShowing ended (ShowsAtMost p count' output) (ShowsOutcomes p count' output) output in
+    let P : ℕ → Type 0 = λ n. EndsShowing ended (ShowsAtMost plan n output) (ShowsOutcomes plan n output) (AreLinesAtMost plan n) output in
+    let Q : Plan → Type 0 = λ p. EndsShowing ended (ShowsAtMost p count' output) (ShowsOutcomes p count' output) (AreLinesAtMost p count') output in
     subst P many (subst Q same shown)
 
 -- what is played never ends with a fault
-pub no_fault : (P A : Type 0) (output : Stream) (ended : Status) → EndsShowing ended P A output → ended ≡ status.Fault → ⊥
-no_fault P A output status.Yes shown is = absurd (cc)
-no_fault P A output status.Fault shown is = shown
-no_fault P A output status.Unreadable shown is = absurd (cc)
-no_fault P A output status.NoMemory shown is = absurd (cc)
+pub no_fault : (P A : Type 0) (Q : List ℕ → Type 0) (output : Stream) (ended : Status) → EndsShowing ended P A Q output → ended ≡ status.Fault → ⊥
+no_fault P A Q output status.Yes shown is = absurd (cc)
+no_fault P A Q output status.Fault shown is = shown
+no_fault P A Q output status.Unreadable shown is = absurd (cc)
+no_fault P A Q output status.NoMemory shown is = absurd (cc)

@@ -1,5 +1,5 @@
 -- What the end of a run of the program says of the bytes that it read and wrote.
-use Rattle.std.specs.Prelude.{◌≡◌, ℕ, ◌+◌, List, Option, ⊤}
+use Rattle.std.specs.Prelude.{◌≡◌, ℕ, ◌+◌, List, Option, ◌⊎◌, ⊤}
 use Rattle.std.specs.Io.KnownBytes.{Appends}
 use Rattle.net_check.specs.declared.check_error.CheckError.{CheckError}
 use Rattle.net_check.specs.declared.check_error.CheckError.TheVariants as check_error
@@ -12,6 +12,7 @@ use Rattle.net_plan.specs.CertificateText.{IsCertificateOf}
 use Rattle.net_plan.specs.CertificateValues.{certificate_value}
 use Rattle.net_check.specs.Faults.{IsFirstFault, place_of}
 use Rattle.net_plan.specs.PlanText.{IsPlanOf}
+use Rattle.net_plan.specs.Stream.{AppendsBeginning}
 use Rattle.net_plan.specs.PlanValues.{plan_value}
 use Rattle.net_check.specs.Rules.{Accepts}
 use Rattle.net_plan.specs.Unread.{GaveNoPlan, GaveNoCertificate}
@@ -39,6 +40,13 @@ stream before failures_before after failures_after = record { before = before; a
 abbrev pub Fails : Stream → Type 0
 Fails stream = stream.failures_after ≡ stream.failures_before + 1
 
+-- The output failed, and what it took before is a beginning of an answer.
+pub record BreaksOff (IsAnswer : List ℕ → Type 0) (output : Stream) : Type 0 where
+  pub text : List ℕ
+  pub answer : IsAnswer text
+  pub fails : Fails output
+  pub beginning : AppendsBeginning output.before output.after text
+
 -- the source gave the text of the plan
 abbrev pub GavePlan : Stream → Plan → Type 0
 GavePlan stream plan = Gave 16777216 stream.before stream.after (λ text. StandsFor IsPlanOf text (plan_value plan))
@@ -47,9 +55,11 @@ GavePlan stream plan = Gave 16777216 stream.before stream.after (λ text. Stands
 abbrev pub GaveCertificate : Plan → Stream → Certificate → Type 0
 GaveCertificate plan stream certificate = Gave 16777216 stream.before stream.after (λ text. StandsFor (IsCertificateOf (plan_value plan)) text (certificate_value certificate))
 
--- Why a source gave nothing, by the error: it failed, it gave too many bytes, it gave no JSON, or JSON at whose first fault the reader stops.
+-- Why a source gave nothing, by the error: it failed, it gave too many bytes, it gave no JSON, or JSON at whose first fault the
+-- reader stops. Want of memory says nothing of what it gave.
 abbrev pub GaveNothing : (Option (List ℕ) → Option (List ℕ) → PlanError → Type 0) → Stream → PlanError → Type 0
 GaveNothing GaveNone stream error.Device = Fails stream
+GaveNothing GaveNone stream error.OutOfMemory = ⊥
 GaveNothing GaveNone stream e = GaveNone stream.before stream.after e
 
 -- one source gave the plan, the other the certificate
@@ -73,6 +83,21 @@ abbrev pub TellsFault : Stream → Stream → Stream → Type 0
 TellsFault plans certificates output = (plan : Plan) × (certificate : Certificate) × (fault : Fault)
     × AreGiven plans certificates plan certificate × IsFirstFault plan certificate (place_of fault)
     × Appends output.before output.after (fault_text plan fault)
+
+-- the text is the line of the first fault of the plan and the certificate
+abbrev pub IsFaultText : Plan → Certificate → List ℕ → Type 0
+IsFaultText plan certificate text = (fault : Fault) × IsFirstFault plan certificate (place_of fault) × (text ≡ fault_text plan fault)
+
+-- The text answers for the plan and the certificate that were given: it is told of them where every rule holds of them, or it is
+-- the line of their first fault.
+abbrev pub IsAnswerOf : (Plan → Certificate → List ℕ → Type 0) → Stream → Stream → List ℕ → Type 0
+IsAnswerOf IsTold plans certificates text = (plan : Plan) × (certificate : Certificate) × AreGiven plans certificates plan certificate
+    × ((Accepts plan certificate × IsTold plan certificate text) ⊎ IsFaultText plan certificate text)
+
+-- the text is the line of the fault that an error of `check` names
+abbrev pub IsErrorText : Plan → CheckError → List ℕ → Type 0
+IsErrorText plan (check_error.Fault fault) text = text ≡ fault_text plan fault
+IsErrorText plan check_error.OutOfMemory text = ⊥
 
 -- the output was given the line of the fault that an error of `check` names
 abbrev pub PrintsFault : Plan → CheckError → Status → Stream → Type 0

@@ -1,5 +1,5 @@
 -- What the end of `certify` says of the plan that it read and of what it wrote.
-use Rattle.std.specs.Prelude.{◌≡◌, ℕ, List, Some, ⊤}
+use Rattle.std.specs.Prelude.{◌≡◌, ℕ, List, Some, ◌⊎◌, ⊤}
 use Rattle.std.specs.Io.KnownBytes.{Appends}
 use Rattle.net_plan.specs.declared.plan.Plan.{Plan}
 use Rattle.net_plan.specs.declared.certificate.Certificate.{Certificate}
@@ -46,6 +46,11 @@ TellsCertificate plans output = (plan : Plan) × (certificate : Certificate) × 
 abbrev pub TellsObstacle : Stream → Stream → Type 0
 TellsObstacle plans output = (plan : Plan) × (obstacle : CertifyError) × (text : List ℕ)
     × GavePlan plans plan × IsRuledOutBy plan obstacle text × Appends output.before output.after text
+
+-- the text answers for the plan that was given: it is that of a certificate of it, or the line of what rules certificates of it out
+abbrev pub IsCertifyAnswer : Stream → List ℕ → Type 0
+IsCertifyAnswer plans text = (plan : Plan) × GavePlan plans plan
+    × (((certificate : Certificate) × IsCertifiedBy plan certificate text) ⊎ ((obstacle : CertifyError) × IsRuledOutBy plan obstacle text))
 
 -- why there is no answer: the plan was not read, or the output failed
 abbrev pub IsUncertifiedFor : Refused → Stream → Stream → Type 0

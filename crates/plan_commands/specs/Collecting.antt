@@ -33,6 +33,10 @@ pub record IsFurther (records : List Entry) (count : ℕ) (xs : List Exchange) (
 abbrev pub EndsEarlyFor : List Entry → Refused → Type 0
 EndsEarlyFor records refused = (refused ≡ NoMemory) ⊎ ((refused ≡ TooMuch) × (16777216 < bytes_of records))
 
+-- the text is that of these records
+abbrev pub IsTextOfWalk : ℕ → List Entry → List ℕ → Type 0
+IsTextOfWalk count records text = text ≡ walk_text count records
+
 -- the output was given the text of these records
 abbrev pub PrintsWalk : ℕ → List Entry → Status → Stream → Type 0
 PrintsWalk count records ended output = (ended ≡ Yes) × Appends output.before output.after (walk_text count records)

@@ -44,6 +44,10 @@ IsShown status.Fault kind.Record bytes text = (e : RecordError) × IsFault e byt
 IsShown status.Unreadable asked bytes text = ⊥
 IsShown status.NoMemory asked bytes text = ⊥
 
+-- the text tells what the bytes of the hex text are of the kind, or why they are none
+abbrev pub IsShowAnswer : Kind → List ℕ → List ℕ → Type 0
+IsShowAnswer asked hex text = (bytes : List ℕ) × (ended : Status) × IsDecoded hex bytes × IsShown ended asked bytes text
+
 -- the output was given the text of the bytes that the hex text is
 abbrev pub TellsOf : Status → Kind → List ℕ → Stream → Type 0
 TellsOf ended asked hex output = (bytes : List ℕ) × (text : List ℕ) × IsDecoded hex bytes × IsShown ended asked bytes text × Appends output.before output.after text

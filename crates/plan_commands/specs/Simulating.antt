@@ -1,5 +1,5 @@
 -- What the end of `sim` says of the events that were played and of what was written.
-use Rattle.std.specs.Prelude.{◌≡◌, ◌≤◌, ℕ, List, length, map, take, Result, Ok, Err, ⊤}
+use Rattle.std.specs.Prelude.{◌≡◌, ◌≤◌, ◌⊎◌, ℕ, List, length, map, take, Result, Ok, Err, ⊤}
 use Rattle.std.specs.Io.KnownBytes.{Appends}
 use Rattle.net_plan.specs.declared.plan.Plan.{Plan}
 use Rattle.net_plan.specs.declared.certificate.Certificate.{Certificate}
@@ -21,7 +21,7 @@ use Rattle.plan_commands.specs.declared.refused.Refused.{Refused}
 use Rattle.plan_commands.specs.declared.refused.Refused.TheVariants as refused
 use Rattle.plan_commands.specs.declared.status.Status.{Status}
 use Rattle.plan_commands.specs.declared.status.Status.TheVariants as status
-use Rattle.plan_commands.specs.Answers.{Stream, Fails, AreGiven, GaveNothing, IsUnread, TellsFault}
+use Rattle.plan_commands.specs.Answers.{Stream, Fails, BreaksOff, AreGiven, GaveNothing, IsUnread, IsFaultText, TellsFault}
 use Rattle.plan_commands.specs.OutcomeLines.{outcome_lines}
 use Rattle.plan_commands.specs.Statuses.{status_of}
 
@@ -36,29 +36,45 @@ pub record ShowsRun (plan : Plan) (w : NetworkState) (events : List EventValue) 
 abbrev pub ShowsBeginning : Plan → NetworkState → List EventValue → Stream → Type 0
 ShowsBeginning plan w events output = (played : ℕ) × ShowsRun plan w (take played events) output
 
--- All is shown; or the output failed, or memory ran out, and then a part is shown.
-abbrev pub ShowsAllOr : {T : Type 0} → Result T Refused → (part all : Type 0) → Stream → Type 0
-ShowsAllOr (Ok done) part all output = all
-ShowsAllOr (Err refused.Unwritten) part all output = Fails output
-ShowsAllOr (Err refused.NoMemory) part all output = part
-ShowsAllOr (Err _) part all output = ⊥
+-- The text is the lines of what comes of a beginning of the events, in a run from the state.
+pub record IsRunText (plan : Plan) (w : NetworkState) (events : List EventValue) (text : List ℕ) : Type 0 where
+  pub played : ℕ
+  pub turns : List Turn
+  pub events_are : map (λ (t : Turn). t.event) turns ≡ take played events
+  pub runs : RunFrom (one_plan plan) w turns
+  pub written : text ≡ outcome_lines plan (map (λ (t : Turn). t.outcome) turns)
+
+-- All is shown; or the output failed after a beginning of such a text; or memory ran out, and then a part is shown.
+abbrev pub ShowsAllOr : {T : Type 0} → Result T Refused → (part all : Type 0) → (List ℕ → Type 0) → Stream → Type 0
+ShowsAllOr (Ok done) part all IsText output = all
+ShowsAllOr (Err refused.Unwritten) part all IsText output = BreaksOff IsText output
+ShowsAllOr (Err refused.NoMemory) part all IsText output = part
+ShowsAllOr (Err _) part all IsText output = ⊥
 
 -- the same of the end of a run of the program
-abbrev pub EndsShowing : Status → (part all : Type 0) → Stream → Type 0
-EndsShowing status.Yes part all output = all
-EndsShowing status.Fault part all output = ⊥
-EndsShowing status.Unreadable part all output = Fails output
-EndsShowing status.NoMemory part all output = part
+abbrev pub EndsShowing : Status → (part all : Type 0) → (List ℕ → Type 0) → Stream → Type 0
+EndsShowing status.Yes part all IsText output = all
+EndsShowing status.Fault part all IsText output = ⊥
+EndsShowing status.Unreadable part all IsText output = BreaksOff IsText output
+EndsShowing status.NoMemory part all IsText output = part
 
 -- what the end of a run says of the events at a checked plan and of what was written
 abbrev pub Simulates : Plan → Certificate → List EventValue → Status → Stream → Type 0
 Simulates plan cert events ended output =
     let start = at_start plan cert in
-    EndsShowing ended (ShowsBeginning plan start events output) (ShowsRun plan start events output) output
+    EndsShowing ended (ShowsBeginning plan start events output) (ShowsRun plan start events output) (IsRunText plan start events) output
 
 -- the output was given the lines of so many of the outcomes
 abbrev pub ShowsLines : Plan → List OutcomeValue → ℕ → Stream → Type 0
 ShowsLines plan outcomes count output = Appends output.before output.after (outcome_lines plan (take count outcomes))
+
+-- the text is the lines of some of the outcomes, from the first on
+abbrev pub AreFirstLines : Plan → List OutcomeValue → List ℕ → Type 0
+AreFirstLines plan outcomes text = (count : ℕ) × (text ≡ outcome_lines plan (take count outcomes))
+
+-- the text is the lines of some outcomes, so many at most
+abbrev pub AreLinesAtMost : Plan → ℕ → List ℕ → Type 0
+AreLinesAtMost plan count text = (outcomes : List OutcomeValue) × (length outcomes ≤ count) × (text ≡ outcome_lines plan outcomes)
 
 -- the output was given the lines of some outcomes, so many
 abbrev pub ShowsOutcomes : Plan → ℕ → Stream → Type 0
@@ -78,6 +94,20 @@ abbrev pub TellsOutcomes : Stream → Stream → Stream → Stream → Type 0
 TellsOutcomes plans certificates happenings output = (plan : Plan) × (certificate : Certificate) × (events : List Event)
     × AreGiven plans certificates plan certificate × GaveEvents plan happenings events × Accepts plan certificate
     × ShowsOutcomes plan (length events) output
+
+-- Every rule holds of the plan and the certificate that were given, and the output was given an outcome's line for each event of
+-- a beginning of those that were given.
+abbrev pub TellsBeginning : Stream → Stream → Stream → Stream → Type 0
+TellsBeginning plans certificates happenings output = (plan : Plan) × (certificate : Certificate) × (events : List Event)
+    × AreGiven plans certificates plan certificate × GaveEvents plan happenings events × Accepts plan certificate
+    × ShowsAtMost plan (length events) output
+
+-- The text answers for the plan, the certificate and the events that were given: where every rule holds it is an outcome's line for
+-- each event of a beginning of them, else the line of the first fault.
+abbrev pub IsSimAnswer : Stream → Stream → Stream → List ℕ → Type 0
+IsSimAnswer plans certificates happenings text = (plan : Plan) × (certificate : Certificate) × (events : List Event)
+    × AreGiven plans certificates plan certificate × GaveEvents plan happenings events
+    × ((Accepts plan certificate × AreLinesAtMost plan (length events) text) ⊎ IsFaultText plan certificate text)
 
 -- why an input can't be read; the events are read only where the plan and the certificate were given
 abbrev pub IsUnreadAmong : Input → PlanError → Stream → Stream → Stream → Type 0

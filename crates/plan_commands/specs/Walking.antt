@@ -20,9 +20,14 @@ use Rattle.plan_commands.specs.Answers.{Stream, AreGiven, IsUnread, TellsOf, Fai
 use Rattle.plan_commands.specs.Lines.{fault_text}
 use Rattle.plan_commands.specs.Statuses.{status_of}
 
--- the node has the name, and a terminus
+-- n is the first node of the name
+pub record IsFirstNamed (plan : Plan) (name : List ℕ) (n : ℕ) : Type 0 where
+  pub named : name_of plan n ≡ Some name
+  pub first : (m : ℕ) → m < n → name_of plan m ≢ Some name
+
+-- n is the first node of the name, and it has a terminus
 abbrev pub IsTerminusNamed : Plan → List ℕ → ℕ → Type 0
-IsTerminusNamed plan name n = (name_of plan n ≡ Some name) × (terminus_of plan n ≢ None)
+IsTerminusNamed plan name n = IsFirstNamed plan name n × (terminus_of plan n ≢ None)
 
 abbrev pub HasTerminusNamed : Plan → List ℕ → Type 0
 HasTerminusNamed plan name = (n : ℕ) × IsTerminusNamed plan name n

@@ -48,16 +48,23 @@ pub fn words<'a>(alloc: Global, list: &'a [String]) -> Result<Command<'a>, Refus
     chosen(&matches).ok_or(Refused::Usage)
 }
 
+/// The name of each command, and the names of its arguments.
+const COMMANDS: [(&str, &[&str]); 6] = [
+    ("check", &["plan", "certificate"]),
+    ("certify", &["plan"]),
+    ("assign", &["plan", "certificate"]),
+    ("sim", &["plan", "certificate", "events"]),
+    ("walk", &["plan", "certificate", "node", "count"]),
+    ("show", &["kind", "hex"]),
+];
+
 /// The words of each command.
 fn grammar<'a>(alloc: Global) -> Result<clap::Command<'a>, AllocError> {
-    clap::Command::new(alloc, "mctpplan")
-        .subcommand_required(true)
-        .subcommand(with_arguments(alloc, "check", &["plan", "certificate"])?)?
-        .subcommand(with_arguments(alloc, "certify", &["plan"])?)?
-        .subcommand(with_arguments(alloc, "assign", &["plan", "certificate"])?)?
-        .subcommand(with_arguments(alloc, "sim", &["plan", "certificate", "events"])?)?
-        .subcommand(with_arguments(alloc, "walk", &["plan", "certificate", "node", "count"])?)?
-        .subcommand(with_arguments(alloc, "show", &["kind", "hex"])?)
+    let mut grammar = clap::Command::new(alloc, "mctpplan").subcommand_required(true);
+    for (name, arguments) in COMMANDS {
+        grammar = grammar.subcommand(with_arguments(alloc, name, arguments)?)?;
+    }
+    Ok(grammar)
 }
 
 /// A command whose arguments are all required and stand in this order.
@@ -76,34 +83,58 @@ fn with_arguments<'a>(
 fn chosen<'a>(matches: &ArgMatches<'a>) -> Option<Command<'a>> {
     let (name, arguments) = matches.subcommand()?;
     match name {
-        "check" => Some(Command::Check {
-            plan: arguments.get_str("plan")?,
-            certificate: arguments.get_str("certificate")?,
-        }),
-        "certify" => Some(Command::Certify {
-            plan: arguments.get_str("plan")?,
-        }),
-        "assign" => Some(Command::Assign {
-            plan: arguments.get_str("plan")?,
-            certificate: arguments.get_str("certificate")?,
-        }),
-        "sim" => Some(Command::Sim {
-            plan: arguments.get_str("plan")?,
-            certificate: arguments.get_str("certificate")?,
-            events: arguments.get_str("events")?,
-        }),
-        "walk" => Some(Command::Walk {
-            plan: arguments.get_str("plan")?,
-            certificate: arguments.get_str("certificate")?,
-            node: arguments.get_str("node")?,
-            part: part_size_of(arguments.get_str("count")?)?,
-        }),
-        "show" => Some(Command::Show {
-            kind: kind_of(arguments.get_str("kind")?)?,
-            hex: arguments.get_str("hex")?,
-        }),
+        "check" => checking(arguments),
+        "certify" => certifying(arguments),
+        "assign" => assigning(arguments),
+        "sim" => playing(arguments),
+        "walk" => walking(arguments),
+        "show" => showing(arguments),
         _ => None,
     }
+}
+
+fn checking<'a>(arguments: &ArgMatches<'a>) -> Option<Command<'a>> {
+    Some(Command::Check {
+        plan: arguments.get_str("plan")?,
+        certificate: arguments.get_str("certificate")?,
+    })
+}
+
+fn certifying<'a>(arguments: &ArgMatches<'a>) -> Option<Command<'a>> {
+    Some(Command::Certify {
+        plan: arguments.get_str("plan")?,
+    })
+}
+
+fn assigning<'a>(arguments: &ArgMatches<'a>) -> Option<Command<'a>> {
+    Some(Command::Assign {
+        plan: arguments.get_str("plan")?,
+        certificate: arguments.get_str("certificate")?,
+    })
+}
+
+fn playing<'a>(arguments: &ArgMatches<'a>) -> Option<Command<'a>> {
+    Some(Command::Sim {
+        plan: arguments.get_str("plan")?,
+        certificate: arguments.get_str("certificate")?,
+        events: arguments.get_str("events")?,
+    })
+}
+
+fn walking<'a>(arguments: &ArgMatches<'a>) -> Option<Command<'a>> {
+    Some(Command::Walk {
+        plan: arguments.get_str("plan")?,
+        certificate: arguments.get_str("certificate")?,
+        node: arguments.get_str("node")?,
+        part: part_size_of(arguments.get_str("count")?)?,
+    })
+}
+
+fn showing<'a>(arguments: &ArgMatches<'a>) -> Option<Command<'a>> {
+    Some(Command::Show {
+        kind: kind_of(arguments.get_str("kind")?)?,
+        hex: arguments.get_str("hex")?,
+    })
 }
 
 fn kind_of(word: &str) -> Option<Kind> {

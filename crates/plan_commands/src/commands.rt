@@ -4,7 +4,8 @@ ghost use Rattle.std.specs.Io.KnownBytes.{Appends};
 ghost use Rattle.plan_commands.specs.declared.refused.Refused.TheVariants.{Unwritten};
 ghost use Rattle.plan_commands.specs.declared.status.Status.TheVariants.{Unreadable, NoMemory};
 ghost use Rattle.plan_commands.specs.Statuses.{status_of};
-ghost use Rattle.plan_commands.specs.Answers.{stream, PrintsFault, FailsToPrint};
+ghost use Rattle.net_plan.specs.Stream.{AppendsBeginning};
+ghost use Rattle.plan_commands.specs.Answers.{stream, PrintsFault, FailsToPrint, IsErrorText, BreaksOff};
 
 pub mod assign;
 pub mod certify;
@@ -42,6 +43,7 @@ pub fn print<O: Sink>(output: &mut O, line: &str) -> Result<(), Refused>
     requires { O.failures output.old < 2 ^ 64 - 1 }
     ensures written { OnOk result (Appends (O.contents output.old) (O.contents output.new) line.now) }
     ensures unwritten { IfErr result (λ refused. refused ≡ Unwritten) }
+    ensures beginning { OnErr result (AppendsBeginning (O.contents output.old) (O.contents output.new) line.now) }
     ensures fails { OnErr result (O.failures output.new ≡ O.failures output.old + 1) }
     ensures kept { OnOk result (O.failures output.new ≡ O.failures output.old) }
 {
@@ -60,7 +62,8 @@ pub fn print_fault<O: Sink>(
         IfOk result (λ status. PrintsFault plan.now error.now status outputs) }
     ensures unwritten { let outputs = stream (O.contents output.old) (O.failures output.old) (O.contents output.new) (O.failures output.new) in
         IfErr result (λ refused. FailsToPrint refused outputs) }
-    ensures untouched { IfErr result (λ refused. (refused ≡ Unwritten) ⊎ (output.new ≡ output.old)) }
+    ensures untouched { let outputs = stream (O.contents output.old) (O.failures output.old) (O.contents output.new) (O.failures output.new) in
+        IfErr result (λ refused. ((refused ≡ Unwritten) × BreaksOff (IsErrorText plan.now error.now) outputs) ⊎ (output.new ≡ output.old)) }
 {
     match error {
         CheckError::Fault(fault) => {

@@ -12,6 +12,7 @@ pub struct FileAtPath<'a, R: Files> {
 }
 
 impl<'a, R: Files> FileAtPath<'a, R> {
+    /// The file at this path. Nothing is opened yet.
     pub fn new(rt: &'a R, path: &'a str) -> FileAtPath<'a, R> {
         FileAtPath {
             rt,

@@ -1,9 +1,9 @@
 //! The command `show`: what bytes are, or why they are nothing.
 ghost use Rattle.std.specs.Prelude.{◌≡◌, ◌⊎◌, ◌<◌, ◌^◌, ◌-◌, IfOk, IfErr, string_bytes};
 ghost use Rattle.plan_commands.specs.declared.refused.Refused.TheVariants.{Unwritten};
-ghost use Rattle.plan_commands.specs.declared.status.Status.TheVariants.{Yes, Fault, NoMemory};
-ghost use Rattle.plan_commands.specs.Answers.{stream};
-ghost use Rattle.plan_commands.specs.Show.{IsDecoded, IsNoHex, IsShown, IsNotShown, Shows};
+ghost use Rattle.plan_commands.specs.declared.status.Status.TheVariants.{Yes, Fault, Unreadable, NoMemory};
+ghost use Rattle.plan_commands.specs.Answers.{stream, BreaksOff};
+ghost use Rattle.plan_commands.specs.Show.{IsDecoded, IsNoHex, IsShown, IsShowAnswer, IsNotShown, Shows};
 
 mod texts;
 
@@ -37,6 +37,8 @@ pub fn run_show<O: Sink, E: Sink>(
     ensures shows { let outputs = stream (O.contents output.old) (O.failures output.old) (O.contents output.new) (O.failures output.new) in
         Shows result kind hex.now outputs }
     ensures silent { (result ≡ Yes) ⊎ (result ≡ Fault) → errors.new ≡ errors.old }
+    ensures unwritten { let outputs = stream (O.contents output.old) (O.failures output.old) (O.contents output.new) (O.failures output.new) in
+        result ≡ Unreadable → (output.new ≡ output.old) ⊎ BreaksOff (IsShowAnswer kind hex.now) outputs }
     ensures no_memory { result ≡ NoMemory → output.new ≡ output.old }
 {
     match answer_show(alloc, kind, hex, output) {
@@ -53,17 +55,15 @@ fn answer_show<O: Sink>(
 ) -> Result<Status, Refused>
     requires { O.failures output.old < 2 ^ 64 - 1 }
     ensures answers { IfOk result (λ status. (status ≡ Yes) ⊎ (status ≡ Fault)) }
-    ensures untouched { IfErr result (λ refused. (refused ≡ Unwritten) ⊎ (output.new ≡ output.old)) }
+    ensures untouched { let outputs = stream (O.contents output.old) (O.failures output.old) (O.contents output.new) (O.failures output.new) in
+        IfErr result (λ refused. ((refused ≡ Unwritten) × BreaksOff (IsShowAnswer kind hex.now) outputs) ⊎ (output.new ≡ output.old)) }
     ensures shows { let outputs = stream (O.contents output.old) (O.failures output.old) (O.contents output.new) (O.failures output.new) in
         IfOk result (λ status. Shows status kind hex.now outputs) }
     ensures refused { let outputs = stream (O.contents output.old) (O.failures output.old) (O.contents output.new) (O.failures output.new) in
         IfErr result (λ refused. IsNotShown refused hex.now outputs) }
 {
     let bytes = decode(alloc, hex)?;
-    let (status, text) = match kind {
-        Kind::Packet => shown_packet(alloc, &bytes)?,
-        Kind::Record => shown_record(alloc, &bytes)?,
-    };
+    let (status, text) = shown(alloc, kind, &bytes)?;
     print(output, &text)?;
     Ok(status)
 }
@@ -77,6 +77,16 @@ fn decode(alloc: Global, text: &str) -> Result<Vec<u8>, Refused>
         Ok(bytes) => Ok(bytes),
         Err(FromHexError::OutOfMemory) => Err(Refused::NoMemory),
         Err(_) => Err(Refused::UnreadableHex),
+    }
+}
+
+/// What bytes are, and how the run ends that tells it.
+fn shown(alloc: Global, kind: Kind, bytes: &[u8]) -> Result<(Status, String), AllocError>
+    ensures { IfOk result (λ shown. IsShown shown.0 kind bytes.now (string_bytes shown.1)) }
+{
+    match kind {
+        Kind::Packet => shown_packet(alloc, bytes),
+        Kind::Record => shown_record(alloc, bytes),
     }
 }
 

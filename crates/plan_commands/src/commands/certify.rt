@@ -1,9 +1,9 @@
 //! The command `certify`: the certificate of a plan, or why there is none.
 ghost use Rattle.std.specs.Prelude.{◌≡◌, ◌⊎◌, ◌<◌, ◌^◌, ◌-◌, IfOk, IfErr};
 ghost use Rattle.plan_commands.specs.declared.refused.Refused.TheVariants.{Unwritten};
-ghost use Rattle.plan_commands.specs.declared.status.Status.TheVariants.{Yes, Fault, NoMemory};
-ghost use Rattle.plan_commands.specs.Answers.{stream};
-ghost use Rattle.plan_commands.specs.Certifying.{IsUncertifiedFor, Certifies};
+ghost use Rattle.plan_commands.specs.declared.status.Status.TheVariants.{Yes, Fault, Unreadable, NoMemory};
+ghost use Rattle.plan_commands.specs.Answers.{stream, BreaksOff};
+ghost use Rattle.plan_commands.specs.Certifying.{IsCertifyAnswer, IsUncertifiedFor, Certifies};
 
 use crate::commands::inputs::given_plan;
 use crate::commands::{print, refuse};
@@ -29,6 +29,9 @@ pub fn run_certify<P: Source, O: Sink, E: Sink>(
         let outputs = stream (O.contents output.old) (O.failures output.old) (O.contents output.new) (O.failures output.new) in
         Certifies result plans outputs }
     ensures silent { (result ≡ Yes) ⊎ (result ≡ Fault) → errors.new ≡ errors.old }
+    ensures unwritten { let plans = stream (P.remaining plan.old) (P.failures plan.old) (P.remaining plan.new) (P.failures plan.new) in
+        let outputs = stream (O.contents output.old) (O.failures output.old) (O.contents output.new) (O.failures output.new) in
+        result ≡ Unreadable → (output.new ≡ output.old) ⊎ BreaksOff (IsCertifyAnswer plans) outputs }
     ensures no_memory { result ≡ NoMemory → output.new ≡ output.old }
 {
     match answer_certify(alloc, plan, output) {
@@ -45,7 +48,9 @@ fn answer_certify<P: Source, O: Sink>(
     requires plan { P.failures plan.old < 2 ^ 64 - 1 }
     requires output { O.failures output.old < 2 ^ 64 - 1 }
     ensures answers { IfOk result (λ status. (status ≡ Yes) ⊎ (status ≡ Fault)) }
-    ensures untouched { IfErr result (λ refused. (refused ≡ Unwritten) ⊎ (output.new ≡ output.old)) }
+    ensures untouched { let plans = stream (P.remaining plan.old) (P.failures plan.old) (P.remaining plan.new) (P.failures plan.new) in
+        let outputs = stream (O.contents output.old) (O.failures output.old) (O.contents output.new) (O.failures output.new) in
+        IfErr result (λ refused. ((refused ≡ Unwritten) × BreaksOff (IsCertifyAnswer plans) outputs) ⊎ (output.new ≡ output.old)) }
     ensures certifies { let plans = stream (P.remaining plan.old) (P.failures plan.old) (P.remaining plan.new) (P.failures plan.new) in
         let outputs = stream (O.contents output.old) (O.failures output.old) (O.contents output.new) (O.failures output.new) in
         IfOk result (λ status. Certifies status plans outputs) }

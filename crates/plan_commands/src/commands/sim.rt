@@ -5,7 +5,7 @@ ghost use Rattle.net_check.specs.States.{at_start};
 ghost use Rattle.net_sim.specs.Dealing.{resting, planned_termini};
 ghost use Rattle.net_sim.specs.Outcomes.{event_value, outcome_value};
 ghost use Rattle.plan_commands.specs.Answers.{stream};
-ghost use Rattle.plan_commands.specs.Simulating.{ShowsRun, ShowsBeginning, ShowsAllOr, EndsShowing, Simulates, ShowsLines, ShowsOutcomes, ShowsAtMost};
+ghost use Rattle.plan_commands.specs.Simulating.{IsRunText, ShowsRun, ShowsBeginning, ShowsAllOr, EndsShowing, Simulates, AreFirstLines, AreLinesAtMost, ShowsLines, ShowsOutcomes, ShowsAtMost};
 
 pub mod files;
 
@@ -36,7 +36,8 @@ pub fn run_sim<O: Sink, E: Sink>(
         map (resting (λ b. tid b) (λ b. records b)) termini.items ≡ planned_termini checked.entry.0 checked.entry.1
         → Simulates checked.entry.0 checked.entry.1 (map event_value events.now) result outputs }
     ensures lists { let outputs = stream (O.contents output.old) (O.failures output.old) (O.contents output.new) (O.failures output.new) in
-        EndsShowing result (ShowsAtMost checked.entry.0 (length events.now) outputs) (ShowsOutcomes checked.entry.0 (length events.now) outputs) outputs }
+        EndsShowing result (ShowsAtMost checked.entry.0 (length events.now) outputs) (ShowsOutcomes checked.entry.0 (length events.now) outputs)
+        (AreLinesAtMost checked.entry.0 (length events.now)) outputs }
     ensures silent { result ≡ Yes → errors.new ≡ errors.old }
 {
     match answer_sim(alloc, checked, termini, events, output) {
@@ -56,9 +57,11 @@ fn answer_sim<O: Sink>(
     ensures plays { let outputs = stream (O.contents output.old) (O.failures output.old) (O.contents output.new) (O.failures output.new) in
         map (resting (λ b. tid b) (λ b. records b)) termini.items ≡ planned_termini checked.entry.0 checked.entry.1
         → ShowsAllOr result (ShowsBeginning checked.entry.0 (at_start checked.entry.0 checked.entry.1) (map event_value events.now) outputs)
-        (ShowsRun checked.entry.0 (at_start checked.entry.0 checked.entry.1) (map event_value events.now) outputs) outputs }
+        (ShowsRun checked.entry.0 (at_start checked.entry.0 checked.entry.1) (map event_value events.now) outputs)
+        (IsRunText checked.entry.0 (at_start checked.entry.0 checked.entry.1) (map event_value events.now)) outputs }
     ensures lists { let outputs = stream (O.contents output.old) (O.failures output.old) (O.contents output.new) (O.failures output.new) in
-        ShowsAllOr result (ShowsAtMost checked.entry.0 (length events.now) outputs) (ShowsOutcomes checked.entry.0 (length events.now) outputs) outputs }
+        ShowsAllOr result (ShowsAtMost checked.entry.0 (length events.now) outputs) (ShowsOutcomes checked.entry.0 (length events.now) outputs)
+        (AreLinesAtMost checked.entry.0 (length events.now)) outputs }
 {
     let plan = checked.plan();
     let mut network = Network::new(alloc, checked, termini)?;
@@ -80,7 +83,8 @@ fn print_outcomes<O: Sink>(
     requires { O.failures output.old < 2 ^ 64 - 1 }
     ensures { let outputs = stream (O.contents output.old) (O.failures output.old) (O.contents output.new) (O.failures output.new) in
         ShowsAllOr result ((shown : ℕ) × ShowsLines plan.now (map outcome_value outcomes.now) shown outputs)
-        (ShowsLines plan.now (map outcome_value outcomes.now) (length outcomes.now) outputs) outputs }
+        (ShowsLines plan.now (map outcome_value outcomes.now) (length outcomes.now) outputs)
+        (AreFirstLines plan.now (map outcome_value outcomes.now)) outputs }
 {
     for (index, outcome) in outcomes.iter().enumerate() {
         let line = outcome_line(alloc, plan, index + 1, outcome)?;

@@ -3,10 +3,10 @@ ghost use Rattle.std.specs.Prelude.{◌≡◌, ◌↔◌, ◌⊎◌, ◌<◌, �
 ghost use Rattle.net_check.specs.Repositories.{terminus_of, records_by_place};
 ghost use Rattle.net_check.specs.Rules.{Accepts};
 ghost use Rattle.plan_commands.specs.declared.refused.Refused.TheVariants.{Unwritten};
-ghost use Rattle.plan_commands.specs.declared.status.Status.TheVariants.{Yes, Fault, NoMemory};
-ghost use Rattle.plan_commands.specs.Answers.{stream};
-ghost use Rattle.plan_commands.specs.Collecting.{EndsEarlyFor, PrintsWalk, FailsToWalk};
-ghost use Rattle.plan_commands.specs.Walking.{walk_text, IsNotWalkedFor, Walks};
+ghost use Rattle.plan_commands.specs.declared.status.Status.TheVariants.{Yes, Fault, Unreadable, NoMemory};
+ghost use Rattle.plan_commands.specs.Answers.{stream, BreaksOff, IsAnswerOf};
+ghost use Rattle.plan_commands.specs.Collecting.{EndsEarlyFor, IsTextOfWalk, PrintsWalk, FailsToWalk};
+ghost use Rattle.plan_commands.specs.Walking.{walk_text, IsWalkText, IsNotWalkedFor, Walks};
 
 mod collecting;
 mod naming;
@@ -67,6 +67,11 @@ pub fn run_walk<P: Source, C: Source, O: Sink, E: Sink>(
         let outputs = stream (O.contents output.old) (O.failures output.old) (O.contents output.new) (O.failures output.new) in
         Walks result node.now part.bytes plans certificates outputs }
     ensures silent { (result ≡ Yes) ⊎ (result ≡ Fault) → errors.new ≡ errors.old }
+    ensures unwritten { let plans = stream (P.remaining plan.old) (P.failures plan.old) (P.remaining plan.new) (P.failures plan.new) in
+        let certificates = stream (C.remaining certificate.old) (C.failures certificate.old)
+        (C.remaining certificate.new) (C.failures certificate.new) in
+        let outputs = stream (O.contents output.old) (O.failures output.old) (O.contents output.new) (O.failures output.new) in
+        result ≡ Unreadable → (output.new ≡ output.old) ⊎ BreaksOff (IsAnswerOf (IsWalkText node.now part.bytes) plans certificates) outputs }
     ensures no_memory { result ≡ NoMemory → output.new ≡ output.old }
 {
     match answer_walk(alloc, plan, certificate, node, part, output) {
@@ -88,7 +93,11 @@ fn answer_walk<P: Source, C: Source, O: Sink>(
     requires certificate { C.failures certificate.old < 2 ^ 64 - 1 }
     requires output { O.failures output.old < 2 ^ 64 - 1 }
     ensures answers { IfOk result (λ status. (status ≡ Yes) ⊎ (status ≡ Fault)) }
-    ensures untouched { IfErr result (λ refused. (refused ≡ Unwritten) ⊎ (output.new ≡ output.old)) }
+    ensures untouched { let plans = stream (P.remaining plan.old) (P.failures plan.old) (P.remaining plan.new) (P.failures plan.new) in
+        let certificates = stream (C.remaining certificate.old) (C.failures certificate.old)
+        (C.remaining certificate.new) (C.failures certificate.new) in
+        let outputs = stream (O.contents output.old) (O.failures output.old) (O.contents output.new) (O.failures output.new) in
+        IfErr result (λ refused. ((refused ≡ Unwritten) × BreaksOff (IsAnswerOf (IsWalkText node.now part.bytes) plans certificates) outputs) ⊎ (output.new ≡ output.old)) }
     ensures walks { let plans = stream (P.remaining plan.old) (P.failures plan.old) (P.remaining plan.new) (P.failures plan.new) in
         let certificates = stream (C.remaining certificate.old) (C.failures certificate.old)
         (C.remaining certificate.new) (C.failures certificate.new) in
@@ -126,7 +135,8 @@ fn print_walk<O: Sink>(
         IfOk result (λ status. PrintsWalk part.bytes (records_by_place plan.now certificate.now found.entry.0) status outputs) }
     ensures unwritten { let outputs = stream (O.contents output.old) (O.failures output.old) (O.contents output.new) (O.failures output.new) in
         IfErr result (λ refused. FailsToWalk (records_by_place plan.now certificate.now found.entry.0) refused outputs) }
-    ensures untouched { IfErr result (λ refused. (refused ≡ Unwritten) ⊎ (output.new ≡ output.old)) }
+    ensures untouched { let outputs = stream (O.contents output.old) (O.failures output.old) (O.contents output.new) (O.failures output.new) in
+        IfErr result (λ refused. ((refused ≡ Unwritten) × BreaksOff (IsTextOfWalk part.bytes (records_by_place plan.now certificate.now found.entry.0)) outputs) ⊎ (output.new ≡ output.old)) }
 {
     let (node, terminus) = found;
     let text = walked_text(alloc, plan, certificate, node, terminus, part)?;

@@ -5,9 +5,10 @@ ghost use Rattle.pdr_repository.specs.BlockTermini.{block_tid, block_records};
 ghost use Rattle.net_check.specs.Repositories.{terminus_of};
 ghost use Rattle.net_check.specs.Termini.{terminus_at_start};
 ghost use Rattle.net_sim.specs.Dealing.{resting, planned_termini};
-ghost use Rattle.plan_commands.specs.declared.status.Status.TheVariants.{Yes, Fault};
-ghost use Rattle.plan_commands.specs.Answers.{stream, AreGiven};
-ghost use Rattle.plan_commands.specs.Simulating.{EndsShowing, ShowsAtMost, ShowsOutcomes, GaveEvents, AreUnreadAmong, IsUnsimulatedFor, SimulatesFiles};
+ghost use Rattle.plan_commands.specs.declared.status.Status.TheVariants.{Yes, Fault, Unreadable, NoMemory};
+ghost use Rattle.plan_commands.specs.declared.refused.Refused.TheVariants.{Unwritten};
+ghost use Rattle.plan_commands.specs.Answers.{stream, BreaksOff, AreGiven};
+ghost use Rattle.plan_commands.specs.Simulating.{EndsShowing, AreLinesAtMost, ShowsAtMost, ShowsOutcomes, GaveEvents, TellsBeginning, IsSimAnswer, AreUnreadAmong, IsUnsimulatedFor, SimulatesFiles};
 
 use crate::commands::inputs::read_inputs;
 use crate::commands::repositories::records_by_place;
@@ -42,7 +43,19 @@ pub fn simulate<P: Source, C: Source, V: Source, O: Sink, E: Sink>(
         let happenings = stream (V.remaining events.old) (V.failures events.old) (V.remaining events.new) (V.failures events.new) in
         let outputs = stream (O.contents output.old) (O.failures output.old) (O.contents output.new) (O.failures output.new) in
         SimulatesFiles result plans certificates happenings outputs }
+    ensures unwritten { let plans = stream (P.remaining plan.old) (P.failures plan.old) (P.remaining plan.new) (P.failures plan.new) in
+        let certificates = stream (C.remaining certificate.old) (C.failures certificate.old)
+        (C.remaining certificate.new) (C.failures certificate.new) in
+        let happenings = stream (V.remaining events.old) (V.failures events.old) (V.remaining events.new) (V.failures events.new) in
+        let outputs = stream (O.contents output.old) (O.failures output.old) (O.contents output.new) (O.failures output.new) in
+        result ≡ Unreadable → (output.new ≡ output.old) ⊎ BreaksOff (IsSimAnswer plans certificates happenings) outputs }
     ensures silent { (result ≡ Yes) ⊎ (result ≡ Fault) → errors.new ≡ errors.old }
+    ensures no_memory { let plans = stream (P.remaining plan.old) (P.failures plan.old) (P.remaining plan.new) (P.failures plan.new) in
+        let certificates = stream (C.remaining certificate.old) (C.failures certificate.old)
+        (C.remaining certificate.new) (C.failures certificate.new) in
+        let happenings = stream (V.remaining events.old) (V.failures events.old) (V.remaining events.new) (V.failures events.new) in
+        let outputs = stream (O.contents output.old) (O.failures output.old) (O.contents output.new) (O.failures output.new) in
+        result ≡ NoMemory → (output.new ≡ output.old) ⊎ TellsBeginning plans certificates happenings outputs }
 {
     match answer_files(alloc, plan, certificate, events, output, errors) {
         Ok(status) => status,
@@ -76,6 +89,24 @@ fn answer_files<P: Source, C: Source, V: Source, O: Sink, E: Sink>(
         let happenings = stream (V.remaining events.old) (V.failures events.old) (V.remaining events.new) (V.failures events.new) in
         let outputs = stream (O.contents output.old) (O.failures output.old) (O.contents output.new) (O.failures output.new) in
         IfErr result (λ why. IsUnsimulatedFor why plans certificates happenings outputs) }
+    ensures broken { let plans = stream (P.remaining plan.old) (P.failures plan.old) (P.remaining plan.new) (P.failures plan.new) in
+        let certificates = stream (C.remaining certificate.old) (C.failures certificate.old)
+        (C.remaining certificate.new) (C.failures certificate.new) in
+        let happenings = stream (V.remaining events.old) (V.failures events.old) (V.remaining events.new) (V.failures events.new) in
+        let outputs = stream (O.contents output.old) (O.failures output.old) (O.contents output.new) (O.failures output.new) in
+        IfOk result (λ status. status ≡ Unreadable → BreaksOff (IsSimAnswer plans certificates happenings) outputs) }
+    ensures beginning { let plans = stream (P.remaining plan.old) (P.failures plan.old) (P.remaining plan.new) (P.failures plan.new) in
+        let certificates = stream (C.remaining certificate.old) (C.failures certificate.old)
+        (C.remaining certificate.new) (C.failures certificate.new) in
+        let happenings = stream (V.remaining events.old) (V.failures events.old) (V.remaining events.new) (V.failures events.new) in
+        let outputs = stream (O.contents output.old) (O.failures output.old) (O.contents output.new) (O.failures output.new) in
+        IfOk result (λ status. status ≡ NoMemory → TellsBeginning plans certificates happenings outputs) }
+    ensures untouched { let plans = stream (P.remaining plan.old) (P.failures plan.old) (P.remaining plan.new) (P.failures plan.new) in
+        let certificates = stream (C.remaining certificate.old) (C.failures certificate.old)
+        (C.remaining certificate.new) (C.failures certificate.new) in
+        let happenings = stream (V.remaining events.old) (V.failures events.old) (V.remaining events.new) (V.failures events.new) in
+        let outputs = stream (O.contents output.old) (O.failures output.old) (O.contents output.new) (O.failures output.new) in
+        IfErr result (λ why. ((why ≡ Unwritten) × BreaksOff (IsSimAnswer plans certificates happenings) outputs) ⊎ (output.new ≡ output.old)) }
     ensures silent { IfOk result (λ status. (status ≡ Yes) ⊎ (status ≡ Fault) → errors.new ≡ errors.old) }
     ensures unsaid { OnErr result (errors.new ≡ errors.old) }
 {
@@ -127,7 +158,8 @@ fn play<O: Sink, E: Sink>(
     requires errors { E.failures errors.old < 2 ^ 64 - 1 }
     ensures lists { let outputs = stream (O.contents output.old) (O.failures output.old) (O.contents output.new) (O.failures output.new) in
         IfOk result (λ status. EndsShowing status (ShowsAtMost checked.entry.0 (length events.now) outputs)
-        (ShowsOutcomes checked.entry.0 (length events.now) outputs) outputs) }
+        (ShowsOutcomes checked.entry.0 (length events.now) outputs) (AreLinesAtMost checked.entry.0 (length events.now)) outputs) }
+    ensures untouched { OnErr result (output.new ≡ output.old) }
     ensures silent { IfOk result (λ status. status ≡ Yes → errors.new ≡ errors.old) }
     ensures unsaid { OnErr result (errors.new ≡ errors.old) }
 {
