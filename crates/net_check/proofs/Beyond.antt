@@ -36,7 +36,7 @@ new_name : (plan : Plan) (n : ℕ) → length plan.nodes.items ≤ n → HasNewN
 unfolding HasNewName HaveOneName
 new_name plan n past m lt (name, earlier, here) = no_name plan n name past here
 
-at_node : (P : Type 0) (entry eid : Option ℕ) → P → AtNode P entry eid
+pub at_node : (P : Type 0) (entry eid : Option ℕ) → P → AtNode P entry eid
 at_node P None None p = p
 at_node P None (Some e) p = tt
 at_node P (Some r) eid p = tt
@@ -65,12 +65,12 @@ at_item_or_eid items P Q None eid none = tt
 at_item_or_eid items P Q (Some i) None none = no_items items i P none
 at_item_or_eid items P Q (Some i) (Some e) none = no_items items i (λ item. Q item e) none
 
-at_node_or_eid : (P : Type 0) (Q : ℕ → Type 0) (entry eid : Option ℕ) → P → ((e : ℕ) → Q e) → AtNodeOrEid P Q entry eid
+pub at_node_or_eid : (P : Type 0) (Q : ℕ → Type 0) (entry eid : Option ℕ) → P → ((e : ℕ) → Q e) → AtNodeOrEid P Q entry eid
 at_node_or_eid P Q None None p q = p
 at_node_or_eid P Q None (Some e) p q = q e
 at_node_or_eid P Q (Some i) eid p q = tt
 
-at_row_eid : (plan : Plan) (n : ℕ) (P : Row → ℕ → Type 0) (entry eid : Option ℕ) → length plan.nodes.items ≤ n → AtRowEid plan n P entry eid
+pub at_row_eid : (plan : Plan) (n : ℕ) (P : Row → ℕ → Type 0) (entry eid : Option ℕ) → length plan.nodes.items ≤ n → AtRowEid plan n P entry eid
 at_row_eid plan n P None eid past = tt
 at_row_eid plan n P (Some r) None past = tt
 at_row_eid plan n P (Some r) (Some e) past = λ row is. absurd (no_row plan n r row past is)
@@ -107,7 +107,7 @@ has_records : (plan : Plan) (n : ℕ) → length plan.nodes.items ≤ n → HasR
 unfolding HasRecords
 has_records plan n past some = absurd (some (no_terminus plan n past))
 
-needs_given : (plan : Plan) (cert : Certificate) (n : ℕ) → length plan.nodes.items ≤ n → NeedsWhatItIsGiven plan cert n
+pub needs_given : (plan : Plan) (cert : Certificate) (n : ℕ) → length plan.nodes.items ≤ n → NeedsWhatItIsGiven plan cert n
 unfolding NeedsWhatItIsGiven
 needs_given plan cert n past within = absurd (omega arith)
 

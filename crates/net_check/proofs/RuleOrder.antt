@@ -1,5 +1,5 @@
 -- The order of the rules.
-use Rattle.std.proofs.Common.{◌≡◌, ℕ, zero, suc, ◌+◌, ◌<◌, List, [], ◌∷◌, get_or, Some, refl, sym, ◌∙◌, ap, subst, arith, inl, inr}
+use Rattle.std.proofs.Common.{◌≡◌, ℕ, zero, suc, ◌+◌, ◌<◌, List, [], ◌∷◌, get_or, Some, refl, sym, ◌∙◌, ap, subst, arith, inl, inr, Option}
 use Rattle.std.specs.Prelude.{slice_get}
 use Rattle.std.proofs.lemmas.Bool.{cases_lt}
 use Rattle.std.proofs.lemmas.Option.{same_Some}
@@ -9,8 +9,9 @@ use Rattle.net_check.specs.declared.rule.Rule.TheVariants.{C01, C02, C03, C04, C
 use Rattle.net_plan.specs.declared.plan.Plan.{Plan}
 use Rattle.net_plan.specs.declared.certificate.Certificate.{Certificate}
 use Rattle.net_check.specs.Rules.{RuleHolds}
-use Rattle.net_check.specs.Faults.{Place, place_of, order_of, ComesBefore, IsMet, IsFirstFault}
+use Rattle.net_check.specs.Faults.{Place, place_of, eid_number, order_of, ComesBefore, IsMet, IsFirstFault}
 use Rattle.net_check.specs.Search.{IsFirstOfRule}
+use Rattle.net_check.specs.MoveSearch.{IsFirstByRule, IsFirstByRules}
 
 abbrev in_order : List Rule
 in_order = C01 ∷ C02 ∷ C03 ∷ C04 ∷ C05 ∷ C06 ∷ C07 ∷ C08 ∷ C09 ∷ C10 ∷ C11 ∷ C12 ∷ C13 ∷ C14 ∷ C15 ∷ C16 ∷ []
@@ -96,4 +97,19 @@ first_of_first plan cert k d fault within before (here, broken, first) = record 
     met other earlier = elim earlier [
       | inl less ↦ before other.rule (let at = order_at k d within in let same = ap order_of here in omega (arith, less, at, same)) other.node other.entry other.eid
       | inr (same, rest) ↦ first other (one_order other.rule fault.rule same ∙ here) (inr (same, rest))
+    ]
+
+-- the same by what the rules demand
+pub first_by_rules : (D : Rule → ℕ → Option ℕ → Option ℕ → Type 0) (k : ℕ) (d : Rule) (fault : Fault) → k < 16
+    → ((other : Rule) → order_of other < k → (n : ℕ) (entry eid : Option ℕ) → D other n entry eid)
+    → IsFirstByRule D (get_or in_order k d) (Some fault) → IsFirstByRules D (Some fault)
+first_by_rules D k d fault within before (here, broken, first) =
+    (let P : Rule → Type 0 = λ rule. ¬ D rule fault.node fault.entry (eid_number fault.eid) in subst P (sym here) broken, λ other earlier. met other earlier)
+  where
+    met : (other : Place) → ComesBefore other (place_of fault) → D other.rule other.node other.entry other.eid
+    met other earlier = elim earlier [
+      | inl less ↦ before other.rule (let at = order_at k d within in let same = ap order_of here in omega (arith, less, at, same)) other.node other.entry other.eid
+      | inr (same, rest) ↦
+          (let P : Rule → Type 0 = λ rule. D rule other.node other.entry other.eid in
+          subst P (sym (one_order other.rule fault.rule same ∙ here)) (first other.node other.entry other.eid rest))
     ]

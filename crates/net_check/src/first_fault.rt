@@ -28,7 +28,7 @@ pub fn first_of_all(
 }
 
 /// The rule's first fault.
-fn first_of_rule(
+pub fn first_of_rule(
     alloc: Global,
     plan: &Plan,
     certificate: &Certificate,

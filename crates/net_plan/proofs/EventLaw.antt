@@ -4,21 +4,43 @@ use Rattle.std.proofs.lemmas.Slice.Eq.{bytes_eq-Decides}
 use Rattle.std.specs.List.{list_all}
 use Rattle.std.specs.Str.{bytes_eq}
 use Rattle.serde_json.specs.Data.{Data, null, boolean, number, string, array, object}
-use Rattle.net_plan.specs.EventReading.{verb, put_event, move_event, lose_event, expire_event, answer_event, event_of, event, events}
-use Rattle.net_plan.specs.EventText.{Does, IsPutOf, IsMoveOf, IsLoseOf, IsBit, IsExpireOf, IsAnswerOf, IsEventOf, AreEventsOf}
-use Rattle.net_plan.specs.EventValues.{EventEntry, put, move, lose, expire, answer, is_known_event}
+use Rattle.net_plan.specs.EventReading.{format, format_of, switch_in, verb, put_event, move_event, lose_event, expire_event, answer_event, switch_event, event_of, event, events}
+use Rattle.net_plan.specs.EventText.{Does, IsPutOf, IsMoveOf, IsLoseOf, IsBit, IsExpireOf, IsAnswerOf, IsSwitchOf, IsEventOf, IsFormat, AreEventsOf}
+use Rattle.net_plan.specs.EventValues.{EventEntry, put, move, lose, expire, answer, switch, is_known_event}
 use Rattle.net_plan.specs.Json.{keyed, some_object, at_key, list_within, demand, reference, whole_number, truth, hex_text}
-use Rattle.net_plan.specs.JsonWords.{HasKeys, At, IsShortListOf, IsNumberWithin, IsTruth, IsText}
-use Rattle.net_plan.specs.Keys.{events_keys, put_keys, move_keys, lose_keys, expire_keys, answer_keys}
+use Rattle.net_plan.specs.JsonWords.{HasKeys, At, IsShortListOf, IsNumber, IsNumberWithin, IsTruth, IsText}
+use Rattle.net_plan.specs.Keys.{events_keys, put_keys, move_keys, lose_keys, expire_keys, answer_keys, switch_keys}
 use Rattle.net_plan.specs.Names.{place_among}
 use Rattle.net_plan.specs.PlanReading.{byte, word}
 use Rattle.net_plan.specs.PlanValues.{PlanValue, node_names}
 use Rattle.net_plan.specs.declared.error.Fault.TheVariants.{OutOfRange, UnknownName}
+use Rattle.net_plan.specs.declared.event_text.Format.{Format}
+use Rattle.net_plan.specs.declared.event_text.Format.TheVariants.{One, Two}
 use Rattle.net_plan.specs.declared.event_text.Verb.{Verb}
-use Rattle.net_plan.specs.declared.event_text.Verb.TheVariants.{Put, Move, Lose, Expire, Answer}
+use Rattle.net_plan.specs.declared.event_text.Verb.TheVariants.{Put, Move, Lose, Expire, Answer, Switch}
 use Rattle.net_plan.proofs.KeysLaw.{keys_sound, keys_whole}
-use Rattle.net_plan.proofs.PlanLaw.{number_at, hex_at, reference_at, format_sound, format_whole}
-use Rattle.net_plan.proofs.Telling.{Tells, any, no_value, same_Ok, then_Ok, demanded, at_key_tells, within_tells, truth_tells}
+use Rattle.net_plan.proofs.PlanLaw.{number_at, hex_at, reference_at}
+use Rattle.net_plan.proofs.Telling.{Tells, any, no_value, same_Ok, then_Ok, demanded, at_key_tells, within_tells, number_tells, truth_tells}
+
+-- ---- the format
+
+format_found : (d : Data) (n : ℕ) → IsNumberWithin 1 2 d n → IsFormat d (format_of n)
+format_found d zero h = let low : 1 ≤ 0 = h.1 in absurd (omega arith)
+format_found d (suc zero) h = h.0
+format_found d (suc (suc zero)) h = h.0
+format_found d (suc (suc (suc n))) h = let high : suc (suc (suc n)) ≤ 2 = h.2 in absurd (omega arith)
+
+format_sound : (d : Data) (f : Format) → format d ≡ Ok f → IsFormat d f
+format_sound d f e =
+    let n = then_Ok (whole_number 1 2 d) _ f e in
+    subst (IsFormat d) (same_Ok n.2) (format_found d n.0 ((number_tells 1 2).sound d n.0 n.1 refl))
+
+format_whole : (d : Data) (f : Format) → IsFormat d f → format d ≡ Ok f
+format_whole d One h = ap format h
+format_whole d Two h = ap format h
+
+format_at : Tells (at_key (codes "format") format) any (At (codes "format") IsFormat)
+format_at = at_key_tells (codes "format") format any IsFormat (record { sound = λ d f e pass. format_sound d f e; whole = format_whole; passes = λ d f h. refl })
 
 -- ---- what happens
 
@@ -28,39 +50,56 @@ word_of Move = codes "move"
 word_of Lose = codes "lose"
 word_of Expire = codes "expire"
 word_of Answer = codes "answer"
+word_of Switch = codes "switch"
 
-abbrev IsVerb : Data → Verb → Type 0
-IsVerb d v = IsText (word_of v) d
+-- the format has this word
+abbrev Allows : Format → Verb → Type 0
+Allows f Switch = f ≡ Two
+Allows f _ = Unit {0}
 
-verb_sound : (d : Data) (v : Verb) → verb d ≡ Ok v → IsVerb d v
-verb_sound (string s) v e = by (bytes_eq s (codes "put")) (bytes_eq s (codes "move")) (bytes_eq s (codes "lose")) (bytes_eq s (codes "expire")) (bytes_eq s (codes "answer")) refl refl refl refl refl e
+abbrev IsVerb : Format → Data → Verb → Type 0
+IsVerb f d v = IsText (word_of v) d × Allows f v
+
+switch_sound : (f : Format) (v : Verb) → switch_in f ≡ Ok v → (Switch ≡ v) × (f ≡ Two)
+switch_sound One v e = absurd (no_value e)
+switch_sound Two v e = (same_Ok e, refl)
+
+verb_sound : (f : Format) (d : Data) (v : Verb) → verb f d ≡ Ok v → IsVerb f d v
+verb_sound f (string s) v e =
+    by (bytes_eq s (codes "put")) (bytes_eq s (codes "move")) (bytes_eq s (codes "lose")) (bytes_eq s (codes "expire")) (bytes_eq s (codes "answer")) (bytes_eq s (codes "switch")) refl refl refl refl refl refl e
   where
     is : (w : List ℕ) → bytes_eq s w ≡ true → string s ≡ string w
     is w e = ap string ((bytes_eq-Decides s w).0 e)
 
-    by : (p m l x a : Bool) → bytes_eq s (codes "put") ≡ p → bytes_eq s (codes "move") ≡ m → bytes_eq s (codes "lose") ≡ l → bytes_eq s (codes "expire") ≡ x → bytes_eq s (codes "answer") ≡ a
-        → cond p (Ok Put) (cond m (Ok Move) (cond l (Ok Lose) (cond x (Ok Expire) (cond a (Ok Answer) (Err OutOfRange))))) ≡ Ok v → IsVerb (string s) v
-    by true m l x a ep em el ex ea e = subst (IsVerb (string s)) (same_Ok e) (is (codes "put") ep)
-    by false true l x a ep em el ex ea e = subst (IsVerb (string s)) (same_Ok e) (is (codes "move") em)
-    by false false true x a ep em el ex ea e = subst (IsVerb (string s)) (same_Ok e) (is (codes "lose") el)
-    by false false false true a ep em el ex ea e = subst (IsVerb (string s)) (same_Ok e) (is (codes "expire") ex)
-    by false false false false true ep em el ex ea e = subst (IsVerb (string s)) (same_Ok e) (is (codes "answer") ea)
-    by false false false false false ep em el ex ea e = absurd (no_value e)
-verb_sound null v e = absurd (no_value e)
-verb_sound (boolean b) v e = absurd (no_value e)
-verb_sound (number n) v e = absurd (no_value e)
-verb_sound (array ds) v e = absurd (no_value e)
-verb_sound (object ms) v e = absurd (no_value e)
+    by : (p m l x a w : Bool) → bytes_eq s (codes "put") ≡ p → bytes_eq s (codes "move") ≡ m → bytes_eq s (codes "lose") ≡ l → bytes_eq s (codes "expire") ≡ x → bytes_eq s (codes "answer") ≡ a → bytes_eq s (codes "switch") ≡ w
+        → cond p (Ok Put) (cond m (Ok Move) (cond l (Ok Lose) (cond x (Ok Expire) (cond a (Ok Answer) (cond w (switch_in f) (Err OutOfRange)))))) ≡ Ok v → IsVerb f (string s) v
+    by true m l x a w ep em el ex ea ew e = subst (IsVerb f (string s)) (same_Ok e) (is (codes "put") ep, tt)
+    by false true l x a w ep em el ex ea ew e = subst (IsVerb f (string s)) (same_Ok e) (is (codes "move") em, tt)
+    by false false true x a w ep em el ex ea ew e = subst (IsVerb f (string s)) (same_Ok e) (is (codes "lose") el, tt)
+    by false false false true a w ep em el ex ea ew e = subst (IsVerb f (string s)) (same_Ok e) (is (codes "expire") ex, tt)
+    by false false false false true w ep em el ex ea ew e = subst (IsVerb f (string s)) (same_Ok e) (is (codes "answer") ea, tt)
+    by false false false false false true ep em el ex ea ew e = let h = switch_sound f v e in subst (IsVerb f (string s)) h.0 (is (codes "switch") ew, h.1)
+    by false false false false false false ep em el ex ea ew e = absurd (no_value e)
+verb_sound f null v e = absurd (no_value e)
+verb_sound f (boolean b) v e = absurd (no_value e)
+verb_sound f (number n) v e = absurd (no_value e)
+verb_sound f (array ds) v e = absurd (no_value e)
+verb_sound f (object ms) v e = absurd (no_value e)
 
-verb_whole : (d : Data) (v : Verb) → IsVerb d v → verb d ≡ Ok v
-verb_whole d Put h = ap verb h
-verb_whole d Move h = ap verb h
-verb_whole d Lose h = ap verb h
-verb_whole d Expire h = ap verb h
-verb_whole d Answer h = ap verb h
+verb_whole : (f : Format) (d : Data) (v : Verb) → IsVerb f d v → verb f d ≡ Ok v
+verb_whole f d Put h = ap (verb f) h.0
+verb_whole f d Move h = ap (verb f) h.0
+verb_whole f d Lose h = ap (verb f) h.0
+verb_whole f d Expire h = ap (verb f) h.0
+verb_whole f d Answer h = ap (verb f) h.0
+verb_whole f d Switch h = ap (verb f) h.0 ∙ ap switch_in h.1
 
-verb_at : Tells (at_key (codes "do") verb) any (At (codes "do") IsVerb)
-verb_at = at_key_tells (codes "do") verb any IsVerb (record { sound = λ d v e pass. verb_sound d v e; whole = verb_whole; passes = λ d v h. refl })
+verb_at : (f : Format) → Tells (at_key (codes "do") (verb f)) any (At (codes "do") (IsVerb f))
+verb_at f = at_key_tells (codes "do") (verb f) any (IsVerb f) (record { sound = λ d v e pass. verb_sound f d v e; whole = verb_whole f; passes = λ d v h. refl })
+
+-- where the word stands, the format has it
+said : (f : Format) (d : Data) (v : Verb) → Does (word_of v) d → Allows f v → At (codes "do") (IsVerb f) d v
+said f d v does allows = (does.0, does.1, (does.2, allows))
 
 -- ---- the owner's bit
 
@@ -89,11 +128,11 @@ truth_at key = at_key_tells key truth any IsTruth truth_tells
 is_object : (keys : List (List ℕ)) (d : Data) → HasKeys keys d → some_object d ≡ Ok tt
 is_object keys d h = ap some_object h.1
 
-module _ (nodes : List (List ℕ)) where
+module _ (format : Format) (nodes : List (List ℕ)) where
   abbrev Known : EventEntry → Type 0
   Known e = is_known_event (length nodes) e ≡ true
 
-  put_sound : (d : Data) (e : EventEntry) → Does (codes "put") d → put_event (place_among nodes) d ≡ Ok e → Known e → IsEventOf nodes d e
+  put_sound : (d : Data) (e : EventEntry) → Does (codes "put") d → put_event (place_among nodes) d ≡ Ok e → Known e → IsEventOf format nodes d e
   put_sound d e does said known =
       let k = then_Ok (keyed put_keys d) _ e said in
       let n = then_Ok (at_key (codes "node") (reference (place_among nodes)) d) _ e k.2 in
@@ -105,9 +144,9 @@ module _ (nodes : List (List ℕ)) where
         at_node = (reference_at nodes (codes "node")).sound d n.0 n.1 (ap (is_known_event (length nodes)) same ∙ known);
         packet = (hex_at (codes "bytes")).sound d b.0 b.1 refl;
       } in
-      subst (IsEventOf nodes d) same here
+      subst (IsEventOf format nodes d) same here
 
-  move_sound : (d : Data) (e : EventEntry) → Does (codes "move") d → move_event d ≡ Ok e → IsEventOf nodes d e
+  move_sound : (d : Data) (e : EventEntry) → Does (codes "move") d → move_event d ≡ Ok e → IsEventOf format nodes d e
   move_sound d e does said =
       let k = then_Ok (keyed move_keys d) _ e said in
       let f = then_Ok (at_key (codes "flight") word d) _ e k.2 in
@@ -119,9 +158,9 @@ module _ (nodes : List (List ℕ)) where
         number = (number_at (codes "flight") 0 4294967295).sound d f.0 f.1 refl;
         kept = (truth_at (codes "keep")).sound d t.0 t.1 refl;
       } in
-      subst (IsEventOf nodes d) same here
+      subst (IsEventOf format nodes d) same here
 
-  lose_sound : (d : Data) (e : EventEntry) → Does (codes "lose") d → lose_event d ≡ Ok e → IsEventOf nodes d e
+  lose_sound : (d : Data) (e : EventEntry) → Does (codes "lose") d → lose_event d ≡ Ok e → IsEventOf format nodes d e
   lose_sound d e does said =
       let k = then_Ok (keyed lose_keys d) _ e said in
       let f = then_Ok (at_key (codes "flight") word d) _ e k.2 in
@@ -131,12 +170,12 @@ module _ (nodes : List (List ℕ)) where
         does = does;
         number = (number_at (codes "flight") 0 4294967295).sound d f.0 f.1 refl;
       } in
-      subst (IsEventOf nodes d) same here
+      subst (IsEventOf format nodes d) same here
 
   owner_sound : (d : Data) (n : ℕ) → at_key (codes "owner") (whole_number 0 1) d ≡ Ok n → At (codes "owner") IsBit d (n == 1)
   owner_sound d n e = let h = (number_at (codes "owner") 0 1).sound d n e refl in (h.0, h.1, bit_sound h.0 n h.2)
 
-  expire_sound : (d : Data) (e : EventEntry) → Does (codes "expire") d → expire_event (place_among nodes) d ≡ Ok e → Known e → IsEventOf nodes d e
+  expire_sound : (d : Data) (e : EventEntry) → Does (codes "expire") d → expire_event (place_among nodes) d ≡ Ok e → Known e → IsEventOf format nodes d e
   expire_sound d e does said known =
       let k = then_Ok (keyed expire_keys d) _ e said in
       let n = then_Ok (at_key (codes "node") (reference (place_among nodes)) d) _ e k.2 in
@@ -152,9 +191,9 @@ module _ (nodes : List (List ℕ)) where
         tagged = (number_at (codes "tag") 0 7).sound d t.0 t.1 refl;
         owned = owner_sound d o.0 o.1;
       } in
-      subst (IsEventOf nodes d) same here
+      subst (IsEventOf format nodes d) same here
 
-  answer_sound : (d : Data) (e : EventEntry) → Does (codes "answer") d → answer_event (place_among nodes) d ≡ Ok e → Known e → IsEventOf nodes d e
+  answer_sound : (d : Data) (e : EventEntry) → Does (codes "answer") d → answer_event (place_among nodes) d ≡ Ok e → Known e → IsEventOf format nodes d e
   answer_sound d e does said known =
       let k = then_Ok (keyed answer_keys d) _ e said in
       let n = then_Ok (at_key (codes "node") (reference (place_among nodes)) d) _ e k.2 in
@@ -164,65 +203,84 @@ module _ (nodes : List (List ℕ)) where
         does = does;
         at_node = (reference_at nodes (codes "node")).sound d n.0 n.1 (ap (is_known_event (length nodes)) same ∙ known);
       } in
-      subst (IsEventOf nodes d) same here
+      subst (IsEventOf format nodes d) same here
 
-  of_sound : (v : Verb) (d : Data) (e : EventEntry) → At (codes "do") IsVerb d v → event_of v (place_among nodes) d ≡ Ok e → Known e → IsEventOf nodes d e
-  of_sound Put d e does said known = put_sound d e does said known
-  of_sound Move d e does said known = move_sound d e does said
-  of_sound Lose d e does said known = lose_sound d e does said
-  of_sound Expire d e does said known = expire_sound d e does said known
-  of_sound Answer d e does said known = answer_sound d e does said known
+  switch_event_sound : (d : Data) (e : EventEntry) → format ≡ Two → Does (codes "switch") d → switch_event (place_among nodes) d ≡ Ok e → Known e → IsEventOf format nodes d e
+  switch_event_sound d e second does said known =
+      let k = then_Ok (keyed switch_keys d) _ e said in
+      let n = then_Ok (at_key (codes "node") (reference (place_among nodes)) d) _ e k.2 in
+      let same : switch n.0 ≡ e = same_Ok n.2 in
+      let here : IsSwitchOf format nodes d n.0 = record {
+        second = second;
+        keys = keys_sound switch_keys d k.0 k.1;
+        does = does;
+        at_node = (reference_at nodes (codes "node")).sound d n.0 n.1 (ap (is_known_event (length nodes)) same ∙ known);
+      } in
+      subst (IsEventOf format nodes d) same here
 
-  event_sound : (d : Data) (e : EventEntry) → event (place_among nodes) d ≡ Ok e → Known e → IsEventOf nodes d e
+  of_sound : (v : Verb) (d : Data) (e : EventEntry) → Does (word_of v) d → Allows format v → event_of v (place_among nodes) d ≡ Ok e → Known e → IsEventOf format nodes d e
+  of_sound Put d e does allows said known = put_sound d e does said known
+  of_sound Move d e does allows said known = move_sound d e does said
+  of_sound Lose d e does allows said known = lose_sound d e does said
+  of_sound Expire d e does allows said known = expire_sound d e does said known
+  of_sound Answer d e does allows said known = answer_sound d e does said known
+  of_sound Switch d e does allows said known = switch_event_sound d e allows does said known
+
+  event_sound : (d : Data) (e : EventEntry) → event format (place_among nodes) d ≡ Ok e → Known e → IsEventOf format nodes d e
   unfolding event
   event_sound d e said known =
       let o = then_Ok (some_object d) _ e said in
-      let v = then_Ok (at_key (codes "do") verb d) _ e o.2 in
-      of_sound v.0 d e (verb_at.sound d v.0 v.1 refl) v.2 known
+      let v = then_Ok (at_key (codes "do") (verb format) d) _ e o.2 in
+      let h = (verb_at format).sound d v.0 v.1 refl in
+      of_sound v.0 d e (h.0, h.1, h.2.0) h.2.1 v.2 known
 
-  event_whole : (d : Data) (e : EventEntry) → IsEventOf nodes d e → event (place_among nodes) d ≡ Ok e
+  event_whole : (d : Data) (e : EventEntry) → IsEventOf format nodes d e → event format (place_among nodes) d ≡ Ok e
   unfolding event
   event_whole d (put node bytes) h =
-      rw (is_object put_keys d h.keys, verb_at.whole d Put h.does, keys_whole put_keys d h.keys, (reference_at nodes (codes "node")).whole d node h.at_node, (hex_at (codes "bytes")).whole d bytes h.packet) refl
+      rw (is_object put_keys d h.keys, (verb_at format).whole d Put (said format d Put h.does tt), keys_whole put_keys d h.keys, (reference_at nodes (codes "node")).whole d node h.at_node, (hex_at (codes "bytes")).whole d bytes h.packet) refl
   event_whole d (move flight keep) h =
-      rw (is_object move_keys d h.keys, verb_at.whole d Move h.does, keys_whole move_keys d h.keys, (number_at (codes "flight") 0 4294967295).whole d flight h.number, (truth_at (codes "keep")).whole d keep h.kept) refl
+      rw (is_object move_keys d h.keys, (verb_at format).whole d Move (said format d Move h.does tt), keys_whole move_keys d h.keys, (number_at (codes "flight") 0 4294967295).whole d flight h.number, (truth_at (codes "keep")).whole d keep h.kept) refl
   event_whole d (lose flight) h =
-      rw (is_object lose_keys d h.keys, verb_at.whole d Lose h.does, keys_whole lose_keys d h.keys, (number_at (codes "flight") 0 4294967295).whole d flight h.number) refl
+      rw (is_object lose_keys d h.keys, (verb_at format).whole d Lose (said format d Lose h.does tt), keys_whole lose_keys d h.keys, (number_at (codes "flight") 0 4294967295).whole d flight h.number) refl
   event_whole d (expire node source tag owner) h =
       let o = (number_at (codes "owner") 0 1).whole d (bit owner) (h.owned.0, h.owned.1, bit_within h.owned.0 owner h.owned.2) in
-      rw (is_object expire_keys d h.keys, verb_at.whole d Expire h.does, keys_whole expire_keys d h.keys, (reference_at nodes (codes "node")).whole d node h.at_node, (number_at (codes "source") 0 255).whole d source h.from, (number_at (codes "tag") 0 7).whole d tag h.tagged, o)
+      rw (is_object expire_keys d h.keys, (verb_at format).whole d Expire (said format d Expire h.does tt), keys_whole expire_keys d h.keys, (reference_at nodes (codes "node")).whole d node h.at_node, (number_at (codes "source") 0 255).whole d source h.from, (number_at (codes "tag") 0 7).whole d tag h.tagged, o)
       (ap (λ b. Ok (expire node source tag b)) (bit_back owner))
   event_whole d (answer node) h =
-      rw (is_object answer_keys d h.keys, verb_at.whole d Answer h.does, keys_whole answer_keys d h.keys, (reference_at nodes (codes "node")).whole d node h.at_node) refl
+      rw (is_object answer_keys d h.keys, (verb_at format).whole d Answer (said format d Answer h.does tt), keys_whole answer_keys d h.keys, (reference_at nodes (codes "node")).whole d node h.at_node) refl
+  event_whole d (switch node) h =
+      rw (is_object switch_keys d h.keys, (verb_at format).whole d Switch (said format d Switch h.does h.second), keys_whole switch_keys d h.keys, (reference_at nodes (codes "node")).whole d node h.at_node) refl
 
-  event_passes : (d : Data) (e : EventEntry) → IsEventOf nodes d e → Known e
+  event_passes : (d : Data) (e : EventEntry) → IsEventOf format nodes d e → Known e
   event_passes d (put node bytes) h = (reference_at nodes (codes "node")).passes d node h.at_node
   event_passes d (move flight keep) h = refl
   event_passes d (lose flight) h = refl
   event_passes d (expire node source tag owner) h = (reference_at nodes (codes "node")).passes d node h.at_node
   event_passes d (answer node) h = (reference_at nodes (codes "node")).passes d node h.at_node
+  event_passes d (switch node) h = (reference_at nodes (codes "node")).passes d node h.at_node
 
-  list_at : Tells (at_key (codes "events") (list_within 100000 (event (place_among nodes)))) (list_all (is_known_event (length nodes))) (At (codes "events") (IsShortListOf 100000 (IsEventOf nodes)))
-  list_at = at_key_tells (codes "events") (list_within 100000 (event (place_among nodes))) (list_all (is_known_event (length nodes))) (IsShortListOf 100000 (IsEventOf nodes))
-      (within_tells (event (place_among nodes)) (is_known_event (length nodes)) (IsEventOf nodes) (record { sound = event_sound; whole = event_whole; passes = event_passes }) 100000)
+  list_at : Tells (at_key (codes "events") (list_within 100000 (event format (place_among nodes)))) (list_all (is_known_event (length nodes))) (At (codes "events") (IsShortListOf 100000 (IsEventOf format nodes)))
+  list_at = at_key_tells (codes "events") (list_within 100000 (event format (place_among nodes))) (list_all (is_known_event (length nodes))) (IsShortListOf 100000 (IsEventOf format nodes))
+      (within_tells (event format (place_among nodes)) (is_known_event (length nodes)) (IsEventOf format nodes) (record { sound = event_sound; whole = event_whole; passes = event_passes }) 100000)
 
 events_sound : (p : PlanValue) (d : Data) (es : List EventEntry) → events (node_names p.nodes) d ≡ Ok es → AreEventsOf p d es
 events_sound p d es e =
     let nodes = node_names p.nodes in
     let k = then_Ok (keyed events_keys d) _ es e in
-    let f = then_Ok (at_key (codes "format") (whole_number 1 1) d) _ es k.2 in
-    let l = then_Ok (at_key (codes "events") (list_within 100000 (event (place_among nodes))) d) _ es f.2 in
+    let f = then_Ok (at_key (codes "format") format d) _ es k.2 in
+    let l = then_Ok (at_key (codes "events") (list_within 100000 (event f.0 (place_among nodes))) d) _ es f.2 in
     let u = then_Ok (demand UnknownName (list_all (is_known_event (length nodes)) l.0)) _ es l.2 in
     subst (AreEventsOf p d) (same_Ok u.2) (record {
       keys = keys_sound events_keys d k.0 k.1;
-      format = format_sound d f.0 f.1;
-      events = (list_at nodes).sound d l.0 l.1 (demanded UnknownName (list_all (is_known_event (length nodes)) l.0) u.0 u.1);
+      format = f.0;
+      numbered = format_at.sound d f.0 f.1 refl;
+      events = (list_at f.0 nodes).sound d l.0 l.1 (demanded UnknownName (list_all (is_known_event (length nodes)) l.0) u.0 u.1);
     })
 
 events_whole : (p : PlanValue) (d : Data) (es : List EventEntry) → AreEventsOf p d es → events (node_names p.nodes) d ≡ Ok es
 events_whole p d es h =
     let nodes = node_names p.nodes in
-    rw (keys_whole events_keys d h.keys, format_whole d h.format, (list_at nodes).whole d es h.events, (list_at nodes).passes d es h.events) refl
+    rw (keys_whole events_keys d h.keys, format_at.whole d h.format h.numbered, (list_at h.format nodes).whole d es h.events, (list_at h.format nodes).passes d es h.events) refl
 
 pub events_tells : (p : PlanValue) → Tells (events (node_names p.nodes)) any (AreEventsOf p)
 events_tells p = record { sound = λ d es e pass. events_sound p d es e; whole = events_whole p; passes = λ d es h. refl }
@@ -231,7 +289,7 @@ events_tells p = record { sound = λ d es e pass. events_sound p d es e; whole =
 pub events_known : (nodes : List (List ℕ)) (d : Data) (es : List EventEntry) → events nodes d ≡ Ok es → list_all (is_known_event (length nodes)) es ≡ true
 events_known nodes d es e =
     let k = then_Ok (keyed events_keys d) _ es e in
-    let f = then_Ok (at_key (codes "format") (whole_number 1 1) d) _ es k.2 in
-    let l = then_Ok (at_key (codes "events") (list_within 100000 (event (place_among nodes))) d) _ es f.2 in
+    let f = then_Ok (at_key (codes "format") format d) _ es k.2 in
+    let l = then_Ok (at_key (codes "events") (list_within 100000 (event f.0 (place_among nodes))) d) _ es f.2 in
     let u = then_Ok (demand UnknownName (list_all (is_known_event (length nodes)) l.0)) _ es l.2 in
     ap (list_all (is_known_event (length nodes))) (sym (same_Ok u.2)) ∙ demanded UnknownName (list_all (is_known_event (length nodes)) l.0) u.0 u.1

@@ -3,25 +3,39 @@ use Rattle.std.specs.Prelude.{ℕ, ◌==◌, codes, List, length, if◌then◌el
 use Rattle.std.specs.List.{list_all}
 use Rattle.std.specs.Str.{bytes_eq}
 use Rattle.serde_json.specs.Data.{Data, string}
-use Rattle.net_plan.specs.EventValues.{EventEntry, put, move, lose, expire, answer, is_known_event}
+use Rattle.net_plan.specs.EventValues.{EventEntry, put, move, lose, expire, answer, switch, is_known_event}
 use Rattle.net_plan.specs.Json.{keyed, some_object, at_key, list_within, demand, reference, whole_number, truth, hex_text}
-use Rattle.net_plan.specs.Keys.{events_keys, put_keys, move_keys, lose_keys, expire_keys, answer_keys}
+use Rattle.net_plan.specs.Keys.{events_keys, put_keys, move_keys, lose_keys, expire_keys, answer_keys, switch_keys}
 use Rattle.net_plan.specs.Names.{place_among}
 use Rattle.net_plan.specs.PlanReading.{byte, word}
 use Rattle.net_plan.specs.Reading.{then_with}
 use Rattle.net_plan.specs.declared.error.Fault.{Fault}
 use Rattle.net_plan.specs.declared.error.Fault.TheVariants.{WrongKind, OutOfRange, UnknownName}
+use Rattle.net_plan.specs.declared.event_text.Format.{Format}
+use Rattle.net_plan.specs.declared.event_text.Format.TheVariants.{One, Two}
 use Rattle.net_plan.specs.declared.event_text.Verb.{Verb}
-use Rattle.net_plan.specs.declared.event_text.Verb.TheVariants.{Put, Move, Lose, Expire, Answer}
+use Rattle.net_plan.specs.declared.event_text.Verb.TheVariants.{Put, Move, Lose, Expire, Answer, Switch}
 
-abbrev pub verb_of : List ℕ → Result Verb Fault
-verb_of s = if bytes_eq s (codes "put") then Ok Put else (if bytes_eq s (codes "move") then Ok Move else (if bytes_eq s (codes "lose") then Ok Lose
-    else (if bytes_eq s (codes "expire") then Ok Expire else (if bytes_eq s (codes "answer") then Ok Answer else Err OutOfRange))))
+abbrev pub format_of : ℕ → Format
+format_of n = if n == 2 then Two else One
+
+-- the format of a list of events, 1 or 2
+abbrev pub format : Data → Result Format Fault
+format d = then_with (whole_number 1 2 d) (λ n. Ok (format_of n))
+
+-- `switch` is a word of format 2 alone
+abbrev pub switch_in : Format → Result Verb Fault
+switch_in One = Err OutOfRange
+switch_in Two = Ok Switch
+
+abbrev pub verb_of : Format → List ℕ → Result Verb Fault
+verb_of f s = if bytes_eq s (codes "put") then Ok Put else (if bytes_eq s (codes "move") then Ok Move else (if bytes_eq s (codes "lose") then Ok Lose
+    else (if bytes_eq s (codes "expire") then Ok Expire else (if bytes_eq s (codes "answer") then Ok Answer else (if bytes_eq s (codes "switch") then switch_in f else Err OutOfRange)))))
 
 -- what happens
-abbrev pub verb : Data → Result Verb Fault
-verb (string s) = verb_of s
-verb _ = Err WrongKind
+abbrev pub verb : Format → Data → Result Verb Fault
+verb f (string s) = verb_of f s
+verb f _ = Err WrongKind
 
 abbrev pub put_event : (List ℕ → ℕ) → Data → Result EventEntry Fault
 put_event find d = then_with (keyed put_keys d) (λ _. then_with (at_key (codes "node") (reference find) d) (λ n. then_with (at_key (codes "bytes") hex_text d) (λ b. Ok (put n b))))
@@ -39,18 +53,22 @@ expire_event find d = then_with (keyed expire_keys d) (λ _. then_with (at_key (
 abbrev pub answer_event : (List ℕ → ℕ) → Data → Result EventEntry Fault
 answer_event find d = then_with (keyed answer_keys d) (λ _. then_with (at_key (codes "node") (reference find) d) (λ n. Ok (answer n)))
 
+abbrev pub switch_event : (List ℕ → ℕ) → Data → Result EventEntry Fault
+switch_event find d = then_with (keyed switch_keys d) (λ _. then_with (at_key (codes "node") (reference find) d) (λ n. Ok (switch n)))
+
 abbrev pub event_of : Verb → (List ℕ → ℕ) → Data → Result EventEntry Fault
 event_of Put find d = put_event find d
 event_of Move find d = move_event d
 event_of Lose find d = lose_event d
 event_of Expire find d = expire_event find d
 event_of Answer find d = answer_event find d
+event_of Switch find d = switch_event find d
 
 -- an event: what happens is read before its other keys
-unfoldable pub event : (List ℕ → ℕ) → Data → Result EventEntry Fault
-event find d = then_with (some_object d) (λ _. then_with (at_key (codes "do") verb d) (λ v. event_of v find d))
+unfoldable pub event : Format → (List ℕ → ℕ) → Data → Result EventEntry Fault
+event f find d = then_with (some_object d) (λ _. then_with (at_key (codes "do") (verb f) d) (λ v. event_of v find d))
 
 abbrev pub events : List (List ℕ) → Data → Result (List EventEntry) Fault
-events nodes d = then_with (keyed events_keys d) (λ _. then_with (at_key (codes "format") (whole_number 1 1) d) (λ _.
-    then_with (at_key (codes "events") (list_within 100000 (event (place_among nodes))) d) (λ es.
+events nodes d = then_with (keyed events_keys d) (λ _. then_with (at_key (codes "format") format d) (λ f.
+    then_with (at_key (codes "events") (list_within 100000 (event f (place_among nodes))) d) (λ es.
     then_with (demand UnknownName (list_all (is_known_event (length nodes)) es)) (λ _. Ok es))))

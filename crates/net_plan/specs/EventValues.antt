@@ -1,7 +1,7 @@
 -- Events as plain lists and numbers.
 use Rattle.std.specs.Prelude.{ℕ, Bool, true, List, nat_lt}
 use Rattle.net_plan.specs.declared.event.Event.{Event}
-use Rattle.net_plan.specs.declared.event.Event.TheVariants.{Put, Move, Lose, Expire, Answer}
+use Rattle.net_plan.specs.declared.event.Event.TheVariants.{Put, Move, Lose, Expire, Answer, Switch}
 
 -- an entry of a list of events; nodes are places in the plan's list
 pub data EventEntry : Type 0 where
@@ -15,6 +15,8 @@ pub data EventEntry : Type 0 where
   expire : ℕ → ℕ → ℕ → Bool → EventEntry
   -- the node
   answer : ℕ → EventEntry
+  -- the node
+  switch : ℕ → EventEntry
 
 abbrev pub event_entry : Event → EventEntry
 event_entry (Put node bytes) = put node bytes.items
@@ -22,6 +24,7 @@ event_entry (Move flight keep) = move flight keep
 event_entry (Lose flight) = lose flight
 event_entry (Expire node key) = expire node key.source.value key.tag.value key.owner
 event_entry (Answer node) = answer node
+event_entry (Switch node) = switch node
 
 -- the event's node is one of so many
 abbrev pub is_known_event : ℕ → EventEntry → Bool
@@ -30,3 +33,4 @@ is_known_event nodes (move flight keep) = true
 is_known_event nodes (lose flight) = true
 is_known_event nodes (expire node source tag owner) = nat_lt node nodes
 is_known_event nodes (answer node) = nat_lt node nodes
+is_known_event nodes (switch node) = nat_lt node nodes

@@ -57,3 +57,6 @@ expire_keys = codes "do" ∷ codes "node" ∷ codes "source" ∷ codes "tag" ∷
 
 abbrev pub answer_keys : List (List ℕ)
 answer_keys = codes "do" ∷ codes "node" ∷ []
+
+abbrev pub switch_keys : List (List ℕ)
+switch_keys = codes "do" ∷ codes "node" ∷ []

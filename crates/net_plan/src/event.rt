@@ -14,4 +14,6 @@ pub enum Event {
     Expire { node: usize, key: Key },
     /// The terminus of a node answers the oldest request that waits there.
     Answer { node: usize },
+    /// A node forwards by the rows of the new plan from now on.
+    Switch { node: usize },
 }

@@ -1,5 +1,5 @@
 -- Termini dealt one after another.
-use Rattle.std.proofs.Common.{◌≡◌, All, ◌⊎◌, ℕ, zero, suc, ◌+◌, ◌<◌, ◌≤◌, List, [], ◌∷◌, ◌++◌, length, map, drop, get_or, Option, Some, None, refl, sym, ◌∙◌, ap, subst, arith, inl, inr}
+use Rattle.std.proofs.Common.{◌≡◌, All, ◌⊎◌, ℕ, false, zero, suc, ◌+◌, ◌<◌, ◌≤◌, List, [], ◌∷◌, ◌++◌, length, map, drop, get_or, Option, Some, None, refl, sym, ◌∙◌, ap, subst, arith, inl, inr}
 use Rattle.std.specs.Prelude.{slice_get}
 use Rattle.std.specs.List.{filter_map, range_with_len}
 use Rattle.std.proofs.lemmas.Option.{slice_get_past, slice_get_within, get_or_from_slice_get, none-some}
@@ -14,6 +14,7 @@ use Rattle.net_check.specs.Repositories.{records_by_place}
 use Rattle.net_check.specs.Termini.{TerminusState, terminus_at_start}
 use Rattle.net_check.specs.States.{Flight, at_start}
 use Rattle.net_sim.specs.Flights.{flight_at}
+use Rattle.net_sim.specs.Routers.{has_switched}
 use Rattle.net_sim.specs.Standing.{NetworkValue, StandsFor, at_place}
 use Rattle.net_sim.specs.Dealing.{dealt_to, left_by, dealt, planned_termini}
 
@@ -111,12 +112,13 @@ dealt_planned plan cert n =
 
 pub stands_at_start : (plan : Plan) (cert : Certificate) (v : NetworkValue) → v.flights ≡ None ∷ []
     → ((n : ℕ) (a : Assembler) → slice_get v.assemblers n ≡ Some a → assembly.StandsFor a []) → v.termini ≡ dealt plan.nodes.items (planned_termini plan cert)
-    → StandsFor v (at_start plan cert)
-stands_at_start plan cert v flights idle termini = record {
+    → ((n : ℕ) → has_switched v.switched n ≡ false) → StandsFor v (at_start plan cert)
+stands_at_start plan cert v flights idle termini unswitched = record {
   flights = λ number. no_flight number ∙ ap (λ fs. flight_at fs number) (sym flights);
   made = ap length (sym flights);
   histories = idle;
   termini = λ n. sym (ap (λ ts. at_place ts n) termini ∙ dealt_planned plan cert n);
+  switched = λ n. sym (unswitched n);
 }
   where
     no_flight : (number : ℕ) → None ≡ flight_at (None ∷ []) number

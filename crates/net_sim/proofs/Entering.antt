@@ -33,6 +33,7 @@ same_terminus u w node o is s = record {
   flights = s.flights;
   made = s.made;
   histories = s.histories;
+  switched = s.switched;
   termini = λ n. elim (eqb_tells n node) [
     | inl same ↦ (
         let h : cond (eqb n node) o (w.terminus n) ≡ at_place u.termini n = s.termini n in
@@ -48,9 +49,10 @@ same_terminus u w node o is s = record {
 module _ (v u : NetworkValue) (number : ℕ) (f : Flight) (a b : Assembler) (key : KeyValue) (of_key : key ≡ key_of f.packet) (within : f.node < length v.assemblers)
     (here : slice_get v.assemblers f.node ≡ Some a)
     (stands : (h : History) → assembly.StandsFor a h → assembly.StandsFor b (after h (Arrived f.packet)))
-    (flights : u.flights ≡ v.flights) (assemblers : u.assemblers ≡ slice_set v.assemblers f.node b) where
+    (flights : u.flights ≡ v.flights) (assemblers : u.assemblers ≡ slice_set v.assemblers f.node b)
+    (switched : u.switched ≡ v.switched) where
   heard_stands : (w : NetworkState) → StandsFor v w → u.termini ≡ v.termini → StandsFor u (with_input w f.node (Arrived f.packet))
-  heard_stands w s termini = input_stands v u w s f.node b (Arrived f.packet) within (stands (w.history f.node) (s.histories f.node a here)) flights assemblers termini
+  heard_stands w s termini = input_stands v u w s f.node b (Arrived f.packet) within (stands (w.history f.node) (s.histories f.node a here)) flights assemblers termini switched
 
   pub receives_held : ((h : History) → assembly.StandsFor a h → Hears slots limit h f.packet Held) → u.termini ≡ v.termini → Receives v number f (Entered number f.node key Held) u
   receives_held hears termini w s = (
@@ -81,7 +83,7 @@ module _ (v u : NetworkValue) (number : ℕ) (f : Flight) (a b : Assembler) (key
       middle = record v { assemblers = slice_set v.assemblers f.node b }
 
       given : StandsFor middle (with_input w f.node (Arrived f.packet))
-      given = input_stands v middle w s f.node b (Arrived f.packet) within (stands (w.history f.node) (s.histories f.node a here)) refl refl refl
+      given = input_stands v middle w s f.node b (Arrived f.packet) within (stands (w.history f.node) (s.histories f.node a here)) refl refl refl refl
 
       was : w.terminus f.node ≡ o
       was = s.termini f.node ∙ ap (λ (x : Option (Option TerminusState)). option_and_then (λ (t : Option TerminusState). t) x) there
@@ -99,13 +101,13 @@ module _ (v u : NetworkValue) (number : ℕ) (f : Flight) (a b : Assembler) (key
           → StandsFor u (cond key.owner (with_terminus entered f.node (waits (w.terminus f.node))) entered)
       by true owned now =
           let now' : u.termini ≡ slice_set v.termini f.node (waits o) = now ∙ ap (λ b. slice_set v.termini f.node (cond b (waits o) o)) owned in
-          let s' : StandsFor u (with_terminus entered f.node (waits o)) = terminus_stands middle u entered given f.node (waits o) short flights assemblers now' in
+          let s' : StandsFor u (with_terminus entered f.node (waits o)) = terminus_stands middle u entered given f.node (waits o) short flights assemblers now' switched in
           let s'' : StandsFor u (with_terminus entered f.node (waits (w.terminus f.node))) =
           subst (λ (t : Option TerminusState). StandsFor u (with_terminus entered f.node (waits t))) (sym was) s' in
           subst (λ b. StandsFor u (cond b (with_terminus entered f.node (waits (w.terminus f.node))) entered)) (sym owned) s''
       by false owned now =
           let now' : u.termini ≡ slice_set v.termini f.node o = now ∙ ap (λ b. slice_set v.termini f.node (cond b (waits o) o)) owned in
-          let s' : StandsFor u (with_terminus entered f.node o) = terminus_stands middle u entered given f.node o short flights assemblers now' in
+          let s' : StandsFor u (with_terminus entered f.node o) = terminus_stands middle u entered given f.node o short flights assemblers now' switched in
           subst (λ b. StandsFor u (cond b (with_terminus entered f.node (waits (w.terminus f.node))) entered)) (sym owned) (same_terminus u entered f.node o was s')
 
 -- the terminus of a node after a message has come there

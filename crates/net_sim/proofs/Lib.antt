@@ -12,6 +12,7 @@ pub mod Tabled
 pub mod Slots
 pub mod Changes
 pub mod Losing
+pub mod Switching
 pub mod Putting
 pub mod Expiring
 pub mod Entering

@@ -1,7 +1,8 @@
 -- The rows of an accepted plan make routing tables, node after node.
-use Rattle.std.proofs.Common.{◌≡◌, ℕ, ◌+◌, List, [], ◌∷◌, ◌++◌, length, map, Option, Some, None, refl, sym, ap, subst, inl, inr, arith}
+use Rattle.std.proofs.Common.{◌≡◌, ℕ, zero, suc, ◌+◌, ◌<◌, Bool, true, false, List, [], ◌∷◌, ◌++◌, length, map, replicate, Option, Some, None, refl, sym, ◌∙◌, ap, subst, inl, inr, arith}
 use Rattle.std.specs.Prelude.{slice_get, option_map, unwrap_or}
 use Rattle.std.proofs.lemmas.List.{length_push}
+use Rattle.std.proofs.lemmas.Option.{slice_get_within}
 use Rattle.mctp_bridge.specs.declared.row.Row as bridge
 use Rattle.mctp_bridge.specs.Rows.{HasSameRoutes}
 use Rattle.net_plan.specs.declared.plan.Plan.{Plan}
@@ -10,23 +11,31 @@ use Rattle.net_plan.specs.declared.nodes.Row.{Row}
 use Rattle.net_plan.specs.declared.certificate.Certificate.{Certificate}
 use Rattle.net_check.specs.declared.rule.Rule.TheVariants.{C04, C05}
 use Rattle.net_check.specs.Routing.{rows_of}
-use Rattle.net_check.specs.Rules.{Accepts}
+use Rattle.net_check.specs.TwoPlans.{rows_by}
+use Rattle.net_check.specs.Rules.{RuleHolds}
+use Rattle.net_check.specs.MoveRules.{Before, After, AcceptsMove}
 use Rattle.net_check.specs.Tables.{AreRows, table_row}
 use Rattle.net_check.proofs.Elements.{in_push}
+use Rattle.net_sim.specs.Accepted.{AreAccepted}
+use Rattle.net_sim.specs.Routers.{HasLawfulRows, AreTabled, AreTabledAfter, has_switched}
+use Rattle.net_sim.proofs.Deciding.{same_count}
 
 -- the rows of a node of the plan
 pub rows_at : (plan : Plan) (n : ℕ) (node : Node) → slice_get plan.nodes.items n ≡ Some node → rows_of plan n ≡ node.rows.items
 rows_at plan n node here = ap (λ (o : Option Node). unwrap_or (option_map (λ (m : Node). m.rows.items) o) []) here
 
-pub are_rows : (plan : Plan) (cert : Certificate) (n : ℕ) (node : Node) → Accepts plan cert → slice_get plan.nodes.items n ≡ Some node → AreRows node.rows.items
-are_rows plan cert n node accepted here =
+-- by C04 and C05 they make a routing table
+are_rows : (plan : Plan) (cert : Certificate) → RuleHolds plan cert C04 → RuleHolds plan cert C05 → HasLawfulRows plan
+are_rows plan cert ranges parts n node here =
     let P : List Row → Type 0 = AreRows in
-    subst P (rows_at plan n node here) (λ r row is. ((accepted C05 n (Some r) None).0 row is, (accepted C04 n (Some r) None).0 row is))
+    subst P (rows_at plan n node here) (λ r row is. ((parts n (Some r) None).0 row is, (ranges n (Some r) None).0 row is))
 
--- so many nodes have their tables
-pub record AreTabled (plan : Plan) (count : ℕ) (tables : List (List bridge.Row)) : Type 0 where
-  pub as_many : length tables ≡ count
-  pub same : (n : ℕ) (table : List bridge.Row) → slice_get tables n ≡ Some table → HasSameRoutes (map table_row (rows_of plan n)) table
+pub are_rows_before : (plan : Plan) (after : Option Plan) (cert : Certificate) → AreAccepted plan after cert → HasLawfulRows plan
+are_rows_before plan None cert accepted = are_rows plan cert (accepted C04) (accepted C05)
+are_rows_before plan (Some after) cert accepted = are_rows plan cert (accepted (Before C04)) (accepted (Before C05))
+
+pub are_rows_after : (plan after : Plan) (cert : Certificate) → AcceptsMove plan after cert → HasLawfulRows after
+are_rows_after plan after cert accepted = are_rows after cert (accepted (After C04)) (accepted (After C05))
 
 pub none_tabled : (plan : Plan) → AreTabled plan 0 []
 none_tabled plan = record { as_many = refl; same = λ n table is. absurd (cc) }
@@ -43,3 +52,38 @@ more_tabled plan count tables node table before here routes = record {
         subst (λ (t : List bridge.Row). HasSameRoutes (map table_row (rows_of plan n)) t) equal (subst (λ k. HasSameRoutes (map table_row (rows_of plan k)) table) place rows))
   ];
 }
+
+-- a node that has not switched goes by the rows of the plan before
+pub routes_before : (plan : Plan) (after : Option Plan) (switched : Bool) → switched ≡ false → (tables : List (List bridge.Row)) (count n : ℕ) (table : List bridge.Row)
+    → AreTabled plan count tables → slice_get tables n ≡ Some table → HasSameRoutes (map table_row (rows_by plan after switched n)) table
+routes_before plan None switched not tables count n table are there = are.same n table there
+routes_before plan (Some after) false not tables count n table are there = are.same n table there
+routes_before plan (Some after) true not tables count n table are there = absurd (cc)
+
+-- one that has switched goes by those of the plan after
+pub routes_after : (plan : Plan) (after : Option Plan) (switched : Bool) → switched ≡ true → (tables : List (List bridge.Row)) (n : ℕ) (table : List bridge.Row)
+    → AreTabledAfter plan after tables → slice_get tables n ≡ Some table → HasSameRoutes (map table_row (rows_by plan after switched n)) table
+routes_after plan None switched is tables n table none there = absurd (omega (arith, slice_get_within tables n table there, none))
+routes_after plan (Some after) true is tables n table are there = are.same n table there
+routes_after plan (Some after) false is tables n table are there = absurd (cc)
+
+-- a node that has switched has a mark
+pub marked_within : (marks : List Bool) (n : ℕ) → has_switched marks n ≡ true → n < length marks
+marked_within marks n is = by (slice_get marks n) refl is
+  where
+    by : (mark : Option Bool) → slice_get marks n ≡ mark → unwrap_or mark false ≡ true → n < length marks
+    by None at switched = absurd (cc)
+    by (Some mark) at switched = slice_get_within marks n mark at
+
+-- no node is marked at first
+pub none_marked : (count n : ℕ) → has_switched (replicate count false) n ≡ false
+none_marked zero zero = refl
+none_marked zero (suc n) = refl
+none_marked (suc count) zero = refl
+none_marked (suc count) (suc n) = none_marked count n
+
+-- the tables of the plan after
+pub tabled_after : (plan after : Plan) (cert : Certificate) (other : Option Plan) → Some after ≡ other → AcceptsMove plan after cert → (tables : List (List bridge.Row))
+    → AreTabled after (length after.nodes.items) tables → AreTabledAfter plan other tables
+tabled_after plan after cert other same accepted tables are =
+    subst (λ (o : Option Plan). AreTabledAfter plan o tables) same (record { as_many = are.as_many ∙ sym (same_count plan after cert accepted); same = are.same })

@@ -5,6 +5,7 @@ use Rattle.mctp_transport.specs.Frames.{KeyValue}
 use Rattle.mctp_transport.specs.Hearing.{Whole}
 use Rattle.net_plan.specs.declared.plan.Plan.{Plan}
 use Rattle.net_check.specs.Routing.{Holds}
+use Rattle.net_check.specs.TwoPlans.{Tables}
 use Rattle.net_check.specs.States.{NetworkState}
 use Rattle.net_check.specs.Events.{EventValue, OutcomeValue, Entered}
 use Rattle.net_check.specs.ExactMessages.{Epoch, IsQuiet, IsTidyFrom}
@@ -20,13 +21,13 @@ TellWhatWasSent unit plan key d outcomes epochs = (i number n : ℕ) (message : 
 
 -- Where a key is quiet for d at first, and the turns of the run are tidy in epochs, one for each turn, the outcomes tell
 -- what was sent.
-abbrev pub IsToldAsSent : (unit : ℕ) {plan : Plan} {w : NetworkState} {events : List EventValue} {outcomes : List OutcomeValue} {new : NetworkValue}
-    → IsRunOf plan w events outcomes new → Type 0
-IsToldAsSent unit {plan} {w} {events} {outcomes} run = (key : KeyValue) (d : ℕ) (first : Epoch) (epochs : List Epoch) → length epochs ≡ length outcomes
-    → IsQuiet plan w key d → IsTidyFrom unit plan key d w first (zip run.turns epochs) → TellWhatWasSent unit plan key d outcomes epochs
+abbrev pub IsToldAsSent : (unit : ℕ) {tables : Tables} {w : NetworkState} {events : List EventValue} {outcomes : List OutcomeValue} {new : NetworkValue}
+    → IsRunOf tables w events outcomes new → Type 0
+IsToldAsSent unit {tables} {w} {events} {outcomes} run = (key : KeyValue) (d : ℕ) (first : Epoch) (epochs : List Epoch) → length epochs ≡ length outcomes
+    → IsQuiet tables.plan w key d → IsTidyFrom unit tables.plan key d w first (zip run.turns epochs) → TellWhatWasSent unit tables.plan key d outcomes epochs
 
 -- From every state that the network stood for, these events with these outcomes are the turns of a run, and each such run
 -- is told as what was sent.
-abbrev pub PlaysAsSent : (unit : ℕ) → Plan → NetworkValue → List EventValue → List OutcomeValue → NetworkValue → Type 0
-PlaysAsSent unit plan old events outcomes new = (w : NetworkState) → StandsFor old w
-    → IsRunOf plan w events outcomes new × ((run : IsRunOf plan w events outcomes new) → IsToldAsSent unit run)
+abbrev pub PlaysAsSent : (unit : ℕ) → Tables → NetworkValue → List EventValue → List OutcomeValue → NetworkValue → Type 0
+PlaysAsSent unit tables old events outcomes new = (w : NetworkState) → StandsFor old w
+    → IsRunOf tables w events outcomes new × ((run : IsRunOf tables w events outcomes new) → IsToldAsSent unit run)

@@ -1,22 +1,59 @@
--- Routing tables of a plan's nodes, and what going on by them keeps.
-use Rattle.std.specs.Prelude.{◌≡◌, ℕ, ◌<◌, List, length, map, slice_get, Some}
+-- Routing tables of a network's nodes, and what going on by them keeps.
+use Rattle.std.specs.Prelude.{◌≡◌, ◌≢◌, ◌⊎◌, ℕ, ◌<◌, List, length, map, slice_get, Bool, true, false, Option, Some, None, unwrap_or}
 use Rattle.mctp_bridge.specs.declared.row.Row as bridge
 use Rattle.mctp_bridge.specs.declared.decision.Decision.{Decision}
 use Rattle.mctp_bridge.specs.declared.decision.Decision.TheVariants.{Here, Drop, Forward}
 use Rattle.mctp_bridge.specs.Rows.{HasSameRoutes}
 use Rattle.net_plan.specs.declared.plan.Plan.{Plan}
+use Rattle.net_plan.specs.declared.nodes.Node.{Node}
+use Rattle.net_plan.specs.declared.nodes.Row.{Row}
 use Rattle.net_plan.specs.declared.certificate.Certificate.{Certificate}
 use Rattle.net_check.specs.Routing.{rows_of}
 use Rattle.net_check.specs.Ranks.{rank}
-use Rattle.net_check.specs.Rules.{Accepts}
-use Rattle.net_check.specs.Tables.{table_row}
+use Rattle.net_check.specs.Tables.{AreRows, table_row}
+use Rattle.net_check.specs.TwoPlans.{Tables, rows_by}
 use Rattle.net_check.specs.States.{Flight, destination}
+use Rattle.net_sim.specs.Accepted.{IsAccepted}
 
--- The certificate is the plan's, and each node has a table that routes as its rows do.
-pub record RoutesAs (plan : Plan) (cert : Certificate) (tables : List (List bridge.Row)) : Type 0 where
-  pub accepted : Accepts plan cert
-  pub each : length tables ≡ length plan.nodes.items
+-- The tables of a network, the certificate for them, and where there is a plan after, whether each node has switched to it.
+pub record RouterValue : Type 0 where
+  pub tables : Tables
+  pub certificate : Certificate
+  pub switched : List Bool
+
+-- whether n has switched, by a list of marks
+abbrev pub has_switched : List Bool → ℕ → Bool
+has_switched marks n = unwrap_or (slice_get marks n) false
+
+-- the rows that n goes by
+abbrev pub rows_in_force : RouterValue → ℕ → List Row
+rows_in_force router n = rows_by router.tables.plan router.tables.after (has_switched router.switched n) n
+
+-- the rows of each node make a routing table
+abbrev pub HasLawfulRows : Plan → Type 0
+HasLawfulRows plan = (n : ℕ) (node : Node) → slice_get plan.nodes.items n ≡ Some node → AreRows node.rows.items
+
+-- so many nodes of the plan have a table that routes as their rows do
+pub record AreTabled (plan : Plan) (count : ℕ) (tables : List (List bridge.Row)) : Type 0 where
+  pub as_many : length tables ≡ count
   pub same : (n : ℕ) (table : List bridge.Row) → slice_get tables n ≡ Some table → HasSameRoutes (map table_row (rows_of plan n)) table
+
+-- where there is a plan after, as many tables that route as its rows do; else none
+abbrev pub AreTabledAfter : Plan → Option Plan → List (List bridge.Row) → Type 0
+AreTabledAfter plan None tables = length tables ≡ 0
+AreTabledAfter plan (Some after) tables = AreTabled after (length plan.nodes.items) tables
+
+-- The tables are accepted, each node has a table that routes as its rows before a switch do, and one for after it, with a mark.
+pub record RoutesAs (tables : Tables) (cert : Certificate) (old new : List (List bridge.Row)) (switched : List Bool) : Type 0 where
+  pub accepted : IsAccepted tables cert
+  pub before : AreTabled tables.plan (length tables.plan.nodes.items) old
+  pub after : AreTabledAfter tables.plan tables.after new
+  pub marked : length switched ≡ length new
+
+-- whether n can switch: there is a plan after, and it has not
+abbrev pub TellsIfSwitchable : RouterValue → ℕ → Bool → Type 0
+TellsIfSwitchable router n true = (router.tables.after ≢ None) × (slice_get router.switched n ≡ Some false)
+TellsIfSwitchable router n false = (router.tables.after ≡ None) ⊎ (slice_get router.switched n ≡ Some true)
 
 -- a flight that goes on goes to a node of the plan, of a lower rank
 abbrev pub GoesOnWithinRank : Plan → Certificate → Flight → Decision → Type 0

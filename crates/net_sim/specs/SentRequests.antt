@@ -2,8 +2,8 @@
 use Rattle.std.specs.Prelude.{◌≡◌, ℕ, ◌*◌, ◌≤◌, List, length, slice_get, Some, true, All}
 use Rattle.mctp_transport.specs.Frames.{Frame, KeyValue, key_of, Spelled}
 use Rattle.mctp_transport.specs.Hearing.{Whole}
-use Rattle.net_plan.specs.declared.plan.Plan.{Plan}
 use Rattle.net_check.specs.Routing.{Holds}
+use Rattle.net_check.specs.TwoPlans.{Tables}
 use Rattle.net_check.specs.States.{NetworkState, unit}
 use Rattle.net_check.specs.Events.{EventValue, Put, OutcomeValue, Entered}
 use Rattle.net_check.specs.ExactMessages.{Epoch, IsOfEpoch, IsQuiet}
@@ -18,8 +18,8 @@ PutsOnly key d sent event = (node : ℕ) (bytes : List ℕ) (p : Frame) → even
 -- Where a key with the owner bit is quiet for d, and the events put in under it for d packets of one message alone, each
 -- whole message that the outcomes of a run of them tell under the key, at a node that holds d, is that message, if it is
 -- of five packets at most.
-abbrev pub RequestsComeAsSent : Plan → Type 0
-RequestsComeAsSent plan = (w : NetworkState) (events : List EventValue) (outcomes : List OutcomeValue) (new : NetworkValue)
-    (key : KeyValue) (d : ℕ) (sent : Epoch) → IsRunOf plan w events outcomes new → key.owner ≡ true → IsQuiet plan w key d
+abbrev pub RequestsComeAsSent : Tables → Type 0
+RequestsComeAsSent tables = (w : NetworkState) (events : List EventValue) (outcomes : List OutcomeValue) (new : NetworkValue)
+    (key : KeyValue) (d : ℕ) (sent : Epoch) → IsRunOf tables w events outcomes new → key.owner ≡ true → IsQuiet tables.plan w key d
     → All (PutsOnly key d sent) events → length sent.message ≤ 5 * unit
-    → (i number n : ℕ) (message : List ℕ) → slice_get outcomes i ≡ Some (Entered number n key (Whole message)) → Holds plan n d → message ≡ sent.message
+    → (i number n : ℕ) (message : List ℕ) → slice_get outcomes i ≡ Some (Entered number n key (Whole message)) → Holds tables.plan n d → message ≡ sent.message

@@ -1,4 +1,4 @@
-//! The network of a checked plan.
+//! The network of a checked plan, or of a checked move.
 ghost use Rattle.std.specs.Prelude.{◌≡◌, ℕ, All, ◌+◌, ◌-◌, ◌<◌, ◌≤◌, ◌↔◌, ◌++◌, ◌∷◌, [], IsTrue, IfSome, MatchResult, IfOk, OnOk, OnErr, take, vec_capacity, length, map, option_map, slice_get, slice_set, Some, false, true};
 ghost use Rattle.mctp_transport.specs.declared.assembler.Assembler.{Assembler};
 ghost use Rattle.mctp_transport.specs.Assembly.{assembler_slots, assembler_limit};
@@ -10,6 +10,7 @@ ghost use Rattle.net_sim.specs.Placing.{IsPlaced};
 
 mod laws;
 
+use crate::accepted::Accepted;
 use crate::assemblers::idle_assemblers;
 use crate::dealing::deal;
 use crate::desk::{Desk, answer_at, idle_at, reserve_at, wait_at};
@@ -22,7 +23,7 @@ use arrayvec::ArrayVec;
 pub use laws::requests_come_as_sent;
 use mctp_bridge::Decision;
 use mctp_transport::{Assembler, Key, PacketView, Packets, Seq, Wire};
-use net_check::Checked;
+use net_check::{Checked, CheckedMove};
 use net_plan::Event;
 use pdr_repository::Terminus;
 use std::alloc::{AllocError, Global};
@@ -43,8 +44,9 @@ pub struct Played {
     pub stopped: bool,
 }
 
-/// The network of a checked plan at one moment: the packets on their way, the assembler of each node, and the terminus of
-/// each node that has one, with the messages that wait there.
+/// The network of a checked plan, or of a checked move, at one moment: the packets on their way, the assembler of each node,
+/// the terminus of each node that has one, with the messages that wait there, and which nodes have switched to the rows of
+/// the plan that they move to.
 #[derive(Drop)]
 pub struct Network<'a> {
     alloc: Global,
@@ -52,14 +54,16 @@ pub struct Network<'a> {
     flights: Flights,
     assemblers: Vec<Assembler>,
     desks: Vec<Option<Desk>>,
-    ghost desked: { length desks.items ≡ length router.0.nodes.items },
-    ghost assembled: { length assemblers.items ≡ length router.0.nodes.items },
+    ghost desked: { length desks.items ≡ length router.tables.plan.nodes.items },
+    ghost assembled: { length assemblers.items ≡ length router.tables.plan.nodes.items },
     ghost sized: { (n : ℕ) (a : Assembler) → slice_get assemblers.items n ≡ Some a → (assembler_slots a ≡ 16) × (assembler_limit a ≡ 4096) },
-    ghost placed: { (number : ℕ) (f : Flight) → flight_at (slots_of flights) number ≡ Some f → IsPlaced router.0 router.1 f },
+    ghost placed: { (number : ℕ) (f : Flight) → flight_at (slots_of flights) number ≡ Some f → IsPlaced router.tables.plan router.certificate f },
 }
 
 impl<'a> Network<'a> {
-    ghost use Rattle.net_check.specs.Events.{most_flights, Put, Move, Lose, Expire, AnswerAt};
+    ghost use Rattle.net_check.specs.Events.{most_flights, Put, Move, Lose, Expire, AnswerAt, Switch};
+    ghost use Rattle.net_check.specs.TwoPlans.{one_plan, moving};
+    ghost use Rattle.net_sim.specs.Accepted.{tables_of, certificate_of};
     ghost use Rattle.mctp_transport.specs.PacketsLeft.{frames_left};
     ghost use Rattle.net_sim.specs.Outcomes.{outcome_value, event_value};
     ghost use Rattle.net_check.specs.States.{at_start};
@@ -72,17 +76,44 @@ impl<'a> Network<'a> {
 
     /// The network of a checked plan, in which nothing has happened yet. The termini are one for each node that has one, in the
     /// plan's order; where they are as planned, it stands for the state at the start of each run.
-    #[tactic(auto, using(crate::proofs::Dealt::stands_at_start))]
     pub fn new(
         alloc: Global,
         checked: Checked<'a>,
         termini: Vec<Box<dyn Terminus>>,
     ) -> Result<Network<'a>, AllocError>
-        ensures checked { IfOk result (λ network. checked_of network ≡ checked.entry) }
+        ensures checked { IfOk result (λ network. checked_of network ≡ (one_plan checked.entry.0, checked.entry.1)) }
         ensures stands { IfOk result (λ network. map (resting (λ b. tid b) (λ b. records b)) termini.items ≡ planned_termini checked.entry.0 checked.entry.1
             → StandsFor (network_value (λ d. tid d.terminus) (λ d. records d.terminus) network) (at_start checked.entry.0 checked.entry.1)) }
     {
-        let router = Router::new(alloc, checked)?;
+        Network::start(alloc, Accepted::Plan(checked), termini)
+    }
+
+    /// The network of a checked move, in which nothing has happened yet: each node goes by its rows in the plan before, until
+    /// it switches. The termini are those of that plan, as `new` takes them.
+    pub fn new_move(
+        alloc: Global,
+        checked: CheckedMove<'a>,
+        termini: Vec<Box<dyn Terminus>>,
+    ) -> Result<Network<'a>, AllocError>
+        ensures checked { IfOk result (λ network. checked_of network ≡ (moving checked.entry.0 checked.entry.1, checked.entry.2)) }
+        ensures stands { IfOk result (λ network. map (resting (λ b. tid b) (λ b. records b)) termini.items ≡ planned_termini checked.entry.0 checked.entry.2
+            → StandsFor (network_value (λ d. tid d.terminus) (λ d. records d.terminus) network) (at_start checked.entry.0 checked.entry.2)) }
+    {
+        Network::start(alloc, Accepted::Move(checked), termini)
+    }
+
+    /// The network of what was checked, in which nothing has happened yet.
+    #[tactic(auto, using(crate::proofs::Dealt::stands_at_start))]
+    fn start(
+        alloc: Global,
+        accepted: Accepted<'a>,
+        termini: Vec<Box<dyn Terminus>>,
+    ) -> Result<Network<'a>, AllocError>
+        ensures checked { IfOk result (λ network. checked_of network ≡ (tables_of accepted.entry, certificate_of accepted.entry)) }
+        ensures stands { IfOk result (λ network. map (resting (λ b. tid b) (λ b. records b)) termini.items ≡ planned_termini (tables_of accepted.entry).plan (certificate_of accepted.entry)
+            → StandsFor (network_value (λ d. tid d.terminus) (λ d. records d.terminus) network) (at_start (tables_of accepted.entry).plan (certificate_of accepted.entry))) }
+    {
+        let router = Router::new(alloc, accepted)?;
         let flights = Flights::new(alloc)?;
         let assemblers = idle_assemblers(alloc, router.plan().nodes.len())?;
         let desks = deal(alloc, router.plan(), termini)?;
@@ -112,6 +143,7 @@ impl<'a> Network<'a> {
             Event::Lose { flight } => Ok(self.lose(*flight)),
             Event::Expire { node, key } => Ok(self.expire(*node, *key)),
             Event::Answer { node } => self.answer(*node),
+            Event::Switch { node } => Ok(self.switch(*node)),
         }
     }
 
@@ -159,10 +191,10 @@ impl<'a> Network<'a> {
     fn move_flight(&mut self, number: u32, keep: bool) -> Result<Outcome, AllocError>
         ensures router { self.new.router ≡ self.old.router }
         ensures plays { MatchResult result
-            (λ outcome. Plays self.old.router.0
+            (λ outcome. Plays self.old.router.tables
             (network_value (λ d. tid d.terminus) (λ d. records d.terminus) self.old) (Move number keep) (outcome_value outcome)
             (network_value (λ d. tid d.terminus) (λ d. records d.terminus) self.new))
-            (λ _. Wants self.old.router.0
+            (λ _. Wants self.old.router.tables
             (network_value (λ d. tid d.terminus) (λ d. records d.terminus) self.old) (Move number keep)
             (network_value (λ d. tid d.terminus) (λ d. records d.terminus) self.new)) }
     {
@@ -194,7 +226,7 @@ impl<'a> Network<'a> {
     /// Puts this flight in the place of a number that was given, or none.
     fn set(&mut self, number: u32, flight: Option<Flight>)
         requires number { number < length (slots_of self.old.flights) }
-        requires placed { IfSome flight (λ f. IsPlaced self.old.router.0 self.old.router.1 (flight_value f)) }
+        requires placed { IfSome flight (λ f. IsPlaced self.old.router.tables.plan self.old.router.certificate (flight_value f)) }
         ensures flights { slots_of self.new.flights ≡ slice_set (slots_of self.old.flights) number (option_map flight_value flight) }
         ensures router { self.new.router ≡ self.old.router }
         ensures assemblers { self.new.assemblers.items ≡ self.old.assemblers.items }
@@ -207,7 +239,7 @@ impl<'a> Network<'a> {
     fn add(&mut self, flight: Option<Flight>) -> u32
         requires room { 0 < room_of self.old.flights }
         requires few { length (slots_of self.old.flights) ≤ most_flights }
-        requires placed { IfSome flight (λ f. IsPlaced self.old.router.0 self.old.router.1 (flight_value f)) }
+        requires placed { IfSome flight (λ f. IsPlaced self.old.router.tables.plan self.old.router.certificate (flight_value f)) }
         ensures number { result ≡ length (slots_of self.old.flights) }
         ensures flights { slots_of self.new.flights ≡ slots_of self.old.flights ++ option_map flight_value flight ∷ [] }
         ensures room { room_of self.new.flights + 1 ≡ room_of self.old.flights }
@@ -224,10 +256,10 @@ impl<'a> Network<'a> {
     fn put(&mut self, node: usize, bytes: &[u8]) -> Result<Outcome, AllocError>
         ensures router { self.new.router ≡ self.old.router }
         ensures plays { MatchResult result
-            (λ outcome. Plays self.old.router.0
+            (λ outcome. Plays self.old.router.tables
             (network_value (λ d. tid d.terminus) (λ d. records d.terminus) self.old) (Put node bytes.now) (outcome_value outcome)
             (network_value (λ d. tid d.terminus) (λ d. records d.terminus) self.new))
-            (λ _. Wants self.old.router.0
+            (λ _. Wants self.old.router.tables
             (network_value (λ d. tid d.terminus) (λ d. records d.terminus) self.old) (Put node bytes.now)
             (network_value (λ d. tid d.terminus) (λ d. records d.terminus) self.new)) }
     {
@@ -250,7 +282,7 @@ impl<'a> Network<'a> {
     /// Ends the message of a key at a node.
     fn expire(&mut self, node: usize, key: Key) -> Outcome
         ensures router { self.new.router ≡ self.old.router }
-        ensures plays { Plays self.old.router.0
+        ensures plays { Plays self.old.router.tables
             (network_value (λ d. tid d.terminus) (λ d. records d.terminus) self.old) (Expire node (key_value key)) (outcome_value result)
             (network_value (λ d. tid d.terminus) (λ d. records d.terminus) self.new) }
     {
@@ -263,14 +295,14 @@ impl<'a> Network<'a> {
 
     /// Whether there is such a node.
     fn has_node(&self, node: usize) -> bool
-        ensures { IsTrue result ↔ (node < length self.now.router.0.nodes.items) }
+        ensures { IsTrue result ↔ (node < length self.now.router.tables.plan.nodes.items) }
     {
         node < self.router.plan().nodes.len()
     }
 
     /// Room for what a packet can lead to at a node: a message that is told, and one that waits.
     fn room_at(&mut self, node: usize) -> Result<Room, AllocError>
-        requires { node < length self.old.router.0.nodes.items }
+        requires { node < length self.old.router.tables.plan.nodes.items }
         ensures flights { slots_of self.new.flights ≡ slots_of self.old.flights }
         ensures room { room_of self.new.flights ≡ room_of self.old.flights }
         ensures router { self.new.router ≡ self.old.router }
@@ -289,7 +321,7 @@ impl<'a> Network<'a> {
 
     /// Takes a flight's packet in at its node.
     fn receive(&mut self, number: u32, flight: &Flight, room: Room) -> Outcome
-        requires node { flight.now.node < length self.old.router.0.nodes.items }
+        requires node { flight.now.node < length self.old.router.tables.plan.nodes.items }
         requires told { (room.told.items ≡ []) × (4096 ≤ vec_capacity room.told) }
         requires kept { (room.kept.items ≡ []) × (4096 ≤ vec_capacity room.kept) }
         requires place { HasPlaceAt self.old flight.now.node }
@@ -324,10 +356,10 @@ impl<'a> Network<'a> {
     fn move_itself(&mut self, number: u32) -> Result<Outcome, AllocError>
         ensures router { self.new.router ≡ self.old.router }
         ensures plays { MatchResult result
-            (λ outcome. Plays self.old.router.0
+            (λ outcome. Plays self.old.router.tables
             (network_value (λ d. tid d.terminus) (λ d. records d.terminus) self.old) (Move number false) (outcome_value outcome)
             (network_value (λ d. tid d.terminus) (λ d. records d.terminus) self.new))
-            (λ _. Wants self.old.router.0
+            (λ _. Wants self.old.router.tables
             (network_value (λ d. tid d.terminus) (λ d. records d.terminus) self.old) (Move number false)
             (network_value (λ d. tid d.terminus) (λ d. records d.terminus) self.new)) }
     {
@@ -361,10 +393,10 @@ impl<'a> Network<'a> {
     fn move_copy(&mut self, number: u32) -> Result<Outcome, AllocError>
         ensures router { self.new.router ≡ self.old.router }
         ensures plays { MatchResult result
-            (λ outcome. Plays self.old.router.0
+            (λ outcome. Plays self.old.router.tables
             (network_value (λ d. tid d.terminus) (λ d. records d.terminus) self.old) (Move number true) (outcome_value outcome)
             (network_value (λ d. tid d.terminus) (λ d. records d.terminus) self.new))
-            (λ _. Wants self.old.router.0
+            (λ _. Wants self.old.router.tables
             (network_value (λ d. tid d.terminus) (λ d. records d.terminus) self.old) (Move number true)
             (network_value (λ d. tid d.terminus) (λ d. records d.terminus) self.new)) }
     {
@@ -402,7 +434,7 @@ impl<'a> Network<'a> {
 
     /// Puts packets in at a node, one after another.
     fn put_all(&mut self, node: usize, packets: Packets)
-        requires node { node < length self.old.router.0.nodes.items }
+        requires node { node < length self.old.router.tables.plan.nodes.items }
         requires few { length (slots_of self.old.flights) + length (frames_left packets) ≤ most_flights + 1 }
         requires room { length (frames_left packets) ≤ room_of self.old.flights }
         ensures flights { slots_of self.new.flights ≡ slots_of self.old.flights ++ map (begun node) (frames_left packets.entry) }
@@ -417,12 +449,12 @@ impl<'a> Network<'a> {
 
     /// Puts the packets of an answer in at a node, to where a message of this key came from.
     fn send(&mut self, node: usize, asked: Key, answer: &[u8]) -> Outcome
-        requires node { node < length self.old.router.0.nodes.items }
+        requires node { node < length self.old.router.tables.plan.nodes.items }
         requires few { length (slots_of self.old.flights) + 64 ≤ most_flights + 1 }
         requires room { 64 ≤ room_of self.old.flights }
         requires some { 0 < length answer.now }
         requires most { length answer.now ≤ 4096 }
-        ensures sends { Sends self.old.router.0 node (key_value asked) answer.now (slots_of self.old.flights) (outcome_value result) (slots_of self.new.flights) }
+        ensures sends { Sends self.old.router.tables.plan node (key_value asked) answer.now (slots_of self.old.flights) (outcome_value result) (slots_of self.new.flights) }
         ensures router { self.new.router ≡ self.old.router }
         ensures assemblers { self.new.assemblers.items ≡ self.old.assemblers.items }
         ensures desks { self.new.desks.items ≡ self.old.desks.items }
@@ -446,10 +478,10 @@ impl<'a> Network<'a> {
     fn answer(&mut self, node: usize) -> Result<Outcome, AllocError>
         ensures router { self.new.router ≡ self.old.router }
         ensures plays { MatchResult result
-            (λ outcome. Plays self.old.router.0
+            (λ outcome. Plays self.old.router.tables
             (network_value (λ d. tid d.terminus) (λ d. records d.terminus) self.old) (AnswerAt node) (outcome_value outcome)
             (network_value (λ d. tid d.terminus) (λ d. records d.terminus) self.new))
-            (λ _. Wants self.old.router.0
+            (λ _. Wants self.old.router.tables
             (network_value (λ d. tid d.terminus) (λ d. records d.terminus) self.old) (AnswerAt node)
             (network_value (λ d. tid d.terminus) (λ d. records d.terminus) self.new)) }
     {
@@ -475,10 +507,27 @@ impl<'a> Network<'a> {
         Ok(self.send(node, asked.key, &out))
     }
 
+    /// Lets a node go by its new rows from now on.
+    fn switch(&mut self, node: usize) -> Outcome
+        ensures checked { checked_of self.new ≡ checked_of self.old }
+        ensures plays { Plays self.old.router.tables
+            (network_value (λ d. tid d.terminus) (λ d. records d.terminus) self.old) (Switch node) (outcome_value result)
+            (network_value (λ d. tid d.terminus) (λ d. records d.terminus) self.new) }
+    {
+        if !self.has_node(node) {
+            Outcome::Refused(Refusal::NoNode)
+        } else if !self.router.can_switch(node) {
+            Outcome::Refused(Refusal::NoSwitch)
+        } else {
+            self.router.switch(node);
+            Outcome::Switched { node }
+        }
+    }
+
     /// Loses a flight.
     fn lose(&mut self, number: u32) -> Outcome
         ensures router { self.new.router ≡ self.old.router }
-        ensures plays { Plays self.old.router.0
+        ensures plays { Plays self.old.router.tables
             (network_value (λ d. tid d.terminus) (λ d. records d.terminus) self.old) (Lose number) (outcome_value result)
             (network_value (λ d. tid d.terminus) (λ d. records d.terminus) self.new) }
     {

@@ -61,6 +61,10 @@ pub enum Outcome {
     Silent {
         node: usize,
     },
+    /// The node goes by its new rows from now on.
+    Switched {
+        node: usize,
+    },
     /// Nothing has changed.
     Refused(Refusal),
 }

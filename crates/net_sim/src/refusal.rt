@@ -16,6 +16,8 @@ pub enum Refusal {
     NothingWaits,
     /// N06: too few flight numbers are left.
     NoNumbers,
+    /// N07: there are no new rows to switch to, or the node has switched before.
+    NoSwitch,
 }
 
 impl Refusal {
@@ -32,6 +34,7 @@ impl Refusal {
             Refusal::NoTerminus => "N04",
             Refusal::NothingWaits => "N05",
             Refusal::NoNumbers => "N06",
+            Refusal::NoSwitch => "N07",
         }
     }
 }

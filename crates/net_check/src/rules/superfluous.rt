@@ -83,7 +83,7 @@ impl<'a> Stretched for RankNeed<'a> {
 
 /// Whether the node is given no level and no places beyond its need.
 #[tactic(auto, unfolding(crate::specs::Superfluous::NeedsWhatItIsGiven))]
-fn needs_what_it_is_given(plan: &Plan, certificate: &Certificate, node: usize) -> bool
+pub fn needs_what_it_is_given(plan: &Plan, certificate: &Certificate, node: usize) -> bool
     requires { node < length plan.now.nodes.items }
     ensures { IsTrue result ↔ NeedsWhatItIsGiven plan.now certificate.now node }
 {

@@ -16,7 +16,7 @@ returns-clause-plays g c =
     let short : c.args.node < length assemblers = omega (arith, within, now.assembled) in
     let here : slice_get assemblers c.args.node ≡ Some a = slice_get_read assemblers _ _ a refl short c.index_mut.ensures.value in
     let sizes = now.sized c.args.node a here in
-    expires now.router.0 _ c.args.node _ _ a c.expire-was_open.new.self c.expire-was_open.result within short here
+    expires now.router.tables _ c.args.node _ _ a c.expire-was_open.new.self c.expire-was_open.result within short here
     (λ h is.
     let Tells : ℕ → ℕ → Type 0 = λ s l. (c.expire-was_open.result ≡ true) ↔ IsOpen s l h (key_value c.args.key) in
-    subst (λ s. Tells s 4096) sizes.0 (subst (λ l. Tells (assembler_slots a) l) sizes.1 (c.expire-was_open.ensures.was_open h is))) (c.expire-was_open.ensures.stands) refl refl refl
+    subst (λ s. Tells s 4096) sizes.0 (subst (λ l. Tells (assembler_slots a) l) sizes.1 (c.expire-was_open.ensures.was_open h is))) (c.expire-was_open.ensures.stands) refl refl refl refl

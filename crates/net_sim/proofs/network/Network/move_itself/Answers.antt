@@ -1,12 +1,12 @@
 use Rattle.std.proofs.Common.{◌<◌, List, length, Option, None, sym, ◌∙◌, ap, subst, arith}
 use Rattle.std.specs.Prelude.{slice_set}
-use Rattle.net_plan.specs.declared.plan.Plan.{Plan}
-use Rattle.net_plan.specs.declared.certificate.Certificate.{Certificate}
 use Rattle.net_check.specs.States.{Flight, destination}
+use Rattle.net_sim.specs.Routers.{RouterValue}
 use Rattle.net_sim.specs.Placing.{IsPlaced}
 use Rattle.net_sim.specs.Flights.{flight_value, slots_of}
 use Rattle.net_sim.proofs.Slots.{some_within, same_means}
 use Rattle.net_sim.proofs.Entering.{rank_most}
+use Rattle.net_sim.proofs.Changes.{same_marks}
 use Rattle.net_sim.proofs.Moving.{stops, goes, enters}
 use Rattle.net_sim.proofs.network.Network.move_itself.Goals as goal
 
@@ -24,7 +24,7 @@ set-requires-clause-number g c =
 pub receive-requires-clause-node : goal.receive-requires-clause-node
 receive-requires-clause-node g c =
     let placed = c.args.self.now.placed c.args.number (flight_value c.in-Some.flight) (sym c.in-Some.ensures) in
-    subst (λ (r : Plan × Certificate). c.in-Some.flight.node < length r.0.nodes.items) (sym (c.set.ensures.router ∙ c.room_at.ensures.router)) placed.0
+    subst (λ (r : RouterValue). c.in-Some.flight.node < length r.tables.plan.nodes.items) (sym (c.set.ensures.router ∙ c.room_at.ensures.router)) placed.0
 
 pub set-requires-in-Drop-clause-number : goal.set-requires-in-Drop-clause-number
 set-requires-in-Drop-clause-number g c = some_within (slots_of c.args.self.now.flights) c.args.number (flight_value c.in-Some.flight) (sym c.in-Some.ensures)
@@ -32,7 +32,7 @@ set-requires-in-Drop-clause-number g c = some_within (slots_of c.args.self.now.f
 pub moved-moved-requires : goal.moved-moved-requires
 moved-moved-requires g c =
     let f = flight_value c.in-Some.flight in
-    let cert = c.args.self.now.router.1 in
+    let cert = c.args.self.now.router.certificate in
     let placed = c.args.self.now.placed c.args.number f (sym c.in-Some.ensures) in
     omega (arith, placed.1, c.in-Forward.ensures.goes_on.1, rank_most cert f.origin (destination f))
 
@@ -44,25 +44,28 @@ set-requires-in-Forward-clause-placed g c =
     let f = flight_value c.in-Some.flight in
     let now = c.args.self.now in
     let placed = now.placed c.args.number f (sym c.in-Some.ensures) in
-    let P : Flight → Type 0 = IsPlaced now.router.0 now.router.1 in
+    let P : Flight → Type 0 = IsPlaced now.router.tables.plan now.router.certificate in
     subst P (sym c.moved-moved.ensures) (c.in-Forward.ensures.goes_on.0, omega (arith, placed.1, c.in-Forward.ensures.goes_on.1))
 
 pub returns-in_ok-room-in-Here-clause-plays : goal.returns-in_ok-room-in-Here-clause-plays
 returns-in_ok-room-in-Here-clause-plays g c =
     let now = c.args.self.now in
     let f = flight_value c.in-Some.flight in
-    enters now.router.0 _ c.args.number f (sym c.in-Some.ensures) _ _ _ c.receive.ensures.receives c.in-Here.ensures.decided
+    enters now.router.tables _ c.args.number f (sym c.in-Some.ensures) _ _ _ c.receive.ensures.receives c.in-Here.ensures.decided
     (c.set.ensures.flights ∙ ap (λ (fs : List (Option Flight)). slice_set fs c.args.number None) c.room_at.ensures.flights)
     (c.set.ensures.assemblers ∙ c.room_at.ensures.assemblers) (same_means _ _ _ c.set.ensures.desks ∙ c.room_at.ensures.termini)
+    (same_marks _ _ (c.set.ensures.router ∙ c.room_at.ensures.router))
 
 pub returns-in-Drop-clause-plays : goal.returns-in-Drop-clause-plays
 returns-in-Drop-clause-plays g c =
     let now = c.args.self.now in
-    stops now.router.0 _ c.args.number (flight_value c.in-Some.flight) (sym c.in-Some.ensures) _ c.in-Drop.why c.in-Drop.ensures.decided
+    stops now.router.tables _ c.args.number (flight_value c.in-Some.flight) (sym c.in-Some.ensures) _ c.in-Drop.why c.in-Drop.ensures.decided
     c.set-in-Drop.ensures.flights c.set-in-Drop.ensures.assemblers (same_means _ _ _ c.set-in-Drop.ensures.desks)
+    (same_marks _ _ c.set-in-Drop.ensures.router)
 
 pub returns-in-Forward-clause-plays : goal.returns-in-Forward-clause-plays
 returns-in-Forward-clause-plays g c =
     let now = c.args.self.now in
-    goes now.router.0 _ c.args.number (flight_value c.in-Some.flight) (sym c.in-Some.ensures) _ c.in-Forward.hop (flight_value c.moved-moved.result) c.in-Forward.ensures.decided
+    goes now.router.tables _ c.args.number (flight_value c.in-Some.flight) (sym c.in-Some.ensures) _ c.in-Forward.hop (flight_value c.moved-moved.result) c.in-Forward.ensures.decided
     c.moved-moved.ensures c.set-in-Forward.ensures.flights c.set-in-Forward.ensures.assemblers (same_means _ _ _ c.set-in-Forward.ensures.desks)
+    (same_marks _ _ c.set-in-Forward.ensures.router)

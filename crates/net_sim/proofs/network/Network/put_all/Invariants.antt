@@ -6,7 +6,7 @@ use Rattle.net_sim.proofs.network.Network.put_all.Given as goal
 
 abbrev pub invariant-loop-packet : goal.invariant-loop-packet
 invariant-loop-packet g l = record {
-  node : l.node < length l.self.router.0.nodes.items;
+  node : l.node < length l.self.router.tables.plan.nodes.items;
   few : length (slots_of l.self.flights) + length (frames_left l.packet-iterator) ≤ most_flights + 1;
   room : length (frames_left l.packet-iterator) ≤ room_of l.self.flights;
   flights : slots_of l.self.flights ++ map (begun l.node) (frames_left l.packet-iterator) ≡ slots_of l.initial.self.flights ++ map (begun l.node) (frames_left l.initial.packet-iterator);

@@ -30,13 +30,13 @@ overflow_cast-result-2 g c =
 pub returns-clause-sends : goal.returns-clause-sends
 returns-clause-sends g c =
     let now = c.args.self.now in
-    let plan : Plan = now.router.0 in
+    let plan : Plan = now.router.tables.plan in
     let ps = frames_left c.of.result in
     let long : length (slots_of c.put_all.new.self.flights) ≡ length (slots_of now.flights) + length ps = ap length c.put_all.ensures.flights ∙ begun_length (slots_of now.flights) c.args.node ps in
     let eid = c.index.result.now.eid.value in
-    let within : c.args.node < length c.plan.result.now.nodes.items = subst (λ (p : Plan). c.args.node < length p.nodes.items) (sym c.plan.ensures) c.requires.node in
+    let within : c.args.node < length c.plan.result.now.nodes.items = subst (λ (p : Plan). c.args.node < length p.nodes.items) (sym c.plan.ensures.plan) c.requires.node in
     let there : slice_get c.plan.result.now.nodes.items c.args.node ≡ Some c.index.result.now = slice_get_read _ _ _ c.index.result.now refl within c.index.ensures in
-    let here : slice_get plan.nodes.items c.args.node ≡ Some c.index.result.now = subst (λ (p : Plan). slice_get p.nodes.items c.args.node ≡ Some c.index.result.now) c.plan.ensures there in
+    let here : slice_get plan.nodes.items c.args.node ≡ Some c.index.result.now = subst (λ (p : Plan). slice_get p.nodes.items c.args.node ≡ Some c.index.result.now) c.plan.ensures.plan there in
     record {
       eid = eid;
       packets = ps;

@@ -9,7 +9,7 @@ use Rattle.net_sim.proofs.network.Network.set.Goals as goal
 pub invariant_of-self : goal.invariant_of-self
 invariant_of-self g c =
     let now = c.args.self.now in
-    let P : Flight → Type 0 = IsPlaced now.router.0 now.router.1 in
+    let P : Flight → Type 0 = IsPlaced now.router.tables.plan now.router.certificate in
     let o : Option Flight = option_map flight_value c.args.flight in
     let placed = each_set (slots_of now.flights) P c.args.number o c.requires.number now.placed (λ a is. mapped_some flight_value P c.args.flight c.requires.placed a is) in
     record { desked = now.desked; assembled = now.assembled; sized = now.sized; placed = λ k f is. placed k f (rw c.set.ensures.slots at is) }

@@ -1,54 +1,16 @@
-use Rattle.std.proofs.Common.{◌≡◌, ◌+◌, List, ◌++◌, ◌∷◌, [], length, Some, refl, sym, ◌∙◌, ap, subst, arith}
-use Rattle.std.specs.Prelude.{slice_get}
-use Rattle.std.proofs.lemmas.Option.{slice_get_read}
-use Rattle.mctp_bridge.specs.declared.row.Row as bridge
-use Rattle.net_plan.specs.declared.nodes.Node.{Node}
-use Rattle.net_plan.specs.declared.nodes.Row.{Row}
+use Rattle.std.proofs.Common.{List, Bool, sym, ◌∙◌, ap, subst}
 use Rattle.net_plan.specs.declared.plan.Plan.{Plan}
-use Rattle.net_check.specs.Tables.{AreRows, table_row}
-use Rattle.mctp_bridge.specs.Rows.{HasSameRoutes}
-use Rattle.std.specs.Prelude.{map}
-use Rattle.net_sim.proofs.Tabled.{AreTabled, none_tabled, are_rows, more_tabled}
+use Rattle.net_sim.specs.Accepted.{tables_of, certificate_of}
+use Rattle.net_sim.specs.Routers.{HasLawfulRows, has_switched}
+use Rattle.net_sim.proofs.Tabled.{are_rows_before, none_marked}
 use Rattle.net_sim.proofs.router.Router.new.Goals as goal
 
-pub loop-node-init : goal.loop-node-init
-loop-node-init c =
-    let P : List (List bridge.Row) → Type 0 = AreTabled c.args.checked.0 0 in
-    subst P (sym c.new-tables.ensures.items) (none_tabled c.args.checked.0)
+pub routing_tables-requires : goal.routing_tables-requires
+routing_tables-requires c =
+    let tables = tables_of c.args.accepted in
+    let P : Plan → Type 0 = HasLawfulRows in
+    subst P (sym c.plan.ensures.plan) (are_rows_before tables.plan tables.after (certificate_of c.args.accepted) c.plan.ensures.accepted)
 
-pub table_of-requires : goal.table_of-requires
-table_of-requires c =
-    let plan : Plan = c.args.checked.0 in
-    let nodes = c.deref-node-items.result.now in
-    let same : nodes ≡ plan.nodes.items = c.deref-node-items.ensures.value ∙ ap (λ (p : Plan). p.nodes.items) c.plan-plan.ensures.plan in
-    let node = c.node-item.result in
-    let here : slice_get nodes c.loop-node.node-index ≡ Some node = slice_get_read nodes _ _ node refl c.loop-node-test.true c.node-item.is in
-    let there : slice_get plan.nodes.items c.loop-node.node-index ≡ Some node = subst (λ (ns : List Node). slice_get ns c.loop-node.node-index ≡ Some node) same here in
-    let P : List Row → Type 0 = AreRows in
-    subst P (sym c.deref.ensures.value) (are_rows plan c.args.checked.1 c.loop-node.node-index node c.plan-plan.ensures.accepted there)
-
-pub loop-node-preserved : goal.loop-node-preserved
-loop-node-preserved c =
-    let plan : Plan = c.args.checked.0 in
-    let nodes = c.deref-node-items.result.now in
-    let same : nodes ≡ plan.nodes.items = c.deref-node-items.ensures.value ∙ ap (λ (p : Plan). p.nodes.items) c.plan-plan.ensures.plan in
-    let node = c.node-item.result in
-    let here : slice_get nodes c.loop-node.node-index ≡ Some node = slice_get_read nodes _ _ node refl c.loop-node-test.true c.node-item.is in
-    let there : slice_get plan.nodes.items c.loop-node.node-index ≡ Some node = subst (λ (ns : List Node). slice_get ns c.loop-node.node-index ≡ Some node) same here in
-    let tables = c.loop-node.tables.items in
-    let table = c.in_ok-table_of.field-0 in
-    let routes : HasSameRoutes (map table_row node.rows.items) table =
-    subst (λ (rs : List Row). HasSameRoutes (map table_row rs) table) c.deref.ensures.value c.in_ok-table_of.ensures in
-    let more : AreTabled plan (c.loop-node.node-index + 1) (tables ++ table ∷ []) = more_tabled plan c.loop-node.node-index tables node table c.loop-node.invariant there routes in
-    rw c.in_ok-push.ensures.items more
-
-pub invariant_of-result : goal.invariant_of-result
-invariant_of-result c =
-    let plan : Plan = c.args.checked.0 in
-    let same : length c.deref-node-items.result.now ≡ length plan.nodes.items =
-    ap length (c.deref-node-items.ensures.value ∙ ap (λ (p : Plan). p.nodes.items) c.plan-plan.ensures.plan) in
-    record {
-      accepted = c.plan-plan.ensures.accepted;
-      each = omega (arith, same, c.loop-node.invariant.as_many);
-      same = c.loop-node.invariant.same;
-    }
+pub returns-clause-unswitched : goal.returns-clause-unswitched
+returns-clause-unswitched c = λ n.
+    ap (λ (marks : List Bool). has_switched marks n) (c.in_ok-switched.ensures.items_if_clones_equal (λ y same. same)) ∙ none_marked _ n

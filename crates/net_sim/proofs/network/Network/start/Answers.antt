@@ -1,21 +1,24 @@
 use Rattle.std.proofs.Common.{◌≡◌, length, refl, ◌∙◌, ap}
 use Rattle.net_plan.specs.declared.plan.Plan.{Plan}
+use Rattle.net_check.specs.TwoPlans.{Tables}
+use Rattle.net_sim.specs.Accepted.{tables_of, certificate_of}
 use Rattle.net_sim.specs.Dealing.{dealt, IsIdleAssembler}
 use Rattle.net_sim.proofs.Dealt.{all_at, desks_long, no_flight_there, dealt_same, stands_at_start}
-use Rattle.net_sim.proofs.network.Network.new.Goals as goal
+use Rattle.net_sim.proofs.network.Network.start.Goals as goal
 
 pub invariant_of-result : goal.invariant_of-result
 invariant_of-result g c = record {
-  desked = desks_long _ c.in_ok-desks.desks.items c.plan-2.result.now.nodes.items _ c.in_ok-desks.ensures ∙ ap (λ (p : Plan). length p.nodes.items) c.plan-2.ensures;
-  assembled = c.in_ok-assemblers.ensures.many ∙ (c.len.ensures ∙ (c.plan.result.now.nodes.ok.0 ∙ ap (λ (p : Plan). length p.nodes.items) c.plan.ensures));
+  desked = desks_long _ c.in_ok-desks.desks.items c.plan-2.result.now.nodes.items _ c.in_ok-desks.ensures ∙ ap (λ (p : Plan). length p.nodes.items) c.plan-2.ensures.plan;
+  assembled = c.in_ok-assemblers.ensures.many ∙ (c.len.ensures ∙ (c.plan.result.now.nodes.ok.0 ∙ ap (λ (p : Plan). length p.nodes.items) c.plan.ensures.plan));
   sized = λ n a is. (let h = all_at IsIdleAssembler c.in_ok-assemblers.assemblers.items c.in_ok-assemblers.ensures.idle n a is in (h.0, h.1));
   placed = λ number f is. absurd (no_flight_there _ number f c.in_ok-flights.ensures is);
 }
 
 pub returns-clause-stands : goal.returns-clause-stands
 returns-clause-stands g c = λ planned.
-    let plan = c.args.checked.0 in
-    let same : c.plan-2.result.now ≡ plan = c.plan-2.ensures ∙ ap (λ r. r.0) c.in_ok-router.ensures in
-    stands_at_start plan c.args.checked.1 _ c.in_ok-flights.ensures
+    let plan = (tables_of c.args.accepted).plan in
+    let same : c.plan-2.result.now ≡ plan = c.plan-2.ensures.plan ∙ ap (λ (t : Tables). t.plan) c.in_ok-router.ensures.tables in
+    stands_at_start plan (certificate_of c.args.accepted) _ c.in_ok-flights.ensures
     (λ n a is. (all_at IsIdleAssembler c.in_ok-assemblers.assemblers.items c.in_ok-assemblers.ensures.idle n a is).2)
     (c.in_ok-desks.ensures ∙ (dealt_same _ _ _ _ _ (ap (λ (p : Plan). p.nodes.items) same) refl ∙ ap (λ ts. dealt plan.nodes.items ts) planned))
+    c.in_ok-router.ensures.unswitched

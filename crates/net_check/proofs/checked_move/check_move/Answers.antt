@@ -1,0 +1,11 @@
+use Rattle.net_check.specs.TwoPlans.{moving}
+use Rattle.net_check.proofs.Exact.{sent_by}
+use Rattle.net_check.proofs.Whole.{move_headline}
+use Rattle.net_check.proofs.checked_move.check_move.Goals as goal
+
+pub returns-clause-headline : goal.returns-clause-headline
+returns-clause-headline c =
+    move_headline c.args.before.now c.args.after.now c.args.certificate.now c.in_ok-meet_rules_of_move.ensures.accepted
+
+pub returns-clause-exact : goal.returns-clause-exact
+returns-clause-exact c key d w = sent_by 64 (moving c.args.before.now c.args.after.now) key d w

@@ -1,0 +1,7 @@
+use Rattle.std.proofs.Common.{ℕ, ◌<◌}
+use Rattle.net_plan.specs.NodeValues.{port_value}
+use Rattle.net_check.proofs.SameItems.{IsSameAt}
+use Rattle.net_check.proofs.rules.frames.are_same_ports.Given as goal
+
+abbrev pub invariant-loop-place : goal.invariant-loop-place
+invariant-loop-place l = (k : ℕ) → k < l.place → IsSameAt port_value l.ports l.others k

@@ -1,0 +1,33 @@
+//! Why two plans and a certificate are not accepted as a move.
+
+use crate::move_fault::MoveFault;
+use std::alloc::AllocError;
+
+/// Why two plans and a certificate are not accepted as a move. Of several faults the first is answered: M01; then the
+/// rules of the old plan, then those of the new one's rows; then M02 along the old rows, then along the new ones; then
+/// M03.
+#[derive(Clone, Copy, Debug, PartialEq, Eq)]
+pub enum MoveError {
+    /// M01: the plans differ in more than rows, at the first node that is not the same; at none where their buses or
+    /// the numbers of their nodes differ.
+    Differ(Option<usize>),
+    /// The old plan breaks a rule, or M02 along its rows.
+    Old(MoveFault),
+    /// The new plan's rows break a rule, or M02.
+    New(MoveFault),
+    /// Both plans together break M03.
+    Both(MoveFault),
+    /// Want of memory.
+    OutOfMemory,
+}
+
+impl From<AllocError> for MoveError {
+    ghost use Rattle.std.specs.Prelude.{◌≡◌};
+    ghost use Rattle.net_check.specs.declared.move_error.MoveError.TheVariants.{OutOfMemory};
+
+    ghost from_gives = { λ _ error. error ≡ OutOfMemory };
+
+    fn from(_error: AllocError) -> Self {
+        MoveError::OutOfMemory
+    }
+}

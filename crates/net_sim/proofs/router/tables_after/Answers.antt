@@ -1,0 +1,17 @@
+use Rattle.std.proofs.Common.{length}
+use Rattle.std.proofs.lemmas.Result.{IfOk-weaker}
+use Rattle.net_sim.specs.Accepted.{tables_of, certificate_of}
+use Rattle.net_sim.specs.Routers.{AreTabled, AreTabledAfter}
+use Rattle.net_sim.proofs.Tabled.{are_rows_after, tabled_after}
+use Rattle.net_sim.proofs.router.tables_after.Goals as goal
+
+pub routing_tables-requires : goal.routing_tables-requires
+routing_tables-requires c = are_rows_after (tables_of c.args.accepted.now).plan c.in-Some.after.now (certificate_of c.args.accepted.now) c.in-Some.ensures.accepted
+
+pub returns-in-Some : goal.returns-in-Some
+returns-in-Some c =
+    let tables = tables_of c.args.accepted.now in
+    let after = c.in-Some.after.now in
+    IfOk-weaker c.routing_tables.result (λ made. AreTabled after (length after.nodes.items) made.items) (λ made. AreTabledAfter tables.plan tables.after made.items)
+    (λ made are. tabled_after tables.plan after (certificate_of c.args.accepted.now) tables.after c.in-Some.ensures.plan c.in-Some.ensures.accepted made.items are)
+    c.routing_tables.ensures
