@@ -1,6 +1,6 @@
 //! `sim` on the riser network of `examples/riser` and changes of it.
 
-use super::riser::{CERTIFICATE, PLAN};
+use super::riser::{CERTIFICATE, PLAN, RECORD, replaced};
 use super::{CutOff, Narrow, expect_told, expect_written};
 use net_check::check;
 use net_plan::{Counted, certificate_of_text, events_of_text, plan_of_text};
@@ -71,6 +71,8 @@ const MOVE_1: &str = r#"{"do":"move","flight":1,"keep":false}"#;
 const MOVE_2: &str = r#"{"do":"move","flight":2,"keep":false}"#;
 
 const MOVE_3: &str = r#"{"do":"move","flight":3,"keep":false}"#;
+
+const MOVE_4: &str = r#"{"do":"move","flight":4,"keep":false}"#;
 
 const ANSWER_NIC: &str = r#"{"do":"answer","node":"nic"}"#;
 
@@ -143,6 +145,55 @@ fn drops_holds_and_expires(rt: HostRuntime) -> Result<(), Fail> {
         &events,
         "1 put 1 at host\n2 dropped 1 B10\n3 put 2 at host\n4 dropped 2 B11\n5 put 3 at host\n6 moved 3 to riser hops 1\n7 dropped 3 B11\n8 put 4 at ssd\n9 held 4\n10 expired ssd open\n11 expired ssd none\n12 put 5 at ssd\n13 dropped 5 A01\n14 put 6 at nic\n15 whole 6 at nic bytes 01c00002\n16 silent nic\n",
     )
+}
+
+#[test]
+fn plays_with_the_termini_of_their_nodes(rt: HostRuntime) -> Result<(), Fail> {
+    let alloc = rt.alloc();
+    // ssd has a terminus of TID 2 as well, with a locator of its endpoint ID
+    let record = replaced(alloc, RECORD, "0001010000010111", "0001020000010112")?;
+    let terminus = format!(in alloc;
+        r#""next":"riser"}}],"terminus":{{"tid":2,"records":[{record}]}}}}]}}"#
+    )?;
+    let plan = replaced(
+        alloc,
+        PLAN,
+        r#""next":"riser"}],"terminus":null}]}"#,
+        &terminus,
+    )?;
+    let places = r#""places":[{"node":"nic","places":[0]},{"node":"ssd","places":[0]}]"#;
+    let certificate = replaced(
+        alloc,
+        CERTIFICATE,
+        r#""places":[{"node":"nic","places":[0]}]"#,
+        places,
+    )?;
+    let events = events_text(
+        alloc,
+        &[
+            TO_NIC,
+            MOVE_1,
+            MOVE_1,
+            MOVE_1,
+            ANSWER_NIC,
+            MOVE_2,
+            MOVE_2,
+            MOVE_2,
+            TO_SSD,
+            MOVE_3,
+            MOVE_3,
+            MOVE_3,
+            r#"{"do":"answer","node":"ssd"}"#,
+            MOVE_4,
+            MOVE_4,
+            MOVE_4,
+        ],
+    )?;
+    let files = (plan.as_bytes(), certificate.as_bytes(), events.as_bytes());
+    let lines =
+        "1 put 1 at host\n2 moved 1 to riser hops 1\n3 moved 1 to nic hops 2\n4 whole 1 at nic bytes 01800002\n5 answered nic flights 2 to 2\n6 moved 2 to riser hops 1\n7 moved 2 to host hops 2\n8 whole 2 at host bytes 010000020001\n9 put 3 at host\n10 moved 3 to riser hops 1\n11 moved 3 to ssd hops 2\n12 whole 3 at ssd bytes 01800002\n13 answered ssd flights 4 to 4\n14 moved 4 to riser hops 1\n15 moved 4 to host hops 2\n16 whole 4 at host bytes 010000020002\n";
+    expect_sim(&rt, files, Status::Yes, lines);
+    Ok(())
 }
 
 #[test]

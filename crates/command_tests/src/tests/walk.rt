@@ -1,7 +1,7 @@
 //! The command `walk` on the riser network, and on changes of it.
 
-use super::expect_told;
 use super::riser::{CERTIFICATE, PLAN, RECORD, replaced};
+use super::{NO_RANKS, Narrow, expect_told, expect_written};
 use net_plan::Counted;
 use plan_commands::{PartSize, Status, run_walk};
 use std::io::Read;
@@ -84,4 +84,42 @@ fn tells_the_fault_of_a_plan(rt: HostRuntime) -> Result<(), Fail> {
     let fault = (Status::Fault, "fault C03 node ssd entry - eid 17\n");
     expect_walk(&rt, plan.as_bytes(), CERTIFICATE.as_bytes(), "nic", fault);
     Ok(())
+}
+
+#[test]
+fn takes_the_first_node_of_a_name(rt: HostRuntime) -> Result<(), Fail> {
+    // host is called nic as well, and comes first
+    let plan = PLAN.replace(rt.alloc(), "host", "nic")?;
+    let unknown = (Status::Unreadable, "unreadable node: J06\n");
+    expect_walk(&rt, plan.as_bytes(), NO_RANKS.as_bytes(), "nic", unknown);
+    Ok(())
+}
+
+#[test]
+fn tells_an_output_that_fails(rt: HostRuntime) {
+    let text = "record 1 length 9\nrecords 1 requests 2\n";
+    let failed = "unreadable output: file\n";
+    let rows = [
+        (0, Status::Unreadable, "", failed),
+        (20, Status::Unreadable, "record 1 length 9\nre", failed),
+        (39, Status::Yes, text, ""),
+    ];
+    let Some(part) = PartSize::of(16) else {
+        return;
+    };
+    for (room, status, written, said) in rows {
+        let kept = Vec::new(rt.alloc());
+        let mut output = Counted::new(Narrow { kept, room });
+        let mut errors = Counted::new(Vec::new(rt.alloc()));
+        let ended = run_walk(
+            rt.alloc(),
+            &mut Counted::new(PLAN.as_bytes()),
+            &mut Counted::new(CERTIFICATE.as_bytes()),
+            "nic",
+            part,
+            &mut output,
+            &mut errors,
+        );
+        expect_written(&rt, (ended, &output, &errors), (status, written, said));
+    }
 }
