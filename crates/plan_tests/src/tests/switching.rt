@@ -71,11 +71,21 @@ fn host_goes_by_its_new_row_once_it_has_switched(rt: HostRuntime) -> Result<(), 
         move_of(2),
         Event::Switch { node: HOST },
     ];
-    let wanted =
-        "put 1 at host, moved 1 to left hops 1, refused N01, switched host, moved 1 to x hops 2, whole 1 at x source 8 tag 3 owner 1 bytes 01800002, put 2 at host, moved 2 to right hops 1, refused N07";
+    let wanted = [
+        "put 1 at host",
+        "moved 1 to left hops 1",
+        "refused N01",
+        "switched host",
+        "moved 1 to x hops 2",
+        "whole 1 at x source 8 tag 3 owner 1 bytes 01800002",
+        "put 2 at host",
+        "moved 2 to right hops 1",
+        "refused N07",
+    ];
+    let wanted = wanted.as_slice().join(alloc, ", ")?;
     assert_eq!(rt;
         told_of(alloc, &before, &mut network, &events)?.as_str(),
-        wanted
+        wanted.as_str()
     );
     Ok(())
 }
@@ -101,8 +111,8 @@ fn nobody_switches_in_a_network_of_one_plan(rt: HostRuntime) -> Result<(), Fail>
     Ok(())
 }
 
-/// How many bridges there are in a line to endpoint x, all on one bus. The one at a place stands as many hops before x as there
-/// are bridges from it on.
+/// How many bridges there are in a line to endpoint x, all on one bus. The rank of each is the number of bridges from it
+/// on.
 const BRIDGES: usize = 6;
 
 /// The plan of that line, where each bridge passes on to the one so many places on, or to x.
@@ -168,8 +178,8 @@ fn events_in(alloc: Global, order: &[usize]) -> Result<Vec<Event>, AllocError> {
     Ok(events)
 }
 
-/// Whether an outcome can be where each packet moves within its rank: the hops of one at a place are at most as many as the
-/// places before.
+/// Whether an outcome can be where each packet moves within its rank: at a place it has made at most as many hops as there
+/// are places before.
 fn is_lawful(outcome: &Outcome) -> bool {
     match outcome {
         Outcome::PutIn { .. } | Outcome::Whole { .. } | Outcome::Switched { .. } => true,
