@@ -7,6 +7,7 @@ use std::test::Fail;
 
 mod assign;
 mod bridges;
+mod moves;
 mod riser;
 mod show;
 mod sim;

@@ -3,8 +3,8 @@
 
 use net_plan::Counted;
 use plan_commands::{
-    Command, FileAtPath, Refused, Status, refuse, run_assign, run_certify, run_check, run_show,
-    run_walk, simulate, words,
+    Command, FileAtPath, Refused, Status, refuse, run_assign, run_certify, run_check, run_move,
+    run_show, run_walk, simulate, simulate_move, words,
 };
 use std::env;
 use std::process::ExitCode;
@@ -52,6 +52,36 @@ fn run(rt: &HostRuntime) -> Status {
         ) => simulate(
             alloc,
             &mut Counted::new(FileAtPath::new(rt, plan)),
+            &mut Counted::new(FileAtPath::new(rt, certificate)),
+            &mut Counted::new(FileAtPath::new(rt, events)),
+            &mut output,
+            &mut errors,
+        ),
+        Ok(
+            Command::Move {
+                before,
+                after,
+                certificate,
+            },
+        ) => run_move(
+            alloc,
+            &mut Counted::new(FileAtPath::new(rt, before)),
+            &mut Counted::new(FileAtPath::new(rt, after)),
+            &mut Counted::new(FileAtPath::new(rt, certificate)),
+            &mut output,
+            &mut errors,
+        ),
+        Ok(
+            Command::SimMove {
+                before,
+                after,
+                certificate,
+                events,
+            },
+        ) => simulate_move(
+            alloc,
+            &mut Counted::new(FileAtPath::new(rt, before)),
+            &mut Counted::new(FileAtPath::new(rt, after)),
             &mut Counted::new(FileAtPath::new(rt, certificate)),
             &mut Counted::new(FileAtPath::new(rt, events)),
             &mut output,

@@ -5,3 +5,5 @@ pub mod Walked
 pub mod Repositories
 pub mod Simulated
 pub mod Naming
+pub mod Moved
+pub mod MovePlayed

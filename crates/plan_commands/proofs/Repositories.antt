@@ -11,9 +11,10 @@ use Rattle.net_plan.specs.declared.terminus.Terminus.{Terminus}
 use Rattle.pdr_repository.specs.declared.list_terminus.ListTerminus.{ListTerminus}
 use Rattle.pdr_repository.specs.ListTermini.{list_records}
 use Rattle.pdr_repository.specs.Records.{Entry, IsLawful}
-use Rattle.net_check.specs.Repositories.{terminus_of, records_of, places_of, entry_of, record_at, records_by_place}
+use Rattle.net_check.specs.Repositories.{terminus_of, records_of, places_of, entry_of, record_at, records_by_place, RecordsHaveOrder}
 use Rattle.net_check.specs.Rules.{Accepts}
-use Rattle.net_check.proofs.Accepted.{accepted_orders}
+use Rattle.net_check.specs.MoveRules.{AcceptsMove}
+use Rattle.net_check.proofs.Accepted.{accepted_orders, move_orders}
 use Rattle.net_check.proofs.ByPlace.{by_place_length, is_lawful}
 
 prefix_len_map : {A B : Type 0} (q : B → Bool) (g : A → B) (xs : List A) → prefix_len q (map g xs) ≡ prefix_len (λ x. q (g x)) xs
@@ -89,13 +90,22 @@ has_terminus plan n tid is none =
     let never : Some tid ≡ None = is ∙ ap (option_map (λ (t : Terminus). t.tid)) none in
     absurd (cc)
 
--- the records of a checked plan's terminus are as a terminus can have them
-pub lawful_records : (plan : Plan) (cert : Certificate) (n : ℕ) (records : List Entry) → Accepts plan cert → terminus_of plan n ≢ None
+-- records in an order are as a terminus can have them
+pub lawful_records : (plan : Plan) (cert : Certificate) (n : ℕ) (records : List Entry) → RecordsHaveOrder plan cert → terminus_of plan n ≢ None
     → records ≡ records_by_place plan cert n → (length records ≤ 4096) × IsLawful records
-lawful_records plan cert n records accepted there is =
-    let order = accepted_orders plan cert accepted n there in
+lawful_records plan cert n records ordered there is =
+    let order = ordered n there in
     let many = by_place_length (records_of plan n) (places_of cert n) order in
     (omega (arith, ap length is, many, few_records plan n), subst IsLawful (sym is) (is_lawful (records_of plan n) (places_of cert n) order))
+
+-- the records of an accepted plan, and of the plan before an accepted move, have one
+pub checked_orders : (plan plan' : Plan) (cert cert' : Certificate) → Accepts plan cert → plan' ≡ plan → cert' ≡ cert → RecordsHaveOrder plan' cert'
+checked_orders plan plan' cert cert' accepted same same_cert =
+    subst (λ (p : Plan). RecordsHaveOrder p cert') (sym same) (subst (λ (k : Certificate). RecordsHaveOrder plan k) (sym same_cert) (accepted_orders plan cert accepted))
+
+pub moved_orders : (before after plan' : Plan) (cert cert' : Certificate) → AcceptsMove before after cert → plan' ≡ before → cert' ≡ cert → RecordsHaveOrder plan' cert'
+moved_orders before after plan' cert cert' accepted same same_cert =
+    subst (λ (p : Plan). RecordsHaveOrder p cert') (sym same) (subst (λ (k : Certificate). RecordsHaveOrder before k) (sym same_cert) (move_orders before after cert accepted))
 
 pub known_terminus : (plan : Plan) (n : ℕ) (t : Terminus) → terminus_of plan n ≡ Some t → terminus_of plan n ≢ None
 known_terminus plan n t there none =

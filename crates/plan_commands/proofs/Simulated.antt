@@ -12,7 +12,7 @@ use Rattle.net_plan.specs.Stream.{AppendsBeginning}
 use Rattle.net_check.specs.Events.{EventValue, OutcomeValue}
 use Rattle.net_check.specs.Runs.{Turn, RunFrom}
 use Rattle.net_check.specs.States.{NetworkState}
-use Rattle.net_check.specs.TwoPlans.{one_plan}
+use Rattle.net_check.specs.TwoPlans.{Tables}
 use Rattle.net_sim.specs.declared.outcome.Outcome.{Outcome}
 use Rattle.net_sim.specs.Outcomes.{event_value, outcome_value}
 use Rattle.net_sim.specs.Played.{IsRunOf, StopsAfter}
@@ -110,44 +110,44 @@ take_twice (suc k) (suc n) (x ∷ xs) =
     let (m, is) = take_twice k n xs in (suc m, ap (λ ys. x ∷ ys) is)
 
 -- each beginning of a run is a run
-run_begins : (plan : Plan) (w : NetworkState) (k : ℕ) (turns : List Turn) → RunFrom (one_plan plan) w turns → RunFrom (one_plan plan) w (take k turns)
-run_begins plan w zero turns run = tt
-run_begins plan w (suc k) [] run = tt
-run_begins plan w (suc k) (turn ∷ turns) (step, rest) = (step, run_begins plan turn.after k turns rest)
+run_begins : (tables : Tables) (w : NetworkState) (k : ℕ) (turns : List Turn) → RunFrom tables w turns → RunFrom tables w (take k turns)
+run_begins tables w zero turns run = tt
+run_begins tables w (suc k) [] run = tt
+run_begins tables w (suc k) (turn ∷ turns) (step, rest) = (step, run_begins tables turn.after k turns rest)
 
-module _ (plan : Plan) (w : NetworkState) (events : List EventValue) (output : Stream) where
+module _ (tables : Tables) (w : NetworkState) (events : List EventValue) (output : Stream) where
   -- the lines of some of the outcomes of a run over some of the events
-  pub shows_beginning : (new : NetworkValue) (n : ℕ) (outcomes : List OutcomeValue) (k : ℕ) → IsRunOf plan w (take n events) outcomes new
-      → ShowsLines plan outcomes k output → ShowsBeginning plan w events output
+  pub shows_beginning : (new : NetworkValue) (n : ℕ) (outcomes : List OutcomeValue) (k : ℕ) → IsRunOf tables w (take n events) outcomes new
+      → ShowsLines tables.plan outcomes k output → ShowsBeginning tables w events output
   shows_beginning new n outcomes k run shown =
       let (m, same) = take_twice k n events in
-      let S : List OutcomeValue → Type 0 = λ os. Appends output.before output.after (outcome_lines plan os) in (
+      let S : List OutcomeValue → Type 0 = λ os. Appends output.before output.after (outcome_lines tables.plan os) in (
         m,
         record {
           turns = take k run.turns;
           events_are = sym (take-map (λ (t : Turn). t.event) k run.turns) ∙ (ap (take k) run.events_are ∙ same);
-          runs = run_begins plan w k run.turns run.runs;
+          runs = run_begins tables w k run.turns run.runs;
           shown = subst S (ap (take k) (sym run.outcomes_are) ∙ take-map (λ (t : Turn). t.outcome) k run.turns) shown;
         },
       )
 
-  pub run_text : (new : NetworkValue) (n : ℕ) (outcomes : List OutcomeValue) (text : List ℕ) → IsRunOf plan w (take n events) outcomes new
-      → AreFirstLines plan outcomes text → IsRunText plan w events text
+  pub run_text : (new : NetworkValue) (n : ℕ) (outcomes : List OutcomeValue) (text : List ℕ) → IsRunOf tables w (take n events) outcomes new
+      → AreFirstLines tables.plan outcomes text → IsRunText tables w events text
   run_text new n outcomes text run (k, is) =
       let (m, same) = take_twice k n events in
       record {
         played = m;
         turns = take k run.turns;
         events_are = sym (take-map (λ (t : Turn). t.event) k run.turns) ∙ (ap (take k) run.events_are ∙ same);
-        runs = run_begins plan w k run.turns run.runs;
-        written = is ∙ ap (outcome_lines plan) (ap (take k) (sym run.outcomes_are) ∙ take-map (λ (t : Turn). t.outcome) k run.turns);
+        runs = run_begins tables w k run.turns run.runs;
+        written = is ∙ ap (outcome_lines tables.plan) (ap (take k) (sym run.outcomes_are) ∙ take-map (λ (t : Turn). t.outcome) k run.turns);
       }
 
   -- the lines of all outcomes of a run over all events
   pub shows_run : (new : NetworkValue) (n : ℕ) (outcomes : List OutcomeValue) (k : ℕ) → length events ≤ n → length outcomes ≤ k
-      → IsRunOf plan w (take n events) outcomes new → ShowsLines plan outcomes k output → ShowsRun plan w events output
+      → IsRunOf tables w (take n events) outcomes new → ShowsLines tables.plan outcomes k output → ShowsRun tables w events output
   shows_run new n outcomes k all_events all_outcomes run shown =
-      let S : List OutcomeValue → Type 0 = λ os. Appends output.before output.after (outcome_lines plan os) in
+      let S : List OutcomeValue → Type 0 = λ os. Appends output.before output.after (outcome_lines tables.plan os) in
       record {
         turns = run.turns;
         events_are = run.events_are ∙ take_all n events all_events;
@@ -156,7 +156,7 @@ module _ (plan : Plan) (w : NetworkState) (events : List EventValue) (output : S
       }
 
   -- nothing was played, and nothing is out
-  pub shows_nothing : output.before ≡ output.after → ShowsBeginning plan w events output
+  pub shows_nothing : output.before ≡ output.after → ShowsBeginning tables w events output
   shows_nothing same =
       let A : Option (List ℕ) → Type 0 = λ new. Appends output.before new [] in
       (0, record { turns = []; events_are = refl; runs = tt; shown = subst A same (Appends-nil output.before) })
@@ -173,6 +173,11 @@ pub lists_some : (plan : Plan) (count : ℕ) (output : Stream) (outcomes : List 
 lists_some plan count output outcomes k few shown =
     let part : length (take k outcomes) ≤ length outcomes = omega (arith, length-take k outcomes) in
     (length (take k outcomes), omega (arith, few, part), (take k outcomes, refl, shown))
+
+pub lists_all : (plan : Plan) (count : ℕ) (output : Stream) (outcomes : List OutcomeValue) (k : ℕ) → length outcomes ≡ count → length outcomes ≤ k
+    → ShowsLines plan outcomes k output → ShowsOutcomes plan count output
+lists_all plan count output outcomes k all whole shown =
+    (outcomes, all, subst (λ os. Appends output.before output.after (outcome_lines plan os)) (take_all k outcomes whole) shown)
 
 pub lines_at_most : (plan : Plan) (count : ℕ) (outcomes : List OutcomeValue) (text : List ℕ) → length outcomes ≤ count → AreFirstLines plan outcomes text
     → AreLinesAtMost plan count text
@@ -192,19 +197,15 @@ cut_short refused.Unwritten P A P' A' Q Q' output h other also = breaks_off_also
 cut_short refused.NoMemory P A P' A' Q Q' output h other also = other h
 
 -- as many outcomes as events at most
-pub few_outcomes : (plan : Plan) (old : NetworkValue) (events : List Event) (outcomes : List Outcome) (new : NetworkValue) (stopped : Bool)
-    → (stopped ≡ false → length outcomes ≡ length events) → (stopped ≡ true → StopsAfter plan old (map event_value events) (map outcome_value outcomes) new)
+pub few_outcomes : (tables : Tables) (old : NetworkValue) (events : List Event) (outcomes : List Outcome) (new : NetworkValue) (stopped : Bool)
+    → (stopped ≡ false → length outcomes ≡ length events) → (stopped ≡ true → StopsAfter tables old (map event_value events) (map outcome_value outcomes) new)
     → length outcomes ≤ length events
-few_outcomes plan old events outcomes new false whole stops = omega (arith, whole refl)
-few_outcomes plan old events outcomes new true whole stops =
+few_outcomes tables old events outcomes new false whole stops = omega (arith, whole refl)
+few_outcomes tables old events outcomes new true whole stops =
     let next = slice_get_within (map event_value events) (length (map outcome_value outcomes)) (stops refl).event (stops refl).next in
     omega (arith, next, length-map events event_value, length-map outcomes outcome_value)
 
--- ---- the same of another name of the plan
-
-pub run_in : (plan plan' : Plan) (w : NetworkState) (events : List EventValue) (outcomes : List OutcomeValue) (new : NetworkValue) → plan' ≡ plan
-    → IsRunOf plan' w events outcomes new → IsRunOf plan w events outcomes new
-run_in plan plan' w events outcomes new same = subst (λ (p : Plan). IsRunOf p w events outcomes new) same
+-- ---- the same of another name of the plan, or of the tables
 
 pub lines_in : (plan plan' : Plan) (outcomes outcomes' : List Outcome) (count : ℕ) (output : Stream) → plan' ≡ plan → outcomes' ≡ outcomes
     → ShowsLines plan' (map outcome_value outcomes') count output → ShowsLines plan (map outcome_value outcomes) count output
@@ -217,6 +218,18 @@ pub first_lines_in : (plan plan' : Plan) (outcomes outcomes' : List Outcome) (te
     → AreFirstLines plan' (map outcome_value outcomes') text → AreFirstLines plan (map outcome_value outcomes) text
 first_lines_in plan plan' outcomes outcomes' text same listed (k, is) =
     (k, is ∙ (ap (λ (p : Plan). outcome_lines p (take k (map outcome_value outcomes'))) same ∙ ap (λ os. outcome_lines plan (take k (map outcome_value os))) listed))
+
+pub shows_by : {T : Type 0} (tables tables' : Tables) (w : NetworkState) (events : List EventValue) (result : Result T Refused) (output : Stream) → tables' ≡ tables
+    → ShowsAllOr result (ShowsBeginning tables' w events output) (ShowsRun tables' w events output) (IsRunText tables' w events) output
+    → ShowsAllOr result (ShowsBeginning tables w events output) (ShowsRun tables w events output) (IsRunText tables w events) output
+shows_by tables tables' w events result output same =
+    subst (λ (t : Tables). ShowsAllOr result (ShowsBeginning t w events output) (ShowsRun t w events output) (IsRunText t w events) output) same
+
+pub lists_by : {T : Type 0} (plan plan' : Plan) (count : ℕ) (result : Result T Refused) (output : Stream) → plan' ≡ plan
+    → ShowsAllOr result (ShowsAtMost plan' count output) (ShowsOutcomes plan' count output) (AreLinesAtMost plan' count) output
+    → ShowsAllOr result (ShowsAtMost plan count output) (ShowsOutcomes plan count output) (AreLinesAtMost plan count) output
+lists_by plan plan' count result output same =
+    subst (λ (p : Plan). ShowsAllOr result (ShowsAtMost p count output) (ShowsOutcomes p count output) (AreLinesAtMost p count) output) same
 
 -- ---- files
 

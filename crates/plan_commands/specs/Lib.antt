@@ -9,3 +9,5 @@ pub mod Walking
 pub mod Collecting
 pub mod OutcomeLines
 pub mod Simulating
+pub mod Moving
+pub mod MoveSimulating

@@ -14,7 +14,7 @@ use Rattle.net_check.specs.Events.{EventValue, OutcomeValue}
 use Rattle.net_check.specs.Rules.{Accepts}
 use Rattle.net_check.specs.Runs.{Turn, RunFrom}
 use Rattle.net_check.specs.States.{NetworkState, at_start}
-use Rattle.net_check.specs.TwoPlans.{one_plan}
+use Rattle.net_check.specs.TwoPlans.{Tables, one_plan}
 use Rattle.plan_commands.specs.declared.refused.Input.{Input}
 use Rattle.plan_commands.specs.declared.refused.Input.TheVariants as input
 use Rattle.plan_commands.specs.declared.refused.Refused.{Refused}
@@ -26,23 +26,23 @@ use Rattle.plan_commands.specs.OutcomeLines.{outcome_lines}
 use Rattle.plan_commands.specs.Statuses.{status_of}
 
 -- The events are those of a run from the state, and the output was given the lines of what came of them.
-pub record ShowsRun (plan : Plan) (w : NetworkState) (events : List EventValue) (output : Stream) : Type 0 where
+pub record ShowsRun (tables : Tables) (w : NetworkState) (events : List EventValue) (output : Stream) : Type 0 where
   pub turns : List Turn
   pub events_are : map (λ (t : Turn). t.event) turns ≡ events
-  pub runs : RunFrom (one_plan plan) w turns
-  pub shown : Appends output.before output.after (outcome_lines plan (map (λ (t : Turn). t.outcome) turns))
+  pub runs : RunFrom tables w turns
+  pub shown : Appends output.before output.after (outcome_lines tables.plan (map (λ (t : Turn). t.outcome) turns))
 
 -- so it is of a beginning of the events
-abbrev pub ShowsBeginning : Plan → NetworkState → List EventValue → Stream → Type 0
-ShowsBeginning plan w events output = (played : ℕ) × ShowsRun plan w (take played events) output
+abbrev pub ShowsBeginning : Tables → NetworkState → List EventValue → Stream → Type 0
+ShowsBeginning tables w events output = (played : ℕ) × ShowsRun tables w (take played events) output
 
 -- The text is the lines of what comes of a beginning of the events, in a run from the state.
-pub record IsRunText (plan : Plan) (w : NetworkState) (events : List EventValue) (text : List ℕ) : Type 0 where
+pub record IsRunText (tables : Tables) (w : NetworkState) (events : List EventValue) (text : List ℕ) : Type 0 where
   pub played : ℕ
   pub turns : List Turn
   pub events_are : map (λ (t : Turn). t.event) turns ≡ take played events
-  pub runs : RunFrom (one_plan plan) w turns
-  pub written : text ≡ outcome_lines plan (map (λ (t : Turn). t.outcome) turns)
+  pub runs : RunFrom tables w turns
+  pub written : text ≡ outcome_lines tables.plan (map (λ (t : Turn). t.outcome) turns)
 
 -- All is shown; or the output failed after a beginning of such a text; or memory ran out, and then a part is shown.
 abbrev pub ShowsAllOr : {T : Type 0} → Result T Refused → (part all : Type 0) → (List ℕ → Type 0) → Stream → Type 0
@@ -58,11 +58,15 @@ EndsShowing status.Fault part all IsText output = ⊥
 EndsShowing status.Unreadable part all IsText output = BreaksOff IsText output
 EndsShowing status.NoMemory part all IsText output = part
 
--- what the end of a run says of the events at a checked plan and of what was written
+-- what the end of a run says of the events, in runs by these tables from the start, and of what was written
+abbrev pub SimulatesBy : Tables → Certificate → List EventValue → Status → Stream → Type 0
+SimulatesBy tables cert events ended output =
+    let start = at_start tables.plan cert in
+    EndsShowing ended (ShowsBeginning tables start events output) (ShowsRun tables start events output) (IsRunText tables start events) output
+
+-- so it is at a checked plan
 abbrev pub Simulates : Plan → Certificate → List EventValue → Status → Stream → Type 0
-Simulates plan cert events ended output =
-    let start = at_start plan cert in
-    EndsShowing ended (ShowsBeginning plan start events output) (ShowsRun plan start events output) (IsRunText plan start events) output
+Simulates plan cert events ended output = SimulatesBy (one_plan plan) cert events ended output
 
 -- the output was given the lines of so many of the outcomes
 abbrev pub ShowsLines : Plan → List OutcomeValue → ℕ → Stream → Type 0

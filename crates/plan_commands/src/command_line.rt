@@ -28,6 +28,19 @@ pub enum Command<'a> {
         certificate: &'a str,
         events: &'a str,
     },
+    /// May the nodes of the plan in one file go over, in any order, to the rows of the plan in another, by one certificate?
+    Move {
+        before: &'a str,
+        after: &'a str,
+        certificate: &'a str,
+    },
+    /// What comes of the events in a file while they do?
+    SimMove {
+        before: &'a str,
+        after: &'a str,
+        certificate: &'a str,
+        events: &'a str,
+    },
     /// Which records does a walk over a node's terminus collect, by parts of so many bytes?
     Walk {
         plan: &'a str,
@@ -49,11 +62,13 @@ pub fn words<'a>(alloc: Global, list: &'a [String]) -> Result<Command<'a>, Refus
 }
 
 /// The name of each command, and the names of its arguments.
-const COMMANDS: [(&str, &[&str]); 6] = [
+const COMMANDS: [(&str, &[&str]); 8] = [
     ("check", &["plan", "certificate"]),
     ("certify", &["plan"]),
     ("assign", &["plan", "certificate"]),
     ("sim", &["plan", "certificate", "events"]),
+    ("move", &["old", "new", "certificate"]),
+    ("simmove", &["old", "new", "certificate", "events"]),
     ("walk", &["plan", "certificate", "node", "count"]),
     ("show", &["kind", "hex"]),
 ];
@@ -87,6 +102,8 @@ fn chosen<'a>(matches: &ArgMatches<'a>) -> Option<Command<'a>> {
         "certify" => certifying(arguments),
         "assign" => assigning(arguments),
         "sim" => playing(arguments),
+        "move" => moving(arguments),
+        "simmove" => playing_moves(arguments),
         "walk" => walking(arguments),
         "show" => showing(arguments),
         _ => None,
@@ -116,6 +133,23 @@ fn assigning<'a>(arguments: &ArgMatches<'a>) -> Option<Command<'a>> {
 fn playing<'a>(arguments: &ArgMatches<'a>) -> Option<Command<'a>> {
     Some(Command::Sim {
         plan: arguments.get_str("plan")?,
+        certificate: arguments.get_str("certificate")?,
+        events: arguments.get_str("events")?,
+    })
+}
+
+fn moving<'a>(arguments: &ArgMatches<'a>) -> Option<Command<'a>> {
+    Some(Command::Move {
+        before: arguments.get_str("old")?,
+        after: arguments.get_str("new")?,
+        certificate: arguments.get_str("certificate")?,
+    })
+}
+
+fn playing_moves<'a>(arguments: &ArgMatches<'a>) -> Option<Command<'a>> {
+    Some(Command::SimMove {
+        before: arguments.get_str("old")?,
+        after: arguments.get_str("new")?,
         certificate: arguments.get_str("certificate")?,
         events: arguments.get_str("events")?,
     })

@@ -11,6 +11,7 @@ pub mod assign;
 pub mod certify;
 pub mod check;
 pub mod inputs;
+pub mod moving;
 pub mod repositories;
 pub mod sim;
 pub mod walk;

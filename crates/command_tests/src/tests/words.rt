@@ -28,7 +28,26 @@ fn gives_the_command_or_usage(rt: HostRuntime) -> Result<(), Fail> {
         certificate: "b",
         events: "c",
     };
-    let rows: [(&[&str], Result<Command, Refused>); 23] = [
+    let moving = Command::Move {
+        before: "a",
+        after: "b",
+        certificate: "c",
+    };
+    let playing = Command::SimMove {
+        before: "a",
+        after: "b",
+        certificate: "c",
+        events: "d",
+    };
+    let rows: [(&[&str], Result<Command, Refused>); 28] = [
+        (&["mctpplan", "move", "a", "b", "c"], Ok(moving)),
+        (&["mctpplan", "move", "a", "b"], Err(Refused::Usage)),
+        (
+            &["mctpplan", "move", "a", "b", "c", "d"],
+            Err(Refused::Usage),
+        ),
+        (&["mctpplan", "simmove", "a", "b", "c", "d"], Ok(playing)),
+        (&["mctpplan", "simmove", "a", "b", "c"], Err(Refused::Usage)),
         (&["mctpplan", "assign", "a", "b"], Ok(assign)),
         (&["mctpplan", "assign", "a"], Err(Refused::Usage)),
         (&["mctpplan", "sim", "a", "b", "c"], Ok(sim)),

@@ -65,6 +65,10 @@ fn outcome_text(alloc: Global, plan: &Plan, outcome: &Outcome) -> Result<String,
             let name = name_or_dash(plan, *node);
             format!(in alloc; "silent {name}")
         }
+        Outcome::Switched { node } => {
+            let name = name_or_dash(plan, *node);
+            format!(in alloc; "switched {name}")
+        }
         Outcome::Refused(why) => {
             let code = why.code();
             format!(in alloc; "refused {code}")

@@ -1,25 +1,19 @@
 //! The command `sim` over the files that it reads.
-ghost use Rattle.std.specs.Prelude.{◌≡◌, ◌⊎◌, ◌<◌, ◌^◌, ◌-◌, ◌++◌, IfOk, IfErr, OnOk, OnErr, length, map, option_map};
-ghost use Rattle.std.specs.Option.{option_to_list};
-ghost use Rattle.pdr_repository.specs.BlockTermini.{block_tid, block_records};
-ghost use Rattle.net_check.specs.Repositories.{terminus_of};
-ghost use Rattle.net_check.specs.Termini.{terminus_at_start};
-ghost use Rattle.net_sim.specs.Dealing.{resting, planned_termini};
+ghost use Rattle.std.specs.Prelude.{◌≡◌, ◌⊎◌, ◌<◌, ◌^◌, ◌-◌, IfOk, IfErr, OnErr, length};
 ghost use Rattle.plan_commands.specs.declared.status.Status.TheVariants.{Yes, Fault, Unreadable, NoMemory};
 ghost use Rattle.plan_commands.specs.declared.refused.Refused.TheVariants.{Unwritten};
 ghost use Rattle.plan_commands.specs.Answers.{stream, BreaksOff, AreGiven};
 ghost use Rattle.plan_commands.specs.Simulating.{EndsShowing, AreLinesAtMost, ShowsAtMost, ShowsOutcomes, GaveEvents, TellsBeginning, IsSimAnswer, AreUnreadAmong, IsUnsimulatedFor, SimulatesFiles};
 
 use crate::commands::inputs::read_inputs;
-use crate::commands::repositories::records_by_place;
 use crate::commands::sim::run_sim;
+use crate::commands::sim::termini::planned_termini;
 use crate::commands::{print_fault, refuse};
 use crate::refused::{Input, Refused};
 use crate::status::Status;
 use net_check::{Checked, check};
 use net_plan::{Certificate, Event, Plan, Sink, Source, read_events};
-use pdr_repository::{BlockTerminus, Terminus};
-use pldm_message::Tid;
+use pdr_repository::Terminus;
 use std::alloc::{AllocError, Global};
 
 /// Gives on `output` what comes of the events of a file in the network of a plan with its certificate, or the fault for which
@@ -164,60 +158,8 @@ fn play<O: Sink, E: Sink>(
     ensures unsaid { OnErr result (errors.new ≡ errors.old) }
 {
     let mut termini: Vec<Box<dyn Terminus>> = Vec::new(alloc);
-    for terminus in planned_termini(alloc, &checked)? {
+    for terminus in planned_termini(alloc, checked.plan(), checked.certificate())? {
         termini.push(Box::new(alloc, terminus)?)?;
     }
     Ok(run_sim(alloc, checked, termini, events, output, errors))
-}
-
-/// The termini of a checked plan, in the order of its nodes.
-fn planned_termini(alloc: Global, checked: &Checked) -> Result<Vec<BlockTerminus>, AllocError>
-    ensures { IfOk result (λ termini. map (resting block_tid block_records) termini.items ≡ planned_termini checked.now.0 checked.now.1) }
-{
-    let mut termini = Vec::new(alloc);
-    for node in 0..checked.plan().nodes.len() {
-        push_terminus(planned_terminus(alloc, checked, node)?, &mut termini)?;
-    }
-    Ok(termini)
-}
-
-/// Adds the terminus, if there is one.
-fn push_terminus(
-    found: Option<BlockTerminus>,
-    termini: &mut Vec<BlockTerminus>,
-) -> Result<(), AllocError>
-    ensures { OnOk result (termini.new.items ≡ termini.old.items ++ option_to_list found) }
-{
-    if let Some(terminus) = found {
-        termini.push(terminus)?;
-    }
-    Ok(())
-}
-
-/// The terminus of a node as it is planned, if the node has one.
-fn planned_terminus(
-    alloc: Global,
-    checked: &Checked,
-    node: usize,
-) -> Result<Option<BlockTerminus>, AllocError>
-    ensures { IfOk result (λ terminus. option_map (resting block_tid block_records) terminus ≡ terminus_at_start checked.now.0 checked.now.1 node) }
-{
-    let Some(tid) = tid_at(checked.plan(), node) else {
-        return Ok(None);
-    };
-    let records = records_by_place(alloc, checked.plan(), checked.certificate(), node)?;
-    Ok(Some(BlockTerminus::new(alloc, tid, records)?))
-}
-
-/// The TID of a node's terminus, if it has one.
-fn tid_at(plan: &Plan, node: usize) -> Option<Tid>
-    ensures { option_map (λ tid. tid.value) result ≡ option_map (λ t. t.tid) (terminus_of plan.now node) }
-{
-    match plan.nodes.get(node) {
-        Some(node) => match &node.terminus {
-            Some(terminus) => Some(Tid::new(terminus.tid)),
-            None => None,
-        },
-        None => None,
-    }
 }

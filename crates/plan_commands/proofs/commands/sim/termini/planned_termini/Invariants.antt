@@ -3,8 +3,8 @@ use Rattle.std.specs.List.{filter_map, range_with_len}
 use Rattle.pdr_repository.specs.BlockTermini.{block_tid, block_records}
 use Rattle.net_check.specs.Termini.{terminus_at_start}
 use Rattle.net_sim.specs.Dealing.{resting}
-use Rattle.plan_commands.proofs.commands.sim.files.planned_termini.Given as goal
+use Rattle.plan_commands.proofs.commands.sim.termini.planned_termini.Given as goal
 
 abbrev pub invariant-loop-node : goal.invariant-loop-node
 invariant-loop-node l =
-    map (resting block_tid block_records) l.termini.items ≡ filter_map (terminus_at_start l.checked.0 l.checked.1) (range_with_len 0 l.node)
+    map (resting block_tid block_records) l.termini.items ≡ filter_map (terminus_at_start l.plan l.certificate) (range_with_len 0 l.node)
