@@ -20,16 +20,17 @@ use Rattle.pdr_repository.specs.Records as lawful
 use Rattle.pdr_repository.specs.Answers.{Answers}
 use Rattle.net_check.specs.RoutingLoops.{NamesFor, RowsAreApart}
 use Rattle.net_check.specs.Rules.{Accepts}
+use Rattle.net_check.specs.MoveRules.{Before, After, AcceptsMove}
 use Rattle.net_check.specs.declared.rule.Rule.TheVariants.{C05}
-use Rattle.net_check.specs.Repositories.{records_of, places_of}
+use Rattle.net_check.specs.Repositories.{records_of, places_of, RecordsHaveOrder}
 use Rattle.net_check.specs.Termini.{TerminusState, WaitingMessage}
 use Rattle.net_check.specs.States.{NetworkState, Flight, with_flight, without_flight, with_made, with_input, with_terminus, with_packet, with_packets, with_received, destination, rows_now, unit, slots, limit}
-use Rattle.net_check.specs.TwoPlans.{Tables, one_plan, rows_by}
+use Rattle.net_check.specs.TwoPlans.{Tables, one_plan, moving, rows_by}
 use Rattle.net_check.specs.Events.{EventValue, Put, Move, Lose, Expire, AnswerAt, Switch, OutcomeValue, PutIn, Moved, Entered, Stopped, Lost, Expired, Answered, Silent, Switched, Refused, Refusal, N01, N02, N03, N04, N05, N06, N07, refusal_number, IsRefused, IsFirstRefusal}
 use Rattle.net_check.specs.Networks.{Step, Happens, Moves, IsDone, IsAnswered, answer_key}
-use Rattle.net_check.specs.Runs.{reached}
+use Rattle.net_check.specs.Runs.{Turn, RunOf, reached}
 use Rattle.net_check.specs.OneOutcome.{HaveRowsApart, HoldsLawfulLists, HasOneOutcome, RunsHaveOneOutcome}
-use Rattle.net_check.proofs.Accepted.{accepted_orders}
+use Rattle.net_check.proofs.Accepted.{accepted_orders, move_orders}
 use Rattle.net_check.proofs.ByPlace.{is_lawful}
 use Rattle.net_check.proofs.EidMoves.{same_next}
 use Rattle.net_check.proofs.OneReply.{one_answering}
@@ -264,12 +265,19 @@ module _ (tables : Tables) (apart : HaveRowsApart tables) where
 pub one_outcome : (tables : Tables) (w : NetworkState) (event : EventValue) → HaveRowsApart tables → HoldsLawfulLists w → HasOneOutcome tables w event
 one_outcome tables w event apart lists = step_one tables apart w event lists
 
-pub runs_have_one_outcome : (plan : Plan) (cert : Certificate) → Accepts plan cert → RunsHaveOneOutcome plan cert
-runs_have_one_outcome plan cert accepted turns event run =
-    let apart : RowsAreApart plan = λ n r. (accepted C05 n (Some r) None).0 in
-    step_one (one_plan plan) (apart, tt) (reached plan cert turns) event (λ n t is. lawful_there n t is)
-  where
-    lawful_there : (n : ℕ) (t : TerminusState) → (reached plan cert turns).terminus n ≡ Some t → lawful.IsLawful t.records
-    lawful_there n t is =
-        let records = keeps_records (one_plan plan) cert turns run n t is in
-        subst lawful.IsLawful (sym records) (is_lawful (records_of plan n) (places_of cert n) (accepted_orders plan cert accepted n (termini_are_there (one_plan plan) cert turns run n t is)))
+-- The tables of runs that keep their termini's records in order.
+module _ (tables : Tables) (cert : Certificate) (apart : HaveRowsApart tables) (orders : RecordsHaveOrder tables.plan cert) where
+  lawful_there : (turns : List Turn) → RunOf tables cert turns → HoldsLawfulLists (reached tables.plan cert turns)
+  lawful_there turns run n t is =
+      let records = keeps_records tables cert turns run n t is in
+      subst lawful.IsLawful (sym records) (is_lawful (records_of tables.plan n) (places_of cert n) (orders n (termini_are_there tables cert turns run n t is)))
+
+  runs_one : RunsHaveOneOutcome tables cert
+  runs_one turns event run = step_one tables apart (reached tables.plan cert turns) event (lawful_there turns run)
+
+pub runs_have_one_outcome : (plan : Plan) (cert : Certificate) → Accepts plan cert → RunsHaveOneOutcome (one_plan plan) cert
+runs_have_one_outcome plan cert accepted = runs_one (one_plan plan) cert (λ n r. (accepted C05 n (Some r) None).0, tt) (accepted_orders plan cert accepted)
+
+pub moves_have_one_outcome : (before after : Plan) (cert : Certificate) → AcceptsMove before after cert → RunsHaveOneOutcome (moving before after) cert
+moves_have_one_outcome before after cert accepted =
+    runs_one (moving before after) cert (λ n r. (accepted (Before C05) n (Some r) None).0, λ n r. (accepted (After C05) n (Some r) None).0) (move_orders before after cert accepted)

@@ -1,15 +1,14 @@
 -- That an event leaves one outcome and one next state.
 use Rattle.std.specs.Prelude.{◌≡◌, ℕ, List, Some, IfSome}
-use Rattle.net_plan.specs.declared.plan.Plan.{Plan}
 use Rattle.net_plan.specs.declared.certificate.Certificate.{Certificate}
 use Rattle.pdr_repository.specs.Records.{IsLawful}
 use Rattle.net_check.specs.RoutingLoops.{RowsAreApart}
 use Rattle.net_check.specs.Termini.{TerminusState}
 use Rattle.net_check.specs.States.{NetworkState}
-use Rattle.net_check.specs.TwoPlans.{Tables, one_plan}
+use Rattle.net_check.specs.TwoPlans.{Tables}
 use Rattle.net_check.specs.Events.{EventValue, OutcomeValue}
 use Rattle.net_check.specs.Networks.{Step}
-use Rattle.net_check.specs.Runs.{Turn, Run, reached}
+use Rattle.net_check.specs.Runs.{Turn, RunOf, reached}
 
 -- no two rows of a node cover one EID, before it has switched nor from then on
 abbrev pub HaveRowsApart : Tables → Type 0
@@ -23,6 +22,6 @@ HoldsLawfulLists w = (n : ℕ) (t : TerminusState) → w.terminus n ≡ Some t �
 abbrev pub HasOneOutcome : Tables → NetworkState → EventValue → Type 0
 HasOneOutcome tables w event = (a b : OutcomeValue) (u v : NetworkState) → Step tables w event a u → Step tables w event b v → (a ≡ b) × (u ≡ v)
 
--- so it is at each moment of each run of the plan's network
-abbrev pub RunsHaveOneOutcome : Plan → Certificate → Type 0
-RunsHaveOneOutcome plan cert = (turns : List Turn) (event : EventValue) → Run plan cert turns → HasOneOutcome (one_plan plan) (reached plan cert turns) event
+-- so it is at each moment of each run by the tables
+abbrev pub RunsHaveOneOutcome : Tables → Certificate → Type 0
+RunsHaveOneOutcome tables cert = (turns : List Turn) (event : EventValue) → RunOf tables cert turns → HasOneOutcome tables (reached tables.plan cert turns) event
