@@ -158,7 +158,10 @@ const LISTS: &[(&str, Option<PlanError>)] = &[
         Some(PlanError::UnknownName),
     ),
     (r#"{"do":"answer","node":null}"#, Some(PlanError::WrongKind)),
-    (r#"{"do":"answer","node":"nic","do":"answer"}"#, None),
+    (
+        r#"{"do":"answer","node":"nic","do":"answer"}"#,
+        Some(PlanError::Doubled),
+    ),
     (
         r#"{"do":"answer","node":"x"},{"do":"answer","node":"x"}"#,
         Some(PlanError::UnknownName),
