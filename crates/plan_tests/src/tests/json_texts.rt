@@ -118,21 +118,3 @@ fn bounds_the_depth(rt: HostRuntime) -> Result<(), Fail> {
     }
     Ok(())
 }
-
-/// Of a key that comes twice the last value counts.
-#[test]
-fn the_last_of_a_key_counts(rt: HostRuntime) {
-    for (text, wanted) in [
-        (r#"{"format":2,"format":1,"buses":[],"nodes":[]}"#, None),
-        (
-            r#"{"format":1,"format":2,"buses":[],"nodes":[]}"#,
-            Some(PlanError::OutOfRange),
-        ),
-    ] {
-        assert_eq!(rt;
-            plan_of_text(rt.alloc(), text.as_bytes()).err(),
-            wanted,
-            "{text}"
-        );
-    }
-}

@@ -2,7 +2,7 @@
 use super::playing::{certificate_of, plan_of};
 use super::telling::told;
 use net_check::{check, check_move};
-use net_plan::{Event, Plan};
+use net_plan::{Certificate, Event, Plan};
 use net_sim::{Network, Outcome, Refusal};
 use std::alloc::{AllocError, Global};
 use std::test::Fail;
@@ -190,9 +190,14 @@ fn is_lawful(outcome: &Outcome) -> bool {
 }
 
 /// Whether all packets come whole, within their ranks, where the bridges switch in this order.
-fn all_come(alloc: Global, before: &Plan, after: &Plan, order: &[usize]) -> Result<bool, Fail> {
-    let certificate = certificate_of(alloc, before, &ranks_of_line(alloc)?)?;
-    let checked = check_move(alloc, before, after, &certificate)?;
+fn all_come(
+    alloc: Global,
+    before: &Plan,
+    after: &Plan,
+    certificate: &Certificate,
+    order: &[usize],
+) -> Result<bool, Fail> {
+    let checked = check_move(alloc, before, after, certificate)?;
     let mut network = Network::new_move(alloc, checked, Vec::new(alloc))?;
     let played = network.run(&events_in(alloc, order)?)?;
     let mut come = Vec::new(alloc);
@@ -212,10 +217,11 @@ fn packets_come_in_each_order_of_switches(rt: HostRuntime) -> Result<(), Fail> {
     let alloc = rt.alloc();
     let before = plan_of(alloc, &line_of(alloc, 1)?)?;
     let after = plan_of(alloc, &line_of(alloc, 2)?)?;
+    let certificate = certificate_of(alloc, &before, &ranks_of_line(alloc)?)?;
     let mut failed = Vec::new(alloc);
     for number in 0..720usize {
         let order = order_of(alloc, number)?;
-        if !all_come(alloc, &before, &after, &order)? {
+        if !all_come(alloc, &before, &after, &certificate, &order)? {
             failed.push(number)?;
         }
     }
