@@ -9,7 +9,8 @@ use Rattle.mctp_control.specs.ResponseLaws.{one_response}
 use Rattle.mctp_bridge.specs.declared.read_fault.ReadFault.{ReadFault}
 use Rattle.mctp_bridge.specs.declared.read_fault.ReadFault.TheVariants.{NotAsked}
 use Rattle.mctp_bridge.specs.Parts.{Tells}
-use Rattle.mctp_bridge.specs.Readers.{ReaderState, First, Asks, AsksNothing, Takes, TakesPart, Ignores, asking, handle_after, is_last, state_after}
+use Rattle.mctp_transport.specs.First.{First}
+use Rattle.mctp_bridge.specs.Readers.{ReaderState, Asks, AsksNothing, Takes, TakesPart, Ignores, asking, handle_after, is_last, state_after}
 use Rattle.mctp_bridge.specs.Reads.{Exchange, IsTold, IsTablePart, Reads, due_after, collected, IsReadUpTo, StandsFor, IsTaken}
 use Rattle.mctp_bridge.proofs.Readings.{some_entry, next_last, ends_within, follows, reads_more, reading_collects, due_pushed, collected_pushed, reads_pushed}
 

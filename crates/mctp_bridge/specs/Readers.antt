@@ -1,5 +1,6 @@
 -- An entry reader is fed the answers to its requests, one by one.
-use Rattle.std.specs.Prelude.{◌≡◌, ◌≢◌, ◌⊎◌, ℕ, ◌+◌, ◌<◌, Bool, true, false, List, [], ◌++◌, length, map, Option, Some, None, option_map, Result, Ok, Err, MatchOption, ◌==◌, if◌then◌else◌}
+use Rattle.std.specs.Prelude.{◌≡◌, ◌≢◌, ℕ, ◌+◌, ◌<◌, Bool, true, false, List, [], ◌++◌, length, map, Option, Some, None, option_map, Result, Ok, Err, MatchOption, ◌==◌, if◌then◌else◌, vec_capacity}
+use Rattle.mctp_transport.specs.First.{First}
 use Rattle.mctp_control.specs.Headers.{HeaderValue}
 use Rattle.mctp_control.specs.RouteEntries.{EntryValue, entry_value}
 use Rattle.mctp_control.specs.Requests.{request_bytes, GetsEntries}
@@ -24,13 +25,13 @@ reader_state r = record {
   failed = r.failed;
 }
 
+-- for how many entries the reader has memory
+abbrev pub reader_memory : EntryReader → ℕ
+reader_memory r = vec_capacity r.entries
+
 -- nothing was asked yet, and the first handle is 0
 abbrev pub new_reader : ReaderState
 new_reader = record { entries = []; handle = Some 0; waiting = None; failed = false }
-
--- where the cause holds, this follows, and else the rest
-abbrev pub First : (cause follows rest : Type 0) → Type 0
-First cause follows rest = (cause × follows) ⊎ (¬ cause × rest)
 
 -- the bytes of a request for the entries from a handle on, under an instance ID
 abbrev pub asking : (id handle : ℕ) → List ℕ

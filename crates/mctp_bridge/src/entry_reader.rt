@@ -28,15 +28,15 @@ pub struct EntryReader {
 }
 
 impl EntryReader {
-    ghost use Rattle.std.specs.Prelude.{◌≡◌, map, IfOk, Ok, Err, false, None, Some, option_map};
+    ghost use Rattle.std.specs.Prelude.{◌≡◌, map, IfOk, false, Some};
     ghost use Rattle.mctp_control.specs.RouteEntries.{entry_value};
-    ghost use Rattle.mctp_control.specs.Headers.{header_value};
     ghost use Rattle.mctp_control.specs.EntriesValue.{entries_of};
-    ghost use Rattle.mctp_bridge.specs.Readers.{reader_state, new_reader, Asks, Takes, TakesAnswer, TakesPart, Fails};
+    ghost use Rattle.mctp_bridge.specs.Readers.{reader_state, reader_memory, new_reader, Asks, Takes, TakesAnswer, TakesPart, Fails};
 
     /// A reader that has asked for nothing yet. It reserves room for 247 entries.
     pub fn new(alloc: Global) -> Result<Self, AllocError>
-        ensures { IfOk result (λ reader. reader_state reader ≡ new_reader) }
+        ensures state { IfOk result (λ reader. reader_state reader ≡ new_reader) }
+        ensures memory { IfOk result (λ reader. reader_memory reader ≡ 247) }
     {
         Ok(EntryReader {
             entries: Vec::with_capacity(alloc, MAX_READ)?,
@@ -50,7 +50,8 @@ impl EntryReader {
     /// again before an answer, it is the same request under the new instance ID, which the answer must then have. Its
     /// bytes: 0x00, the Rq bit and the instance ID, 0x0A, the entry handle.
     pub fn next_request(&mut self, id: InstanceId) -> Option<[u8; 4]>
-        ensures { Asks (reader_state self.old) id.value result (reader_state self.new) }
+        ensures asks { Asks (reader_state self.old) id.value result (reader_state self.new) }
+        ensures memory { reader_memory self.new ≡ reader_memory self.old }
     {
         if self.failed {
             return None;
@@ -66,7 +67,8 @@ impl EntryReader {
 
     /// Takes the bytes of an answer: true where the table is complete with it.
     pub fn take(&mut self, answer: &[u8]) -> Result<bool, ReadFault>
-        ensures { Takes (reader_state self.old) answer.now result (reader_state self.new) }
+        ensures takes { Takes (reader_state self.old) answer.now result (reader_state self.new) }
+        ensures memory { reader_memory self.new ≡ reader_memory self.old }
     {
         if self.failed {
             return Err(ReadFault::FailedBefore);
@@ -91,8 +93,9 @@ impl EntryReader {
     fn take_answer(&mut self, id: InstanceId, part: TablePart) -> Result<bool, ReadFault>
         requires goes { self.old.failed ≡ false }
         requires waits { self.old.waiting ≡ Some id }
-        ensures { TakesAnswer (reader_state self.old) part.header.instance.value part.next (entries_of part.entries) result
+        ensures takes { TakesAnswer (reader_state self.old) part.header.instance.value part.next (entries_of part.entries) result
             (reader_state self.new) }
+        ensures memory { reader_memory self.new ≡ reader_memory self.old }
     {
         if part.header.instance.value != id.value {
             return Err(ReadFault::NotAsked);
@@ -103,7 +106,8 @@ impl EntryReader {
     /// Takes a part of the table that was asked for.
     fn take_part(&mut self, part: TablePart) -> Result<bool, ReadFault>
         requires goes { self.old.failed ≡ false }
-        ensures { TakesPart (reader_state self.old) part.next (entries_of part.entries) result (reader_state self.new) }
+        ensures takes { TakesPart (reader_state self.old) part.next (entries_of part.entries) result (reader_state self.new) }
+        ensures memory { reader_memory self.new ≡ reader_memory self.old }
     {
         let count = part.entries.items.len();
         if count == 0 && part.next != NO_MORE {
@@ -121,7 +125,8 @@ impl EntryReader {
 
     /// From now on the reader has failed.
     fn fail(&mut self, fault: ReadFault) -> Result<bool, ReadFault>
-        ensures { Fails (reader_state self.old) fault result (reader_state self.new) }
+        ensures fails { Fails (reader_state self.old) fault result (reader_state self.new) }
+        ensures memory { reader_memory self.new ≡ reader_memory self.old }
     {
         self.failed = true;
         Err(fault)

@@ -23,6 +23,3 @@ pub use read_fault::ReadFault;
 pub use routing_entries::{Neighbor, route_entries};
 pub use row::{Hop, Row};
 pub use table_fault::TableFault;
-
-#[cfg(test)]
-mod tests;

@@ -109,6 +109,3 @@ fn cut(from: &mut u16, stop: u16, hop: Option<Hop>) -> Piece
     *from = stop;
     Piece { first, last, hop }
 }
-
-#[cfg(test)]
-mod tests;

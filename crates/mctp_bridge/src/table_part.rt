@@ -1,6 +1,5 @@
 //! The part of a routing table that one answer brings.
-ghost use Rattle.std.specs.Prelude.{◌≡◌, ◌+◌, ◌≤◌, ◌++◌, length, map, vec_len, vec_capacity, MatchOption};
-ghost use Rattle.mctp_control.specs.RouteEntries.{entry_value};
+ghost use Rattle.std.specs.Prelude.{◌≡◌, ◌+◌, ◌≤◌, ◌++◌, length, vec_len, vec_capacity, MatchOption};
 ghost use Rattle.mctp_control.specs.EntriesValue.{entries_of};
 ghost use Rattle.mctp_control.specs.Headers.{header_value};
 ghost use Rattle.mctp_bridge.specs.Parts.{Tells, TellsNothing};
@@ -43,10 +42,10 @@ impl TablePart {
 pub(crate) fn append(list: &mut Vec<RouteEntry>, more: Entries)
     requires { vec_len list.old + length more.items.items ≤ vec_capacity list.old }
     ensures items { list.new.items ≡ list.old.items ++ more.items.items }
-    ensures capacity { vec_capacity list.old ≤ vec_capacity list.new }
+    ensures capacity { vec_capacity list.new ≡ vec_capacity list.old }
 {
     let mut left = more.items;
     while !left.is_empty() {
-        let _ = list.push(left.remove(0));
+        list.push_reserved(left.remove(0));
     }
 }

@@ -1,19 +1,6 @@
 -- Bits that stand side by side in a byte: from the byte each is known.
-use Rattle.std.specs.Prelude.{◌≡◌, ℕ, ◌<◌, ◌≤◌, ◌+◌, ◌*◌, Bool, true, false, refl}
+use Rattle.std.specs.Prelude.{◌≡◌, ℕ, ◌<◌, ◌≤◌, ◌+◌, ◌*◌}
 use Rattle.std.proofs.Common.{arith}
-use Rattle.mctp_transport.specs.Frames.{bit}
-
--- a flag is 0 or 1
-pub bit_most : (b : Bool) → bit b ≤ 1
-bit_most true = omega arith
-bit_most false = omega arith
-
--- and says which it is
-pub bit_one : (a b : Bool) → bit a ≡ bit b → a ≡ b
-bit_one true true e = refl
-bit_one false false e = refl
-bit_one true false e = absurd (omega arith)
-bit_one false true e = absurd (omega arith)
 
 -- two numbers are the same
 pub record Same2 (a b a' b' : ℕ) : Type 0 where

@@ -2,7 +2,8 @@
 use Rattle.std.specs.Prelude.{◌≡◌, ℕ, ◌<◌, ◌+◌, ◌*◌, refl}
 use Rattle.std.proofs.Common.{arith}
 use Rattle.mctp_transport.specs.Frames.{bit}
-use Rattle.mctp_control.specs.Digits.{bit_most, bit_one, digits_4, digits_64_32}
+use Rattle.mctp_transport.specs.Bits.{bit_most, bit_one}
+use Rattle.mctp_control.specs.Digits.{digits_4, digits_64_32}
 use Rattle.mctp_control.specs.Headers.{HeaderValue, header_byte}
 use Rattle.mctp_control.specs.Requests.{CommandValue, SetsEid, GetsEid, AllocatesEids, GetsEntries, RequestValue, IsCommand, IsRequest, command_bytes, request_bytes}
 

@@ -45,12 +45,12 @@ pub struct Device {
 }
 
 impl Device {
-    ghost use Rattle.std.specs.Prelude.{◌↔◌, ◌∷◌, ◌<◌, ℕ, List, [], length, slice_index, IsTrue, Some, IsSomeAnd, option_map};
+    ghost use Rattle.std.specs.Prelude.{◌↔◌, ◌∷◌, ◌<◌, ℕ, List, [], length, IsTrue, Some, option_map};
     ghost use Rattle.mctp_transport.specs.Frames.{IsAssignable};
     ghost use Rattle.mctp_control.specs.Numbers.{set_number, allocate_number, allocation_number};
     ghost use Rattle.mctp_control.specs.Requests.{command_value};
     ghost use Rattle.mctp_control.specs.Devices.{device_value, configured_pool, size_of, present_eid, present_size, present_first, MayGiveEid, MayGivePool, allocation_of, pool_wanted, endpoint_type};
-    ghost use Rattle.mctp_control.specs.Replies.{Replies, SetReplies, GetReplies, AllocateReplies, CommandReplies, Supports};
+    ghost use Rattle.mctp_control.specs.Replies.{Replies, SetReplies, AllocateReplies, CommandReplies, Supports};
 
     /// An endpoint that holds no EID.
     pub fn endpoint() -> Self

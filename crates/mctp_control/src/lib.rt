@@ -32,6 +32,3 @@ pub use statuses::{
     Acceptance, Allocation, EidType, EndpointStatus, EndpointType, PoolStatus, ReservedPair,
     SetStatus,
 };
-
-#[cfg(test)]
-mod tests;

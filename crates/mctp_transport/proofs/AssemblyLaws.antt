@@ -18,7 +18,7 @@ use Rattle.mctp_transport.specs.Histories.{History, Arrived, TimeUp, after, IsOp
 use Rattle.mctp_transport.specs.Hearing.{Answer, Whole, Held, Dropped, HearsOnly}
 use Rattle.mctp_transport.specs.declared.why.Why.{Why}
 use Rattle.mctp_transport.specs.declared.assembler.Assembler.{Assembler}
-use Rattle.mctp_transport.specs.Assembly.{partial_of, Feeds, StandsFor, table_of, assembler_slots, assembler_limit}
+use Rattle.mctp_transport.specs.Assembly.{partial_of, Feeds, StandsFor, table_of, assembler_slots, assembler_limit, assembler_memory}
 use Rattle.mctp_transport.specs.Steps.{Takes}
 use Rattle.mctp_transport.proofs.Clearing.{found_key}
 use Rattle.mctp_transport.proofs.Standing.{moved_is, pick_true, found_open, expired_stands, nothing_stands, open_count}
@@ -69,6 +69,7 @@ pub takes_feeds : (old : Assembler) (p : Frame) (answer : Answer) (new : Assembl
 takes_feeds old p answer new t = record {
   slots = t.slots;
   limit = t.limit;
+  memory = t.memory;
   hears = λ history s.
       let m = moved_is (assembler_slots old) (assembler_limit old) (table_of old) history p s.table (rows_length partial_of old.limit old.block.items 0 old.slots.items) in
       subst (HearsOnly (assembler_slots old) (assembler_limit old) history p) (sym t.answer_is) m.0;
@@ -86,8 +87,8 @@ takes_feeds old p answer new t = record {
 pub start_takes : (old mid new : Assembler) (p : Frame) (key : KeyValue) (answer : Answer) → p.som ≡ true → key ≡ key_of p
     → table_of mid ≡ expired (table_of old) key → assembler_slots mid ≡ assembler_slots old → assembler_limit mid ≡ assembler_limit old
     → table_of new ≡ (started (assembler_limit mid) (table_of mid) p).0 → answer ≡ (started (assembler_limit mid) (table_of mid) p).1
-    → assembler_slots new ≡ assembler_slots mid → assembler_limit new ≡ assembler_limit mid → Takes old p answer new
-start_takes old mid new p key answer som is table slots limit after_table after_answer after_slots after_limit =
+    → assembler_slots new ≡ assembler_slots mid → assembler_limit new ≡ assembler_limit mid → assembler_memory new ≡ assembler_memory old → Takes old p answer new
+start_takes old mid new p key answer som is table slots limit after_table after_answer after_slots after_limit memory =
     let same : started (assembler_limit mid) (table_of mid) p ≡ moved (assembler_limit old) (table_of old) p =
     ap (λ n. started n (table_of mid) p) limit
     ∙ ap (λ (t : Table). started (assembler_limit old) t p) (table ∙ ap (λ k. expired (table_of old) k) is)
@@ -95,6 +96,7 @@ start_takes old mid new p key answer som is table slots limit after_table after_
     record {
       slots = after_slots ∙ slots;
       limit = after_limit ∙ limit;
+      memory = memory;
       table = after_table ∙ ap (λ (x : Table × Answer). x.0) same;
       answer_is = after_answer ∙ ap (λ (x : Table × Answer). x.1) same;
     }

@@ -2,14 +2,11 @@
 use Rattle.std.proofs.Common.{◌≡◌, ◌⊎◌, ℕ, ◌/◌, ◌%◌, ◌<◌, ◌≤◌, Bool, true, false, List, [], ◌∷◌, length, ap, arith, inl, inr}
 use Rattle.std.proofs.lemmas.Bool.{cases_lt, cases_order}
 use Rattle.mctp_transport.specs.Frames.{Frame, Spelled, bit, flag_byte, version_byte}
+use Rattle.mctp_transport.specs.Bits.{bit_most}
 
 -- a digit of 0 or 1 is a flag
 flag_of : (n : ℕ) → n < 2 → (b : Bool) × (bit b ≡ n)
 flag_of n small = elim (cases_lt n 1) [ inl none ↦ (false, omega arith) | inr one ↦ (true, omega arith) ]
-
-bit_most : (b : Bool) → bit b ≤ 1
-bit_most true = omega arith
-bit_most false = omega arith
 
 -- numbers in the ranges of a header, and the flag byte that they make
 pub record IsInRange (unit version destination source flags : ℕ) (payload : List ℕ) : Type 0 where

@@ -1,5 +1,5 @@
 -- What an assembler stands for, and what feeding it does.
-use Rattle.std.specs.Prelude.{◌≡◌, ℕ, List, length, take, Option, Some, None}
+use Rattle.std.specs.Prelude.{◌≡◌, ℕ, List, length, take, Option, Some, None, vec_capacity}
 use Rattle.mctp_transport.specs.Frames.{Frame}
 use Rattle.mctp_transport.specs.Histories.{History, Arrived, after}
 use Rattle.mctp_transport.specs.Hearing.{Answer, Whole, Held, Dropped, HearsOnly}
@@ -26,6 +26,10 @@ assembler_slots a = length a.slots.items
 abbrev pub assembler_limit : Assembler → ℕ
 assembler_limit a = a.limit
 
+-- for how many slots and for how many bytes the assembler has memory
+abbrev pub assembler_memory : Assembler → ℕ × ℕ
+assembler_memory a = (vec_capacity a.slots, vec_capacity a.block)
+
 -- The assembler stands for the history: the keys that it holds are those that are open after the history,
 -- each with what was given since its last start.
 pub record StandsFor (a : Assembler) (history : History) : Type 0 where
@@ -38,9 +42,10 @@ answer_of fed.Held = Held
 answer_of (fed.Dropped w) = Dropped w
 
 -- Packet p is fed: for each history that the assembler stood for, the answer is what is heard of the packet
--- after it, no other answer is, and the assembler then stands for the history with the packet at its end.
+-- after it, no other answer is, and the assembler then stands for the history with the packet at its end. Its memory stays the same.
 pub record Feeds (old : Assembler) (p : Frame) (answer : Answer) (new : Assembler) : Type 0 where
   pub slots : assembler_slots new ≡ assembler_slots old
   pub limit : assembler_limit new ≡ assembler_limit old
+  pub memory : assembler_memory new ≡ assembler_memory old
   pub hears : (history : History) → StandsFor old history → HearsOnly (assembler_slots old) (assembler_limit old) history p answer
   pub stands : (history : History) → StandsFor old history → StandsFor new (after history (Arrived p))

@@ -1,19 +1,8 @@
 -- No two packets have the same bytes.
-use Rattle.std.specs.Prelude.{◌≡◌, ℕ, ◌<◌, ◌≤◌, ◌+◌, ◌*◌, Bool, true, false, refl}
+use Rattle.std.specs.Prelude.{◌≡◌, ℕ, ◌<◌, ◌≤◌, ◌+◌, ◌*◌}
 use Rattle.std.proofs.Common.{arith}
 use Rattle.mctp_transport.specs.Frames.{Frame, IsFrame, frame_bytes, bit, flag_byte, version_byte}
-
--- a flag is 0 or 1
-bit_most : (b : Bool) → bit b ≤ 1
-bit_most true = omega arith
-bit_most false = omega arith
-
--- and says which it is
-bit_one : (a b : Bool) → bit a ≡ bit b → a ≡ b
-bit_one true true e = refl
-bit_one false false e = refl
-bit_one true false e = absurd (omega arith)
-bit_one false true e = absurd (omega arith)
+use Rattle.mctp_transport.specs.Bits.{bit_most, bit_one}
 
 -- digits in the places 128, 64, 16, 8 and 1: from the sum each is known
 pub record SameDigits (a b n c t a' b' n' c' t' : ℕ) : Type 0 where

@@ -1,5 +1,7 @@
 pub mod Wire
 pub mod Frames
+pub mod Bits
+pub mod First
 pub mod FrameLaws
 pub mod Packets
 pub mod Refusals

@@ -3,7 +3,7 @@ use Rattle.std.specs.Prelude.{◌≡◌, ◌≤◌, length, slice_range}
 use Rattle.mctp_transport.specs.Frames.{Frame}
 use Rattle.mctp_transport.specs.Hearing.{Answer, Whole, Held, Dropped}
 use Rattle.mctp_transport.specs.TableChanges.{moved}
-use Rattle.mctp_transport.specs.Assembly.{table_of, assembler_slots, assembler_limit}
+use Rattle.mctp_transport.specs.Assembly.{table_of, assembler_slots, assembler_limit, assembler_memory}
 use Rattle.mctp_transport.specs.declared.assembler.Assembler.{Assembler}
 use Rattle.mctp_transport.specs.declared.assembler.Step.{Step}
 use Rattle.mctp_transport.specs.declared.assembler.Step.TheVariants as step
@@ -26,5 +26,6 @@ IsPlace new (step.Dropped w) = Unit {0}
 pub record Takes (old : Assembler) (p : Frame) (answer : Answer) (new : Assembler) : Type 0 where
   pub slots : assembler_slots new ≡ assembler_slots old
   pub limit : assembler_limit new ≡ assembler_limit old
+  pub memory : assembler_memory new ≡ assembler_memory old
   pub table : table_of new ≡ (moved (assembler_limit old) (table_of old) p).0
   pub answer_is : answer ≡ (moved (assembler_limit old) (table_of old) p).1

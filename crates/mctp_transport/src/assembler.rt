@@ -68,7 +68,8 @@ impl Assembler {
     ghost use Rattle.mctp_transport.specs.Tables.{Partial, is_at};
     ghost use Rattle.mctp_transport.specs.TableChanges.{begun, started, carried, expired, next_partial, next_answer};
     ghost use Rattle.mctp_transport.specs.Parts.{part};
-    ghost use Rattle.mctp_transport.specs.Assembly.{answer_of, Feeds, StandsFor, partial_of, table_of, assembler_slots, assembler_limit};
+    ghost use Rattle.mctp_transport.specs.Assembly.{answer_of, Feeds, StandsFor, partial_of, table_of, assembler_slots, assembler_limit, assembler_memory};
+    ghost use Rattle.mctp_transport.specs.Hearing.{HearsOnly};
     ghost use Rattle.mctp_transport.specs.Lending.{EndsAs};
     ghost use Rattle.mctp_transport.specs.Steps.{IsPlace, Takes, step_answer};
 
@@ -99,7 +100,9 @@ impl Assembler {
     /// packet's own, and it needs no slot. A packet that starts a message ends an open one of its key first, also
     /// where it is dropped itself.
     pub fn feed<'a>(&'a mut self, packet: PacketView<'a>) -> Fed<'a>
-        ensures* { sem 𝓛 (EndsAs self.entry (Feeds self.old (frame_of packet.entry) (answer_of result))) }
+        ensures* ends { sem 𝓛 (EndsAs self.entry (Feeds self.old (frame_of packet.entry) (answer_of result))) }
+        ensures hears { (h : History) → StandsFor self.old h
+            → HearsOnly (assembler_slots self.old) (assembler_limit self.old) h (frame_of packet.entry) (answer_of result) }
     {
         match self.take(&packet) {
             Step::Alone => Fed::Whole(packet.payload),
@@ -114,6 +117,7 @@ impl Assembler {
     pub fn expire(&mut self, key: Key) -> bool
         ensures slots { assembler_slots self.new ≡ assembler_slots self.old }
         ensures limit { assembler_limit self.new ≡ assembler_limit self.old }
+        ensures memory { assembler_memory self.new ≡ assembler_memory self.old }
         ensures was_open { (h : History) → StandsFor self.old h
             → IsTrue result ↔ IsOpen (assembler_slots self.old) (assembler_limit self.old) h (key_value key) }
         ensures stands { (h : History) → StandsFor self.old h
@@ -170,6 +174,7 @@ impl Assembler {
         ensures table { table_of self.new ≡ slice_set (table_of self.old) place None }
         ensures slots { assembler_slots self.new ≡ assembler_slots self.old }
         ensures limit { assembler_limit self.new ≡ assembler_limit self.old }
+        ensures memory { assembler_memory self.new ≡ assembler_memory self.old }
     {
         self.slots[place] = None;
     }
@@ -185,6 +190,7 @@ impl Assembler {
             ≡ take at (part (assembler_limit self.old) self.old.block.items place) ++ bytes.now }
         ensures slots { assembler_slots self.new ≡ assembler_slots self.old }
         ensures limit { assembler_limit self.new ≡ assembler_limit self.old }
+        ensures memory { assembler_memory self.new ≡ assembler_memory self.old }
     {
         write(&mut self.block, place * self.limit + at, bytes);
         self.slots[place] = message;
@@ -197,6 +203,7 @@ impl Assembler {
         ensures table { table_of self.new ≡ slice_set (table_of self.old) place (Some (begun (frame_of packet.now))) }
         ensures slots { assembler_slots self.new ≡ assembler_slots self.old }
         ensures limit { assembler_limit self.new ≡ assembler_limit self.old }
+        ensures memory { assembler_memory self.new ≡ assembler_memory self.old }
     {
         let message = OpenMessage {
             key: packet.key(),
@@ -213,6 +220,7 @@ impl Assembler {
         ensures table { table_of self.new ≡ expired (table_of self.old) (key_value key) }
         ensures slots { assembler_slots self.new ≡ assembler_slots self.old }
         ensures limit { assembler_limit self.new ≡ assembler_limit self.old }
+        ensures memory { assembler_memory self.new ≡ assembler_memory self.old }
     {
         match self.place_of(key) {
             None => false,
@@ -246,6 +254,7 @@ impl Assembler {
             step_answer self.new frame result ≡ (started (assembler_limit self.old) (table_of self.old) frame).1 }
         ensures slots { assembler_slots self.new ≡ assembler_slots self.old }
         ensures limit { assembler_limit self.new ≡ assembler_limit self.old }
+        ensures memory { assembler_memory self.new ≡ assembler_memory self.old }
     {
         if packet.payload.len() > self.limit {
             return Step::Dropped(Why::Limit);
@@ -272,6 +281,7 @@ impl Assembler {
             ≡ (carried (assembler_limit self.old) (table_of self.old) frame place).1 }
         ensures slots { assembler_slots self.new ≡ assembler_slots self.old }
         ensures limit { assembler_limit self.new ≡ assembler_limit self.old }
+        ensures memory { assembler_memory self.new ≡ assembler_memory self.old }
     {
         match self.place_of(packet.key()) {
             None => Step::Dropped(Why::NotOpen),
@@ -291,6 +301,7 @@ impl Assembler {
             step_answer self.new frame result ≡ next_answer (assembler_limit self.old) q frame }
         ensures slots { assembler_slots self.new ≡ assembler_slots self.old }
         ensures limit { assembler_limit self.new ≡ assembler_limit self.old }
+        ensures memory { assembler_memory self.new ≡ assembler_memory self.old }
     {
         let Some(open) = self.slots[place] else {
             return Step::Dropped(Why::NotOpen);
@@ -313,6 +324,3 @@ impl Assembler {
         }
     }
 }
-
-#[cfg(test)]
-mod tests;

@@ -72,6 +72,3 @@ impl<'a> Iterator for Packets<'a> {
         Some(PacketView { header, payload })
     }
 }
-
-#[cfg(test)]
-mod tests;

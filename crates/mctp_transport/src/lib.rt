@@ -19,6 +19,3 @@ pub use packet::{HEADER_LENGTH, Header, Packet, PacketView, UNIT};
 pub use packet_error::PacketError;
 pub use why::Why;
 pub use wire::{Wire, round_trip};
-
-#[cfg(test)]
-mod tests;

@@ -1,26 +1,11 @@
 //! The program `mctpplan`: it checks a planned MCTP network against its certificate, makes certificates, and plays the network.
 #![tactic(auto)]
 
-mod command_line;
-mod commands;
-mod files;
-mod refused;
-mod show;
-mod status;
-mod texts;
-
-use command_line::{Command, words};
-use commands::assign::run_assign;
-use commands::certify::run_certify;
-use commands::check::run_check;
-use commands::refuse;
-use commands::sim::files::simulate;
-use commands::walk::run_walk;
-use files::FileAtPath;
 use net_plan::Counted;
-use refused::Refused;
-use show::run_show;
-use status::Status;
+use plan_commands::{
+    Command, FileAtPath, Refused, Status, refuse, run_assign, run_certify, run_check, run_move,
+    run_show, run_walk, simulate, simulate_move, words,
+};
 use std::env;
 use std::process::ExitCode;
 
@@ -67,6 +52,36 @@ fn run(rt: &HostRuntime) -> Status {
         ) => simulate(
             alloc,
             &mut Counted::new(FileAtPath::new(rt, plan)),
+            &mut Counted::new(FileAtPath::new(rt, certificate)),
+            &mut Counted::new(FileAtPath::new(rt, events)),
+            &mut output,
+            &mut errors,
+        ),
+        Ok(
+            Command::Move {
+                before,
+                after,
+                certificate,
+            },
+        ) => run_move(
+            alloc,
+            &mut Counted::new(FileAtPath::new(rt, before)),
+            &mut Counted::new(FileAtPath::new(rt, after)),
+            &mut Counted::new(FileAtPath::new(rt, certificate)),
+            &mut output,
+            &mut errors,
+        ),
+        Ok(
+            Command::SimMove {
+                before,
+                after,
+                certificate,
+                events,
+            },
+        ) => simulate_move(
+            alloc,
+            &mut Counted::new(FileAtPath::new(rt, before)),
+            &mut Counted::new(FileAtPath::new(rt, after)),
             &mut Counted::new(FileAtPath::new(rt, certificate)),
             &mut Counted::new(FileAtPath::new(rt, events)),
             &mut output,

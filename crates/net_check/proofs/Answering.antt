@@ -9,6 +9,7 @@ use Rattle.std.specs.Prelude.{bit_xor, All}
 use Rattle.std.proofs.lemmas.List.Elements.{All-head, All-tail}
 use Rattle.std.proofs.lemmas.Nat.{xor_of_8}
 use Rattle.std.proofs.Common.{append_assoc}
+use Rattle.mctp_transport.specs.Bits.{bit_most}
 use Rattle.mctp_transport.specs.Frames.{bit}
 use Rattle.net_check.specs.Termini.{AreBytes}
 use Rattle.pldm_message.specs.declared.kind.MessageKind.TheVariants.{Request}
@@ -266,10 +267,6 @@ some_command h tid records asked all bytes = elim (both_or_not _ _ (not_or_not _
 -- the bytes are those of a request that is to be answered, or not
 flag_of : (n : ℕ) → n < 2 → (b : Bool) × (bit b ≡ n)
 flag_of n small = elim (cases_lt n 1) [ inl none ↦ (false, omega arith) | inr one ↦ (true, omega arith) ]
-
-bit_most : (b : Bool) → bit b ≤ 1
-bit_most true = omega arith
-bit_most false = omega arith
 
 asked_or_not : (request : List ℕ) → OrNot (IsAsked request)
 asked_or_not [] = inr (λ (h, (is, same), kind). let e = ap length same in omega arith)

@@ -1,17 +1,14 @@
 -- Chains of records, and why a bad one leaves no places.
-use Rattle.std.proofs.Common.{◌≡◌, ◌⊎◌, ℕ, ◌+◌, ◌-◌, ◌<◌, List, length, Some, get_or, sym, ◌∙◌, ap, arith, inl, inr, Result, Ok, Err, IfOk}
-use Rattle.std.specs.declared.alloc.AllocError.{AllocError}
+use Rattle.std.proofs.Common.{◌≡◌, ◌⊎◌, ℕ, ◌+◌, ◌-◌, ◌<◌, List, length, Some, get_or, sym, ◌∙◌, ap, arith, inl, inr}
 use Rattle.std.specs.Prelude.{slice_get}
 use Rattle.std.proofs.lemmas.Bool.{cases_order}
 use Rattle.std.proofs.lemmas.Option.{same_Some, slice_get_within, get_or_from_slice_get}
 use Rattle.net_plan.specs.declared.terminus.Record.{Record}
 use Rattle.net_check.specs.declared.certifying.chains.ChainFault.{ChainFault}
 use Rattle.net_check.specs.declared.certifying.chains.ChainFault.TheVariants.{Missing, Doubled, Circle}
-use Rattle.net_check.specs.declared.certifying.chains.Chained.{Chained}
-use Rattle.net_check.specs.declared.certifying.chains.Chained.TheVariants.{Places, Bad}
 use Rattle.net_check.specs.Moves.{IsEnd}
 use Rattle.net_check.specs.Circles.{EndsAfter, IsOnCircle}
-use Rattle.net_check.specs.RecordChains.{HasNext, HasNewNext, IsFollowedBy, HaveNewHandles, IsBadChain, AreChained, AreLinked, IsChainOf, RulesOutPlaces}
+use Rattle.net_check.specs.RecordChains.{HasNext, HasNewNext, IsFollowedBy, HaveNewHandles, IsBadChain, AreChained, AreLinked}
 use Rattle.net_check.proofs.Circling.{no_circle_down}
 use Rattle.net_check.proofs.Elements.{element}
 use Rattle.net_check.proofs.Lines.{end_is_near, endless_circles, as_far}
@@ -88,11 +85,6 @@ pub bad_chain_breaks_places : (records : List Record) (fault : ChainFault) → H
 bad_chain_breaks_places records (Missing j) named bad places chained = bad.0 (λ r is. chained_has_next records named places chained j r is)
 bad_chain_breaks_places records (Doubled j) named bad places chained = bad.1.0 (λ r is. chained_new_next records named places chained j r is)
 bad_chain_breaks_places records (Circle j) named bad places chained = chained_no_circle records named places chained j bad.2.0
-
-pub chain_rules_out : (records : List Record) → HaveNewHandles records → (r : Result Chained AllocError) → IfOk r (IsChainOf records) → IfOk r (RulesOutPlaces records)
-chain_rules_out records named (Err error) h = tt
-chain_rules_out records named (Ok (Places places)) h = tt
-chain_rules_out records named (Ok (Bad fault)) h = bad_chain_breaks_places records fault named h
 
 -- Records that are linked.
 module _ (records : List Record) (linked : AreLinked records) where

@@ -24,12 +24,13 @@ use Rattle.net_check.specs.Superfluous.{NeedsItsLevel, NeedsItsPlaces, NeedsWhat
 use Rattle.net_check.specs.Rules.{CertificateDemands, Accepts}
 use Rattle.net_check.specs.PlanFaults.{PlanMeetsAll}
 use Rattle.net_check.specs.RoutingLoops.{IsRank}
-use Rattle.net_check.specs.Certificates.{AreExactLevels, AreExactPlaces, AreExactRanks, IsExact, HasOnlyRanks, IsMadeBefore}
+use Rattle.net_check.specs.Certificates.{AreExactLevels, AreExactPlaces, AreExactRanks, IsExact, IsOnlyExact, IsMadeBefore}
 use Rattle.net_check.proofs.Circling.{ends_once}
 use Rattle.net_check.proofs.Elements.{element}
 use Rattle.net_check.proofs.CertificateLaws.{rows_apart, exact_falls}
 use Rattle.net_check.proofs.RuleOrder.{all_below}
 use Rattle.net_check.proofs.OneCertificate.{one_ranks}
+use Rattle.net_check.proofs.OneOrder.{one_levels, one_places}
 use Rattle.net_check.proofs.LevelLaws.{one_owner, exact_levels_fall}
 
 -- ---- it is accepted
@@ -152,10 +153,14 @@ exact_well_formed plan cert met exact = record {
       pairs_seen range_value one.ranges.items (λ a b. a.first + a.size ≤ b.first) (λ k l x y less here there. (exact.ranks.longest i one is).ascend k l x y less here there));
 }
 
--- ---- its ranks are the only ones
+-- ---- it is the only one
 
-pub exact_only : (plan : Plan) (cert : Certificate) → PlanMeetsAll plan → IsExact plan cert → HasOnlyRanks plan cert
-exact_only plan cert met exact other exact' = one_ranks plan met cert other exact.ranks exact'.ranks
+pub exact_only : (plan : Plan) (cert : Certificate) → PlanMeetsAll plan → IsExact plan cert → IsOnlyExact plan cert
+exact_only plan cert met exact other exact' =
+    let levels = one_levels plan cert other exact.levels exact'.levels in
+    let places = one_places plan met cert other exact.places exact'.places in
+    let ranks = one_ranks plan met cert other exact.ranks exact'.ranks in
+    λ i. record { levels = levels i; places = places i; ranks = ranks i }
 
 -- ---- it is made part by part
 

@@ -94,11 +94,3 @@ are_levels plan counts levels same none ends =
     } in
     let P : List ℕ → Type 0 = λ list. AreLevels plan list in
     subst P (sym same) exact
-
--- a certificate that gives the exact levels meets the rule
-pub given_levels_fall : (plan : Plan) (levels : List ℕ) → AreLevels plan levels → (cert : Certificate) → ((n count : ℕ) → slice_get levels n ≡ Some count → level plan cert n ≡ count) → (n : ℕ) → IsBelowItsOwner plan cert n
-unfolding IsBelowItsOwner
-given_levels_fall plan levels are cert gives n owner owned =
-    let here = element levels n (omega (arith, are.long, owned_within plan n owner owned)) in
-    let there = element levels owner (omega (arith, are.long, owner_within plan n owner owned)) in
-    omega (arith, gives n here.0 here.1, gives owner there.0 there.1, one_less (IsOwnedBy plan) (one_owner plan) n owner here.0 there.0 owned (are.exact n here.0 here.1) (are.exact owner there.0 there.1))

@@ -82,12 +82,13 @@ module _ {X : Type 0} (key : X → ℕ) where
 pub no_levels : (counts : List ℕ) → AreLevelsBefore counts 0 []
 no_levels counts = record {
   levels = λ m k less. absurd (omega arith);
+  some = λ i one is. absurd (none-some one is);
   within = λ i one is. absurd (none-some one is);
   ascend = λ i j one other less is. absurd (none-some one is);
 }
 
-pub level_pushed : (counts : List ℕ) (n : ℕ) (given : List NodeLevel) (one : NodeLevel) → AreLevelsBefore counts n given → one.node ≡ n → slice_get counts n ≡ Some one.level → AreLevelsBefore counts (n + 1) (given ++ one ∷ [])
-level_pushed counts n given one is at here = record {
+pub level_pushed : (counts : List ℕ) (n : ℕ) (given : List NodeLevel) (one : NodeLevel) → AreLevelsBefore counts n given → one.node ≡ n → 0 < one.level → slice_get counts n ≡ Some one.level → AreLevelsBefore counts (n + 1) (given ++ one ∷ [])
+level_pushed counts n given one is at high here = record {
   levels = λ m k less there. elim (cases_lt m n) [
     | inl earlier ↦ ap (λ o. unwrap_or (option_map (λ (x : NodeLevel). x.level) o) 0) (found_other (λ (x : NodeLevel). x.node) given one m (λ same. omega (arith, at, same, earlier))) ∙ is.levels m k earlier there
     | inr now ↦
@@ -95,6 +96,10 @@ level_pushed counts n given one is at here = record {
         let none : find (λ (x : NodeLevel). x.node == one.node) given ≡ None = found_none (λ (x : NodeLevel). x.node) given n one.node is.within (omega (arith, at)) in
         let found = found_last (λ (x : NodeLevel). x.node) given one none in
         ap (λ j. level_given (given ++ one ∷ []) j) (same ∙ sym at) ∙ (ap (λ o. unwrap_or (option_map (λ (x : NodeLevel). x.level) o) 0) found ∙ same_Some one.level k (sym here ∙ (ap (λ j. slice_get counts j) (sym same) ∙ there))))
+  ];
+  some = λ i x there. elim (in_push given one i x there) [
+    | inl before ↦ is.some i x before
+    | inr (last, same) ↦ (let P : NodeLevel → Type 0 = λ y. 0 < y.level in subst P same high)
   ];
   within = below_more (λ (x : NodeLevel). x.node) given one n is.within at;
   ascend = ascend_more (λ (x : NodeLevel). x.node) given one n is.within at is.ascend;
@@ -109,6 +114,7 @@ level_skipped counts n given is here = record {
         let none : find (λ (x : NodeLevel). x.node == m) given ≡ None = found_none (λ (x : NodeLevel). x.node) given n m is.within now in
         ap (λ o. unwrap_or (option_map (λ (x : NodeLevel). x.level) o) 0) none ∙ same_Some 0 k (sym here ∙ (ap (λ j. slice_get counts j) (sym same) ∙ there)))
   ];
+  some = is.some;
   within = below_still (λ (x : NodeLevel). x.node) given n is.within;
   ascend = is.ascend;
 }
@@ -127,6 +133,7 @@ levels_all plan counts given are is = record {
         let P : ℕ → Type 0 = IsLevel plan n in
         subst P (sym low) (n, refl, λ owner owned. no_owner plan n owner (omega (arith, past, are.long)) owned))
   ];
+  some = is.some;
   within = λ i one there. omega (arith, is.within i one there, are.long);
   ascend = is.ascend;
 }

@@ -10,7 +10,7 @@ use Rattle.net_check.specs.declared.move_fault.MoveFault.{MoveFault}
 use Rattle.net_plan.specs.declared.plan.Plan.{Plan}
 use Rattle.net_plan.specs.declared.certificate.Certificate.{Certificate}
 use Rattle.net_check.specs.Rules.{AtNode, AtRowEid, AtNodeOrEid}
-use Rattle.net_check.specs.Faults.{order_of, order_of_number, eid_number, LessByFirstDifference}
+use Rattle.net_check.specs.Faults.{order_of_number, eid_number, LessByFirstDifference}
 use Rattle.net_check.specs.Superfluous.{NeedsWhatItIsGiven}
 use Rattle.net_check.specs.TwoPlans.{moving}
 use Rattle.net_check.specs.MoveRules.{Requirement, SameFrame, SameNode, Before, After, WayOnBefore, WayOnAfter, Given, HaveSameFrame, IsSameNode, but_rows, IsLedOnAlways, NeedsItsRankEver, DemandsBefore, DemandsAfter, MoveDemands, AcceptsMove}

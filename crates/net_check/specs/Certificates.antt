@@ -1,5 +1,5 @@
 -- The certificate of a plan, and why there is none.
-use Rattle.std.specs.Prelude.{◌≡◌, ◌≢◌, ℕ, ◌<◌, List, length, slice_get, Some, Bool, nat_lt, map}
+use Rattle.std.specs.Prelude.{◌≡◌, ◌≢◌, ℕ, ◌<◌, List, length, slice_get, Some, Bool, nat_lt}
 use Rattle.net_check.specs.declared.certify_error.CertifyError.{CertifyError}
 use Rattle.net_check.specs.declared.certify_error.CertifyError.TheVariants as error
 use Rattle.net_check.specs.declared.certifying.routes.Routed.{Routed}
@@ -12,7 +12,7 @@ use Rattle.net_plan.specs.declared.certificate.NodePlaces.{NodePlaces}
 use Rattle.net_plan.specs.declared.terminus.Record.{Record}
 use Rattle.net_check.specs.declared.rule.Rule.{Rule}
 use Rattle.net_check.specs.declared.rule.Rule.TheVariants.{C07, C10, C14}
-use Rattle.net_plan.specs.CertificateValues.{node_ranks_value}
+use Rattle.net_plan.specs.CertificateValues.{certificate_value}
 use Rattle.net_check.specs.Routing.{MovesTo}
 use Rattle.net_check.specs.Owners.{IsOwnedBy, level_given}
 use Rattle.net_check.specs.OwnerLoops.{IsLevel, IsFirstOwnerLoop}
@@ -38,6 +38,7 @@ pub record AreExactRanks (plan : Plan) (given : List NodeRanks) : Type 0 where
 -- For each node the number of owners above it, the nodes in plan order, and those without an owner left out.
 pub record AreExactLevels (plan : Plan) (given : List NodeLevel) : Type 0 where
   pub levels : (n : ℕ) → IsLevel plan n (level_given given n)
+  pub some : (i : ℕ) (one : NodeLevel) → slice_get given i ≡ Some one → 0 < one.level
   pub within : (i : ℕ) (one : NodeLevel) → slice_get given i ≡ Some one → one.node < length plan.nodes.items
   pub ascend : (i j : ℕ) (one other : NodeLevel) → i < j → slice_get given i ≡ Some one → slice_get given j ≡ Some other → one.node < other.node
 
@@ -59,9 +60,9 @@ pub record IsExact (plan : Plan) (cert : Certificate) : Type 0 where
   pub places : AreExactPlaces plan cert.places.items
   pub ranks : AreExactRanks plan cert.ranks.items
 
--- every exact certificate of the plan gives the same ranks, range by range
-abbrev pub HasOnlyRanks : Plan → Certificate → Type 0
-HasOnlyRanks plan cert = (other : Certificate) → IsExact plan other → map node_ranks_value other.ranks.items ≡ map node_ranks_value cert.ranks.items
+-- every exact certificate of the plan is the same: it gives the same levels, the same places and, range by range, the same ranks
+abbrev pub IsOnlyExact : Plan → Certificate → Type 0
+IsOnlyExact plan cert = (other : Certificate) → IsExact plan other → certificate_value other ≡ certificate_value cert
 
 -- no certificate of the plan is accepted
 abbrev pub HasNoCertificate : Plan → Type 0
@@ -124,6 +125,7 @@ pub record ArePlacesBefore (plan : Plan) (n : ℕ) (given : List NodePlaces) : T
 -- and levels
 pub record AreLevelsBefore (counts : List ℕ) (n : ℕ) (given : List NodeLevel) : Type 0 where
   pub levels : (m k : ℕ) → m < n → slice_get counts m ≡ Some k → level_given given m ≡ k
+  pub some : (i : ℕ) (one : NodeLevel) → slice_get given i ≡ Some one → 0 < one.level
   pub within : (i : ℕ) (one : NodeLevel) → slice_get given i ≡ Some one → one.node < n
   pub ascend : (i j : ℕ) (one other : NodeLevel) → i < j → slice_get given i ≡ Some one → slice_get given j ≡ Some other → one.node < other.node
 

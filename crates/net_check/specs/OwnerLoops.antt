@@ -1,10 +1,9 @@
 -- How many owners stand above each node, and loops of owners.
 use Rattle.std.specs.Prelude.{◌≡◌, ℕ, ◌≤◌, List, length, slice_get, Some}
 use Rattle.net_plan.specs.declared.plan.Plan.{Plan}
-use Rattle.net_plan.specs.declared.certificate.Certificate.{Certificate}
 use Rattle.net_check.specs.declared.certifying.levels.Levelled.{Levelled}
 use Rattle.net_check.specs.declared.certifying.levels.Levelled.TheVariants.{Levels, Looped}
-use Rattle.net_check.specs.Owners.{IsOwnedBy, level, IsBelowItsOwner}
+use Rattle.net_check.specs.Owners.{IsOwnedBy}
 use Rattle.net_check.specs.Circles.{EndsAfter, HasNoCircle, IsLoop, IsLeastLoop}
 
 -- so many owners stand above n: its owner, the owner of that, and so on to a node without one
@@ -30,9 +29,3 @@ pub record AreLevels (plan : Plan) (levels : List ℕ) : Type 0 where
 abbrev pub IsLevelled : Plan → Levelled → Type 0
 IsLevelled plan (Levels levels) = AreLevels plan levels.items
 IsLevelled plan (Looped nodes) = IsFirstOwnerLoop plan nodes.items
-
--- The levels are lawful for each certificate that gives them, and with an owner loop no certificate's are.
-abbrev pub DecidesLevels : Plan → Levelled → Type 0
-DecidesLevels plan (Levels levels) =
-    (cert : Certificate) → ((n count : ℕ) → slice_get levels.items n ≡ Some count → level plan cert n ≡ count) → (n : ℕ) → IsBelowItsOwner plan cert n
-DecidesLevels plan (Looped nodes) = (cert : Certificate) → ¬ ((n : ℕ) → IsBelowItsOwner plan cert n)

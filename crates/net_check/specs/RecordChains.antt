@@ -53,11 +53,6 @@ abbrev pub IsChainOf : List Record → Chained → Type 0
 IsChainOf records (Places places) = ArePlaces records (map (λ p. p.value) places.items)
 IsChainOf records (Bad fault) = IsBadChain records fault
 
--- where something is wrong with the chain, no places chain its records
-abbrev pub RulesOutPlaces : List Record → Chained → Type 0
-RulesOutPlaces records (Places places) = Unit {0}
-RulesOutPlaces records (Bad fault) = (places : List ℕ) → ¬ AreChained records places
-
 -- what is wrong, in a word
 abbrev pub chain_word_of : ChainFault → List ℕ
 chain_word_of (Missing j) = codes "missing"

@@ -5,16 +5,12 @@ use Rattle.net_plan.specs.declared.nodes.Row.{Row}
 use Rattle.net_check.specs.Routing.{rows_of, Covers, OfItem, MovesTo}
 use Rattle.net_check.specs.Rows.{IsInRange, IsApartFromEarlier}
 use Rattle.net_check.specs.Moves.{Leads}
-use Rattle.net_check.specs.Circles.{IsLoop, IsLeastLoop, HasNoCircle}
+use Rattle.net_check.specs.Circles.{IsLeastLoop, HasNoCircle}
 use Rattle.net_check.specs.Promises.{WayEnds}
 
 -- so many moves along rows lead what is for e from n to a holder of e, or to a node without a row for e
 abbrev pub IsRank : Plan → ℕ → ℕ → ℕ → Type 0
 IsRank plan n e moves = (m : ℕ) × Leads (MovesTo plan e) n moves m × WayEnds plan e m
-
--- at least two nodes, the last is the first, and each but the last doesn't hold e and routes it to the one after it
-abbrev pub IsRoutingLoop : Plan → ℕ → List ℕ → Type 0
-IsRoutingLoop plan e nodes = IsLoop (MovesTo plan e) nodes
 
 -- The least EID that circles, the first node in plan order on a circle of it, and the next nodes back to itself.
 pub record IsFirstRoutingLoop (plan : Plan) (e : ℕ) (nodes : List ℕ) : Type 0 where

@@ -7,7 +7,7 @@ ghost use Rattle.net_check.specs.Rules.{Accepts};
 ghost use Rattle.net_check.specs.Faults.{order_of};
 ghost use Rattle.net_check.specs.declared.rule.Rule.TheVariants.{C07, C10, C14};
 ghost use Rattle.net_check.specs.PlanFaults.{PlanMeets};
-ghost use Rattle.net_check.specs.Certificates.{IsExact, HasOnlyRanks, IsMadeBefore, NamesObstacle, RulesOutCertificates};
+ghost use Rattle.net_check.specs.Certificates.{IsExact, IsOnlyExact, IsMadeBefore, NamesObstacle, RulesOutCertificates};
 
 pub mod chains;
 mod exact_levels;
@@ -39,7 +39,7 @@ use std::alloc::Global;
 pub fn certify(alloc: Global, plan: &Plan) -> Result<Certificate, CertifyError>
     ensures accepted { IfOk result (λ certificate. Accepts plan.now certificate) }
     ensures exact { IfOk result (λ certificate. IsExact plan.now certificate) }
-    ensures only { IfOk result (λ certificate. HasOnlyRanks plan.now certificate) }
+    ensures only { IfOk result (λ certificate. IsOnlyExact plan.now certificate) }
     ensures well_formed { IfOk result (λ certificate. IsWellFormed (plan_value plan.now) (certificate_value certificate)) }
     ensures obstacle { IfErr result (λ error. NamesObstacle plan.now error) }
     ensures none { IfErr result (λ error. RulesOutCertificates plan.now error) }

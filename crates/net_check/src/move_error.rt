@@ -1,4 +1,6 @@
 //! Why two plans and a certificate are not accepted as a move.
+ghost use Rattle.std.specs.Prelude.{◌≡◌, option_map};
+ghost use Rattle.net_check.specs.MoveFaults.{code_of_error};
 
 use crate::move_fault::MoveFault;
 use std::alloc::AllocError;
@@ -19,6 +21,21 @@ pub enum MoveError {
     Both(MoveFault),
     /// Want of memory.
     OutOfMemory,
+}
+
+impl MoveError {
+    /// The code of the broken rule, as users see it; none where memory ran out.
+    pub fn code(self) -> Option<&'static str>
+        ensures { option_map (λ code. code.now) result ≡ code_of_error self }
+    {
+        match self {
+            MoveError::Differ(_) => Some("M01"),
+            MoveError::Old(fault) => Some(fault.rule.code()),
+            MoveError::New(fault) => Some(fault.rule.code()),
+            MoveError::Both(fault) => Some(fault.rule.code()),
+            MoveError::OutOfMemory => None,
+        }
+    }
 }
 
 impl From<AllocError> for MoveError {

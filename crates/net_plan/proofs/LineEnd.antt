@@ -5,11 +5,12 @@ use Rattle.std.specs.Char.{is_ascii_digit, is_digit, encode_utf8}
 use Rattle.std.specs.List.{prefix_len, starts_with}
 use Rattle.json.specs.Ascii as ascii
 use Rattle.json.specs.Json as json
-use Rattle.json.specs.Lex.{Lexeme, token, Class, quote, backslash, operator, space, other, class, string_token, Mode, between, in_word, in_string, in_escape, lex_byte, lex, punctuate, fresh}
+use Rattle.json.specs.Lex.{Lexeme, token, Class, quote, backslash, operator, space, other, class, string_token, Mode, between, in_word, in_string, in_escape, lex_byte, lex, punctuate, fresh, tokens}
 use Rattle.json.specs.Text.{Within, plain, after_backslash, after_u, after_high, content, code_unit, short_escape, prepend, is_high_surrogate, is_low_surrogate, surrogate_pair}
 use Rattle.json.specs.Token.{number, boolean, null, bad}
 use Rattle.json.specs.Word.{ends_word, after_digits, after_minus, after_sign, after_whole, after_fraction, after_exponent, after_number, number_before, literal, word}
 use Rattle.serde_json.specs.Read.{of_json, max_depth, read}
+use Rattle.net_plan.specs.Texts.{HasSingleKeys}
 
 abbrev ended : List ℕ → List ℕ
 ended t = t ++ 10 ∷ []
@@ -191,5 +192,12 @@ lex_line m (x ∷ xs) =
     let same : ◌≡◌ {A = Mode → List Lexeme} (λ next. lex next (ended xs)) (λ next. lex next xs) = λ i next. onward next i in
     ap (lex_byte m (class x) x (ended xs)) same ∙ byte_line m (class x) x xs (λ next. lex next xs)
 
+tokens_line : (t : List ℕ) → tokens (t ++ 10 ∷ []) ≡ tokens t
+tokens_line t = ap (punctuate fresh) (lex_line between t)
+
 pub read_line : (t : List ℕ) → read (t ++ 10 ∷ []) ≡ read t
-read_line t = ap (λ ts. option_and_then of_json (option_and_then (λ p. json.if_last p.0 p.1) (json.value max_depth ts))) (ap (punctuate fresh) (lex_line between t))
+read_line t = ap (λ ts. option_and_then of_json (option_and_then (λ p. json.if_last p.0 p.1) (json.value max_depth ts))) (tokens_line t)
+
+-- nor of its keys
+pub single_line : (t : List ℕ) → HasSingleKeys t → HasSingleKeys (t ++ 10 ∷ [])
+single_line t h = (h.0, ap (λ ts. option_and_then (λ p. json.if_last p.0 p.1) (json.value max_depth ts)) (tokens_line t) ∙ h.1, h.2)

@@ -1,5 +1,5 @@
 -- A well-formed certificate stands in the JSON value that is written of it.
-use Rattle.std.proofs.Common.{◌≡◌, ◌≢◌, ℕ, zero, suc, ◌<◌, List, [], ◌∷◌, length, map, get_or, true, nat_lt, ◌&&◌, Some, Ok, refl, sym, ap, ◌∙◌, arith, AllPairs, subst, None, ◌⊎◌, inl, inr}
+use Rattle.std.proofs.Common.{◌≡◌, ◌≢◌, ℕ, zero, suc, ◌<◌, List, [], ◌∷◌, length, map, get_or, true, nat_lt, ◌&&◌, Some, Ok, refl, sym, ap, ◌∙◌, arith, AllPairs, subst, None, ◌≤◌, ◌⊎◌, ⊎_elim, inl, inr}
 use Rattle.std.proofs.lemmas.Bool.{ltb-true}
 use Rattle.std.proofs.lemmas.List.{length-map}
 use Rattle.std.proofs.lemmas.Option.{slice_get-get_or, get_or_from_slice_get}
@@ -7,7 +7,7 @@ use Rattle.std.specs.List.{list_all, AllByRecursion}
 use Rattle.std.proofs.lemmas.List.Elements.{recursion_from_All}
 use Rattle.serde_json.specs.Data.{Data}
 use Rattle.serde_json.specs.View.{items_of}
-use Rattle.net_plan.specs.CertificateJson.{list_data, number_data, name_data, level_data, places_data, range_data, ranks_data, certificate_data}
+use Rattle.net_plan.specs.CertificateJson.{list_data, number_data, name_data, level_data, places_data, range_data, ranks_data, certificate_data, certificate_text}
 use Rattle.serde_json.specs.Read.{read}
 use Rattle.net_plan.specs.CertificateReading.{are_known, certificate}
 use Rattle.net_plan.specs.CertificateText.{IsLevelOf, ArePlacesOf, IsRangeOf, IsAscending, AreRanksOf, IsCertificateOf}
@@ -31,6 +31,7 @@ use Rattle.net_plan.specs.declared.error.Fault.{Fault}
 use Rattle.net_plan.specs.declared.error.Fault.TheVariants as fault
 use Rattle.net_plan.specs.declared.error.PlanError.{PlanError}
 use Rattle.net_plan.specs.declared.error.PlanError.TheVariants as errors
+use Rattle.net_plan.proofs.SingleKeys.{not_doubled}
 use Rattle.net_plan.proofs.CertificateLaw.{certificate_tells}
 use Rattle.net_plan.proofs.KeysLaw.{keys_sound}
 use Rattle.net_plan.proofs.Telling.{both, same_Ok}
@@ -142,11 +143,11 @@ same_data bytes d e p q = let both : Some d ≡ Some e = sym p ∙ q in cc
 module _ (p : PlanValue) (bytes : List ℕ) (v : CertificateValue) (stands : StandsFor (IsCertificateOf p) bytes v) where
   pub one_certificate : (w : CertificateValue) → StandsFor (IsCertificateOf p) bytes w → w ≡ v
   one_certificate w other =
-      let here : IsCertificateOf p stands.0 w = subst (λ d. IsCertificateOf p d w) (same_data bytes other.0 stands.0 other.1.1 stands.1.1) other.2 in
-      same_value (node_names p.nodes) stands.0 w v ((certificate_tells p).whole stands.0 w here) ((certificate_tells p).whole stands.0 v stands.2)
+      let here : IsCertificateOf p stands.0 w = subst (λ d. IsCertificateOf p d w) (same_data bytes other.0 stands.0 other.1.1 stands.1.1) other.3 in
+      same_value (node_names p.nodes) stands.0 w v ((certificate_tells p).whole stands.0 w here) ((certificate_tells p).whole stands.0 v stands.3)
 
   not_faulty : (f : Fault) → IsFaulty (certificate (node_names p.nodes)) (IsCertificateOf p) f bytes → ⊥
-  not_faulty f h = h.2.1 v (subst (λ d. IsCertificateOf p d v) (same_data bytes stands.0 h.0 stands.1.1 h.1.1) stands.2)
+  not_faulty f h = h.2.1 v (subst (λ d. IsCertificateOf p d v) (same_data bytes stands.0 h.0 stands.1.1 h.1.1) stands.3)
 
   pub not_refused : (e : PlanError) → IsRefused (certificate (node_names p.nodes)) (IsCertificateOf p) bytes e → (e ≡ errors.OutOfMemory) ⊎ (e ≡ errors.OverLimit)
   not_refused errors.OutOfMemory h = inl refl
@@ -159,7 +160,23 @@ module _ (p : PlanValue) (bytes : List ℕ) (v : CertificateValue) (stands : Sta
   not_refused errors.MissingKey h = absurd (not_faulty fault.MissingKey h)
   not_refused errors.UnknownKey h = absurd (not_faulty fault.UnknownKey h)
   not_refused errors.OutOfRange h = absurd (not_faulty fault.OutOfRange h)
-  not_refused errors.UnknownName h = absurd (not_faulty fault.UnknownName h)
+  not_refused errors.UnknownName h = absurd (not_faulty fault.UnknownName h.0)
   not_refused errors.BadHex h = absurd (not_faulty fault.BadHex h)
-  not_refused errors.Doubled h = absurd (not_faulty fault.Doubled h)
+  not_refused errors.Doubled (inl h) = absurd (not_faulty fault.Doubled h)
+  not_refused errors.Doubled (inr h) = absurd (not_doubled bytes stands.2 h.2)
   not_refused errors.Device h = absurd h
+
+  not_long : length bytes ≤ 2097152 → IsRefused (certificate (node_names p.nodes)) (IsCertificateOf p) bytes errors.OverLimit → ⊥
+  not_long short (inl long) = omega (arith, short, long)
+  not_long short (inr h) = not_faulty fault.OverLimit h
+
+  -- a short text is refused for want of memory alone
+  pub only_memory : length bytes ≤ 2097152 → (e : PlanError) → IsRefused (certificate (node_names p.nodes)) (IsCertificateOf p) bytes e → e ≡ errors.OutOfMemory
+  only_memory short e h =
+      ⊎_elim (λ memory. memory) (λ over. absurd (not_long short (subst (λ x. IsRefused (certificate (node_names p.nodes)) (IsCertificateOf p) bytes x) over h))) (not_refused e h)
+
+-- what is said of a text that is a certificate's is said of the certificate's text
+pub text_stands : (p : Plan) (c : Certificate) (text : List ℕ) → text ≡ certificate_text (node_names (plan_value p).nodes) (certificate_value c)
+    → (IsWellFormed (plan_value p) (certificate_value c) → StandsFor (IsCertificateOf (plan_value p)) text (certificate_value c))
+    → IsWellFormed (plan_value p) (certificate_value c) → StandsFor (IsCertificateOf (plan_value p)) (certificate_text (node_names (plan_value p).nodes) (certificate_value c)) (certificate_value c)
+text_stands p c text same stands well = subst (λ t. StandsFor (IsCertificateOf (plan_value p)) t (certificate_value c)) same (stands well)

@@ -1,16 +1,22 @@
 -- The JSON value of a certificate: it has no float, and nests a few lists and objects.
-use Rattle.std.proofs.Common.{◌≡◌, ℕ, suc, ◌≤◌, List, [], ◌∷◌, map, false, Result, Ok, Err, IfOk, refl, ap, arith, slice_index_or, length, zero, ◌<◌}
+use Rattle.std.proofs.Common.{◌≡◌, ℕ, codes, suc, ◌≤◌, List, [], ◌∷◌, map, false, Result, Ok, Err, IfOk, refl, ap, arith, slice_index_or, length, zero, ◌<◌}
+use Rattle.json.specs.Strict.{HasUniqueKeys, ItemsHaveUniqueKeys}
 use Rattle.serde_json.specs.Data.{Data, depth, items_depth}
 use Rattle.serde_json.specs.View.{items_of}
-use Rattle.serde_json.specs.Written.{has_float, items_have_float}
+use Rattle.serde_json.specs.Written.{has_float, items_have_float, outline, items_outline}
 use Rattle.net_plan.specs.CertificateJson.{number_data, level_data, places_data, range_data, ranks_data, certificate_data}
-use Rattle.net_plan.specs.CertificateValues.{PlacesValue, NodeRanksValue, CertificateValue}
+use Rattle.net_plan.specs.CertificateValues.{LevelValue, PlacesValue, RangeValue, NodeRanksValue, CertificateValue}
 use Rattle.net_plan.specs.PlanValues.{name_bytes, node_value, node_names}
 use Rattle.net_plan.specs.declared.nodes.Node.{Node}
+use Rattle.net_plan.proofs.Differing.{differ_sound}
 
 pub if_ok : {A E : Type 0} (r : Result A E) (P Q : A → Type 0) → IfOk r P → ((x : A) → P x → Q x) → IfOk r Q
 if_ok (Ok x) P Q h step = step x h
 if_ok (Err e) P Q h step = tt
+
+pub if_both : {A E : Type 0} (r : Result A E) (P Q S : A → Type 0) → IfOk r P → IfOk r Q → ((x : A) → P x → Q x → S x) → IfOk r S
+if_both (Ok x) P Q S h g step = step x h g
+if_both (Err e) P Q S h g step = tt
 
 pub map_map : {A B C : Type 0} (f : B → C) (g : A → B) (xs : List A) → map (λ x. f (g x)) xs ≡ map f (map g xs)
 map_map f g [] = refl
@@ -45,3 +51,20 @@ few_deep nodes c =
     let b : items_depth (items_of (map (places_data nodes) c.places)) ≤ 2 = shallow (places_data nodes) 2 places c.places in
     let d : items_depth (items_of (map (ranks_data nodes) c.ranks)) ≤ 3 = shallow (ranks_data nodes) 3 ranks c.ranks in
     omega (arith, a, b, d)
+
+unique_items : {A : Type 0} (f : A → Data) → ((x : A) → HasUniqueKeys (outline (f x))) → (xs : List A) → ItemsHaveUniqueKeys (items_outline (items_of (map f xs)))
+unique_items f unique [] = tt
+unique_items f unique (x ∷ xs) = (unique x, unique_items f unique xs)
+
+-- no object of a certificate's value has a key twice
+pub unique_keys : (nodes : List (List ℕ)) (c : CertificateValue) → HasUniqueKeys (outline (certificate_data nodes c))
+unfolding certificate_data
+unique_keys nodes c =
+    let numbers : (ns : List ℕ) → ItemsHaveUniqueKeys (items_outline (items_of (map number_data ns))) = λ ns. unique_items number_data (λ n. tt) ns in
+    let level : (l : LevelValue) → HasUniqueKeys (outline (level_data nodes l)) = λ l. (differ_sound (codes "level" ∷ codes "node" ∷ []) refl, (tt, (tt, tt))) in
+    let places : (p : PlacesValue) → HasUniqueKeys (outline (places_data nodes p)) = λ p. (differ_sound (codes "node" ∷ codes "places" ∷ []) refl, (tt, (numbers p.places, tt))) in
+    let range : (r : RangeValue) → HasUniqueKeys (outline (range_data r)) = λ r. (differ_sound (codes "first" ∷ codes "rank" ∷ codes "size" ∷ []) refl, (tt, (tt, (tt, tt)))) in
+    let ranks : (r : NodeRanksValue) → HasUniqueKeys (outline (ranks_data nodes r)) = λ r. (differ_sound (codes "node" ∷ codes "ranges" ∷ []) refl, (tt, (unique_items range_data range r.ranges, tt))) in (
+      differ_sound (codes "format" ∷ codes "levels" ∷ codes "places" ∷ codes "ranks" ∷ []) refl,
+      (tt, (unique_items (level_data nodes) level c.levels, (unique_items (places_data nodes) places c.places, (unique_items (ranks_data nodes) ranks c.ranks, tt)))),
+    )

@@ -16,6 +16,7 @@ use Rattle.net_plan.specs.declared.event_text.Format.TheVariants.{One, Two}
 use Rattle.net_plan.specs.declared.event_text.Verb.{Verb}
 use Rattle.net_plan.specs.declared.event_text.Verb.TheVariants.{Put, Move, Lose, Expire, Answer, Switch}
 
+-- the format that has this number
 abbrev pub format_of : ℕ → Format
 format_of n = if n == 2 then Two else One
 

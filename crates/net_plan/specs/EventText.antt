@@ -64,7 +64,7 @@ IsEventOf format nodes d (expire node source tag owner) = IsExpireOf nodes d nod
 IsEventOf format nodes d (answer node) = IsAnswerOf nodes d node
 IsEventOf format nodes d (switch node) = IsSwitchOf format nodes d node
 
--- its number
+-- the number of the format
 abbrev pub IsFormat : Data → Format → Type 0
 IsFormat d One = IsNumber d 1
 IsFormat d Two = IsNumber d 2

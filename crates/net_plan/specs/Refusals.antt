@@ -1,8 +1,11 @@
 -- Why a text gives no value, by the error.
 use Rattle.std.specs.Prelude.{◌≡◌, ℕ, ◌<◌, ◌⊎◌, List, length, Option, Result, Err, ⊤}
+use Rattle.json.specs.Json.{Json}
+use Rattle.json.specs.Strict.{HasUniqueKeys}
 use Rattle.serde_json.specs.Data.{Data}
 use Rattle.net_plan.specs.Stream.{TakesMoreThan}
-use Rattle.net_plan.specs.Texts.{IsJson, IsNoJson, Gave}
+use Rattle.net_plan.specs.Texts.{IsJson, IsNoJson, HasSingleKeys, HasDoubledKey, Gave}
+use Rattle.net_plan.specs.Trees.{data_of}
 use Rattle.net_plan.specs.declared.error.Fault.{Fault}
 use Rattle.net_plan.specs.declared.error.Fault.TheVariants as fault
 use Rattle.net_plan.specs.declared.error.PlanError.{PlanError}
@@ -16,6 +19,14 @@ IsFaultyValue {A} said R first d = (said d ≡ Err first) × ((x : A) → ¬ R d
 abbrev pub IsFaulty : {A : Type 0} → (Data → Result A Fault) → (Data → A → Type 0) → Fault → List ℕ → Type 0
 IsFaulty said R first text = (d : Data) × IsJson text d × IsFaultyValue said R first d
 
+-- the first fault of the value, if it has one, is a name that is not known
+abbrev pub IsWellButForNames : {A : Type 0} → (Data → Result A Fault) → Data → Type 0
+IsWellButForNames said d = (first : Fault) → said d ≡ Err first → first ≡ fault.UnknownName
+
+-- the bytes are JSON in which some object has a key twice, and no fault comes before that in the order of tests
+abbrev pub IsDoubled : {A : Type 0} → (Data → Result A Fault) → List ℕ → Type 0
+IsDoubled said text = (d : Data) × IsJson text d × HasDoubledKey text × IsWellButForNames said d
+
 -- why bytes are no JSON value
 abbrev pub IsNoValue : List ℕ → PlanError → Type 0
 IsNoValue text NotJson = IsNoJson text
@@ -23,19 +34,19 @@ IsNoValue text OverLimit = 16777216 < length text
 IsNoValue text OutOfMemory = ⊤
 IsNoValue text _ = ⊥
 
--- why a value stands for nothing
-abbrev pub IsNoneFor : {A : Type 0} → (Data → Result A Fault) → (Data → A → Type 0) → Data → PlanError → Type 0
-IsNoneFor said R d NotJson = ⊥
-IsNoneFor said R d WrongKind = IsFaultyValue said R fault.WrongKind d
-IsNoneFor said R d MissingKey = IsFaultyValue said R fault.MissingKey d
-IsNoneFor said R d UnknownKey = IsFaultyValue said R fault.UnknownKey d
-IsNoneFor said R d OutOfRange = IsFaultyValue said R fault.OutOfRange d
-IsNoneFor said R d UnknownName = IsFaultyValue said R fault.UnknownName d
-IsNoneFor said R d BadHex = IsFaultyValue said R fault.BadHex d
-IsNoneFor said R d OverLimit = IsFaultyValue said R fault.OverLimit d
-IsNoneFor said R d Doubled = IsFaultyValue said R fault.Doubled d
-IsNoneFor said R d Device = ⊥
-IsNoneFor said R d OutOfMemory = ⊤
+-- why a tree stands for nothing
+abbrev pub IsNoneFor : {A : Type 0} → (Data → Result A Fault) → (Data → A → Type 0) → Json → PlanError → Type 0
+IsNoneFor said R j NotJson = ⊥
+IsNoneFor said R j WrongKind = IsFaultyValue said R fault.WrongKind (data_of j)
+IsNoneFor said R j MissingKey = IsFaultyValue said R fault.MissingKey (data_of j)
+IsNoneFor said R j UnknownKey = IsFaultyValue said R fault.UnknownKey (data_of j)
+IsNoneFor said R j OutOfRange = IsFaultyValue said R fault.OutOfRange (data_of j)
+IsNoneFor said R j UnknownName = IsFaultyValue said R fault.UnknownName (data_of j) × HasUniqueKeys j
+IsNoneFor said R j BadHex = IsFaultyValue said R fault.BadHex (data_of j)
+IsNoneFor said R j OverLimit = IsFaultyValue said R fault.OverLimit (data_of j)
+IsNoneFor said R j Doubled = IsFaultyValue said R fault.Doubled (data_of j) ⊎ ((¬ HasUniqueKeys j) × IsWellButForNames said (data_of j))
+IsNoneFor said R j Device = ⊥
+IsNoneFor said R j OutOfMemory = ⊤
 
 -- why bytes give no value
 abbrev pub IsRefused : {A : Type 0} → (Data → Result A Fault) → (Data → A → Type 0) → List ℕ → PlanError → Type 0
@@ -44,10 +55,10 @@ IsRefused said R text WrongKind = IsFaulty said R fault.WrongKind text
 IsRefused said R text MissingKey = IsFaulty said R fault.MissingKey text
 IsRefused said R text UnknownKey = IsFaulty said R fault.UnknownKey text
 IsRefused said R text OutOfRange = IsFaulty said R fault.OutOfRange text
-IsRefused said R text UnknownName = IsFaulty said R fault.UnknownName text
+IsRefused said R text UnknownName = IsFaulty said R fault.UnknownName text × HasSingleKeys text
 IsRefused said R text BadHex = IsFaulty said R fault.BadHex text
 IsRefused said R text OverLimit = (16777216 < length text) ⊎ IsFaulty said R fault.OverLimit text
-IsRefused said R text Doubled = IsFaulty said R fault.Doubled text
+IsRefused said R text Doubled = IsFaulty said R fault.Doubled text ⊎ IsDoubled said text
 IsRefused said R text Device = ⊥
 IsRefused said R text OutOfMemory = ⊤
 

@@ -32,7 +32,8 @@ pub enum PlanError {
     /// The text is longer than 16,777,216 bytes, or a list or an address is too long.
     #[error("J08")]
     OverLimit,
-    /// Two buses have one name, a list of a certificate has two entries of one node, or ranges do not ascend apart.
+    /// Two buses have one name, a list of a certificate has two entries of one node, ranges do not ascend apart, or an
+    /// object has a key twice.
     #[error("J09")]
     Doubled,
     /// The source failed.

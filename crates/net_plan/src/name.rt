@@ -2,9 +2,28 @@
 ghost use Rattle.std.specs.Prelude.{string_bytes, IsTrue};
 ghost use Rattle.net_plan.specs.NameText.{is_name};
 
+use crate::words::is_name;
+
 /// A name of 1 to 32 ASCII letters, digits, `-`, `_` or `.`.
 #[derive(Debug, PartialEq, Eq, Drop)]
 pub struct Name {
     pub text: String,
     pub ghost spelled: { IsTrue (is_name (string_bytes text)) },
+}
+
+impl Name {
+    ghost use Rattle.std.specs.Prelude.{◌≡◌, Some, None, option_map, if◌then◌else◌, string_bytes};
+    ghost use Rattle.net_plan.specs.NameText.{is_name};
+    ghost use Rattle.net_plan.specs.NodeValues.{name_bytes};
+
+    /// The name of this text, where it is one: 1 to 32 ASCII letters, digits, `-`, `_` or `.`.
+    pub fn of(text: String) -> Option<Name>
+        ensures { option_map name_bytes result ≡ (if is_name (string_bytes text) then Some (string_bytes text) else None) }
+    {
+        if is_name(text.as_str()) {
+            Some(Name { text })
+        } else {
+            None
+        }
+    }
 }

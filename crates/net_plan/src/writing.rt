@@ -1,5 +1,5 @@
 //! Certificates to texts.
-ghost use Rattle.std.specs.Prelude.{◌≡◌, ◌<◌, ◌+◌, ◌-◌, ◌^◌, ◌⊎◌, IfOk, IfErr, MatchResult, OnOk, Some, string_bytes};
+ghost use Rattle.std.specs.Prelude.{◌≡◌, ◌<◌, ◌≤◌, ◌+◌, length, ◌-◌, ◌^◌, ◌⊎◌, IfOk, IfErr, MatchResult, OnOk, Some, string_bytes};
 ghost use Rattle.std.specs.Io.KnownBytes.{Appends};
 ghost use Rattle.net_plan.specs.CertificateJson.{certificate_data, certificate_text};
 ghost use Rattle.serde_json.specs.Read.{read};
@@ -7,7 +7,8 @@ ghost use Rattle.serde_json.specs.Written.{compact_text};
 ghost use Rattle.net_plan.specs.CertificateValues.{certificate_value};
 ghost use Rattle.net_plan.specs.PlanValues.{node_names, plan_value};
 ghost use Rattle.net_plan.specs.CertificateText.{IsCertificateOf};
-ghost use Rattle.net_plan.specs.Texts.{StandsFor};
+ghost use Rattle.net_plan.specs.Texts.{StandsFor, HasSingleKeys};
+ghost use Rattle.net_plan.specs.ShortText.{HasFewPlaces};
 ghost use Rattle.net_plan.specs.WellFormed.{IsWellFormed};
 ghost use Rattle.net_plan.specs.Stream.{AppendsBeginning};
 ghost use Rattle.net_plan.specs.TextFaults.{failed_count};
@@ -29,6 +30,8 @@ pub fn text_of_certificate(
     ensures text { IfOk result (λ text. string_bytes text ≡ certificate_text (node_names (plan_value plan.now).nodes) (certificate_value certificate.now)) }
     ensures reads_back { IfOk result (λ text. IsWellFormed (plan_value plan.now) (certificate_value certificate.now)
         → StandsFor (IsCertificateOf (plan_value plan.now)) (string_bytes text) (certificate_value certificate.now)) }
+    ensures short { IfOk result (λ text. IsWellFormed (plan_value plan.now) (certificate_value certificate.now)
+        → HasFewPlaces (certificate_value certificate.now) → length (string_bytes text) ≤ 2097152) }
 {
     let mut text = compact_text(alloc, plan, certificate)?;
     text.push_str("\n")?;
@@ -39,12 +42,14 @@ pub fn text_of_certificate(
 fn compact_text(alloc: Global, plan: &Plan, certificate: &Certificate) -> Result<String, AllocError>
     ensures text { IfOk result (λ text. string_bytes text ≡ compact_text (certificate_data (node_names (plan_value plan.now).nodes) (certificate_value certificate.now))) }
     ensures reads_back { IfOk result (λ text. read (string_bytes text) ≡ Some (certificate_data (node_names (plan_value plan.now).nodes) (certificate_value certificate.now))) }
+    ensures single { IfOk result (λ text. HasSingleKeys (string_bytes text)) }
 {
     certificate_json(alloc, plan.nodes.as_slice(), certificate)?.to_string(alloc)
 }
 
 /// Gives the text of a certificate of a plan to a sink. The text is made whole first, so that nothing is out where there is
 /// too little memory.
+#[tactic(auto, using(crate::proofs::ReadsBack::text_stands))]
 pub fn write_certificate<S: Sink>(
     alloc: Global,
     plan: &Plan,
@@ -54,6 +59,9 @@ pub fn write_certificate<S: Sink>(
     requires { S.failures sink.old < 2 ^ 64 - 1 }
     ensures written { OnOk result (Appends (S.contents sink.old) (S.contents sink.new)
         (certificate_text (node_names (plan_value plan.now).nodes) (certificate_value certificate.now))) }
+    ensures reads_back { OnOk result (IsWellFormed (plan_value plan.now) (certificate_value certificate.now)
+        → StandsFor (IsCertificateOf (plan_value plan.now)) (certificate_text (node_names (plan_value plan.now).nodes) (certificate_value certificate.now))
+        (certificate_value certificate.now)) }
     ensures no_memory { IfErr result (λ e. (e ≡ PlanError.Device) ⊎ ((e ≡ PlanError.OutOfMemory) × (sink.new ≡ sink.old))) }
     ensures beginning { IfErr result (λ e. e ≡ PlanError.Device → AppendsBeginning (S.contents sink.old) (S.contents sink.new)
         (certificate_text (node_names (plan_value plan.now).nodes) (certificate_value certificate.now))) }
@@ -74,8 +82,10 @@ pub fn read_back(
     plan: &Plan,
     certificate: &Certificate,
 ) -> Result<Certificate, PlanError>
-    ensures { IsWellFormed (plan_value plan.now) (certificate_value certificate.now)
+    ensures same { IsWellFormed (plan_value plan.now) (certificate_value certificate.now)
         → MatchResult result (λ back. certificate_value back ≡ certificate_value certificate.now) (λ e. (e ≡ PlanError.OutOfMemory) ⊎ (e ≡ PlanError.OverLimit)) }
+    ensures within { IsWellFormed (plan_value plan.now) (certificate_value certificate.now)
+        → HasFewPlaces (certificate_value certificate.now) → IfErr result (λ e. e ≡ PlanError.OutOfMemory) }
 {
     let Ok(text) = text_of_certificate(alloc, plan, certificate) else {
         return Err(PlanError::OutOfMemory);

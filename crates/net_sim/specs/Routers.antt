@@ -15,7 +15,7 @@ use Rattle.net_check.specs.TwoPlans.{Tables, rows_by}
 use Rattle.net_check.specs.States.{Flight, destination}
 use Rattle.net_sim.specs.Accepted.{IsAccepted}
 
--- The tables of a network, the certificate for them, and where there is a plan after, whether each node has switched to it.
+-- The tables of a network, the certificate for them, and where there is a plan after, whether each node has switched.
 pub record RouterValue : Type 0 where
   pub tables : Tables
   pub certificate : Certificate
@@ -43,7 +43,8 @@ abbrev pub AreTabledAfter : Plan → Option Plan → List (List bridge.Row) → 
 AreTabledAfter plan None tables = length tables ≡ 0
 AreTabledAfter plan (Some after) tables = AreTabled after (length plan.nodes.items) tables
 
--- The tables are accepted, each node has a table that routes as its rows before a switch do, and one for after it, with a mark.
+-- The tables are accepted. Each node has a table that routes as its rows before a switch do; and where there is a plan
+-- after, one for those after it, and a mark.
 pub record RoutesAs (tables : Tables) (cert : Certificate) (old new : List (List bridge.Row)) (switched : List Bool) : Type 0 where
   pub accepted : IsAccepted tables cert
   pub before : AreTabled tables.plan (length tables.plan.nodes.items) old

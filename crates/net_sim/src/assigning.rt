@@ -9,8 +9,6 @@ ghost use Rattle.net_sim.specs.AssignmentSteps.{HasAskedUpTo};
 mod assignment;
 mod laws;
 mod requests;
-#[cfg(test)]
-mod tests;
 
 use crate::assigning::requests::{allocate_pool, set_eid};
 pub use assignment::Assignment;

@@ -40,6 +40,3 @@ pub use state_sets::{StateSet, StateSets, StateSetsIter};
 pub use terminus_locator::TerminusLocator;
 pub use timing::Timing;
 pub use units::Units;
-
-#[cfg(test)]
-mod tests;

@@ -1,6 +1,6 @@
 -- What a terminus answers (DSP0240, section 8; DSP0248, section 26.2).
 use Rattle.std.specs.Prelude.{◌≡◌, ◌≢◌, ℕ, Bool, true, false, List, [], ◌∷◌, ◌++◌, length, drop, Option, Some, None}
-use Rattle.pldm_message.specs.First.{First}
+use Rattle.mctp_transport.specs.First.{First}
 use Rattle.pldm_message.specs.declared.kind.MessageKind.TheVariants.{Request, Response}
 use Rattle.pldm_message.specs.declared.command.Command.{Command}
 use Rattle.pldm_message.specs.declared.command.Command.TheVariants.{SetTid, GetTid, GetPldmTypes, GetPdr}

@@ -1,7 +1,7 @@
 -- What can be wrong with a part that a walker is given.
 use Rattle.std.specs.Prelude.{◌≡◌, ◌≢◌, ◌⊎◌, ℕ, ◌+◌, ◌<◌, ◌≤◌, List, ◌++◌, length, Option, Some, None, MatchOption, Any, codes}
 use Rattle.pdr_repository.specs.Crc.{IsCrc}
-use Rattle.pldm_message.specs.First.{First}
+use Rattle.mctp_transport.specs.First.{First}
 use Rattle.pldm_message.specs.Pdrs.{PartRequest, Part}
 use Rattle.pdr_repository.specs.Records.{handle_in, data_length_in}
 use Rattle.pdr_repository.specs.declared.walk_fault.WalkFault.{WalkFault}

@@ -1,6 +1,6 @@
 -- The record that a request means, found, and what is answered from it.
 use Rattle.std.specs.Prelude.{◌≡◌, ℕ, ◌+◌, ◌<◌, List, Option, Some, None, Err, MatchOption}
-use Rattle.pldm_message.specs.First.{First}
+use Rattle.mctp_transport.specs.First.{First}
 use Rattle.pldm_message.specs.Pdrs.{PartRequest}
 use Rattle.pdr_repository.specs.Records.{Entry, IsMeant, Means, handle_at}
 use Rattle.pdr_repository.specs.Parts.{PartAnswer, HasChange, IsWithin, AnswersFrom}

@@ -1,6 +1,6 @@
 -- An answer as it is made, piece by piece.
 use Rattle.std.specs.Prelude.{◌≡◌, ◌≢◌, ℕ, ◌+◌, List, ◌++◌, length, Result, Ok, Err}
-use Rattle.pldm_message.specs.First.{First}
+use Rattle.mctp_transport.specs.First.{First}
 use Rattle.pldm_message.specs.declared.kind.MessageKind.TheVariants.{Request}
 use Rattle.pldm_message.specs.declared.command.Command.{Command}
 use Rattle.pldm_message.specs.Headers.{HeaderValue, BeginsWith}

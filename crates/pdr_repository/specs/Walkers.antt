@@ -1,7 +1,7 @@
 -- A walker, which is fed the answers to its requests one by one.
 use Rattle.std.specs.Prelude.{◌≡◌, ◌≢◌, ◌⊎◌, ℕ, ◌+◌, ◌<◌, Bool, true, false, List, [], ◌∷◌, ◌++◌, length, sum_by, Option, Some, None, option_map, Result, Ok, Err, MatchOption, MatchResult, ◌==◌, if◌then◌else◌}
 use Rattle.mctp_transport.specs.Wire.{Spells}
-use Rattle.pldm_message.specs.First.{First}
+use Rattle.mctp_transport.specs.First.{First}
 use Rattle.pldm_message.specs.declared.kind.RequestKind.TheVariants.{Request}
 use Rattle.pldm_message.specs.Headers.{HeaderValue, BeginsWith}
 use Rattle.pldm_message.specs.Messages.{RequestMessage, AnswerMessage, AnswerHeadValue}

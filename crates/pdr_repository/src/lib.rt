@@ -30,6 +30,3 @@ pub use parts::{MAX_PART, five_packets};
 pub use terminus::{MAX_ANSWER, Terminus};
 pub use walk_fault::{Step, WalkFault};
 pub use walker::Walker;
-
-#[cfg(test)]
-mod tests;

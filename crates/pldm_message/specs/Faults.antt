@@ -4,7 +4,7 @@ use Rattle.pldm_message.specs.declared.pldm_error.PldmError.{PldmError}
 use Rattle.pldm_message.specs.declared.pldm_error.PldmError.TheVariants as error
 use Rattle.pldm_message.specs.declared.command.Command.{Command}
 use Rattle.pldm_message.specs.Commands.{type_of, command_byte}
-use Rattle.pldm_message.specs.First.{First}
+use Rattle.mctp_transport.specs.First.{First}
 
 -- not even a header
 abbrev pub IsShort : List ℕ → Type 0

@@ -1,22 +1,11 @@
 -- No two headers have the same bytes.
-use Rattle.std.specs.Prelude.{◌≡◌, ℕ, ◌<◌, ◌≤◌, ◌+◌, ◌*◌, Bool, true, false, refl}
+use Rattle.std.specs.Prelude.{◌≡◌, ℕ, ◌<◌, ◌≤◌, ◌+◌, ◌*◌, refl}
 use Rattle.std.proofs.Common.{arith}
 use Rattle.mctp_transport.specs.Frames.{bit}
+use Rattle.mctp_transport.specs.Bits.{bit_most, bit_one}
 use Rattle.pldm_message.specs.declared.kind.MessageKind.{MessageKind}
 use Rattle.pldm_message.specs.declared.kind.MessageKind.TheVariants.{Request, Datagram, Response}
 use Rattle.pldm_message.specs.Headers.{HeaderValue, IsHeader, header_bytes, instance_byte, kind_bits}
-
--- a flag is 0 or 1
-pub bit_most : (b : Bool) → bit b ≤ 1
-bit_most true = omega arith
-bit_most false = omega arith
-
--- and says which it is
-pub bit_one : (a b : Bool) → bit a ≡ bit b → a ≡ b
-bit_one true true e = refl
-bit_one false false e = refl
-bit_one true false e = absurd (omega arith)
-bit_one false true e = absurd (omega arith)
 
 -- the two bits say what a message is
 pub kind_one : (a b : MessageKind) → kind_bits a ≡ kind_bits b → a ≡ b

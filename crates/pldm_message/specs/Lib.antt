@@ -1,4 +1,3 @@
-pub mod First
 pub mod Headers
 pub mod HeaderLaws
 pub mod HeaderValues

@@ -2,11 +2,12 @@
 use Rattle.std.specs.Prelude.{◌≡◌, ℕ, List, Result, Ok, Err, refl}
 use Rattle.std.proofs.Common.{arith, ap}
 use Rattle.mctp_transport.specs.Frames.{bit}
+use Rattle.mctp_transport.specs.Bits.{bit_most, bit_one}
 use Rattle.pldm_message.specs.declared.kind.RequestKind.{RequestKind}
 use Rattle.pldm_message.specs.declared.kind.RequestKind.TheVariants.{Request, Datagram}
 use Rattle.pldm_message.specs.declared.command.Command.{Command}
 use Rattle.pldm_message.specs.Headers.{instance_byte, kind_bits}
-use Rattle.pldm_message.specs.HeaderLaws.{bit_most, bit_one, digits}
+use Rattle.pldm_message.specs.HeaderLaws.{digits}
 use Rattle.pldm_message.specs.Messages.{RequestHeadValue, AnswerHeadValue, RequestMessage, AnswerMessage, IsRequest, IsAnswer, IsOutcome, request_bytes, answer_bytes, outcome_bytes, request_header, answer_header, message_kind}
 
 -- no two values have one spelling

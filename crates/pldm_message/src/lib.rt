@@ -40,6 +40,3 @@ pub use pldm_types::PldmTypes;
 pub use set_tid::{SetTid, SetTidAnswer};
 pub use tid::Tid;
 pub use transfer::{TransferFlag, TransferOperation};
-
-#[cfg(test)]
-mod tests;

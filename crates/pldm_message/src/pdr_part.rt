@@ -57,7 +57,7 @@ impl<'a> Wire<'a> for PdrPart<'a> {
     ghost use Rattle.pldm_message.specs.Pdrs.{Part, IsPart, part_bytes, part_length};
     ghost use Rattle.pldm_message.specs.PdrLaws.{one_part};
     ghost use Rattle.pldm_message.specs.PdrValues.{part};
-    ghost use Rattle.pldm_message.specs.First.{First};
+    ghost use Rattle.mctp_transport.specs.First.{First};
 
     type Error = PldmError;
 

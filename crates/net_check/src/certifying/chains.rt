@@ -2,7 +2,7 @@
 ghost use Rattle.std.specs.Prelude.{◌≡◌, ◌<◌, ◌≤◌, ◌↔◌, IsTrue, IfOk, length, map, replicate};
 ghost use Rattle.net_check.specs.Routing.{OfItem};
 ghost use Rattle.net_check.specs.Search.{IsFirstItem};
-ghost use Rattle.net_check.specs.RecordChains.{HasNext, HasNewNext, HaveNewHandles, IsChainOf, RulesOutPlaces, IsIndexOf, AreLinked, AreFromTheEnd};
+ghost use Rattle.net_check.specs.RecordChains.{HasNext, HasNewNext, HaveNewHandles, IsChainOf, IsIndexOf, AreLinked, AreFromTheEnd};
 
 use crate::certifying::handle_index::{index_of, place_of};
 use net_plan::{Record, RecordPlace};
@@ -60,8 +60,7 @@ pub enum Chained {
 pub fn chain_of(alloc: Global, records: &[Record]) -> Result<Chained, AllocError>
     requires few { length records.now ≤ 4096 }
     requires handles { HaveNewHandles records.now }
-    ensures chain { IfOk result (IsChainOf records.now) }
-    ensures none { IfOk result (RulesOutPlaces records.now) }
+    ensures { IfOk result (IsChainOf records.now) }
 {
     let handles = handles_of(alloc, records)?;
     if let Some(record) = first_missing(records, &handles) {

@@ -2,7 +2,7 @@
 ghost use Rattle.std.specs.Prelude.{◌≡◌, ◌<◌, All, IfOk, length, map};
 ghost use Rattle.net_check.specs.Owners.{IsOwnedBy};
 ghost use Rattle.net_check.specs.Circles.{IsWalked};
-ghost use Rattle.net_check.specs.OwnerLoops.{IsLevelled, DecidesLevels};
+ghost use Rattle.net_check.specs.OwnerLoops.{IsLevelled};
 
 use crate::certifying::walks::{Walked, walk};
 use net_plan::Plan;
@@ -20,8 +20,7 @@ pub enum Levelled {
 
 /// The number of owners above each node, or the loop of the first node that stands above itself.
 pub fn levels_of(alloc: Global, plan: &Plan) -> Result<Levelled, AllocError>
-    ensures levelled { IfOk result (IsLevelled plan.now) }
-    ensures decides { IfOk result (DecidesLevels plan.now) }
+    ensures { IfOk result (IsLevelled plan.now) }
 {
     match walk_owners(alloc, plan)? {
         Walked::Ended(counts) => Ok(Levelled::Levels(levels_from(alloc, &counts)?)),

@@ -1,10 +1,10 @@
 //! M01: two plans that differ in rows alone.
 ghost use Rattle.std.specs.Prelude.{◌≡◌, ◌<◌, ◌↔◌, IsTrue, length, map, option_map};
-ghost use Rattle.net_plan.specs.NodeValues.{bus_value, port_value, pool_value, record_value, terminus_value};
+ghost use Rattle.net_plan.specs.NodeValues.{bus_value, port_value, record_value, terminus_value};
 ghost use Rattle.net_check.specs.MoveRules.{HaveSameFrame, IsSameNode, but_rows};
 ghost use Rattle.net_check.specs.MoveSearch.{IsFirstUnlike};
 
-use net_plan::{Bus, Node, Plan, Pool, Port, Record, Terminus};
+use net_plan::{Bus, Node, Plan, Port, Record, Terminus};
 
 /// Whether the plans have the same buses, in one order, and as many nodes.
 #[tactic(auto, unfolding(crate::specs::MoveRules::HaveSameFrame))]

@@ -5,7 +5,7 @@ abbrev pub invariant-loop-left : goal.invariant-loop-left
 invariant-loop-left l = record {
   joined : l.list.items ++ l.left.items ≡ l.fn.list.items ++ l.initial.left.items;
   room : vec_len l.list + length l.left.items ≤ vec_capacity l.list;
-  capacity : vec_capacity l.fn.list ≤ vec_capacity l.list;
+  capacity : vec_capacity l.list ≡ vec_capacity l.fn.list;
 }
 
 abbrev pub decreases-loop-left : goal.decreases-loop-left

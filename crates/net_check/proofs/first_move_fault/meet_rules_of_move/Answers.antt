@@ -1,4 +1,4 @@
-use Rattle.std.proofs.Common.{refl, arith}
+use Rattle.std.proofs.Common.{refl}
 use Rattle.net_check.proofs.MoveOrder.{as_many_nodes, frame_holds, nodes_hold, old_breaks, old_holds, new_breaks, new_holds, old_way_breaks, old_ways_hold, new_way_breaks, new_ways_hold, given_breaks, all_hold}
 use Rattle.net_check.proofs.first_move_fault.meet_rules_of_move.Goals as goal
 

@@ -11,8 +11,8 @@ is_there o id is none =
     let mapped = ap (option_map (λ (id : InstanceId). id.value)) is in
     false≢true (sym (ap is_some none) ∙ ap is_some mapped)
 
-pub returns : goal.returns
-returns c =
+pub returns-clause-takes : goal.returns-clause-takes
+returns-clause-takes c =
     let part = c.in-Some-read.part in
     let going : c.args.self.now.failed ≢ true = λ h. false≢true (sym c.if-self.false ∙ h) in
     let waits = is_there c.args.self.now.waiting c.in-Some.id c.in-Some.is in
@@ -22,7 +22,7 @@ returns c =
         waits,
         inr (
           (λ nothing. nothing _ _ _ c.in-Some-read.ensures),
-          (header_value part.header, part.next, entries_of part.entries, c.in-Some-read.ensures, c.take_answer.ensures),
+          (header_value part.header, part.next, entries_of part.entries, c.in-Some-read.ensures, c.take_answer.ensures.takes),
         ),
       ),
     )

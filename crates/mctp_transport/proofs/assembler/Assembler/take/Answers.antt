@@ -1,3 +1,4 @@
+use Rattle.std.proofs.Common.{◌∙◌}
 use Rattle.mctp_transport.specs.Packets.{key_value, frame_of}
 use Rattle.mctp_transport.specs.Steps.{step_answer}
 use Rattle.mctp_transport.proofs.AssemblyLaws.{start_takes}
@@ -8,4 +9,4 @@ returns-then-packet-clause-takes c =
     start_takes c.args.self.now c.end.new.self c.start.new.self (frame_of c.args.packet.now) (key_value c.key.result)
     (step_answer c.start.new.self (frame_of c.args.packet.now) c.start.result)
     c.if-packet.true c.key.ensures c.end.ensures.table c.end.ensures.slots c.end.ensures.limit
-    c.start.ensures.table c.start.ensures.answer c.start.ensures.slots c.start.ensures.limit
+    c.start.ensures.table c.start.ensures.answer c.start.ensures.slots c.start.ensures.limit (c.start.ensures.memory ∙ c.end.ensures.memory)

@@ -3,7 +3,7 @@ use Rattle.net_check.specs.declared.certifying.walks.Walked.{Walked}
 use Rattle.net_check.specs.declared.certifying.walks.Walked.TheVariants.{Ended}
 use Rattle.net_check.specs.Owners.{IsOwnedBy}
 use Rattle.net_check.specs.Circles.{IsWalked}
-use Rattle.net_check.proofs.LevelLaws.{counts_small, are_levels, given_levels_fall, first_loop_breaks_levels}
+use Rattle.net_check.proofs.LevelLaws.{counts_small, are_levels}
 use Rattle.net_check.proofs.certifying.levels.levels_of.Goals as goal
 
 pub levels_from-requires : goal.levels_from-requires
@@ -18,10 +18,4 @@ returns-in_ok-levels_from-in-Ended c =
     let Q : Walked → Type 0 = λ walked. IsWalked (IsOwnedBy c.args.plan.now) (length c.args.plan.now.nodes.items) walked in
     let walked : Q (Ended c.in-Ended.counts) = subst Q c.in-Ended.is c.in_ok-counts.ensures in
     let levels = c.in_ok-levels_from-in-Ended.field-0.items in
-    let exact = are_levels c.args.plan.now c.in-Ended.counts.items levels (c.in_ok-levels_from-in-Ended.ensures ∙ c.deref.ensures.value) walked.0 walked.1 in
-    record { levelled = exact; decides = given_levels_fall c.args.plan.now levels exact }
-
-pub returns-in-Circled-clause-decides : goal.returns-in-Circled-clause-decides
-returns-in-Circled-clause-decides c =
-    let Q : Walked → Type 0 = λ walked. IsWalked (IsOwnedBy c.args.plan.now) (length c.args.plan.now.nodes.items) walked in
-    first_loop_breaks_levels c.args.plan.now c.in-Circled.nodes.items (subst Q c.in-Circled.is c.in_ok-counts.ensures)
+    are_levels c.args.plan.now c.in-Ended.counts.items levels (c.in_ok-levels_from-in-Ended.ensures ∙ c.deref.ensures.value) walked.0 walked.1

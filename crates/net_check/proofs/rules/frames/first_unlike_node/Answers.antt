@@ -1,4 +1,4 @@
-use Rattle.std.proofs.Common.{ℕ, length, arith, inl, inr}
+use Rattle.std.proofs.Common.{length, arith, inl, inr}
 use Rattle.std.proofs.lemmas.Bool.{cases_lt}
 use Rattle.net_check.proofs.MoveOrder.{same_node_beyond}
 use Rattle.net_check.proofs.rules.frames.first_unlike_node.Goals as goal

@@ -1,0 +1,130 @@
+//! Which words are which command.
+
+use plan_commands::{Command, Kind, PartSize, Refused, words};
+use std::process::Abort;
+use std::test::Fail;
+
+#[test]
+fn gives_the_command_or_usage(rt: HostRuntime) -> Result<(), Fail> {
+    let check = Command::Check {
+        plan: "a",
+        certificate: "b",
+    };
+    let certify = Command::Certify { plan: "a" };
+    let packet = Command::Show {
+        kind: Kind::Packet,
+        hex: "01",
+    };
+    let record = Command::Show {
+        kind: Kind::Record,
+        hex: "",
+    };
+    let assign = Command::Assign {
+        plan: "a",
+        certificate: "b",
+    };
+    let sim = Command::Sim {
+        plan: "a",
+        certificate: "b",
+        events: "c",
+    };
+    let moving = Command::Move {
+        before: "a",
+        after: "b",
+        certificate: "c",
+    };
+    let playing = Command::SimMove {
+        before: "a",
+        after: "b",
+        certificate: "c",
+        events: "d",
+    };
+    let rows: [(&[&str], Result<Command, Refused>); 28] = [
+        (&["mctpplan", "move", "a", "b", "c"], Ok(moving)),
+        (&["mctpplan", "move", "a", "b"], Err(Refused::Usage)),
+        (
+            &["mctpplan", "move", "a", "b", "c", "d"],
+            Err(Refused::Usage),
+        ),
+        (&["mctpplan", "simmove", "a", "b", "c", "d"], Ok(playing)),
+        (&["mctpplan", "simmove", "a", "b", "c"], Err(Refused::Usage)),
+        (&["mctpplan", "assign", "a", "b"], Ok(assign)),
+        (&["mctpplan", "assign", "a"], Err(Refused::Usage)),
+        (&["mctpplan", "sim", "a", "b", "c"], Ok(sim)),
+        (&["mctpplan", "sim", "a", "b"], Err(Refused::Usage)),
+        (&["mctpplan", "check", "a", "b"], Ok(check)),
+        (&["mctpplan", "certify", "a"], Ok(certify)),
+        (&["mctpplan", "certify"], Err(Refused::Usage)),
+        (&["mctpplan", "certify", "a", "b"], Err(Refused::Usage)),
+        (&["mctpplan", "show", "packet", "01"], Ok(packet)),
+        (&["mctpplan", "show", "record", ""], Ok(record)),
+        (&["mctpplan", "show", "frame", "01"], Err(Refused::Usage)),
+        (&["mctpplan", "show", "packet"], Err(Refused::Usage)),
+        (
+            &["mctpplan", "show", "packet", "01", "02"],
+            Err(Refused::Usage),
+        ),
+        (&["mctpplan", "show", "Packet", "01"], Err(Refused::Usage)),
+        (&[], Err(Refused::Usage)),
+        (&["mctpplan"], Err(Refused::Usage)),
+        (&["mctpplan", "check"], Err(Refused::Usage)),
+        (&["mctpplan", "check", "one"], Err(Refused::Usage)),
+        (&["mctpplan", "check", "a", "b", "c"], Err(Refused::Usage)),
+        (&["mctpplan", "check", "-h"], Err(Refused::Usage)),
+        (&["mctpplan", "--help"], Err(Refused::Usage)),
+        (&["mctpplan", "help"], Err(Refused::Usage)),
+        (&["mctpplan", "chequer", "a", "b"], Err(Refused::Usage)),
+    ];
+    for (given, wanted) in rows {
+        expect_words(&rt, given, wanted)?;
+    }
+    Ok(())
+}
+
+/// Wants a list of words to stand for a command, or to be refused.
+fn expect_words(
+    rt: &(impl Abort + AllocGlobal),
+    given: &[&str],
+    wanted: Result<Command, Refused>,
+) -> Result<(), Fail> {
+    let mut list = Vec::new(rt.alloc());
+    for word in given {
+        list.push(String::from_str(rt.alloc(), word)?)?;
+    }
+    assert_eq!(rt; words(rt.alloc(), list.as_slice()), wanted, "at {given:?}");
+    Ok(())
+}
+
+#[test]
+fn takes_part_sizes_of_8_to_4079(rt: HostRuntime) -> Result<(), Fail> {
+    let rows = [
+        ("8", Some(8)),
+        ("16", Some(16)),
+        ("4079", Some(4079)),
+        ("0000000016", Some(16)),
+        ("7", None),
+        ("4080", None),
+        ("65552", None),
+        ("18446744073709551632", None),
+        ("", None),
+        ("+16", None),
+        ("-16", None),
+        ("16.0", None),
+        ("0x10", None),
+        ("sixteen", None),
+        ("\u{661}\u{666}", None),
+    ];
+    for (count, bytes) in rows {
+        let wanted = match bytes.and_then(PartSize::of) {
+            Some(part) => Ok(Command::Walk {
+                plan: "a",
+                certificate: "b",
+                node: "nic",
+                part,
+            }),
+            None => Err(Refused::Usage),
+        };
+        expect_words(&rt, &["mctpplan", "walk", "a", "b", "nic", count], wanted)?;
+    }
+    Ok(())
+}

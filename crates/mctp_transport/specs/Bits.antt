@@ -1,0 +1,16 @@
+-- Flags as the numbers 0 and 1.
+use Rattle.std.specs.Prelude.{◌≡◌, ◌≤◌, Bool, true, false, refl}
+use Rattle.std.proofs.Common.{arith}
+use Rattle.mctp_transport.specs.Frames.{bit}
+
+-- a flag is 0 or 1
+pub bit_most : (b : Bool) → bit b ≤ 1
+bit_most true = omega arith
+bit_most false = omega arith
+
+-- and says which it is
+pub bit_one : (a b : Bool) → bit a ≡ bit b → a ≡ b
+bit_one true true e = refl
+bit_one false false e = refl
+bit_one true false e = absurd (omega arith)
+bit_one false true e = absurd (omega arith)

@@ -1,6 +1,0 @@
-use Rattle.std.proofs.Common.{ℕ, ◌<◌}
-use Rattle.mctpplan.specs.Walking.{IsTerminusNamed}
-use Rattle.mctpplan.proofs.commands.walk.naming.named_terminus.Given as goal
-
-abbrev pub invariant-loop-place : goal.invariant-loop-place
-invariant-loop-place l = (n : ℕ) → n < l.place → ¬ IsTerminusNamed l.plan l.name n

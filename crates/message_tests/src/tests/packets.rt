@@ -1,0 +1,90 @@
+//! Packets read and written.
+use super::spelling::{is_kept, is_written_as};
+use mctp_transport::{Eid, Header, Packet, PacketView, Reserved, Seq, Tag, Wire, round_trip};
+use std::test::Fail;
+
+const REQUEST: [u8; 8] = [0x01, 0x0a, 0x08, 0xcb, 0x01, 0x80, 0x00, 0x02];
+
+#[test]
+fn reads_each_field(rt: HostRuntime) -> Result<(), Fail> {
+    let packet = PacketView::read(&REQUEST)?;
+    let header = Header {
+        reserved: Reserved::new(0),
+        destination: Eid::new(10),
+        source: Eid::new(8),
+        som: true,
+        eom: true,
+        number: Seq::new(0),
+        owner: true,
+        tag: Tag::new(3),
+    };
+    assert_eq!(rt; packet.header, header);
+    assert_eq!(rt; packet.payload, [0x01, 0x80, 0x00, 0x02].as_slice());
+    assert!(rt; packet.len() == 8 && packet.key().source == Eid::new(8));
+    Ok(())
+}
+
+#[test]
+fn endpoints_hold_8_to_254(rt: HostRuntime) {
+    let rows = [
+        (0, false),
+        (7, false),
+        (8, true),
+        (10, true),
+        (254, true),
+        (255, false),
+    ];
+    for (value, wanted) in rows {
+        assert_eq!(rt; Eid::new(value).is_assignable(), wanted, "{value}");
+    }
+}
+
+#[test]
+fn refuses_by_code(rt: HostRuntime) {
+    let mut long = [0; 69];
+    long[0] = 0x01;
+    let rows: [(&[u8], &str); 7] = [
+        (&[], "P01"),
+        (&[0x01, 0x0a, 0x08], "P01"),
+        (&[0x01, 0x0a, 0x08, 0xc8], "P02"),
+        (&long, "P03"),
+        (&long[..68], "read"),
+        (&[0x02, 0x0a, 0x08, 0xc8, 0x01], "P04"),
+        (&[0x02, 0x0a, 0x08, 0xc8], "P02"),
+    ];
+    for (bytes, code) in rows {
+        let refused = PacketView::read(bytes).err();
+        assert_eq!(rt; refused.map_or("read", |error| error.code()), code);
+    }
+}
+
+#[test]
+fn keeps_reserved_bits(rt: HostRuntime) -> Result<(), Fail> {
+    let bytes = [0xf1, 0x0a, 0x08, 0xc8, 0x01];
+    assert_eq!(rt;
+        PacketView::read(&bytes)?.header.reserved,
+        Reserved::new(15)
+    );
+    assert!(rt; is_kept::<PacketView>(&bytes));
+    Ok(())
+}
+
+#[test]
+fn writes_the_longest_and_leaves_the_rest(rt: HostRuntime) -> Result<(), Fail> {
+    let mut bytes = [0x5a; 68];
+    bytes[0] = 0x01;
+    bytes[3] = 0x99;
+    let held = Packet::of(PacketView::read(&bytes)?);
+    assert!(rt; is_written_as(&held.view(), &bytes));
+    Ok(())
+}
+
+#[test]
+fn round_trips(rt: HostRuntime) -> Result<(), Fail> {
+    let packet = PacketView::read(&REQUEST)?;
+    let mut out = [0; 9];
+    let again = round_trip(&packet, &mut out)?;
+    assert_eq!(rt; again.header, packet.header);
+    assert_eq!(rt; again.payload, packet.payload);
+    Ok(())
+}

@@ -1,0 +1,202 @@
+//! Platform descriptor records, read and written.
+use super::spelling::is_kept;
+use mctp_transport::{Wire, round_trip};
+use pdr_record::{Body, Entity, RangeFieldFormat, Record, SensorDataSize, TerminusLocator};
+use std::test::Fail;
+
+const TERMINUS: &[u8] =
+    b"\x01\x00\x00\x00\x01\x01\x00\x00\x09\x00\x01\x00\x01\x01\x00\x00\x01\x01\x0a";
+
+const STATE: &[u8] =
+    b"\x02\x00\x00\x00\x01\x04\x00\x00\x11\x00\x01\x00\x05\x00\x21\x00\x01\x00\x00\x00\x00\x00\x01\x01\x00\x01\x06";
+
+const ASSOCIATION: &[u8] =
+    b"\x03\x00\x00\x00\x01\x0f\x00\x00\x10\x00\x64\x00\x00\x2d\x00\x01\x00\x00\x00\x01\x2f\x00\x01\x00\x64\x00";
+
+const OTHER: &[u8] = b"\x04\x00\x00\x00\x01\xc8\x01\x00\x02\x00\xaa\xbb";
+
+const EMPTY: &[u8] = b"\x05\x00\x00\x00\x01\xc8\x00\x00\x00\x00";
+
+/// The record of a numeric sensor with codes for the data size and the range field format, and so many body bytes,
+/// at most 100.
+fn numeric(bytes: &mut [u8; 110], data_size: u8, format: u8, length: u8) -> &[u8] {
+    let length = length.min(100);
+    *bytes = [0; 110];
+    bytes[0] = 6;
+    bytes[4] = 1;
+    bytes[5] = 2;
+    bytes[8] = length;
+    bytes[10 + 22] = data_size;
+    let width = match data_size {
+        0 | 1 => 1,
+        2 | 3 => 2,
+        _ => 4,
+    };
+    bytes[10 + 45 + 3 * width] = format;
+    &bytes[..10 + usize::from(length)]
+}
+
+fn code(bytes: &[u8]) -> &'static str {
+    let refused = Record::read(bytes).err();
+    refused.map_or("read", |error| error.code())
+}
+
+#[test]
+fn reads_a_terminus_locator(rt: HostRuntime) -> Result<(), Fail> {
+    let record = Record::read(TERMINUS)?;
+    assert_eq!(rt; (record.handle, record.change), (1, 0));
+    assert_eq!(rt; record.body.record_type(), 1);
+    let locator = TerminusLocator {
+        terminus_handle: 1,
+        validity: 1,
+        tid: 1,
+        container_id: 0,
+        locator_type: 1,
+        locator_value: &[0x0a],
+    };
+    assert_eq!(rt; record.body, Body::Terminus(locator));
+    Ok(())
+}
+
+#[test]
+fn reads_a_state_sensor(rt: HostRuntime) -> Result<(), Fail> {
+    let record = Record::read(STATE)?;
+    let Body::State(state) = record.body else {
+        return Err("a state sensor".into());
+    };
+    let sensor = state.sensor;
+    let entity = (sensor.entity.entity_type, sensor.entity.instance_number);
+    assert_eq!(rt; (record.handle, sensor.sensor_id, entity), (2, 5, (33, 1)));
+    let mut left = state.state_sets.iter();
+    let set = left.next().ok_or("one state set")?;
+    assert_eq!(rt;
+        (set.state_set_id, set.possible_states),
+        (1, [0x06].as_slice())
+    );
+    assert!(rt; state.state_sets.count() == 1 && left.next().is_none());
+    Ok(())
+}
+
+#[test]
+fn reads_an_entity_association(rt: HostRuntime) -> Result<(), Fail> {
+    let record = Record::read(ASSOCIATION)?;
+    let Body::Association(association) = record.body else {
+        return Err("an entity association".into());
+    };
+    let container = association.container_entity.entity_type;
+    let numbers = (
+        association.container_id,
+        association.association_type,
+        container,
+    );
+    assert_eq!(rt; (record.handle, numbers), (3, (100, 0, 45)));
+    let mut left = association.contained_entities.iter();
+    let contained = Entity {
+        entity_type: 47,
+        instance_number: 1,
+        container_id: 100,
+    };
+    assert_eq!(rt; left.next(), Some(contained));
+    assert!(rt; association.contained_entities.count() == 1 && left.next().is_none());
+    Ok(())
+}
+
+#[test]
+fn reads_a_numeric_sensor(rt: HostRuntime) -> Result<(), Fail> {
+    let mut bytes = [0; 110];
+    let record = Record::read(numeric(&mut bytes, 2, 6, 89))?;
+    let Body::Numeric(numeric) = record.body else {
+        return Err("a numeric sensor".into());
+    };
+    let size = numeric.sensor_data_size;
+    assert_eq!(rt; (size, size.code()), (SensorDataSize::U16, 2));
+    let format = numeric.range_field_format;
+    assert_eq!(rt; (format, format.code()), (RangeFieldFormat::Real32, 6));
+    let zeros = [0; 4];
+    assert_eq!(rt;
+        (numeric.hysteresis, numeric.ranges.fatal_low),
+        (&zeros[..2], &zeros[..])
+    );
+    Ok(())
+}
+
+#[test]
+fn keeps_the_bytes_of_other_types(rt: HostRuntime) -> Result<(), Fail> {
+    let record = Record::read(OTHER)?;
+    assert_eq!(rt; record.change, 1);
+    let bytes = [0xaa, 0xbb];
+    let body = Body::Other {
+        record_type: 200,
+        bytes: &bytes,
+    };
+    assert_eq!(rt; record.body, body);
+    assert_eq!(rt; Record::read(EMPTY)?.body.record_type(), 200);
+    Ok(())
+}
+
+#[test]
+fn refuses_by_the_first_cause(rt: HostRuntime) {
+    let rows: [(&[u8], &str); 11] = [
+        (&[], "D01"),
+        (&TERMINUS[..9], "D01"),
+        (b"\0\0\0\0\0\x01\0\0\x05\0", "D02"),
+        (&TERMINUS[..18], "D03"),
+        (b"\0\0\0\0\x01\xc8\0\0\0\0\0", "D03"),
+        (b"\0\0\0\0\x01\x01\0\0\x07\0\0\0\0\0\0\0\0", "D04"),
+        (b"\0\0\0\0\x01\x01\0\0\x09\0\0\0\0\0\0\0\0\0\0", "D05"),
+        (b"\0\0\0\0\x01\x0f\0\0\x0a\0\0\0\0\0\0\0\0\0\0\x01", "D04"),
+        (
+            b"\0\0\0\0\x01\x04\0\0\x10\0\0\0\0\0\0\0\0\0\0\0\0\0\x01\0\0\x01",
+            "D04",
+        ),
+        (
+            b"\0\0\0\0\x01\x04\0\0\x0d\0\0\0\0\0\0\0\0\0\0\0\0\0\x01",
+            "D04",
+        ),
+        (
+            b"\0\0\0\0\x01\x04\0\0\x0e\0\0\0\0\0\0\0\0\0\0\0\0\0\0\0",
+            "D05",
+        ),
+    ];
+    for (row, wanted) in rows {
+        assert_eq!(rt; code(row), wanted, "{row:?}");
+    }
+}
+
+#[test]
+fn numeric_sensors_are_refused_by_the_first_cause(rt: HostRuntime) {
+    let rows = [
+        (0, 0, 59, "read"),
+        (0, 0, 58, "D04"),
+        (0, 0, 60, "D05"),
+        (6, 0, 60, "D06"),
+        (6, 0, 23, "D06"),
+        (6, 0, 22, "D04"),
+        (0, 7, 49, "D06"),
+        (0, 7, 48, "D04"),
+    ];
+    for (data_size, format, length, wanted) in rows {
+        let mut bytes = [0; 110];
+        let code = code(numeric(&mut bytes, data_size, format, length));
+        assert_eq!(rt; code, wanted, "{length}");
+    }
+}
+
+#[test]
+fn writes_what_was_read(rt: HostRuntime) {
+    for bytes in [TERMINUS, STATE, ASSOCIATION, OTHER, EMPTY] {
+        assert!(rt; is_kept::<Record>(bytes));
+    }
+    for (data_size, format, length) in [(2, 6, 89), (5, 3, 77)] {
+        let mut bytes = [0; 110];
+        assert!(rt; is_kept::<Record>(numeric(&mut bytes, data_size, format, length)));
+    }
+}
+
+#[test]
+fn round_trips(rt: HostRuntime) -> Result<(), Fail> {
+    let mut out = [0; 30];
+    let record = Record::read(STATE)?;
+    assert_eq!(rt; round_trip(&record, &mut out)?, record);
+    Ok(())
+}

@@ -1,0 +1,281 @@
+//! Check bytes, lists of records, and termini that answer requests for them.
+use arrayvec::ArrayVec;
+use pdr_repository::{BlockTerminus, ListTerminus, Terminus, crc8, is_lawful_list};
+use pldm_message::Tid;
+use std::alloc::{AllocError, Global};
+use std::process::Abort;
+use std::test::Fail;
+
+const LOCATOR: [u8; 19] = [
+    0x01, 0x00, 0x00, 0x00, 0x01, 0x01, 0x00, 0x00, 0x09, 0x00, 0x01, 0x00, 0x01, 0x01, 0x00, 0x00,
+    0x01, 0x01, 0x0a,
+];
+
+/// A record of this handle and length, from 10 to 65,545, whose type is none of the four.
+pub(crate) fn record_of(alloc: Global, handle: u8, length: u32) -> Result<Vec<u8>, AllocError> {
+    let [low, high, _, _] = length.saturating_sub(10).to_le_bytes();
+    let mut bytes = Vec::new(alloc);
+    bytes.extend_from_slice(&[handle, 0, 0, 0, 1, 200, 0, 0, low, high])?;
+    for at in 10..length {
+        bytes.push((at % 256) as u8 ^ handle)?;
+    }
+    Ok(bytes)
+}
+
+/// A list of TID 1 over these records, where they are a lawful list.
+pub(crate) fn list_over(
+    alloc: Global,
+    records: Vec<(u32, Vec<u8>)>,
+) -> Result<Option<ListTerminus>, AllocError> {
+    if !is_lawful_list(&records) {
+        return Ok(None);
+    }
+    Ok(Some(ListTerminus::new(alloc, Tid::new(1), records)?))
+}
+
+/// A block of TID 1 over these records, where they are a lawful list.
+pub(crate) fn block_over(
+    alloc: Global,
+    records: Vec<(u32, Vec<u8>)>,
+) -> Result<Option<BlockTerminus>, AllocError> {
+    if !is_lawful_list(&records) {
+        return Ok(None);
+    }
+    Ok(Some(BlockTerminus::new(alloc, Tid::new(1), records)?))
+}
+
+/// The one record.
+fn one_record(alloc: Global) -> Result<Vec<(u32, Vec<u8>)>, AllocError> {
+    let mut bytes = Vec::new(alloc);
+    bytes.extend_from_slice(&LOCATOR)?;
+    let mut records = Vec::new(alloc);
+    records.push((1, bytes))?;
+    Ok(records)
+}
+
+/// A list of the records of these handles and lengths.
+pub(crate) fn records_of(
+    alloc: Global,
+    rows: &[(u8, u32)],
+) -> Result<Vec<(u32, Vec<u8>)>, AllocError> {
+    let mut records = Vec::new(alloc);
+    for (handle, length) in rows {
+        records.push((u32::from(*handle), record_of(alloc, *handle, *length)?))?;
+    }
+    Ok(records)
+}
+
+/// The rows of the base commands, at a terminus over the one record.
+fn answers_the_base_commands(rt: &impl Abort, terminus: &mut Box<dyn Terminus>) {
+    let mut out = ArrayVec::new();
+    let rows: [(&[u8], &[u8]); 8] = [
+        (
+            &[0x01, 0x80, 0x00, 0x02],
+            &[0x01, 0x00, 0x00, 0x02, 0x00, 0x01],
+        ),
+        (
+            &[0x01, 0x80, 0x00, 0x01, 0xff],
+            &[0x01, 0x00, 0x00, 0x01, 0x02],
+        ),
+        (
+            &[0x01, 0x80, 0x00, 0x01, 0x05],
+            &[0x01, 0x00, 0x00, 0x01, 0x00],
+        ),
+        (
+            &[0x01, 0x80, 0x00, 0x02],
+            &[0x01, 0x00, 0x00, 0x02, 0x00, 0x05],
+        ),
+        (
+            &[0x01, 0x80, 0x00, 0x04],
+            &[0x01, 0x00, 0x00, 0x04, 0x00, 0x05, 0, 0, 0, 0, 0, 0, 0],
+        ),
+        (&[0x01, 0x80, 0x04, 0x01], &[0x01, 0x00, 0x04, 0x01, 0x20]),
+        (&[0x01, 0x80, 0x02, 0x50], &[0x01, 0x00, 0x02, 0x50, 0x05]),
+        (
+            &[0x01, 0xa3, 0x00, 0x02, 0x00],
+            &[0x01, 0x03, 0x00, 0x02, 0x03],
+        ),
+    ];
+    for (request, answer) in rows {
+        assert!(rt; terminus.answer(request, &mut out));
+        assert_eq!(rt; out.as_slice(), answer);
+    }
+    for request in [
+        [0x01, 0xc0, 0x00, 0x02],
+        [0x01, 0x00, 0x00, 0x02],
+        [0x01, 0x40, 0x00, 0x02],
+        [0x00, 0x80, 0x00, 0x02],
+    ] {
+        assert!(rt; !terminus.answer(&request, &mut out));
+        assert!(rt; out.is_empty());
+    }
+}
+
+#[test]
+fn either_kind_answers_the_base_commands(rt: HostRuntime) -> Result<(), Fail> {
+    let alloc = rt.alloc();
+    let list = list_over(alloc, one_record(alloc)?)?.ok_or("lawful")?;
+    let mut terminus: Box<dyn Terminus> = Box::new(alloc, list)?;
+    answers_the_base_commands(&rt, &mut terminus);
+    let block = block_over(alloc, one_record(alloc)?)?.ok_or("lawful")?;
+    let mut terminus: Box<dyn Terminus> = Box::new(alloc, block)?;
+    answers_the_base_commands(&rt, &mut terminus);
+    Ok(())
+}
+
+/// The rows of GetPDR, at a terminus over the one record.
+fn gives_a_record_in_parts<T: Terminus>(rt: &impl Abort, terminus: &mut T) {
+    let mut out = ArrayVec::new();
+    let rows: [(&[u8], &[u8]); 11] = [
+        (
+            &[
+                0x01, 0x80, 0x02, 0x51, 0, 0, 0, 0, 0, 0, 0, 0, 1, 0x10, 0, 0, 0,
+            ],
+            &[
+                0x01, 0x00, 0x02, 0x51, 0, 0, 0, 0, 0, 0x10, 0, 0, 0, 0, 0x10, 0, 0x01, 0, 0, 0,
+                0x01, 0x01, 0, 0, 0x09, 0, 0x01, 0, 0x01, 0x01, 0, 0,
+            ],
+        ),
+        (
+            &[
+                0x01, 0x81, 0x02, 0x51, 0, 0, 0, 0, 0x10, 0, 0, 0, 0, 0x10, 0, 0, 0,
+            ],
+            &[
+                0x01, 0x01, 0x02, 0x51, 0, 0, 0, 0, 0, 0, 0, 0, 0, 0x04, 0x03, 0, 0x01, 0x01, 0x0a,
+                0xa6,
+            ],
+        ),
+        (
+            &[
+                0x01, 0x80, 0x02, 0x51, 0, 0, 0, 0, 0, 0, 0, 0, 1, 0x13, 0, 0, 0,
+            ],
+            &[
+                0x01, 0x00, 0x02, 0x51, 0, 0, 0, 0, 0, 0, 0, 0, 0, 0x05, 0x13, 0, 0x01, 0, 0, 0,
+                0x01, 0x01, 0, 0, 0x09, 0, 0x01, 0, 0x01, 0x01, 0, 0, 0x01, 0x01, 0x0a,
+            ],
+        ),
+        (
+            &[
+                0x01, 0x80, 0x02, 0x51, 0, 0, 0, 0, 0, 0, 0, 0, 1, 0x10, 0, 0,
+            ],
+            &[0x01, 0x00, 0x02, 0x51, 0x03],
+        ),
+        (
+            &[
+                0x01, 0x80, 0x02, 0x51, 0, 0, 0, 0, 0, 0, 0, 0, 2, 0x10, 0, 0, 0,
+            ],
+            &[0x01, 0x00, 0x02, 0x51, 0x81],
+        ),
+        (
+            &[
+                0x01, 0x80, 0x02, 0x51, 0, 0, 0, 0, 0, 0, 0, 0, 1, 0, 0, 0, 0,
+            ],
+            &[0x01, 0x00, 0x02, 0x51, 0x02],
+        ),
+        (
+            &[
+                0x01, 0x80, 0x02, 0x51, 99, 0, 0, 0, 0, 0, 0, 0, 1, 0x10, 0, 0, 0,
+            ],
+            &[0x01, 0x00, 0x02, 0x51, 0x82],
+        ),
+        (
+            &[
+                0x01, 0x80, 0x02, 0x51, 99, 0, 0, 0, 0, 0, 0, 0, 2, 0x10, 0, 0, 0,
+            ],
+            &[0x01, 0x00, 0x02, 0x51, 0x81],
+        ),
+        (
+            &[
+                0x01, 0x80, 0x02, 0x51, 0, 0, 0, 0, 0x10, 0, 0, 0, 0, 0x10, 0, 1, 0,
+            ],
+            &[0x01, 0x00, 0x02, 0x51, 0x83],
+        ),
+        (
+            &[
+                0x01, 0x80, 0x02, 0x51, 0, 0, 0, 0, 0x13, 0, 0, 0, 0, 0x10, 0, 0, 0,
+            ],
+            &[0x01, 0x00, 0x02, 0x51, 0x80],
+        ),
+        (
+            &[
+                0x01, 0x80, 0x02, 0x51, 0, 0, 0, 0, 0, 0, 0, 0, 0, 0x10, 0, 0, 0,
+            ],
+            &[0x01, 0x00, 0x02, 0x51, 0x80],
+        ),
+    ];
+    for (request, answer) in rows {
+        assert!(rt; terminus.answer(request, &mut out));
+        assert_eq!(rt; out.as_slice(), answer);
+    }
+}
+
+#[test]
+fn either_kind_gives_a_record_in_parts(rt: HostRuntime) -> Result<(), Fail> {
+    let alloc = rt.alloc();
+    let mut list = list_over(alloc, one_record(alloc)?)?.ok_or("lawful")?;
+    gives_a_record_in_parts(&rt, &mut list);
+    let mut block = block_over(alloc, one_record(alloc)?)?.ok_or("lawful")?;
+    gives_a_record_in_parts(&rt, &mut block);
+    Ok(())
+}
+
+#[test]
+fn a_block_lends_parts_of_one_record(rt: HostRuntime) -> Result<(), Fail> {
+    let alloc = rt.alloc();
+    let block = block_over(alloc, one_record(alloc)?)?.ok_or("lawful")?;
+    let rows: [(u32, usize, usize, Option<&[u8]>); 8] = [
+        (1, 16, 16, Some(&[0x01, 0x01, 0x0a])),
+        (1, 0, 19, Some(&LOCATOR)),
+        (1, 18, usize::MAX, Some(&[0x0a])),
+        (1, 18, 0, Some(&[])),
+        (1, 19, 1, None),
+        (1, usize::MAX, 1, None),
+        (9, 0, 1, None),
+        (0, 0, 1, None),
+    ];
+    for (handle, offset, count, wanted) in rows {
+        assert!(rt;
+            block.part(handle, offset, count) == wanted,
+            "{handle}, {offset}, {count}"
+        );
+    }
+    Ok(())
+}
+
+#[test]
+fn a_block_lends_parts_of_several_records(rt: HostRuntime) -> Result<(), Fail> {
+    let alloc = rt.alloc();
+    let rows = [(7, 19), (3, 128), (5, 65)];
+    let block = block_over(alloc, records_of(alloc, &rows)?)?.ok_or("lawful")?;
+    for (handle, length) in rows {
+        let bytes = record_of(alloc, handle, length)?;
+        let handle = u32::from(handle);
+        assert_eq!(rt; block.part(handle, 0, 4079), Some(bytes.as_slice()));
+        assert!(rt; block.part(handle, bytes.len(), 1).is_none());
+    }
+    assert!(rt; block.part(4, 0, 1).is_none());
+    Ok(())
+}
+
+#[test]
+fn refuses_lists_that_are_not_lawful(rt: HostRuntime) -> Result<(), Fail> {
+    let alloc = rt.alloc();
+    let mut records = Vec::new(alloc);
+    assert!(rt; !is_lawful_list(&records));
+    records.push((7, record_of(alloc, 7, 19)?))?;
+    assert!(rt; is_lawful_list(&records));
+    records.push((8, record_of(alloc, 9, 19)?))?;
+    assert!(rt; !is_lawful_list(&records));
+    let _ = records.pop();
+    records.push((7, record_of(alloc, 7, 30)?))?;
+    assert!(rt; !is_lawful_list(&records));
+    Ok(())
+}
+
+#[test]
+fn check_bytes(rt: HostRuntime) {
+    let rows: [(&[u8], u8); 3] = [(b"123456789", 0xf4), (b"", 0), (&LOCATOR, 0xa6)];
+    for (bytes, wanted) in rows {
+        assert_eq!(rt; crc8(bytes), wanted);
+    }
+}

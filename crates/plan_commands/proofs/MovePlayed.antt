@@ -1,0 +1,114 @@
+-- What the end of a run of `simmove` tells of the files that were given.
+use Rattle.std.proofs.Common.{◌≡◌, ◌+◌, ◌⊎◌, List, length, Result, Ok, Err, refl, sym, subst, inl, inr}
+use Rattle.std.specs.Prelude.{IfOk, IfErr}
+use Rattle.net_check.specs.declared.move_error.MoveError.{MoveError}
+use Rattle.net_check.specs.MoveFaults.{NamesFirstMoveFault}
+use Rattle.net_check.specs.MoveRules.{AcceptsMove}
+use Rattle.net_plan.specs.declared.certificate.Certificate.{Certificate}
+use Rattle.net_plan.specs.declared.event.Event.{Event}
+use Rattle.net_plan.specs.declared.plan.Plan.{Plan}
+use Rattle.net_plan.specs.declared.error.PlanError.{PlanError}
+use Rattle.net_plan.specs.PlanValues.{plan_value}
+use Rattle.net_plan.specs.TextFaults.{error_count}
+use Rattle.net_plan.specs.Unread.{GaveNoEvents}
+use Rattle.plan_commands.specs.declared.refused.Input.TheVariants as input
+use Rattle.plan_commands.specs.declared.refused.Refused.{Refused}
+use Rattle.plan_commands.specs.declared.refused.Refused.TheVariants as refused
+use Rattle.plan_commands.specs.declared.status.Status.{Status}
+use Rattle.plan_commands.specs.declared.status.Status.TheVariants as status
+use Rattle.plan_commands.specs.Answers.{Stream, BreaksOff, FailsToPrint}
+use Rattle.plan_commands.specs.Moving.{IsMoveGiven, IsMoveErrorText, PrintsMoveError, IsMoveUnread}
+use Rattle.plan_commands.specs.MoveSimulating.{IsPlayGiven, TellsMovedInPart, IsPlayAnswer, IsPlayUnread, IsUnplayedFor, SimulatesMoveFiles}
+use Rattle.plan_commands.specs.Simulating.{EndsShowing, AreLinesAtMost, ShowsOutcomes, ShowsAtMost}
+use Rattle.plan_commands.specs.Statuses.{refused_at}
+use Rattle.plan_commands.proofs.Telling.{refusal_at, breaks_off_also, untouched_also}
+
+-- the plans or the certificate were not read
+pub inputs_unread : (why : Refused) (befores afters certificates happenings : Stream) → IsMoveUnread why befores afters certificates
+    → IsPlayUnread why befores afters certificates happenings
+inputs_unread refused.Usage befores afters certificates happenings h = h
+inputs_unread (refused.Unreadable input.Plan cause) befores afters certificates happenings h = h
+inputs_unread (refused.Unreadable input.Certificate cause) befores afters certificates happenings h = h
+inputs_unread (refused.Unreadable input.Events cause) befores afters certificates happenings h = absurd h
+inputs_unread refused.UnknownNode befores afters certificates happenings h = h
+inputs_unread refused.UnreadableHex befores afters certificates happenings h = h
+inputs_unread refused.TooMuch befores afters certificates happenings h = h
+inputs_unread refused.Unwritten befores afters certificates happenings h = h
+inputs_unread refused.NoMemory befores afters certificates happenings h = h
+
+-- the events were not read
+pub move_events_unread : (e : PlanError) (before after : Plan) (certificate : Certificate) (befores afters certificates happenings : Stream)
+    → IsMoveGiven befores afters certificates before after certificate → GaveNoEvents (plan_value before) happenings.before happenings.after e
+    → happenings.failures_after ≡ happenings.failures_before + error_count e → IsPlayUnread (refused_at input.Events e) befores afters certificates happenings
+move_events_unread e before after certificate befores afters certificates happenings given gave counted =
+    refusal_at (λ why. IsPlayUnread why befores afters certificates happenings) (GaveNoEvents (plan_value before)) happenings input.Events e gave counted tt
+    (λ cause nothing. (before, after, certificate, given, nothing))
+
+-- where the inputs were not read, nothing is played
+pub play_unread : (why : Refused) (befores afters certificates happenings output : Stream) → IsPlayUnread why befores afters certificates happenings
+    → IsUnplayedFor why befores afters certificates happenings output
+play_unread refused.Usage befores afters certificates happenings output h = h
+play_unread (refused.Unreadable unread cause) befores afters certificates happenings output h = h
+play_unread refused.UnknownNode befores afters certificates happenings output h = h
+play_unread refused.UnreadableHex befores afters certificates happenings output h = h
+play_unread refused.TooMuch befores afters certificates happenings output h = h
+play_unread refused.Unwritten befores afters certificates happenings output h = absurd h
+play_unread refused.NoMemory befores afters certificates happenings output h = h
+
+-- nor where the line of an error is not written
+pub move_error_unplayed : (why : Refused) (befores afters certificates happenings output : Stream) → FailsToPrint why output
+    → IsUnplayedFor why befores afters certificates happenings output
+move_error_unplayed refused.Usage befores afters certificates happenings output h = h
+move_error_unplayed (refused.Unreadable unread cause) befores afters certificates happenings output h = absurd h
+move_error_unplayed refused.UnknownNode befores afters certificates happenings output h = h
+move_error_unplayed refused.UnreadableHex befores afters certificates happenings output h = h
+move_error_unplayed refused.TooMuch befores afters certificates happenings output h = h
+move_error_unplayed refused.Unwritten befores afters certificates happenings output h = h
+move_error_unplayed refused.NoMemory befores afters certificates happenings output h = h
+
+module _ (before after : Plan) (certificate : Certificate) (befores afters certificates happenings output : Stream) (events : List Event)
+    (given : IsPlayGiven befores afters certificates happenings before after certificate events) where
+  -- the printed error is what the run tells
+  pub tells_play_fault : (error : MoveError) (ended : Status) → NamesFirstMoveFault before after certificate error
+      → PrintsMoveError before error ended output → SimulatesMoveFiles ended befores afters certificates happenings output
+  tells_play_fault error ended first (is, (text, told, written)) =
+      subst (λ s. SimulatesMoveFiles s befores afters certificates happenings output) (sym is)
+      (before, after, certificate, text, given.inputs, (error, first, told), written)
+
+  pub tells_play_fault_in : (error : MoveError) (result : Result Status Refused) → NamesFirstMoveFault before after certificate error
+      → IfOk result (λ ended. PrintsMoveError before error ended output) → IfOk result (λ ended. SimulatesMoveFiles ended befores afters certificates happenings output)
+  tells_play_fault_in error (Ok ended) first printed = tells_play_fault error ended first printed
+  tells_play_fault_in error (Err why) first printed = tt
+
+  -- so an output that failed in it failed in an answer
+  pub play_fault_broken : (error : MoveError) (Same : Type 0) (result : Result Status Refused) → NamesFirstMoveFault before after certificate error
+      → IfErr result (λ why. ((why ≡ refused.Unwritten) × BreaksOff (IsMoveErrorText before error) output) ⊎ Same)
+      → IfErr result (λ why. ((why ≡ refused.Unwritten) × BreaksOff (IsPlayAnswer befores afters certificates happenings) output) ⊎ Same)
+  play_fault_broken error Same result first left =
+      untouched_also (IsMoveErrorText before error) (IsPlayAnswer befores afters certificates happenings) output Same result
+      (λ text told. (before, after, certificate, events, given, inr (error, first, told))) left
+
+  module _ (ended : Status) (accepted : AcceptsMove before after certificate)
+      (shown : EndsShowing ended (ShowsAtMost before (length events) output) (ShowsOutcomes before (length events) output) (AreLinesAtMost before (length events)) output) where
+    abbrev ends : Status → Type 0
+    ends s = EndsShowing s (ShowsAtMost before (length events) output) (ShowsOutcomes before (length events) output) (AreLinesAtMost before (length events)) output
+
+    pub move_played : SimulatesMoveFiles ended befores afters certificates happenings output
+    move_played = by ended shown
+      where
+        by : (s : Status) → EndsShowing s (ShowsAtMost before (length events) output) (ShowsOutcomes before (length events) output) (AreLinesAtMost before (length events)) output
+            → SimulatesMoveFiles s befores afters certificates happenings output
+        by status.Yes shown = (before, after, certificate, events, given, accepted, shown)
+        by status.Fault shown = absurd shown
+        by status.Unreadable shown = (refused.Unwritten, refl, shown.fails)
+        by status.NoMemory shown = tt
+
+    -- the output failed in what came of the events
+    pub move_broken : ended ≡ status.Unreadable → BreaksOff (IsPlayAnswer befores afters certificates happenings) output
+    move_broken is =
+        breaks_off_also (AreLinesAtMost before (length events)) (IsPlayAnswer befores afters certificates happenings) output
+        (λ text lines. (before, after, certificate, events, given, inl (accepted, lines))) (subst ends is shown)
+
+    -- memory ran out in them
+    pub move_begun : ended ≡ status.NoMemory → TellsMovedInPart befores afters certificates happenings output
+    move_begun is = (before, after, certificate, events, given, accepted, subst ends is shown)

@@ -1,0 +1,124 @@
+-- Records one place after another.
+use Rattle.std.proofs.Common.{◌≡◌, ◌≢◌, ℕ, zero, suc, ◌+◌, Bool, cond, List, [], ◌∷◌, ◌++◌, length, map, position, Option, Some, None, Result, Ok, Err, refl, sym, ◌∙◌, ap, subst, add-one, add-zero, arith, Bor}
+use Rattle.std.specs.Prelude.{◌≤◌, not, nat_lt, option_map, unwrap_or, IfOk}
+use Rattle.std.specs.List.{prefix_len, position_or_len, cons_option, filter_map, range_with_len}
+use Rattle.std.specs.Option.{option_to_list}
+use Rattle.std.proofs.lemmas.List.{length-map, map-append}
+use Rattle.net_plan.specs.declared.certificate.Certificate.{Certificate}
+use Rattle.net_plan.specs.declared.plan.Plan.{Plan}
+use Rattle.net_plan.specs.declared.terminus.Record.{Record}
+use Rattle.net_plan.specs.declared.terminus.Terminus.{Terminus}
+use Rattle.pdr_repository.specs.declared.list_terminus.ListTerminus.{ListTerminus}
+use Rattle.pdr_repository.specs.ListTermini.{list_records}
+use Rattle.pdr_repository.specs.Records.{Entry, IsLawful}
+use Rattle.net_check.specs.Repositories.{terminus_of, records_of, places_of, entry_of, record_at, records_by_place, RecordsHaveOrder}
+use Rattle.net_check.specs.Rules.{Accepts}
+use Rattle.net_check.specs.MoveRules.{AcceptsMove}
+use Rattle.net_check.proofs.Accepted.{accepted_orders, move_orders}
+use Rattle.net_check.proofs.ByPlace.{by_place_length, is_lawful}
+
+prefix_len_map : {A B : Type 0} (q : B → Bool) (g : A → B) (xs : List A) → prefix_len q (map g xs) ≡ prefix_len (λ x. q (g x)) xs
+prefix_len_map q g [] = refl
+prefix_len_map q g (x ∷ xs) = ap (λ n. cond (q (g x)) (1 + n) 0) (prefix_len_map q g xs)
+
+-- where a list's values are looked through, the list is
+pub position_map : {A B : Type 0} (p : B → Bool) (g : A → B) (xs : List A) → position p (map g xs) ≡ position (λ x. p (g x)) xs
+position_map p g xs =
+    ap (λ n. cond (nat_lt n (length (map g xs))) (Some n) None) (prefix_len_map (λ y. not (p y)) g xs)
+    ∙ ap (λ m. cond (nat_lt (position_or_len (λ x. p (g x)) xs) m) (Some (position_or_len (λ x. p (g x)) xs)) None) (length-map xs g)
+
+-- one number more
+pub filter_map_more : {X : Type 0} (h : ℕ → Option X) (a n : ℕ) → filter_map h (range_with_len a (n + 1)) ≡ filter_map h (range_with_len a n) ++ option_to_list (h (a + n))
+filter_map_more h a n = ap (λ k. filter_map h (range_with_len a k)) (add-one n) ∙ more a n
+  where
+    joined : {X : Type 0} (o : Option X) (xs ys : List X) → cons_option o (xs ++ ys) ≡ cons_option o xs ++ ys
+    joined None xs ys = refl
+    joined (Some x) xs ys = refl
+
+    alone : {X : Type 0} (o : Option X) → cons_option o [] ≡ option_to_list o
+    alone None = refl
+    alone (Some x) = refl
+
+    more : (a n : ℕ) → filter_map h (range_with_len a (suc n)) ≡ filter_map h (range_with_len a n) ++ option_to_list (h (a + n))
+    more a zero = alone (h a) ∙ ap (λ k. option_to_list (h k)) (sym (add-zero a))
+    more a (suc n) =
+        let further : a + 1 + n ≡ a + suc n = omega arith in
+        ap (cons_option (h a)) (more (a + 1) n) ∙ (joined (h a) (filter_map h (range_with_len (a + 1) n)) (option_to_list (h (a + 1 + n)))
+        ∙ ap (λ k. filter_map h (range_with_len a (suc n)) ++ option_to_list (h k)) further)
+
+-- the records at so many places, and that at the next one
+pub one_record_more : (listed : List Record) (places : List ℕ) (place : ℕ) (before after : List Entry) (found : Option (Bor Record))
+    → option_map (λ r. r.now) found ≡ record_at listed places place
+    → before ≡ filter_map (λ k. option_map entry_of (record_at listed places k)) (range_with_len 0 place)
+    → after ≡ before ++ option_to_list (option_map (λ r. entry_of r.now) found)
+    → after ≡ filter_map (λ k. option_map entry_of (record_at listed places k)) (range_with_len 0 (place + 1))
+one_record_more listed places place before after found is all pushed =
+    let h : ℕ → Option Entry = λ k. option_map entry_of (record_at listed places k) in
+    let plain : 0 + place ≡ place = omega arith in
+    pushed ∙ (ap (λ xs. xs ++ option_to_list (option_map (λ r. entry_of r.now) found)) all
+    ∙ (ap (λ o. filter_map h (range_with_len 0 place) ++ option_to_list o) (seen found ∙ ap (option_map entry_of) is ∙ ap h (sym plain))
+    ∙ sym (filter_map_more h 0 place)))
+  where
+    seen : (o : Option (Bor Record)) → option_map (λ r. entry_of r.now) o ≡ option_map entry_of (option_map (λ r. r.now) o)
+    seen None = refl
+    seen (Some r) = refl
+
+-- what stands for the numbers below one, and for that one
+pub one_terminus_more : {B S : Type 0} (see : B → S) (h : ℕ → Option S) (n : ℕ) (before after : List B) (found : Option B) → option_map see found ≡ h n
+    → map see before ≡ filter_map h (range_with_len 0 n) → after ≡ before ++ option_to_list found → map see after ≡ filter_map h (range_with_len 0 (n + 1))
+one_terminus_more {B} {S} see h n before after found is all pushed =
+    let plain : 0 + n ≡ n = omega arith in
+    ap (map see) pushed ∙ (map-append see before (option_to_list found)
+    ∙ (ap (λ xs. xs ++ map see (option_to_list found)) all
+    ∙ (ap (λ xs. filter_map h (range_with_len 0 n) ++ xs) (seen found ∙ ap option_to_list (is ∙ ap h (sym plain)))
+    ∙ sym (filter_map_more h 0 n))))
+  where
+    seen : (o : Option B) → map see (option_to_list o) ≡ option_to_list (option_map see o)
+    seen None = refl
+    seen (Some b) = refl
+
+-- a terminus has few records
+pub few_records : (plan : Plan) (n : ℕ) → length (records_of plan n) ≤ 4096
+few_records plan n = by (terminus_of plan n)
+  where
+    by : (o : Option Terminus) → length (unwrap_or (option_map (λ t. t.records.items) o) []) ≤ 4096
+    by None = omega arith
+    by (Some t) = omega (arith, t.few_records, t.records.ok.0)
+
+pub has_terminus : (plan : Plan) (n tid : ℕ) → Some tid ≡ option_map (λ t. t.tid) (terminus_of plan n) → terminus_of plan n ≢ None
+has_terminus plan n tid is none =
+    let never : Some tid ≡ None = is ∙ ap (option_map (λ (t : Terminus). t.tid)) none in
+    absurd (cc)
+
+-- records in an order are as a terminus can have them
+pub lawful_records : (plan : Plan) (cert : Certificate) (n : ℕ) (records : List Entry) → RecordsHaveOrder plan cert → terminus_of plan n ≢ None
+    → records ≡ records_by_place plan cert n → (length records ≤ 4096) × IsLawful records
+lawful_records plan cert n records ordered there is =
+    let order = ordered n there in
+    let many = by_place_length (records_of plan n) (places_of cert n) order in
+    (omega (arith, ap length is, many, few_records plan n), subst IsLawful (sym is) (is_lawful (records_of plan n) (places_of cert n) order))
+
+-- the records of an accepted plan, and of the plan before an accepted move, have one
+pub checked_orders : (plan plan' : Plan) (cert cert' : Certificate) → Accepts plan cert → plan' ≡ plan → cert' ≡ cert → RecordsHaveOrder plan' cert'
+checked_orders plan plan' cert cert' accepted same same_cert =
+    subst (λ (p : Plan). RecordsHaveOrder p cert') (sym same) (subst (λ (k : Certificate). RecordsHaveOrder plan k) (sym same_cert) (accepted_orders plan cert accepted))
+
+pub moved_orders : (before after plan' : Plan) (cert cert' : Certificate) → AcceptsMove before after cert → plan' ≡ before → cert' ≡ cert → RecordsHaveOrder plan' cert'
+moved_orders before after plan' cert cert' accepted same same_cert =
+    subst (λ (p : Plan). RecordsHaveOrder p cert') (sym same) (subst (λ (k : Certificate). RecordsHaveOrder before k) (sym same_cert) (move_orders before after cert accepted))
+
+pub known_terminus : (plan : Plan) (n : ℕ) (t : Terminus) → terminus_of plan n ≡ Some t → terminus_of plan n ≢ None
+known_terminus plan n t there none =
+    let never : Some t ≡ None = sym there ∙ none in
+    absurd (cc)
+
+-- what is said of the entries is said of the terminus that is made over them
+pub few_kept : {E : Type 0} (made : Result ListTerminus E) (records : List Entry) → IfOk made (λ list. list_records list ≡ records) → length records ≤ 4096
+    → IfOk made (λ list. length (list_records list) ≤ 4096)
+few_kept (Ok list) records is few = omega (arith, few, ap length is)
+few_kept (Err e) records is few = tt
+
+pub lawful_kept : {E : Type 0} (made : Result ListTerminus E) (records : List Entry) → IfOk made (λ list. list_records list ≡ records) → IsLawful records
+    → IfOk made (λ list. IsLawful (list_records list))
+lawful_kept (Ok list) records is lawful = subst IsLawful (sym is) lawful
+lawful_kept (Err e) records is lawful = tt

@@ -1,0 +1,323 @@
+-- Lines of outcomes, and runs of which they are.
+use Rattle.std.proofs.Common.{◌≡◌, ℕ, zero, suc, ◌+◌, ◌<◌, ◌≤◌, Bool, true, false, List, [], ◌∷◌, ◌++◌, length, map, take, get_or, Option, Some, Result, Err, inl, inr, refl, sym, ◌∙◌, ap, subst, append_assoc, append-nil, length-append, arith}
+use Rattle.std.proofs.Math.Seq.{take-append-add}
+use Rattle.std.specs.Prelude.{slice_get, option_map, ◌⊎◌, IfErr}
+use Rattle.std.specs.Io.KnownBytes.{Appends}
+use Rattle.std.proofs.KnownBytes.{Appends-nil, Appends-trans}
+use Rattle.std.proofs.lemmas.List.{length-map, length-take, length-take-le, take_more, take_all, take-map}
+use Rattle.std.proofs.lemmas.Option.{slice_get-map, slice_get-get_or, slice_get_within, get_or_from_slice_get}
+use Rattle.net_plan.specs.declared.event.Event.{Event}
+use Rattle.net_plan.specs.declared.plan.Plan.{Plan}
+use Rattle.net_plan.specs.Stream.{AppendsBeginning}
+use Rattle.net_check.specs.Events.{EventValue, OutcomeValue}
+use Rattle.net_check.specs.Runs.{Turn, RunFrom}
+use Rattle.net_check.specs.States.{NetworkState}
+use Rattle.net_check.specs.TwoPlans.{Tables}
+use Rattle.net_sim.specs.declared.outcome.Outcome.{Outcome}
+use Rattle.net_sim.specs.Outcomes.{event_value, outcome_value}
+use Rattle.net_sim.specs.Played.{IsRunOf, StopsAfter}
+use Rattle.net_sim.specs.Standing.{NetworkValue}
+use Rattle.plan_commands.specs.declared.refused.Refused.{Refused}
+use Rattle.plan_commands.specs.declared.refused.Refused.TheVariants as refused
+use Rattle.plan_commands.specs.declared.refused.Input.TheVariants as input
+use Rattle.plan_commands.specs.declared.status.Status.{Status}
+use Rattle.plan_commands.specs.declared.status.Status.TheVariants as status
+use Rattle.plan_commands.specs.Answers.{Stream, BreaksOff, AreGiven, IsErrorText, PrintsFault, FailsToPrint}
+use Rattle.plan_commands.specs.Statuses.{refused_at}
+use Rattle.plan_commands.proofs.Telling.{refusal_at, breaks_off_also, untouched_also}
+use Rattle.net_check.specs.declared.check_error.CheckError.{CheckError}
+use Rattle.net_check.specs.declared.check_error.CheckError.TheVariants as check_error
+use Rattle.net_check.specs.Errors.{NamesFirstFault}
+use Rattle.net_check.specs.Rules.{Accepts}
+use Rattle.net_plan.specs.declared.certificate.Certificate.{Certificate}
+use Rattle.net_plan.specs.declared.error.PlanError.{PlanError}
+use Rattle.net_plan.specs.PlanValues.{plan_value}
+use Rattle.net_plan.specs.TextFaults.{error_count}
+use Rattle.net_plan.specs.Unread.{GaveNoEvents}
+use Rattle.plan_commands.specs.OutcomeLines.{outcome_line, lines_from, outcome_lines}
+use Rattle.plan_commands.specs.Simulating.{IsRunText, ShowsRun, ShowsBeginning, ShowsAllOr, EndsShowing, AreFirstLines, AreLinesAtMost, ShowsLines, ShowsOutcomes, ShowsAtMost, GaveEvents, TellsBeginning, IsSimAnswer, AreUnreadAmong, IsUnsimulatedFor, SimulatesFiles}
+
+-- ---- lines
+
+lines_more : (plan : Plan) (number : ℕ) (outcomes : List OutcomeValue) (outcome : OutcomeValue)
+    → lines_from plan number (outcomes ++ outcome ∷ []) ≡ lines_from plan number outcomes ++ outcome_line plan (number + length outcomes) outcome
+lines_more plan number [] outcome =
+    append-nil (outcome_line plan number outcome) ∙ ap (λ n. outcome_line plan n outcome) (let same : number ≡ number + 0 = omega arith in same)
+lines_more plan number (first ∷ outcomes) outcome =
+    let further : number + 1 + length outcomes ≡ number + length (first ∷ outcomes) = omega arith in
+    ap (λ z. outcome_line plan number first ++ z) (lines_more plan (number + 1) outcomes outcome)
+    ∙ (sym (append_assoc (outcome_line plan number first) (lines_from plan (number + 1) outcomes) (outcome_line plan (number + 1 + length outcomes) outcome))
+    ∙ ap (λ n. outcome_line plan number first ++ lines_from plan (number + 1) outcomes ++ outcome_line plan n outcome) further)
+
+module _ (plan : Plan) (outcomes : List Outcome) (index : ℕ) (outcome : Outcome) (within : index < length outcomes) (is : outcome ≡ get_or outcomes index outcome) where
+  there : slice_get (map outcome_value outcomes) index ≡ Some (outcome_value outcome)
+  there = slice_get-map outcome_value outcomes index ∙ ap (option_map outcome_value) (slice_get-get_or outcomes index outcome within ∙ ap Some (sym is))
+
+  one_more : take (index + 1) (map outcome_value outcomes) ≡ take index (map outcome_value outcomes) ++ outcome_value outcome ∷ []
+  one_more =
+      take_more (map outcome_value outcomes) index (outcome_value outcome) (omega (arith, length-map outcomes outcome_value))
+      ∙ ap (λ x. take index (map outcome_value outcomes) ++ x ∷ []) (get_or_from_slice_get (map outcome_value outcomes) index (outcome_value outcome) (outcome_value outcome) there)
+
+  many : length (take index (map outcome_value outcomes)) ≡ index
+  many = length-take-le index (map outcome_value outcomes) (omega (arith, length-map outcomes outcome_value, within))
+
+  -- the lines of so many outcomes, and that of the next
+  all_lines : (line : List ℕ) → line ≡ outcome_line plan (index + 1) (outcome_value outcome)
+      → outcome_lines plan (take index (map outcome_value outcomes)) ++ line ≡ outcome_lines plan (take (index + 1) (map outcome_value outcomes))
+  all_lines line told =
+      let before_it = take index (map outcome_value outcomes) in
+      let number : 1 + length before_it ≡ index + 1 = omega (arith, many) in
+      ap (λ z. outcome_lines plan before_it ++ z) (told ∙ ap (λ n. outcome_line plan n (outcome_value outcome)) (sym number))
+      ∙ (sym (lines_more plan 1 before_it (outcome_value outcome)) ∙ ap (outcome_lines plan) (sym one_more))
+
+  pub shows_more : (line : List ℕ) (old mid new : Option (List ℕ)) → line ≡ outcome_line plan (index + 1) (outcome_value outcome)
+      → Appends old mid (outcome_lines plan (take index (map outcome_value outcomes))) → Appends mid new line
+      → Appends old new (outcome_lines plan (take (index + 1) (map outcome_value outcomes)))
+  shows_more line old mid new told before pushed =
+      let before_it = take index (map outcome_value outcomes) in
+      subst (Appends old new) (all_lines line told) (Appends-trans old mid new (outcome_lines plan before_it) line before pushed)
+
+  -- a beginning of the next line, where the output fails in it
+  pub breaks_in_line : (line : List ℕ) (output middle : Stream) → line ≡ outcome_line plan (index + 1) (outcome_value outcome)
+      → Appends output.before middle.before (outcome_lines plan (take index (map outcome_value outcomes)))
+      → AppendsBeginning middle.before output.after line → output.failures_after ≡ output.failures_before + 1
+      → BreaksOff (AreFirstLines plan (map outcome_value outcomes)) output
+  breaks_in_line line output middle told before (k, few, pushed) fails =
+      let earlier = outcome_lines plan (take index (map outcome_value outcomes)) in
+      let whole = outcome_lines plan (take (index + 1) (map outcome_value outcomes)) in
+      let part = Appends-trans output.before middle.before output.after earlier (take k line) before pushed in
+      let at = length earlier + k in
+      let all : length earlier + length line ≡ length whole = sym (length-append earlier line) ∙ ap (λ z. length z) (all_lines line told) in
+      record {
+        text = whole;
+        answer = (index + 1, refl);
+        fails = fails;
+        beginning = (
+          at,
+          omega (arith, few, all),
+          subst (λ z. Appends output.before output.after (take at z)) (all_lines line told)
+              (subst (Appends output.before output.after) (sym (take-append-add earlier line k)) part),
+        );
+      }
+
+-- ---- runs
+
+take_twice : {A : Type 0} (k n : ℕ) (xs : List A) → (m : ℕ) × (take k (take n xs) ≡ take m xs)
+take_twice zero n xs = (0, refl)
+take_twice (suc k) zero xs = (0, refl)
+take_twice (suc k) (suc n) [] = (0, refl)
+take_twice (suc k) (suc n) (x ∷ xs) =
+    let (m, is) = take_twice k n xs in (suc m, ap (λ ys. x ∷ ys) is)
+
+-- each beginning of a run is a run
+run_begins : (tables : Tables) (w : NetworkState) (k : ℕ) (turns : List Turn) → RunFrom tables w turns → RunFrom tables w (take k turns)
+run_begins tables w zero turns run = tt
+run_begins tables w (suc k) [] run = tt
+run_begins tables w (suc k) (turn ∷ turns) (step, rest) = (step, run_begins tables turn.after k turns rest)
+
+module _ (tables : Tables) (w : NetworkState) (events : List EventValue) (output : Stream) where
+  -- the lines of some of the outcomes of a run over some of the events
+  pub shows_beginning : (new : NetworkValue) (n : ℕ) (outcomes : List OutcomeValue) (k : ℕ) → IsRunOf tables w (take n events) outcomes new
+      → ShowsLines tables.plan outcomes k output → ShowsBeginning tables w events output
+  shows_beginning new n outcomes k run shown =
+      let (m, same) = take_twice k n events in
+      let S : List OutcomeValue → Type 0 = λ os. Appends output.before output.after (outcome_lines tables.plan os) in (
+        m,
+        record {
+          turns = take k run.turns;
+          events_are = sym (take-map (λ (t : Turn). t.event) k run.turns) ∙ (ap (take k) run.events_are ∙ same);
+          runs = run_begins tables w k run.turns run.runs;
+          shown = subst S (ap (take k) (sym run.outcomes_are) ∙ take-map (λ (t : Turn). t.outcome) k run.turns) shown;
+        },
+      )
+
+  pub run_text : (new : NetworkValue) (n : ℕ) (outcomes : List OutcomeValue) (text : List ℕ) → IsRunOf tables w (take n events) outcomes new
+      → AreFirstLines tables.plan outcomes text → IsRunText tables w events text
+  run_text new n outcomes text run (k, is) =
+      let (m, same) = take_twice k n events in
+      record {
+        played = m;
+        turns = take k run.turns;
+        events_are = sym (take-map (λ (t : Turn). t.event) k run.turns) ∙ (ap (take k) run.events_are ∙ same);
+        runs = run_begins tables w k run.turns run.runs;
+        written = is ∙ ap (outcome_lines tables.plan) (ap (take k) (sym run.outcomes_are) ∙ take-map (λ (t : Turn). t.outcome) k run.turns);
+      }
+
+  -- the lines of all outcomes of a run over all events
+  pub shows_run : (new : NetworkValue) (n : ℕ) (outcomes : List OutcomeValue) (k : ℕ) → length events ≤ n → length outcomes ≤ k
+      → IsRunOf tables w (take n events) outcomes new → ShowsLines tables.plan outcomes k output → ShowsRun tables w events output
+  shows_run new n outcomes k all_events all_outcomes run shown =
+      let S : List OutcomeValue → Type 0 = λ os. Appends output.before output.after (outcome_lines tables.plan os) in
+      record {
+        turns = run.turns;
+        events_are = run.events_are ∙ take_all n events all_events;
+        runs = run.runs;
+        shown = subst S (take_all k outcomes all_outcomes ∙ sym run.outcomes_are) shown;
+      }
+
+  -- nothing was played, and nothing is out
+  pub shows_nothing : output.before ≡ output.after → ShowsBeginning tables w events output
+  shows_nothing same =
+      let A : Option (List ℕ) → Type 0 = λ new. Appends output.before new [] in
+      (0, record { turns = []; events_are = refl; runs = tt; shown = subst A same (Appends-nil output.before) })
+
+-- ---- so many outcomes
+
+pub lists_nothing : (plan : Plan) (count : ℕ) (output : Stream) → output.before ≡ output.after → ShowsAtMost plan count output
+lists_nothing plan count output same =
+    let A : Option (List ℕ) → Type 0 = λ new. Appends output.before new [] in
+    (0, omega arith, ([], refl, subst A same (Appends-nil output.before)))
+
+pub lists_some : (plan : Plan) (count : ℕ) (output : Stream) (outcomes : List OutcomeValue) (k : ℕ) → length outcomes ≤ count → ShowsLines plan outcomes k output
+    → ShowsAtMost plan count output
+lists_some plan count output outcomes k few shown =
+    let part : length (take k outcomes) ≤ length outcomes = omega (arith, length-take k outcomes) in
+    (length (take k outcomes), omega (arith, few, part), (take k outcomes, refl, shown))
+
+pub lists_all : (plan : Plan) (count : ℕ) (output : Stream) (outcomes : List OutcomeValue) (k : ℕ) → length outcomes ≡ count → length outcomes ≤ k
+    → ShowsLines plan outcomes k output → ShowsOutcomes plan count output
+lists_all plan count output outcomes k all whole shown =
+    (outcomes, all, subst (λ os. Appends output.before output.after (outcome_lines plan os)) (take_all k outcomes whole) shown)
+
+pub lines_at_most : (plan : Plan) (count : ℕ) (outcomes : List OutcomeValue) (text : List ℕ) → length outcomes ≤ count → AreFirstLines plan outcomes text
+    → AreLinesAtMost plan count text
+lines_at_most plan count outcomes text few (k, is) =
+    let part : length (take k outcomes) ≤ length outcomes = omega (arith, length-take k outcomes) in
+    (take k outcomes, omega (arith, few, part), is)
+
+-- the part that is shown where not all is may be told otherwise
+pub cut_short : (why : Refused) (P A P' A' : Type 0) (Q Q' : List ℕ → Type 0) (output : Stream) → ShowsAllOr {T = Unit {0}} (Err why) P A Q output → (P → P')
+    → ((text : List ℕ) → Q text → Q' text) → ShowsAllOr {T = Unit {0}} (Err why) P' A' Q' output
+cut_short refused.Usage P A P' A' Q Q' output h other also = h
+cut_short (refused.Unreadable unread cause) P A P' A' Q Q' output h other also = h
+cut_short refused.UnknownNode P A P' A' Q Q' output h other also = h
+cut_short refused.UnreadableHex P A P' A' Q Q' output h other also = h
+cut_short refused.TooMuch P A P' A' Q Q' output h other also = h
+cut_short refused.Unwritten P A P' A' Q Q' output h other also = breaks_off_also Q Q' output also h
+cut_short refused.NoMemory P A P' A' Q Q' output h other also = other h
+
+-- as many outcomes as events at most
+pub few_outcomes : (tables : Tables) (old : NetworkValue) (events : List Event) (outcomes : List Outcome) (new : NetworkValue) (stopped : Bool)
+    → (stopped ≡ false → length outcomes ≡ length events) → (stopped ≡ true → StopsAfter tables old (map event_value events) (map outcome_value outcomes) new)
+    → length outcomes ≤ length events
+few_outcomes tables old events outcomes new false whole stops = omega (arith, whole refl)
+few_outcomes tables old events outcomes new true whole stops =
+    let next = slice_get_within (map event_value events) (length (map outcome_value outcomes)) (stops refl).event (stops refl).next in
+    omega (arith, next, length-map events event_value, length-map outcomes outcome_value)
+
+-- ---- the same of another name of the plan, or of the tables
+
+pub lines_in : (plan plan' : Plan) (outcomes outcomes' : List Outcome) (count : ℕ) (output : Stream) → plan' ≡ plan → outcomes' ≡ outcomes
+    → ShowsLines plan' (map outcome_value outcomes') count output → ShowsLines plan (map outcome_value outcomes) count output
+lines_in plan plan' outcomes outcomes' count output same listed shown =
+    let P : List Outcome → Type 0 = λ os. ShowsLines plan (map outcome_value os) count output in
+    let Q : Plan → Type 0 = λ p. ShowsLines p (map outcome_value outcomes') count output in
+    subst P listed (subst Q same shown)
+
+pub first_lines_in : (plan plan' : Plan) (outcomes outcomes' : List Outcome) (text : List ℕ) → plan' ≡ plan → outcomes' ≡ outcomes
+    → AreFirstLines plan' (map outcome_value outcomes') text → AreFirstLines plan (map outcome_value outcomes) text
+first_lines_in plan plan' outcomes outcomes' text same listed (k, is) =
+    (k, is ∙ (ap (λ (p : Plan). outcome_lines p (take k (map outcome_value outcomes'))) same ∙ ap (λ os. outcome_lines plan (take k (map outcome_value os))) listed))
+
+pub shows_by : {T : Type 0} (tables tables' : Tables) (w : NetworkState) (events : List EventValue) (result : Result T Refused) (output : Stream) → tables' ≡ tables
+    → ShowsAllOr result (ShowsBeginning tables' w events output) (ShowsRun tables' w events output) (IsRunText tables' w events) output
+    → ShowsAllOr result (ShowsBeginning tables w events output) (ShowsRun tables w events output) (IsRunText tables w events) output
+shows_by tables tables' w events result output same =
+    subst (λ (t : Tables). ShowsAllOr result (ShowsBeginning t w events output) (ShowsRun t w events output) (IsRunText t w events) output) same
+
+pub lists_by : {T : Type 0} (plan plan' : Plan) (count : ℕ) (result : Result T Refused) (output : Stream) → plan' ≡ plan
+    → ShowsAllOr result (ShowsAtMost plan' count output) (ShowsOutcomes plan' count output) (AreLinesAtMost plan' count) output
+    → ShowsAllOr result (ShowsAtMost plan count output) (ShowsOutcomes plan count output) (AreLinesAtMost plan count) output
+lists_by plan plan' count result output same =
+    subst (λ (p : Plan). ShowsAllOr result (ShowsAtMost p count output) (ShowsOutcomes p count output) (AreLinesAtMost p count) output) same
+
+-- ---- files
+
+pub events_unread : (e : PlanError) (plan : Plan) (cert : Certificate) (plans certificates happenings : Stream) → AreGiven plans certificates plan cert
+    → GaveNoEvents (plan_value plan) happenings.before happenings.after e → happenings.failures_after ≡ happenings.failures_before + error_count e
+    → AreUnreadAmong (refused_at input.Events e) plans certificates happenings
+events_unread e plan cert plans certificates happenings given gave counted =
+    refusal_at (λ why. AreUnreadAmong why plans certificates happenings) (GaveNoEvents (plan_value plan)) happenings input.Events e gave counted tt
+    (λ cause nothing. (plan, cert, given, nothing))
+
+-- where the inputs were not read, nothing is simulated
+pub files_unread : (why : Refused) (plans certificates happenings output : Stream) → AreUnreadAmong why plans certificates happenings
+    → IsUnsimulatedFor why plans certificates happenings output
+files_unread refused.Usage plans certificates happenings output h = h
+files_unread (refused.Unreadable unread cause) plans certificates happenings output h = h
+files_unread refused.UnknownNode plans certificates happenings output h = h
+files_unread refused.UnreadableHex plans certificates happenings output h = h
+files_unread refused.TooMuch plans certificates happenings output h = h
+files_unread refused.Unwritten plans certificates happenings output h = absurd h
+files_unread refused.NoMemory plans certificates happenings output h = h
+
+-- nor where the fault is not written
+pub files_unwritten : (why : Refused) (plans certificates happenings output : Stream) → FailsToPrint why output → IsUnsimulatedFor why plans certificates happenings output
+files_unwritten refused.Usage plans certificates happenings output h = h
+files_unwritten (refused.Unreadable unread cause) plans certificates happenings output h = absurd h
+files_unwritten refused.UnknownNode plans certificates happenings output h = h
+files_unwritten refused.UnreadableHex plans certificates happenings output h = h
+files_unwritten refused.TooMuch plans certificates happenings output h = h
+files_unwritten refused.Unwritten plans certificates happenings output h = h
+files_unwritten refused.NoMemory plans certificates happenings output h = h
+
+pub files_fault : (plan : Plan) (cert : Certificate) (plans certificates happenings output : Stream) (fault : CheckError) (ended : Status)
+    → AreGiven plans certificates plan cert → NamesFirstFault plan cert fault → PrintsFault plan fault ended output
+    → SimulatesFiles ended plans certificates happenings output
+files_fault plan cert plans certificates happenings output (check_error.Fault fault) ended given first (is, written) =
+    subst (λ s. SimulatesFiles s plans certificates happenings output) (sym is) (plan, cert, fault, given, first, written)
+files_fault plan cert plans certificates happenings output check_error.OutOfMemory ended given first printed = absurd printed
+
+module _ (plan : Plan) (cert : Certificate) (plans certificates happenings output : Stream) (events : List Event)
+    (given : AreGiven plans certificates plan cert) (gave : GaveEvents plan happenings events) where
+  -- so an output that failed in the line of an error failed in an answer
+  pub files_fault_broken : (error : CheckError) (Same : Type 0) (result : Result Status Refused) → NamesFirstFault plan cert error
+      → IfErr result (λ why. ((why ≡ refused.Unwritten) × BreaksOff (IsErrorText plan error) output) ⊎ Same)
+      → IfErr result (λ why. ((why ≡ refused.Unwritten) × BreaksOff (IsSimAnswer plans certificates happenings) output) ⊎ Same)
+  files_fault_broken error Same result first left =
+      untouched_also (IsErrorText plan error) (IsSimAnswer plans certificates happenings) output Same result (answers error first) left
+    where
+      answers : (error : CheckError) → NamesFirstFault plan cert error → (text : List ℕ) → IsErrorText plan error text
+          → IsSimAnswer plans certificates happenings text
+      answers (check_error.Fault fault) first text is = (plan, cert, events, given, gave, inr (fault, first, is))
+      answers check_error.OutOfMemory first text is = absurd is
+
+  module _ (ended : Status) (accepted : Accepts plan cert)
+      (shown : EndsShowing ended (ShowsAtMost plan (length events) output) (ShowsOutcomes plan (length events) output) (AreLinesAtMost plan (length events)) output) where
+    pub files_played : SimulatesFiles ended plans certificates happenings output
+    files_played = by ended shown
+      where
+        by : (ended : Status) → EndsShowing ended (ShowsAtMost plan (length events) output) (ShowsOutcomes plan (length events) output) (AreLinesAtMost plan (length events)) output
+            → SimulatesFiles ended plans certificates happenings output
+        by status.Yes shown = (plan, cert, events, given, gave, accepted, shown)
+        by status.Fault shown = absurd shown
+        by status.Unreadable shown = (refused.Unwritten, refl, shown.fails)
+        by status.NoMemory shown = tt
+
+    abbrev ends : Status → Type 0
+    ends s = EndsShowing s (ShowsAtMost plan (length events) output) (ShowsOutcomes plan (length events) output) (AreLinesAtMost plan (length events)) output
+
+    -- the output failed in what came of the events
+    pub files_broken : ended ≡ status.Unreadable → BreaksOff (IsSimAnswer plans certificates happenings) output
+    files_broken is =
+        breaks_off_also (AreLinesAtMost plan (length events)) (IsSimAnswer plans certificates happenings) output
+        (λ text lines. (plan, cert, events, given, gave, inl (accepted, lines))) (subst ends is shown)
+
+    -- memory ran out in them
+    pub files_begun : ended ≡ status.NoMemory → TellsBeginning plans certificates happenings output
+    files_begun is = (plan, cert, events, given, gave, accepted, subst ends is shown)
+
+pub shown_in : (plan plan' : Plan) (count count' : ℕ) (ended : Status) (output : Stream) → plan' ≡ plan → count' ≡ count
+    → EndsShowing ended (ShowsAtMost plan' count' output) (ShowsOutcomes plan' count' output) (AreLinesAtMost plan' count') output
+    → EndsShowing ended (ShowsAtMost plan count output) (ShowsOutcomes plan count output) (AreLinesAtMost plan count) output
+shown_in plan plan' count count' ended output same many shown =
+    let P : ℕ → Type 0 = λ n. EndsShowing ended (ShowsAtMost plan n output) (ShowsOutcomes plan n output) (AreLinesAtMost plan n) output in
+    let Q : Plan → Type 0 = λ p. EndsShowing ended (ShowsAtMost p count' output) (ShowsOutcomes p count' output) (AreLinesAtMost p count') output in
+    subst P many (subst Q same shown)
+
+-- what is played never ends with a fault
+pub no_fault : (P A : Type 0) (Q : List ℕ → Type 0) (output : Stream) (ended : Status) → EndsShowing ended P A Q output → ended ≡ status.Fault → ⊥
+no_fault P A Q output status.Yes shown is = absurd (cc)
+no_fault P A Q output status.Fault shown is = shown
+no_fault P A Q output status.Unreadable shown is = absurd (cc)
+no_fault P A Q output status.NoMemory shown is = absurd (cc)

@@ -1,0 +1,72 @@
+-- What the end of `certify` says of the plan that it read and of what it wrote.
+use Rattle.std.specs.Prelude.{◌≡◌, ℕ, List, Some, ◌⊎◌, ⊤}
+use Rattle.std.specs.Io.KnownBytes.{Appends}
+use Rattle.net_plan.specs.declared.plan.Plan.{Plan}
+use Rattle.net_plan.specs.declared.certificate.Certificate.{Certificate}
+use Rattle.net_plan.specs.CertificateJson.{certificate_text}
+use Rattle.net_plan.specs.CertificateText.{IsCertificateOf}
+use Rattle.net_plan.specs.CertificateValues.{certificate_value}
+use Rattle.net_plan.specs.PlanValues.{node_names, plan_value}
+use Rattle.net_plan.specs.Texts.{StandsFor}
+use Rattle.net_plan.specs.Unread.{GaveNoPlan}
+use Rattle.net_plan.specs.WellFormed.{IsWellFormed}
+use Rattle.net_check.specs.declared.certify_error.CertifyError.{CertifyError}
+use Rattle.net_check.specs.Certificates.{IsExact, NamesObstacle, HasNoCertificate}
+use Rattle.net_check.specs.Rules.{Accepts}
+use Rattle.plan_commands.specs.declared.refused.Input.TheVariants as input
+use Rattle.plan_commands.specs.declared.refused.Refused.{Refused}
+use Rattle.plan_commands.specs.declared.refused.Refused.TheVariants as refused
+use Rattle.plan_commands.specs.declared.status.Status.{Status}
+use Rattle.plan_commands.specs.declared.status.Status.TheVariants as status
+use Rattle.plan_commands.specs.Answers.{Stream, GavePlan, GaveNothing, Fails}
+use Rattle.plan_commands.specs.Lines.{obstacle_text}
+use Rattle.plan_commands.specs.Statuses.{status_of}
+
+-- Every rule holds of the plan and the certificate; the certificate gives each level, place and rank as the plan has them; and
+-- the text is the certificate's, and read for the plan it stands for the certificate.
+pub record IsCertifiedBy (plan : Plan) (certificate : Certificate) (text : List ℕ) : Type 0 where
+  pub accepted : Accepts plan certificate
+  pub exact : IsExact plan certificate
+  pub well_formed : IsWellFormed (plan_value plan) (certificate_value certificate)
+  pub written : text ≡ certificate_text (node_names (plan_value plan).nodes) (certificate_value certificate)
+  pub reads_back : StandsFor (IsCertificateOf (plan_value plan)) text (certificate_value certificate)
+
+-- The text tells what comes first, in the order of the rules, of what rules certificates of the plan out, and there is none.
+pub record IsRuledOutBy (plan : Plan) (obstacle : CertifyError) (text : List ℕ) : Type 0 where
+  pub first : NamesObstacle plan obstacle
+  pub none : HasNoCertificate plan
+  pub written : obstacle_text plan obstacle ≡ Some text
+
+-- the output was given the text of a certificate of the plan that was given
+abbrev pub TellsCertificate : Stream → Stream → Type 0
+TellsCertificate plans output = (plan : Plan) × (certificate : Certificate) × (text : List ℕ)
+    × GavePlan plans plan × IsCertifiedBy plan certificate text × Appends output.before output.after text
+
+-- the output was given the line of what rules certificates of the plan that was given out
+abbrev pub TellsObstacle : Stream → Stream → Type 0
+TellsObstacle plans output = (plan : Plan) × (obstacle : CertifyError) × (text : List ℕ)
+    × GavePlan plans plan × IsRuledOutBy plan obstacle text × Appends output.before output.after text
+
+-- the text answers for the plan that was given: it is that of a certificate of it, or the line of what rules certificates of it out
+abbrev pub IsCertifyAnswer : Stream → List ℕ → Type 0
+IsCertifyAnswer plans text = (plan : Plan) × GavePlan plans plan
+    × (((certificate : Certificate) × IsCertifiedBy plan certificate text) ⊎ ((obstacle : CertifyError) × IsRuledOutBy plan obstacle text))
+
+-- why there is no answer: the plan was not read, or the output failed
+abbrev pub IsUncertifiedFor : Refused → Stream → Stream → Type 0
+IsUncertifiedFor refused.Usage plans output = ⊥
+IsUncertifiedFor (refused.Unreadable input.Plan cause) plans output = GaveNothing GaveNoPlan plans cause
+IsUncertifiedFor (refused.Unreadable input.Certificate cause) plans output = ⊥
+IsUncertifiedFor (refused.Unreadable input.Events cause) plans output = ⊥
+IsUncertifiedFor refused.UnknownNode plans output = ⊥
+IsUncertifiedFor refused.UnreadableHex plans output = ⊥
+IsUncertifiedFor refused.TooMuch plans output = ⊥
+IsUncertifiedFor refused.Unwritten plans output = Fails output
+IsUncertifiedFor refused.NoMemory plans output = ⊤
+
+-- what the end of a run says of what the source gave and what was written
+abbrev pub Certifies : Status → Stream → Stream → Type 0
+Certifies status.Yes plans output = TellsCertificate plans output
+Certifies status.Fault plans output = TellsObstacle plans output
+Certifies status.Unreadable plans output = (why : Refused) × (status_of why ≡ status.Unreadable) × IsUncertifiedFor why plans output
+Certifies status.NoMemory plans output = ⊤

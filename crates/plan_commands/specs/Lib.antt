@@ -1,0 +1,13 @@
+pub mod Statuses
+pub mod Lines
+pub mod Answers
+pub mod Shown
+pub mod Show
+pub mod Certifying
+pub mod Assigning
+pub mod Walking
+pub mod Collecting
+pub mod OutcomeLines
+pub mod Simulating
+pub mod Moving
+pub mod MoveSimulating

@@ -1,0 +1,149 @@
+-- What the end of `sim` says of the events that were played and of what was written.
+use Rattle.std.specs.Prelude.{◌≡◌, ◌≤◌, ◌⊎◌, ℕ, List, length, map, take, Result, Ok, Err, ⊤}
+use Rattle.std.specs.Io.KnownBytes.{Appends}
+use Rattle.net_plan.specs.declared.plan.Plan.{Plan}
+use Rattle.net_plan.specs.declared.certificate.Certificate.{Certificate}
+use Rattle.net_plan.specs.declared.error.PlanError.{PlanError}
+use Rattle.net_plan.specs.declared.event.Event.{Event}
+use Rattle.net_plan.specs.EventText.{AreEventsOf}
+use Rattle.net_plan.specs.EventValues.{event_entry}
+use Rattle.net_plan.specs.PlanValues.{plan_value}
+use Rattle.net_plan.specs.Texts.{Gave, StandsFor}
+use Rattle.net_plan.specs.Unread.{GaveNoEvents}
+use Rattle.net_check.specs.Events.{EventValue, OutcomeValue}
+use Rattle.net_check.specs.Rules.{Accepts}
+use Rattle.net_check.specs.Runs.{Turn, RunFrom}
+use Rattle.net_check.specs.States.{NetworkState, at_start}
+use Rattle.net_check.specs.TwoPlans.{Tables, one_plan}
+use Rattle.plan_commands.specs.declared.refused.Input.{Input}
+use Rattle.plan_commands.specs.declared.refused.Input.TheVariants as input
+use Rattle.plan_commands.specs.declared.refused.Refused.{Refused}
+use Rattle.plan_commands.specs.declared.refused.Refused.TheVariants as refused
+use Rattle.plan_commands.specs.declared.status.Status.{Status}
+use Rattle.plan_commands.specs.declared.status.Status.TheVariants as status
+use Rattle.plan_commands.specs.Answers.{Stream, Fails, BreaksOff, AreGiven, GaveNothing, IsUnread, IsFaultText, TellsFault}
+use Rattle.plan_commands.specs.OutcomeLines.{outcome_lines}
+use Rattle.plan_commands.specs.Statuses.{status_of}
+
+-- The events are those of a run from the state, and the output was given the lines of what came of them.
+pub record ShowsRun (tables : Tables) (w : NetworkState) (events : List EventValue) (output : Stream) : Type 0 where
+  pub turns : List Turn
+  pub events_are : map (λ (t : Turn). t.event) turns ≡ events
+  pub runs : RunFrom tables w turns
+  pub shown : Appends output.before output.after (outcome_lines tables.plan (map (λ (t : Turn). t.outcome) turns))
+
+-- so it is of a beginning of the events
+abbrev pub ShowsBeginning : Tables → NetworkState → List EventValue → Stream → Type 0
+ShowsBeginning tables w events output = (played : ℕ) × ShowsRun tables w (take played events) output
+
+-- The text is the lines of what comes of a beginning of the events, in a run from the state.
+pub record IsRunText (tables : Tables) (w : NetworkState) (events : List EventValue) (text : List ℕ) : Type 0 where
+  pub played : ℕ
+  pub turns : List Turn
+  pub events_are : map (λ (t : Turn). t.event) turns ≡ take played events
+  pub runs : RunFrom tables w turns
+  pub written : text ≡ outcome_lines tables.plan (map (λ (t : Turn). t.outcome) turns)
+
+-- All is shown; or the output failed after a beginning of such a text; or memory ran out, and then a part is shown.
+abbrev pub ShowsAllOr : {T : Type 0} → Result T Refused → (part all : Type 0) → (List ℕ → Type 0) → Stream → Type 0
+ShowsAllOr (Ok done) part all IsText output = all
+ShowsAllOr (Err refused.Unwritten) part all IsText output = BreaksOff IsText output
+ShowsAllOr (Err refused.NoMemory) part all IsText output = part
+ShowsAllOr (Err _) part all IsText output = ⊥
+
+-- the same of the end of a run of the program
+abbrev pub EndsShowing : Status → (part all : Type 0) → (List ℕ → Type 0) → Stream → Type 0
+EndsShowing status.Yes part all IsText output = all
+EndsShowing status.Fault part all IsText output = ⊥
+EndsShowing status.Unreadable part all IsText output = BreaksOff IsText output
+EndsShowing status.NoMemory part all IsText output = part
+
+-- what the end of a run says of the events, in runs by these tables from the start, and of what was written
+abbrev pub SimulatesBy : Tables → Certificate → List EventValue → Status → Stream → Type 0
+SimulatesBy tables cert events ended output =
+    let start = at_start tables.plan cert in
+    EndsShowing ended (ShowsBeginning tables start events output) (ShowsRun tables start events output) (IsRunText tables start events) output
+
+-- so it is at a checked plan
+abbrev pub Simulates : Plan → Certificate → List EventValue → Status → Stream → Type 0
+Simulates plan cert events ended output = SimulatesBy (one_plan plan) cert events ended output
+
+-- the output was given the lines of so many of the outcomes
+abbrev pub ShowsLines : Plan → List OutcomeValue → ℕ → Stream → Type 0
+ShowsLines plan outcomes count output = Appends output.before output.after (outcome_lines plan (take count outcomes))
+
+-- the text is the lines of some of the outcomes, from the first on
+abbrev pub AreFirstLines : Plan → List OutcomeValue → List ℕ → Type 0
+AreFirstLines plan outcomes text = (count : ℕ) × (text ≡ outcome_lines plan (take count outcomes))
+
+-- the text is the lines of some outcomes, so many at most
+abbrev pub AreLinesAtMost : Plan → ℕ → List ℕ → Type 0
+AreLinesAtMost plan count text = (outcomes : List OutcomeValue) × (length outcomes ≤ count) × (text ≡ outcome_lines plan outcomes)
+
+-- the output was given the lines of some outcomes, so many
+abbrev pub ShowsOutcomes : Plan → ℕ → Stream → Type 0
+ShowsOutcomes plan count output = (outcomes : List OutcomeValue) × (length outcomes ≡ count) × Appends output.before output.after (outcome_lines plan outcomes)
+
+-- so many at most
+abbrev pub ShowsAtMost : Plan → ℕ → Stream → Type 0
+ShowsAtMost plan count output = (shown : ℕ) × (shown ≤ count) × ShowsOutcomes plan shown output
+
+-- the source gave the events at the nodes of the plan
+abbrev pub GaveEvents : Plan → Stream → List Event → Type 0
+GaveEvents plan stream events = Gave 16777216 stream.before stream.after (λ text. StandsFor (AreEventsOf (plan_value plan)) text (map event_entry events))
+
+-- Every rule holds of the plan and the certificate that were given, and the output was given an outcome's line for each of the
+-- events that were given.
+abbrev pub TellsOutcomes : Stream → Stream → Stream → Stream → Type 0
+TellsOutcomes plans certificates happenings output = (plan : Plan) × (certificate : Certificate) × (events : List Event)
+    × AreGiven plans certificates plan certificate × GaveEvents plan happenings events × Accepts plan certificate
+    × ShowsOutcomes plan (length events) output
+
+-- Every rule holds of the plan and the certificate that were given, and the output was given an outcome's line for each event of
+-- a beginning of those that were given.
+abbrev pub TellsBeginning : Stream → Stream → Stream → Stream → Type 0
+TellsBeginning plans certificates happenings output = (plan : Plan) × (certificate : Certificate) × (events : List Event)
+    × AreGiven plans certificates plan certificate × GaveEvents plan happenings events × Accepts plan certificate
+    × ShowsAtMost plan (length events) output
+
+-- The text answers for the plan, the certificate and the events that were given: where every rule holds it is an outcome's line for
+-- each event of a beginning of them, else the line of the first fault.
+abbrev pub IsSimAnswer : Stream → Stream → Stream → List ℕ → Type 0
+IsSimAnswer plans certificates happenings text = (plan : Plan) × (certificate : Certificate) × (events : List Event)
+    × AreGiven plans certificates plan certificate × GaveEvents plan happenings events
+    × ((Accepts plan certificate × AreLinesAtMost plan (length events) text) ⊎ IsFaultText plan certificate text)
+
+-- why an input can't be read; the events are read only where the plan and the certificate were given
+abbrev pub IsUnreadAmong : Input → PlanError → Stream → Stream → Stream → Type 0
+IsUnreadAmong input.Plan cause plans certificates happenings = IsUnread input.Plan cause plans certificates
+IsUnreadAmong input.Certificate cause plans certificates happenings = IsUnread input.Certificate cause plans certificates
+IsUnreadAmong input.Events cause plans certificates happenings = (plan : Plan) × (certificate : Certificate)
+    × AreGiven plans certificates plan certificate × GaveNothing (GaveNoEvents (plan_value plan)) happenings cause
+
+-- why the inputs were not read
+abbrev pub AreUnreadAmong : Refused → Stream → Stream → Stream → Type 0
+AreUnreadAmong refused.Usage plans certificates happenings = ⊥
+AreUnreadAmong (refused.Unreadable unread cause) plans certificates happenings = IsUnreadAmong unread cause plans certificates happenings
+AreUnreadAmong refused.UnknownNode plans certificates happenings = ⊥
+AreUnreadAmong refused.UnreadableHex plans certificates happenings = ⊥
+AreUnreadAmong refused.TooMuch plans certificates happenings = ⊥
+AreUnreadAmong refused.Unwritten plans certificates happenings = ⊥
+AreUnreadAmong refused.NoMemory plans certificates happenings = ⊤
+
+-- why there is no answer: the inputs were not read, or the output failed
+abbrev pub IsUnsimulatedFor : Refused → Stream → Stream → Stream → Stream → Type 0
+IsUnsimulatedFor refused.Usage plans certificates happenings output = ⊥
+IsUnsimulatedFor (refused.Unreadable unread cause) plans certificates happenings output = IsUnreadAmong unread cause plans certificates happenings
+IsUnsimulatedFor refused.UnknownNode plans certificates happenings output = ⊥
+IsUnsimulatedFor refused.UnreadableHex plans certificates happenings output = ⊥
+IsUnsimulatedFor refused.TooMuch plans certificates happenings output = ⊥
+IsUnsimulatedFor refused.Unwritten plans certificates happenings output = Fails output
+IsUnsimulatedFor refused.NoMemory plans certificates happenings output = ⊤
+
+-- what the end of a run says of what the sources gave and what was written
+abbrev pub SimulatesFiles : Status → Stream → Stream → Stream → Stream → Type 0
+SimulatesFiles status.Yes plans certificates happenings output = TellsOutcomes plans certificates happenings output
+SimulatesFiles status.Fault plans certificates happenings output = TellsFault plans certificates output
+SimulatesFiles status.Unreadable plans certificates happenings output = (why : Refused) × (status_of why ≡ status.Unreadable)
+    × IsUnsimulatedFor why plans certificates happenings output
+SimulatesFiles status.NoMemory plans certificates happenings output = ⊤

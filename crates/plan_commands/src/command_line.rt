@@ -1,0 +1,188 @@
+//! The program's command line.
+use crate::commands::walk::PartSize;
+use crate::refused::Refused;
+use crate::show::Kind;
+use clap::{Arg, ArgAction, ArgMatches};
+use std::alloc::{AllocError, Global};
+
+/// A command with its arguments.
+#[derive(Clone, Copy, Debug, PartialEq, Eq)]
+pub enum Command<'a> {
+    /// Does the certificate in one file fit the plan in another?
+    Check {
+        plan: &'a str,
+        certificate: &'a str,
+    },
+    /// What is the certificate of the plan in a file?
+    Certify {
+        plan: &'a str,
+    },
+    /// Which requests give the nodes of the plan in one file, certified by another, their endpoint IDs and pools?
+    Assign {
+        plan: &'a str,
+        certificate: &'a str,
+    },
+    /// What comes of the events in a file?
+    Sim {
+        plan: &'a str,
+        certificate: &'a str,
+        events: &'a str,
+    },
+    /// May the nodes of the plan in one file go over, in any order, to the rows of the plan in another, by one certificate?
+    Move {
+        before: &'a str,
+        after: &'a str,
+        certificate: &'a str,
+    },
+    /// What comes of the events in a file while they do?
+    SimMove {
+        before: &'a str,
+        after: &'a str,
+        certificate: &'a str,
+        events: &'a str,
+    },
+    /// Which records does a walk over a node's terminus collect, by parts of so many bytes?
+    Walk {
+        plan: &'a str,
+        certificate: &'a str,
+        node: &'a str,
+        part: PartSize,
+    },
+    /// What are the bytes of a hex text?
+    Show {
+        kind: Kind,
+        hex: &'a str,
+    },
+}
+
+/// The command that a list of words stands for. The first word is the program's name.
+pub fn words<'a>(alloc: Global, list: &'a [String]) -> Result<Command<'a>, Refused> {
+    let matches = grammar(alloc)?.try_get_matches_from(list)?;
+    chosen(&matches).ok_or(Refused::Usage)
+}
+
+/// The name of each command, and the names of its arguments.
+const COMMANDS: [(&str, &[&str]); 8] = [
+    ("check", &["plan", "certificate"]),
+    ("certify", &["plan"]),
+    ("assign", &["plan", "certificate"]),
+    ("sim", &["plan", "certificate", "events"]),
+    ("move", &["old", "new", "certificate"]),
+    ("simmove", &["old", "new", "certificate", "events"]),
+    ("walk", &["plan", "certificate", "node", "count"]),
+    ("show", &["kind", "hex"]),
+];
+
+/// The words of each command.
+fn grammar<'a>(alloc: Global) -> Result<clap::Command<'a>, AllocError> {
+    let mut grammar = clap::Command::new(alloc, "mctpplan").subcommand_required(true);
+    for (name, arguments) in COMMANDS {
+        grammar = grammar.subcommand(with_arguments(alloc, name, arguments)?)?;
+    }
+    Ok(grammar)
+}
+
+/// A command whose arguments are all required and stand in this order.
+fn with_arguments<'a>(
+    alloc: Global,
+    name: &'a str,
+    arguments: &[&'a str],
+) -> Result<clap::Command<'a>, AllocError> {
+    let mut command = clap::Command::new(alloc, name);
+    for id in arguments {
+        command = command.arg(Arg::new(alloc, *id).required(true).action(ArgAction::Set))?;
+    }
+    Ok(command)
+}
+
+fn chosen<'a>(matches: &ArgMatches<'a>) -> Option<Command<'a>> {
+    let (name, arguments) = matches.subcommand()?;
+    match name {
+        "check" => checking(arguments),
+        "certify" => certifying(arguments),
+        "assign" => assigning(arguments),
+        "sim" => playing(arguments),
+        "move" => moving(arguments),
+        "simmove" => playing_moves(arguments),
+        "walk" => walking(arguments),
+        "show" => showing(arguments),
+        _ => None,
+    }
+}
+
+fn checking<'a>(arguments: &ArgMatches<'a>) -> Option<Command<'a>> {
+    Some(Command::Check {
+        plan: arguments.get_str("plan")?,
+        certificate: arguments.get_str("certificate")?,
+    })
+}
+
+fn certifying<'a>(arguments: &ArgMatches<'a>) -> Option<Command<'a>> {
+    Some(Command::Certify {
+        plan: arguments.get_str("plan")?,
+    })
+}
+
+fn assigning<'a>(arguments: &ArgMatches<'a>) -> Option<Command<'a>> {
+    Some(Command::Assign {
+        plan: arguments.get_str("plan")?,
+        certificate: arguments.get_str("certificate")?,
+    })
+}
+
+fn playing<'a>(arguments: &ArgMatches<'a>) -> Option<Command<'a>> {
+    Some(Command::Sim {
+        plan: arguments.get_str("plan")?,
+        certificate: arguments.get_str("certificate")?,
+        events: arguments.get_str("events")?,
+    })
+}
+
+fn moving<'a>(arguments: &ArgMatches<'a>) -> Option<Command<'a>> {
+    Some(Command::Move {
+        before: arguments.get_str("old")?,
+        after: arguments.get_str("new")?,
+        certificate: arguments.get_str("certificate")?,
+    })
+}
+
+fn playing_moves<'a>(arguments: &ArgMatches<'a>) -> Option<Command<'a>> {
+    Some(Command::SimMove {
+        before: arguments.get_str("old")?,
+        after: arguments.get_str("new")?,
+        certificate: arguments.get_str("certificate")?,
+        events: arguments.get_str("events")?,
+    })
+}
+
+fn walking<'a>(arguments: &ArgMatches<'a>) -> Option<Command<'a>> {
+    Some(Command::Walk {
+        plan: arguments.get_str("plan")?,
+        certificate: arguments.get_str("certificate")?,
+        node: arguments.get_str("node")?,
+        part: part_size_of(arguments.get_str("count")?)?,
+    })
+}
+
+fn showing<'a>(arguments: &ArgMatches<'a>) -> Option<Command<'a>> {
+    Some(Command::Show {
+        kind: kind_of(arguments.get_str("kind")?)?,
+        hex: arguments.get_str("hex")?,
+    })
+}
+
+fn kind_of(word: &str) -> Option<Kind> {
+    match word {
+        "packet" => Some(Kind::Packet),
+        "record" => Some(Kind::Record),
+        _ => None,
+    }
+}
+
+/// The number of bytes that a word of ASCII digits gives, if a part of a record can have so many.
+fn part_size_of(word: &str) -> Option<PartSize> {
+    if !word.bytes().all(|digit| digit.is_ascii_digit()) {
+        return None;
+    }
+    PartSize::of(word.parse().ok()?)
+}

@@ -1,0 +1,93 @@
+//! The command `assign`: the requests that give the nodes of a checked plan their endpoint IDs and pools.
+ghost use Rattle.std.specs.Prelude.{◌≡◌, ◌⊎◌, ◌<◌, ◌^◌, ◌-◌, IfOk, IfErr, string_bytes};
+ghost use Rattle.plan_commands.specs.declared.refused.Refused.TheVariants.{Unwritten};
+ghost use Rattle.plan_commands.specs.declared.status.Status.TheVariants.{Yes, Fault, Unreadable, NoMemory};
+ghost use Rattle.plan_commands.specs.Answers.{stream, BreaksOff, IsAnswerOf, IsRefusedFor, Tells};
+ghost use Rattle.plan_commands.specs.Assigning.{IsAssignmentText};
+
+use crate::commands::inputs::read_inputs;
+use crate::commands::{print, print_fault, refuse};
+use crate::refused::Refused;
+use crate::status::Status;
+use crate::texts::assignments::assignment_lines;
+use net_check::{Checked, check};
+use net_plan::{Sink, Source};
+use net_sim::assign;
+use std::alloc::{AllocError, Global};
+
+/// Gives on `output` the requests that assign what a plan gives its nodes, where the certificate fits the plan. Where a file
+/// can't be read, says so on `errors`; of two such files, the plan is told and the certificate is not read.
+pub fn run_assign<P: Source, C: Source, O: Sink, E: Sink>(
+    alloc: Global,
+    plan: &mut P,
+    certificate: &mut C,
+    output: &mut O,
+    errors: &mut E,
+) -> Status
+    requires plan { P.failures plan.old < 2 ^ 64 - 1 }
+    requires certificate { C.failures certificate.old < 2 ^ 64 - 1 }
+    requires output { O.failures output.old < 2 ^ 64 - 1 }
+    requires errors { E.failures errors.old < 2 ^ 64 - 1 }
+    ensures tells { let plans = stream (P.remaining plan.old) (P.failures plan.old) (P.remaining plan.new) (P.failures plan.new) in
+        let certificates = stream (C.remaining certificate.old) (C.failures certificate.old)
+        (C.remaining certificate.new) (C.failures certificate.new) in
+        let outputs = stream (O.contents output.old) (O.failures output.old) (O.contents output.new) (O.failures output.new) in
+        Tells IsAssignmentText result plans certificates outputs }
+    ensures silent { (result ≡ Yes) ⊎ (result ≡ Fault) → errors.new ≡ errors.old }
+    ensures unwritten { let plans = stream (P.remaining plan.old) (P.failures plan.old) (P.remaining plan.new) (P.failures plan.new) in
+        let certificates = stream (C.remaining certificate.old) (C.failures certificate.old)
+        (C.remaining certificate.new) (C.failures certificate.new) in
+        let outputs = stream (O.contents output.old) (O.failures output.old) (O.contents output.new) (O.failures output.new) in
+        result ≡ Unreadable → (output.new ≡ output.old) ⊎ BreaksOff (IsAnswerOf IsAssignmentText plans certificates) outputs }
+    ensures no_memory { result ≡ NoMemory → output.new ≡ output.old }
+{
+    match answer_assign(alloc, plan, certificate, output) {
+        Ok(status) => status,
+        Err(refused) => refuse(alloc, refused, errors),
+    }
+}
+
+#[tactic(auto, using(crate::proofs::Telling::tells_fault))]
+fn answer_assign<P: Source, C: Source, O: Sink>(
+    alloc: Global,
+    plan: &mut P,
+    certificate: &mut C,
+    output: &mut O,
+) -> Result<Status, Refused>
+    requires plan { P.failures plan.old < 2 ^ 64 - 1 }
+    requires certificate { C.failures certificate.old < 2 ^ 64 - 1 }
+    requires output { O.failures output.old < 2 ^ 64 - 1 }
+    ensures answers { IfOk result (λ status. (status ≡ Yes) ⊎ (status ≡ Fault)) }
+    ensures untouched { let plans = stream (P.remaining plan.old) (P.failures plan.old) (P.remaining plan.new) (P.failures plan.new) in
+        let certificates = stream (C.remaining certificate.old) (C.failures certificate.old)
+        (C.remaining certificate.new) (C.failures certificate.new) in
+        let outputs = stream (O.contents output.old) (O.failures output.old) (O.contents output.new) (O.failures output.new) in
+        IfErr result (λ refused. ((refused ≡ Unwritten) × BreaksOff (IsAnswerOf IsAssignmentText plans certificates) outputs) ⊎ (output.new ≡ output.old)) }
+    ensures tells { let plans = stream (P.remaining plan.old) (P.failures plan.old) (P.remaining plan.new) (P.failures plan.new) in
+        let certificates = stream (C.remaining certificate.old) (C.failures certificate.old)
+        (C.remaining certificate.new) (C.failures certificate.new) in
+        let outputs = stream (O.contents output.old) (O.failures output.old) (O.contents output.new) (O.failures output.new) in
+        IfOk result (λ status. Tells IsAssignmentText status plans certificates outputs) }
+    ensures refused { let plans = stream (P.remaining plan.old) (P.failures plan.old) (P.remaining plan.new) (P.failures plan.new) in
+        let certificates = stream (C.remaining certificate.old) (C.failures certificate.old)
+        (C.remaining certificate.new) (C.failures certificate.new) in
+        let outputs = stream (O.contents output.old) (O.failures output.old) (O.contents output.new) (O.failures output.new) in
+        IfErr result (λ refused. IsRefusedFor refused plans certificates outputs) }
+{
+    let (plan, certificate) = read_inputs(alloc, plan, certificate)?;
+    match check(alloc, &plan, &certificate) {
+        Ok(checked) => {
+            print(output, &requests_text(alloc, &checked)?)?;
+            Ok(Status::Yes)
+        }
+        Err(error) => print_fault(alloc, &plan, &error, output),
+    }
+}
+
+/// The requests that assign what a checked plan gives its nodes.
+fn requests_text(alloc: Global, checked: &Checked) -> Result<String, AllocError>
+    ensures { IfOk result (λ text. IsAssignmentText checked.now.0 checked.now.1 (string_bytes text)) }
+{
+    let list = assign(alloc, checked)?;
+    assignment_lines(alloc, checked.plan(), &list)
+}

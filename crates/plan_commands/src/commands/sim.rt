@@ -1,0 +1,170 @@
+//! The command `sim`: what comes of events in the network of a checked plan.
+ghost use Rattle.std.specs.Prelude.{◌≡◌, ℕ, ◌<◌, ◌≤◌, ◌^◌, ◌-◌, List, length, map, take, false};
+ghost use Rattle.plan_commands.specs.declared.status.Status.TheVariants.{Yes};
+ghost use Rattle.net_check.specs.States.{NetworkState, at_start};
+ghost use Rattle.net_check.specs.TwoPlans.{Tables, one_plan, moving};
+ghost use Rattle.net_check.specs.Events.{EventValue};
+ghost use Rattle.net_sim.specs.Dealing.{resting, planned_termini};
+ghost use Rattle.net_sim.specs.Outcomes.{event_value, outcome_value};
+ghost use Rattle.net_sim.specs.Played.{IsRunOf};
+ghost use Rattle.net_sim.specs.Standing.{NetworkValue};
+ghost use Rattle.plan_commands.specs.Answers.{stream};
+ghost use Rattle.plan_commands.specs.Simulating.{IsRunText, ShowsRun, ShowsBeginning, ShowsAllOr, EndsShowing, SimulatesBy, Simulates, AreFirstLines, AreLinesAtMost, ShowsLines, ShowsOutcomes, ShowsAtMost};
+
+pub mod files;
+pub mod moves;
+pub mod termini;
+
+use crate::commands::{print, refuse};
+use crate::refused::Refused;
+use crate::status::Status;
+use crate::texts::outcomes::outcome_line;
+use net_check::{Checked, CheckedMove};
+use net_plan::{Event, Plan, Sink};
+use net_sim::{Network, Outcome, Played};
+use pdr_repository::Terminus;
+use std::alloc::Global;
+
+/// Plays events in the network of a checked plan, and gives on `output` what comes of each. The termini are one for each node
+/// that has one, in the plan's order; where they are as planned, the outcomes are those of a run from the start. Where memory
+/// runs out, the lines of what was played before are out, and `errors` says so.
+pub fn run_sim<O: Sink, E: Sink>(
+    alloc: Global,
+    checked: Checked,
+    termini: Vec<Box<dyn Terminus>>,
+    events: &[Event],
+    output: &mut O,
+    errors: &mut E,
+) -> Status
+    requires output { O.failures output.old < 2 ^ 64 - 1 }
+    requires errors { E.failures errors.old < 2 ^ 64 - 1 }
+    ensures plays { let outputs = stream (O.contents output.old) (O.failures output.old) (O.contents output.new) (O.failures output.new) in
+        map (resting (λ b. tid b) (λ b. records b)) termini.items ≡ planned_termini checked.entry.0 checked.entry.1
+        → Simulates checked.entry.0 checked.entry.1 (map event_value events.now) result outputs }
+    ensures lists { let outputs = stream (O.contents output.old) (O.failures output.old) (O.contents output.new) (O.failures output.new) in
+        EndsShowing result (ShowsAtMost checked.entry.0 (length events.now) outputs) (ShowsOutcomes checked.entry.0 (length events.now) outputs)
+        (AreLinesAtMost checked.entry.0 (length events.now)) outputs }
+    ensures silent { result ≡ Yes → errors.new ≡ errors.old }
+{
+    match answer_sim(alloc, checked, termini, events, output) {
+        Ok(()) => Status::Yes,
+        Err(refused) => refuse(alloc, refused, errors),
+    }
+}
+
+fn answer_sim<O: Sink>(
+    alloc: Global,
+    checked: Checked,
+    termini: Vec<Box<dyn Terminus>>,
+    events: &[Event],
+    output: &mut O,
+) -> Result<(), Refused>
+    requires { O.failures output.old < 2 ^ 64 - 1 }
+    ensures plays { let outputs = stream (O.contents output.old) (O.failures output.old) (O.contents output.new) (O.failures output.new) in
+        map (resting (λ b. tid b) (λ b. records b)) termini.items ≡ planned_termini checked.entry.0 checked.entry.1
+        → ShowsAllOr result (ShowsBeginning (one_plan checked.entry.0) (at_start checked.entry.0 checked.entry.1) (map event_value events.now) outputs)
+        (ShowsRun (one_plan checked.entry.0) (at_start checked.entry.0 checked.entry.1) (map event_value events.now) outputs)
+        (IsRunText (one_plan checked.entry.0) (at_start checked.entry.0 checked.entry.1) (map event_value events.now)) outputs }
+    ensures lists { let outputs = stream (O.contents output.old) (O.failures output.old) (O.contents output.new) (O.failures output.new) in
+        ShowsAllOr result (ShowsAtMost checked.entry.0 (length events.now) outputs) (ShowsOutcomes checked.entry.0 (length events.now) outputs)
+        (AreLinesAtMost checked.entry.0 (length events.now)) outputs }
+{
+    let plan = checked.plan();
+    let mut network = Network::new(alloc, checked, termini)?;
+    let played = network.run(events)?;
+    tell_played(alloc, plan, &played, output)
+}
+
+/// Plays events in the network of a checked move, and gives on `output` what comes of each. The termini are those of the plan
+/// before, one for each node that has one, in its order; where they are as planned, the outcomes are those of a run from the start.
+/// Where memory runs out, the lines of what was played before are out, and `errors` says so.
+pub fn run_simmove<O: Sink, E: Sink>(
+    alloc: Global,
+    checked: CheckedMove,
+    termini: Vec<Box<dyn Terminus>>,
+    events: &[Event],
+    output: &mut O,
+    errors: &mut E,
+) -> Status
+    requires output { O.failures output.old < 2 ^ 64 - 1 }
+    requires errors { E.failures errors.old < 2 ^ 64 - 1 }
+    ensures plays { let outputs = stream (O.contents output.old) (O.failures output.old) (O.contents output.new) (O.failures output.new) in
+        map (resting (λ b. tid b) (λ b. records b)) termini.items ≡ planned_termini checked.entry.0 checked.entry.2
+        → SimulatesBy (moving checked.entry.0 checked.entry.1) checked.entry.2 (map event_value events.now) result outputs }
+    ensures lists { let outputs = stream (O.contents output.old) (O.failures output.old) (O.contents output.new) (O.failures output.new) in
+        EndsShowing result (ShowsAtMost checked.entry.0 (length events.now) outputs) (ShowsOutcomes checked.entry.0 (length events.now) outputs)
+        (AreLinesAtMost checked.entry.0 (length events.now)) outputs }
+    ensures silent { result ≡ Yes → errors.new ≡ errors.old }
+{
+    match answer_simmove(alloc, checked, termini, events, output) {
+        Ok(()) => Status::Yes,
+        Err(refused) => refuse(alloc, refused, errors),
+    }
+}
+
+fn answer_simmove<O: Sink>(
+    alloc: Global,
+    checked: CheckedMove,
+    termini: Vec<Box<dyn Terminus>>,
+    events: &[Event],
+    output: &mut O,
+) -> Result<(), Refused>
+    requires { O.failures output.old < 2 ^ 64 - 1 }
+    ensures plays { let outputs = stream (O.contents output.old) (O.failures output.old) (O.contents output.new) (O.failures output.new) in
+        map (resting (λ b. tid b) (λ b. records b)) termini.items ≡ planned_termini checked.entry.0 checked.entry.2
+        → ShowsAllOr result (ShowsBeginning (moving checked.entry.0 checked.entry.1) (at_start checked.entry.0 checked.entry.2) (map event_value events.now) outputs)
+        (ShowsRun (moving checked.entry.0 checked.entry.1) (at_start checked.entry.0 checked.entry.2) (map event_value events.now) outputs)
+        (IsRunText (moving checked.entry.0 checked.entry.1) (at_start checked.entry.0 checked.entry.2) (map event_value events.now)) outputs }
+    ensures lists { let outputs = stream (O.contents output.old) (O.failures output.old) (O.contents output.new) (O.failures output.new) in
+        ShowsAllOr result (ShowsAtMost checked.entry.0 (length events.now) outputs) (ShowsOutcomes checked.entry.0 (length events.now) outputs)
+        (AreLinesAtMost checked.entry.0 (length events.now)) outputs }
+{
+    let before = checked.before();
+    let mut network = Network::new_move(alloc, checked, termini)?;
+    let played = network.run(events)?;
+    tell_played(alloc, before, &played, output)
+}
+
+/// Gives on `output` what came of events in a network of this plan.
+fn tell_played<O: Sink>(
+    alloc: Global,
+    plan: &Plan,
+    played: &Played,
+    output: &mut O,
+) -> Result<(), Refused>
+    requires { O.failures output.old < 2 ^ 64 - 1 }
+    ensures tells { let outputs = stream (O.contents output.old) (O.failures output.old) (O.contents output.new) (O.failures output.new) in
+        (tables : Tables) (w : NetworkState) (events : List EventValue) (new : NetworkValue) → plan.now ≡ tables.plan
+        → (played.now.stopped ≡ false → length played.now.outcomes.items ≡ length events)
+        → IsRunOf tables w (take (length played.now.outcomes.items) events) (map outcome_value played.now.outcomes.items) new
+        → ShowsAllOr result (ShowsBeginning tables w events outputs) (ShowsRun tables w events outputs) (IsRunText tables w events) outputs }
+    ensures lists { let outputs = stream (O.contents output.old) (O.failures output.old) (O.contents output.new) (O.failures output.new) in
+        (count : ℕ) → length played.now.outcomes.items ≤ count → (played.now.stopped ≡ false → length played.now.outcomes.items ≡ count)
+        → ShowsAllOr result (ShowsAtMost plan.now count outputs) (ShowsOutcomes plan.now count outputs) (AreLinesAtMost plan.now count) outputs }
+{
+    print_outcomes(alloc, plan, &played.outcomes, output)?;
+    if played.stopped {
+        return Err(Refused::NoMemory);
+    }
+    Ok(())
+}
+
+/// Writes the line of each outcome, as soon as it is made.
+fn print_outcomes<O: Sink>(
+    alloc: Global,
+    plan: &Plan,
+    outcomes: &[Outcome],
+    output: &mut O,
+) -> Result<(), Refused>
+    requires { O.failures output.old < 2 ^ 64 - 1 }
+    ensures { let outputs = stream (O.contents output.old) (O.failures output.old) (O.contents output.new) (O.failures output.new) in
+        ShowsAllOr result ((shown : ℕ) × ShowsLines plan.now (map outcome_value outcomes.now) shown outputs)
+        (ShowsLines plan.now (map outcome_value outcomes.now) (length outcomes.now) outputs)
+        (AreFirstLines plan.now (map outcome_value outcomes.now)) outputs }
+{
+    for (index, outcome) in outcomes.iter().enumerate() {
+        let line = outcome_line(alloc, plan, index + 1, outcome)?;
+        print(output, &line)?;
+    }
+    Ok(())
+}

@@ -1,0 +1,43 @@
+//! The terminus that a node's name stands for.
+ghost use Rattle.std.specs.Prelude.{◌≡◌, ◌≢◌, ℕ, Some, None, MatchOption, MatchBool, string_bytes};
+ghost use Rattle.net_check.specs.Names.{name_of};
+ghost use Rattle.net_check.specs.Repositories.{terminus_of};
+ghost use Rattle.plan_commands.specs.Walking.{IsFirstNamed, IsTerminusNamed, HasTerminusNamed};
+
+use net_plan::{Node, Plan, Terminus};
+
+/// The terminus of the first node of the name, if it has one, and the place of that node.
+#[tactic(auto, using(crate::proofs::Naming::no_terminus))]
+pub fn named_terminus<'a>(plan: &'a Plan, name: &str) -> Option<(usize, &'a Terminus)>
+    ensures { MatchOption result (¬ HasTerminusNamed plan.now name.now)
+        (λ found. IsTerminusNamed plan.now name.now found.0 × (terminus_of plan.now found.0 ≡ Some found.1.now)) }
+{
+    let place = first_named(plan, name)?;
+    let terminus = terminus_at(plan, place)?;
+    Some((place, terminus))
+}
+
+/// The place of the first node of the name.
+fn first_named(plan: &Plan, name: &str) -> Option<usize>
+    ensures { MatchOption result ((n : ℕ) → name_of plan.now n ≢ Some name.now) (λ place. IsFirstNamed plan.now name.now place) }
+{
+    for (place, node) in plan.nodes.iter().enumerate() {
+        if is_named(node, name) {
+            return Some(place);
+        }
+    }
+    None
+}
+
+fn is_named(node: &Node, name: &str) -> bool
+    ensures { MatchBool result (string_bytes node.now.name.text ≡ name.now) (string_bytes node.now.name.text ≢ name.now) }
+{
+    node.name.text.as_str() == name
+}
+
+/// The terminus of the node at a place.
+fn terminus_at(plan: &Plan, place: usize) -> Option<&Terminus>
+    ensures { MatchOption result (terminus_of plan.now place ≡ None) (λ terminus. terminus_of plan.now place ≡ Some terminus.now) }
+{
+    plan.nodes.get(place)?.terminus.as_ref()
+}

@@ -1,0 +1,25 @@
+//! The commands of the program `mctpplan`, over the files that they read and the streams that they write.
+#![tactic(auto)]
+
+mod command_line;
+mod commands;
+mod files;
+mod refused;
+mod show;
+mod status;
+mod texts;
+
+pub use command_line::{Command, words};
+pub use commands::assign::run_assign;
+pub use commands::certify::run_certify;
+pub use commands::check::run_check;
+pub use commands::moving::run_move;
+pub use commands::refuse;
+pub use commands::sim::files::simulate;
+pub use commands::sim::moves::simulate_move;
+pub use commands::sim::{run_sim, run_simmove};
+pub use commands::walk::{PartSize, run_walk};
+pub use files::FileAtPath;
+pub use refused::{Input, Refused};
+pub use show::{Kind, run_show};
+pub use status::Status;

@@ -1,0 +1,94 @@
+//! Why the program gives no answer.
+ghost use Rattle.std.specs.Prelude.{◌≡◌};
+
+use crate::status::Status;
+use clap::error::ErrorKind;
+use net_plan::PlanError;
+use std::alloc::AllocError;
+use std::io;
+
+/// A file that the program reads.
+#[derive(Clone, Copy, Debug, PartialEq, Eq)]
+pub enum Input {
+    Plan,
+    Certificate,
+    Events,
+}
+
+/// Why the program gives no answer on standard output.
+#[derive(Clone, Copy, Debug, PartialEq, Eq)]
+pub enum Refused {
+    /// The words fit no command.
+    Usage,
+    /// A file can't be read. The cause is not want of memory, which `NoMemory` tells.
+    Unreadable { input: Input, cause: PlanError },
+    /// The plan has no node of the name with a terminus.
+    UnknownNode,
+    /// A hex text is no hex: an odd number of digits, or a character that is none.
+    UnreadableHex,
+    /// The records of a terminus have more bytes than a walk collects.
+    TooMuch,
+    /// Standard output failed; a beginning of the answer may be out.
+    Unwritten,
+    /// There is too little memory to tell.
+    NoMemory,
+}
+
+impl Refused {
+    ghost use Rattle.plan_commands.specs.Statuses.{refused_at, status_of};
+
+    /// Why there is no answer, where reading an input ended in an error.
+    pub fn at_input(input: Input, error: PlanError) -> Refused
+        ensures { result ≡ refused_at input error }
+    {
+        match error {
+            PlanError::OutOfMemory => Refused::NoMemory,
+            cause => Refused::Unreadable { input, cause },
+        }
+    }
+
+    /// How the run ends.
+    pub fn status(self) -> Status
+        ensures { result ≡ status_of self }
+    {
+        match self {
+            Refused::Usage
+            | Refused::Unreadable { .. }
+            | Refused::UnknownNode
+            | Refused::UnreadableHex
+            | Refused::TooMuch
+            | Refused::Unwritten => Status::Unreadable,
+            Refused::NoMemory => Status::NoMemory,
+        }
+    }
+}
+
+impl From<AllocError> for Refused {
+    ghost use Rattle.plan_commands.specs.declared.refused.Refused.TheVariants.{NoMemory};
+
+    ghost from_gives = { λ _ refused. refused ≡ NoMemory };
+
+    fn from(_error: AllocError) -> Refused {
+        Refused::NoMemory
+    }
+}
+
+/// Every error of the command line is usage, help among them, but for want of memory.
+impl From<clap::Error> for Refused {
+    fn from(error: clap::Error) -> Refused {
+        match error.kind() {
+            ErrorKind::OutOfMemory => Refused::NoMemory,
+            _ => Refused::Usage,
+        }
+    }
+}
+
+/// The process's words can't be had where there is no memory for them, or where one of them is not UTF-8.
+impl From<io::Error> for Refused {
+    fn from(error: io::Error) -> Refused {
+        match error.kind() {
+            io::ErrorKind::OutOfMemory => Refused::NoMemory,
+            _ => Refused::Usage,
+        }
+    }
+}

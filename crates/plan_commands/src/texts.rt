@@ -1,0 +1,145 @@
+//! Every text that a user of the program sees.
+ghost use Rattle.std.specs.Prelude.{◌≡◌, Some, IfOk, IsOk, string_bytes};
+ghost use Rattle.plan_commands.specs.declared.refused.Refused.TheVariants.{Unwritten};
+ghost use Rattle.plan_commands.specs.Lines.{name_or_dash, names_text, fault_text, owner_loop_text, loop_text, chain_text, obstacle_text};
+
+pub mod assignments;
+pub mod moves;
+pub mod outcomes;
+
+use crate::refused::{Input, Refused};
+use mctp_transport::Eid;
+use net_check::{CertifyError, ChainFault, Fault};
+use net_plan::Plan;
+use std::alloc::{AllocError, Global};
+use std::borrow::CowStr;
+use std::fmt;
+
+/// The answer where a certificate fits its plan.
+pub const YES: &str = "yes\n";
+
+/// What is said where there is too little memory, also too little for any other line.
+pub const NO_MEMORY: &str = "no memory\n";
+
+/// The answer where a plan has a fault.
+pub fn fault_line(alloc: Global, plan: &Plan, fault: &Fault) -> Result<String, AllocError>
+    ensures { IfOk result (λ line. string_bytes line ≡ fault_text plan.now fault.now) }
+{
+    let rule = fault.rule.code();
+    let name = name_or_dash(plan, fault.node);
+    let entry = OrDash(fault.entry);
+    let eid = OrDash(fault.eid.map(|eid| eid.value));
+    format!(in alloc; "fault {rule} node {name} entry {entry} eid {eid}\n")
+}
+
+/// The answer where something rules certificates of a plan out. Want of memory does not, and has no answer.
+pub fn obstacle_line(
+    alloc: Global,
+    plan: &Plan,
+    obstacle: &CertifyError,
+) -> Result<String, AllocError>
+    ensures { IfOk result (λ line. obstacle_text plan.now obstacle.now ≡ Some (string_bytes line)) }
+{
+    match obstacle {
+        CertifyError::Fault(fault) => fault_line(alloc, plan, fault),
+        CertifyError::OwnerLoop(nodes) => owner_loop_line(alloc, plan, nodes),
+        CertifyError::Loop(eid, nodes) => loop_line(alloc, plan, *eid, nodes),
+        CertifyError::BadChain(node, fault) => chain_line(alloc, plan, *node, *fault),
+        CertifyError::OutOfMemory => Err(AllocError),
+    }
+}
+
+fn owner_loop_line(alloc: Global, plan: &Plan, nodes: &[usize]) -> Result<String, AllocError>
+    ensures { IfOk result (λ line. string_bytes line ≡ owner_loop_text plan.now nodes.now) }
+{
+    let names = names_after_spaces(alloc, plan, nodes)?;
+    format!(in alloc; "owner loop nodes{names}\n")
+}
+
+fn loop_line(alloc: Global, plan: &Plan, eid: Eid, nodes: &[usize]) -> Result<String, AllocError>
+    ensures { IfOk result (λ line. string_bytes line ≡ loop_text plan.now eid.value nodes.now) }
+{
+    let eid = eid.value;
+    let names = names_after_spaces(alloc, plan, nodes)?;
+    format!(in alloc; "loop eid {eid} nodes{names}\n")
+}
+
+fn chain_line(
+    alloc: Global,
+    plan: &Plan,
+    node: usize,
+    fault: ChainFault,
+) -> Result<String, AllocError>
+    ensures { IfOk result (λ line. string_bytes line ≡ chain_text plan.now node fault) }
+{
+    let name = name_or_dash(plan, node);
+    let word = fault.word();
+    let entry = fault.entry();
+    format!(in alloc; "chain node {name} {word} entry {entry}\n")
+}
+
+/// The names of nodes, each after a space.
+fn names_after_spaces(alloc: Global, plan: &Plan, nodes: &[usize]) -> Result<String, AllocError>
+    ensures { IfOk result (λ names. string_bytes names ≡ names_text plan.now nodes.now) }
+{
+    let mut names = String::new(alloc);
+    for &node in nodes {
+        names.push_str(" ")?;
+        names.push_str(name_or_dash(plan, node))?;
+    }
+    Ok(names)
+}
+
+/// The name of the node at a place, or a dash where there is none.
+fn name_or_dash(plan: &Plan, node: usize) -> &str
+    ensures { result.now ≡ name_or_dash plan.now node }
+{
+    plan.nodes
+        .get(node)
+        .map_or("-", |node| node.name.text.as_str())
+}
+
+/// Why there is no answer.
+pub fn refusal_line(alloc: Global, refused: Refused) -> Result<CowStr<'static>, AllocError>
+    ensures { refused ≡ Unwritten → IsOk result }
+{
+    match refused {
+        Refused::Usage => Ok(CowStr::Borrowed("usage\n")),
+        Refused::Unreadable { input, cause } => {
+            let line = format!(in alloc; "unreadable {input}: {cause}\n")?;
+            Ok(CowStr::Owned(line))
+        }
+        Refused::UnknownNode => Ok(CowStr::Borrowed("unreadable node: J06\n")),
+        Refused::UnreadableHex => Ok(CowStr::Borrowed("unreadable hex: J07\n")),
+        Refused::TooMuch => Ok(CowStr::Borrowed("unreadable walk: G09\n")),
+        Refused::Unwritten => Ok(CowStr::Borrowed("unreadable output: file\n")),
+        Refused::NoMemory => Ok(CowStr::Borrowed(NO_MEMORY)),
+    }
+}
+
+impl fmt::Display for Input {
+    fn fmt<W: fmt::Write>(&self, f: &mut fmt::Formatter<W>) -> fmt::Result {
+        f.write_str(match self {
+            Input::Plan => "plan",
+            Input::Certificate => "certificate",
+            Input::Events => "events",
+        })
+    }
+}
+
+/// A value that may be absent, which a dash tells.
+#[derive(Clone, Copy, Debug)]
+struct OrDash<T>(Option<T>);
+
+impl<T: fmt::Display> fmt::Display for OrDash<T> {
+    ghost use Rattle.plan_commands.specs.Lines.{or_dash};
+
+    ghost output = { λ shown. or_dash T.output shown.0 };
+
+    fn fmt<W: fmt::Write>(&self, f: &mut fmt::Formatter<W>) -> fmt::Result {
+        match &self.0 {
+            Some(value) => fmt::Display::fmt(value, f),
+            None => f.write_str("-"),
+        }
+    }
+}

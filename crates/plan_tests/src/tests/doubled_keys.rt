@@ -1,0 +1,128 @@
+//! Texts in which an object has a key twice.
+use super::{edited, riser};
+use net_plan::{PlanError, certificate_of_text, events_of_text, plan_of_text};
+use std::alloc::Global;
+use std::test::Fail;
+
+/// Why the riser network's plan with a change is none.
+fn plan_error(alloc: Global, from: &str, to: &str) -> Result<Option<PlanError>, Fail> {
+    let text = edited(alloc, riser::PLAN, &[(from, to)])?;
+    Ok(plan_of_text(alloc, text.as_str().as_bytes()).err())
+}
+
+/// One change each, by which one object has a key twice.
+#[test]
+fn refuses_doubled_keys_of_a_plan(rt: HostRuntime) -> Result<(), Fail> {
+    let changes: [(&str, &str); 11] = [
+        ("\"format\":1", "\"format\":1,\"format\":1"),
+        ("\"media\":4", "\"media\":4,\"media\":4"),
+        ("\"eid\":18", "\"eid\":18,\"eid\":19"),
+        ("\"eid\":18", "\"eid\":19,\"eid\":18"),
+        ("\"eid\":18", "\"eid\":18,\"\\u0065id\":18"),
+        ("\"owner\":null", "\"owner\":null,\"owner\":null"),
+        ("\"size\":7}", "\"size\":7,\"first\":17}"),
+        ("\"address\":\"30\"", "\"address\":\"30\",\"bus\":\"b1\""),
+        ("\"port\":1", "\"port\":1,\"port\":1"),
+        ("\"tid\":1", "\"tid\":1,\"tid\":1"),
+        ("\"handle\":1", "\"handle\":1,\"handle\":1"),
+    ];
+    for (from, to) in changes {
+        let error = plan_error(rt.alloc(), from, to)?;
+        assert_eq!(rt; error, Some(PlanError::Doubled), "{to}");
+    }
+    Ok(())
+}
+
+/// One change each, with another fault beside the doubled key. Only that of an unknown name is told after it.
+#[test]
+fn tells_doubled_keys_before_unknown_names(rt: HostRuntime) -> Result<(), Fail> {
+    let changes: [(&str, &str, PlanError); 9] = [
+        (
+            "\"eid\":18",
+            "\"eid\":18,\"eid\":18,\"x\":{\"y\":0,\"y\":0}",
+            PlanError::UnknownKey,
+        ),
+        (
+            "\"eid\":18,\"owner\"",
+            "\"eid\":18,\"eid\"",
+            PlanError::MissingKey,
+        ),
+        (
+            "\"eid\":18,\"owner\":\"riser\"",
+            "\"eid\":18,\"eid\":18,\"owner\":0",
+            PlanError::WrongKind,
+        ),
+        (
+            "\"eid\":18",
+            "\"eid\":18,\"eid\":256",
+            PlanError::OutOfRange,
+        ),
+        (
+            "\"handle\":1,\"next\":0,\"bytes\":\"",
+            "\"handle\":1,\"handle\":1,\"next\":0,\"bytes\":\"0",
+            PlanError::BadHex,
+        ),
+        (
+            "\"bus\":\"b0\",\"address\":\"",
+            "\"bus\":\"b0\",\"bus\":\"b0\",\"address\":\"0011223344556677",
+            PlanError::OverLimit,
+        ),
+        (
+            "\"b1\",\"binding\":1",
+            "\"b0\",\"binding\":1,\"binding\":1",
+            PlanError::Doubled,
+        ),
+        (
+            "\"next\":\"host\"",
+            "\"next\":\"x\",\"next\":\"x\"",
+            PlanError::Doubled,
+        ),
+        (
+            "\"next\":\"host\"",
+            "\"next\":\"x\"",
+            PlanError::UnknownName,
+        ),
+    ];
+    for (from, to, wanted) in changes {
+        assert_eq!(rt; plan_error(rt.alloc(), from, to)?, Some(wanted), "{to}");
+    }
+    Ok(())
+}
+
+/// One change of the riser network's certificate or events each.
+#[test]
+fn refuses_doubled_keys_of_certificates_and_events(rt: HostRuntime) -> Result<(), Fail> {
+    let alloc = rt.alloc();
+    let plan = plan_of_text(alloc, riser::PLAN.as_bytes())?;
+    let changes: [(&str, &str); 6] = [
+        ("\"levels\":", "\"ranks\":[],\"levels\":"),
+        ("\"level\":1", "\"level\":1,\"level\":1"),
+        ("\"places\":[0]", "\"places\":[0],\"places\":[0]"),
+        (
+            "\"node\":\"ssd\",\"ranges\"",
+            "\"node\":\"ssd\",\"node\":\"ssd\",\"ranges\"",
+        ),
+        ("\"rank\":2", "\"rank\":2,\"rank\":2"),
+        (
+            "\"node\":\"host\",\"ranges\"",
+            "\"node\":\"x\",\"node\":\"x\",\"ranges\"",
+        ),
+    ];
+    for (from, to) in changes {
+        let text = edited(alloc, riser::CERTIFICATE, &[(from, to)])?;
+        let read = certificate_of_text(alloc, &plan, text.as_str().as_bytes());
+        assert_eq!(rt; read.err(), Some(PlanError::Doubled), "{to}");
+    }
+    let changes: [(&str, &str); 4] = [
+        ("\"format\":1", "\"format\":1,\"format\":1"),
+        ("\"do\":\"put\"", "\"do\":\"put\",\"do\":\"put\""),
+        ("\"keep\":false", "\"keep\":false,\"keep\":true"),
+        ("\"node\":\"nic\"", "\"node\":\"x\",\"node\":\"x\""),
+    ];
+    for (from, to) in changes {
+        let text = edited(alloc, riser::EVENTS, &[(from, to)])?;
+        let read = events_of_text(alloc, &plan, text.as_str().as_bytes());
+        assert_eq!(rt; read.err(), Some(PlanError::Doubled), "{to}");
+    }
+    Ok(())
+}

@@ -1,0 +1,200 @@
+//! Networks that are played from texts. A row is an event, as its text stands in a list of events, and what comes of it.
+use super::exact::{expect_two_of_six, expect_whole_or_nothing};
+use super::riser::{CERTIFICATE, NIC, PLAN};
+use super::rows::expect_refusals;
+use super::telling::told;
+use net_check::check;
+use net_plan::{Certificate, Counted, Event, Plan, read_certificate, read_events, read_plan};
+use net_sim::{Network, Outcome};
+use pdr_repository::{BlockTerminus, ListTerminus, Terminus, is_lawful_list};
+use pldm_message::Tid;
+use std::alloc::{AllocError, Global};
+use std::process::Abort;
+use std::test::Fail;
+
+pub type Row = (&'static str, &'static str);
+
+pub fn plan_of(alloc: Global, text: &str) -> Result<Plan, Fail> {
+    Ok(read_plan(alloc, &mut Counted::new(text.as_bytes()))?)
+}
+
+pub fn certificate_of(alloc: Global, plan: &Plan, text: &str) -> Result<Certificate, Fail> {
+    Ok(read_certificate(alloc, plan, &mut Counted::new(text.as_bytes()))?)
+}
+
+/// The events of these rows.
+pub fn events_of(alloc: Global, plan: &Plan, rows: &[Row]) -> Result<Vec<Event>, Fail> {
+    let mut list = Vec::new(alloc);
+    for (event, _) in rows {
+        list.push(*event)?;
+    }
+    let list = list.as_slice().join(alloc, ",")?;
+    let text = format!(in alloc; r#"{{"format":1,"events":[{list}]}}"#)?;
+    Ok(read_events(alloc, plan, &mut Counted::new(text.as_str().as_bytes()))?)
+}
+
+/// The terminus ID and the records of a node's terminus, as the plan lists them.
+fn repository_at(
+    alloc: Global,
+    plan: &Plan,
+    place: usize,
+) -> Result<(Tid, Vec<(u32, Vec<u8>)>), Fail> {
+    let node = plan.nodes.get(place).ok_or("no such node")?;
+    let terminus = node.terminus.as_ref().ok_or("no terminus")?;
+    let mut records = Vec::new(alloc);
+    for record in &terminus.records {
+        records.push((record.handle, record.bytes.as_slice().to_vec(alloc)?))?;
+    }
+    Ok((Tid::new(terminus.tid), records))
+}
+
+/// The terminus of a node, over a list.
+pub fn list_at(alloc: Global, plan: &Plan, place: usize) -> Result<ListTerminus, Fail> {
+    let (tid, records) = repository_at(alloc, plan, place)?;
+    if !is_lawful_list(&records) {
+        return Err(Fail::new("no lawful list"));
+    }
+    Ok(ListTerminus::new(alloc, tid, records)?)
+}
+
+/// The terminus of a node, over a block.
+pub fn block_at(alloc: Global, plan: &Plan, place: usize) -> Result<BlockTerminus, Fail> {
+    let (tid, records) = repository_at(alloc, plan, place)?;
+    if !is_lawful_list(&records) {
+        return Err(Fail::new("no lawful list"));
+    }
+    Ok(BlockTerminus::new(alloc, tid, records)?)
+}
+
+/// How a terminus keeps its records.
+#[derive(Clone, Copy)]
+pub enum Storage {
+    List,
+    Block,
+}
+
+/// What is played on a network.
+#[derive(Clone, Copy)]
+pub enum Scenario<'a> {
+    /// Rows' events, one by one.
+    Steps(&'a [Row]),
+    /// Rows' events as one list.
+    Run(&'a [Row]),
+    /// Messages of five packets, in all orders.
+    FivePackets,
+    /// Six packets, of which the first and the last come.
+    SixPackets,
+    /// Events at nodes beyond the plan.
+    BeyondThePlan,
+}
+
+/// The texts of a plan and a certificate, and the places of the nodes with termini.
+#[derive(Clone, Copy)]
+pub struct Texts<'a> {
+    pub plan: &'a str,
+    pub certificate: &'a str,
+    pub termini: &'a [(usize, Storage)],
+}
+
+/// Plays on the riser network with a list at nic.
+pub fn play_on(rt: &(impl Abort + AllocGlobal), scenario: Scenario<'_>) -> Result<(), Fail> {
+    let texts = Texts {
+        plan: PLAN,
+        certificate: CERTIFICATE,
+        termini: &[(NIC, Storage::List)],
+    };
+    play_on_texts(rt, texts, scenario)
+}
+
+/// Plays on the network of these texts.
+pub fn play_on_texts(
+    rt: &(impl Abort + AllocGlobal),
+    texts: Texts<'_>,
+    scenario: Scenario<'_>,
+) -> Result<(), Fail> {
+    let plan = plan_of(rt.alloc(), texts.plan)?;
+    let certificate = certificate_of(rt.alloc(), &plan, texts.certificate)?;
+    play_on_plan(rt, &plan, &certificate, texts.termini, scenario)
+}
+
+/// Plays on the network of this plan and this certificate, with termini at these places.
+fn play_on_plan(
+    rt: &(impl Abort + AllocGlobal),
+    plan: &Plan,
+    certificate: &Certificate,
+    termini: &[(usize, Storage)],
+    scenario: Scenario<'_>,
+) -> Result<(), Fail> {
+    let alloc = rt.alloc();
+    let mut boxed: Vec<Box<dyn Terminus>> = Vec::new(alloc);
+    for (place, storage) in termini {
+        match storage {
+            Storage::List => boxed.push(Box::new(alloc, list_at(alloc, plan, *place)?)?)?,
+            Storage::Block => boxed.push(Box::new(alloc, block_at(alloc, plan, *place)?)?)?,
+        }
+    }
+    let checked = check(alloc, plan, certificate)?;
+    let mut network = Network::new(alloc, checked, boxed)?;
+    play(rt, plan, &mut network, scenario)
+}
+
+fn play(
+    rt: &(impl Abort + AllocGlobal),
+    plan: &Plan,
+    network: &mut Network,
+    scenario: Scenario<'_>,
+) -> Result<(), Fail> {
+    match scenario {
+        Scenario::Steps(rows) => expect_steps(rt, plan, network, rows),
+        Scenario::Run(rows) => expect_run(rt, plan, network, rows),
+        Scenario::FivePackets => expect_whole_or_nothing(rt, network),
+        Scenario::SixPackets => expect_two_of_six(rt, network),
+        Scenario::BeyondThePlan => expect_refusals(rt, network),
+    }
+}
+
+/// Plays the rows' events one by one, and wants what their rows say.
+pub fn expect_steps(
+    rt: &(impl Abort + AllocGlobal),
+    plan: &Plan,
+    network: &mut Network,
+    rows: &[Row],
+) -> Result<(), Fail> {
+    let events = events_of(rt.alloc(), plan, rows)?;
+    assert_eq!(rt; events.len(), rows.len());
+    for (event, (text, wanted)) in events.iter().zip(rows) {
+        let outcome = network.step(event)?;
+        expect_told(rt, plan, &outcome, text, wanted)?;
+    }
+    Ok(())
+}
+
+/// Plays the rows' events as one list, and wants what their rows say.
+pub fn expect_run(
+    rt: &(impl Abort + AllocGlobal),
+    plan: &Plan,
+    network: &mut Network,
+    rows: &[Row],
+) -> Result<(), Fail> {
+    let events = events_of(rt.alloc(), plan, rows)?;
+    let played = network.run(&events)?;
+    assert!(rt; !played.stopped);
+    assert_eq!(rt; played.outcomes.len(), rows.len());
+    for (outcome, (text, wanted)) in played.outcomes.iter().zip(rows) {
+        expect_told(rt, plan, outcome, text, wanted)?;
+    }
+    Ok(())
+}
+
+/// Wants this to have come of an event.
+pub fn expect_told(
+    rt: &(impl Abort + AllocGlobal),
+    plan: &Plan,
+    outcome: &Outcome,
+    event: &str,
+    wanted: &str,
+) -> Result<(), Fail> {
+    let text = told(rt.alloc(), plan, outcome)?;
+    assert_eq!(rt; text.as_str(), wanted, "of {event}");
+    Ok(())
+}

@@ -1,0 +1,193 @@
+//! Lists of events on the riser network.
+use super::Row;
+use super::playing::{Scenario, play_on};
+use super::riser_events::{
+    ANSWER_NIC, ANSWER_SSD, GET_TID_OF_NIC, GET_TID_OF_SSD, MOVE_1, MOVE_2, MOVE_3, MOVE_4, MOVE_5,
+    MOVE_6,
+};
+use mctp_transport::{Eid, Key, Tag};
+use net_plan::Event;
+use net_sim::{Network, Outcome, Refusal};
+use std::alloc::{AllocError, Global};
+use std::process::Abort;
+use std::test::Fail;
+
+/// A request goes to ssd.
+const TO_SSD: [Row; 4] = [
+    (GET_TID_OF_SSD, "put 1 at host"),
+    (MOVE_1, "moved 1 to riser hops 1"),
+    (MOVE_1, "moved 1 to ssd hops 2"),
+    (
+        MOVE_1,
+        "whole 1 at ssd source 8 tag 3 owner 1 bytes 01800002",
+    ),
+];
+
+/// A request goes to nic, and its answer comes back.
+const AND_BACK: [Row; 8] = [
+    (GET_TID_OF_NIC, "put 1 at host"),
+    (MOVE_1, "moved 1 to riser hops 1"),
+    (MOVE_1, "moved 1 to nic hops 2"),
+    (
+        MOVE_1,
+        "whole 1 at nic source 8 tag 3 owner 1 bytes 01800002",
+    ),
+    (ANSWER_NIC, "answered nic flights 2 to 2"),
+    (MOVE_2, "moved 2 to riser hops 1"),
+    (MOVE_2, "moved 2 to host hops 2"),
+    (
+        MOVE_2,
+        "whole 2 at host source 17 tag 3 owner 0 bytes 010000020001",
+    ),
+];
+
+/// A copy of a flight goes on, then the flight itself, which is lost. What isn't there is refused.
+const COPIED_AND_LOST: [Row; 10] = [
+    (GET_TID_OF_SSD, "put 1 at host"),
+    (
+        r#"{"do":"move","flight":1,"keep":true}"#,
+        "moved 2 to riser hops 1",
+    ),
+    (MOVE_2, "moved 2 to ssd hops 2"),
+    (
+        MOVE_2,
+        "whole 2 at ssd source 8 tag 3 owner 1 bytes 01800002",
+    ),
+    (MOVE_1, "moved 1 to riser hops 1"),
+    (r#"{"do":"lose","flight":1}"#, "lost 1"),
+    (MOVE_1, "refused N03"),
+    (ANSWER_SSD, "refused N04"),
+    (ANSWER_NIC, "refused N05"),
+    (
+        r#"{"do":"put","node":"host","bytes":"010a08"}"#,
+        "refused N02",
+    ),
+];
+
+const EXPIRE_SSD: &str = r#"{"do":"expire","node":"ssd","source":8,"tag":3,"owner":1}"#;
+
+/// What ends a flight on its way and at a node, and a request that has no answer.
+const ENDS: [Row; 17] = [
+    (
+        r#"{"do":"put","node":"host","bytes":"01ff08cb00"}"#,
+        "put 1 at host",
+    ),
+    (MOVE_1, "dropped 1 B10"),
+    (
+        r#"{"do":"put","node":"host","bytes":"011e08cb00"}"#,
+        "put 2 at host",
+    ),
+    (MOVE_2, "dropped 2 B11"),
+    (
+        r#"{"do":"put","node":"host","bytes":"011308cb00"}"#,
+        "put 3 at host",
+    ),
+    (MOVE_3, "moved 3 to riser hops 1"),
+    (MOVE_3, "dropped 3 B11"),
+    (
+        r#"{"do":"put","node":"ssd","bytes":"0112088b00"}"#,
+        "put 4 at ssd",
+    ),
+    (MOVE_4, "held 4 at ssd source 8 tag 3 owner 1"),
+    (EXPIRE_SSD, "expired ssd open"),
+    (EXPIRE_SSD, "expired ssd none"),
+    (
+        r#"{"do":"put","node":"ssd","bytes":"0112085b00"}"#,
+        "put 5 at ssd",
+    ),
+    (MOVE_5, "dropped 5 at ssd source 8 tag 3 owner 1 A01"),
+    (
+        r#"{"do":"put","node":"nic","bytes":"011108cb01c00002"}"#,
+        "put 6 at nic",
+    ),
+    (
+        MOVE_6,
+        "whole 6 at nic source 8 tag 3 owner 1 bytes 01c00002",
+    ),
+    (ANSWER_NIC, "silent nic"),
+    (ANSWER_NIC, "refused N05"),
+];
+
+/// GetPDR from host to nic, for up to 32 bytes of the first record.
+const GET_RECORD_OF_NIC: &str =
+    r#"{"do":"put","node":"host","bytes":"011108cb0180025100000000000000000120000000"}"#;
+
+/// nic's record is read.
+const RECORD_READ: [Row; 8] = [
+    (GET_RECORD_OF_NIC, "put 1 at host"),
+    (MOVE_1, "moved 1 to riser hops 1"),
+    (MOVE_1, "moved 1 to nic hops 2"),
+    (
+        MOVE_1,
+        "whole 1 at nic source 8 tag 3 owner 1 bytes 0180025100000000000000000120000000",
+    ),
+    (ANSWER_NIC, "answered nic flights 2 to 2"),
+    (MOVE_2, "moved 2 to riser hops 1"),
+    (MOVE_2, "moved 2 to host hops 2"),
+    (
+        MOVE_2,
+        "whole 2 at host source 17 tag 3 owner 0 bytes 0100025100000000000000000005130001000000010100000900010001010000010111",
+    ),
+];
+
+const LISTS: [&[Row]; 5] = [&TO_SSD, &AND_BACK, &COPIED_AND_LOST, &ENDS, &RECORD_READ];
+
+#[test]
+fn plays_step_by_step(rt: HostRuntime) -> Result<(), Fail> {
+    for rows in LISTS {
+        play_on(&rt, Scenario::Steps(rows))?;
+    }
+    Ok(())
+}
+
+#[test]
+fn runs_whole_lists(rt: HostRuntime) -> Result<(), Fail> {
+    for rows in LISTS {
+        play_on(&rt, Scenario::Run(rows))?;
+    }
+    Ok(())
+}
+
+/// Whether an event is refused since there is no such node.
+fn is_refused(network: &mut Network, event: &Event) -> Result<bool, AllocError> {
+    let outcome = network.step(event)?;
+    Ok(matches!(outcome, Outcome::Refused(Refusal::NoNode)))
+}
+
+/// Events that name a node.
+fn events_at(alloc: Global, node: usize) -> Result<Vec<Event>, AllocError> {
+    let bytes = [1, 10, 8].to_vec(alloc)?;
+    let key = Key {
+        source: Eid::new(8),
+        tag: Tag::new(3),
+        owner: true,
+    };
+    let mut events = Vec::new(alloc);
+    events.push(Event::Put { node, bytes })?;
+    events.push(Event::Expire { node, key })?;
+    events.push(Event::Answer { node })?;
+    Ok(events)
+}
+
+/// Whether each event that names this node is refused.
+fn refuses(alloc: Global, network: &mut Network, node: usize) -> Result<bool, AllocError> {
+    for event in &events_at(alloc, node)? {
+        if !is_refused(network, event)? {
+            return Ok(false);
+        }
+    }
+    Ok(true)
+}
+
+/// Wants events at nodes beyond the plan's four to be refused.
+pub fn expect_refusals(rt: &(impl Abort + AllocGlobal), network: &mut Network) -> Result<(), Fail> {
+    for node in [4, usize::MAX] {
+        assert!(rt; refuses(rt.alloc(), network, node)?, "{node}");
+    }
+    Ok(())
+}
+
+#[test]
+fn refuses_nodes_beyond_the_plan(rt: HostRuntime) -> Result<(), Fail> {
+    play_on(&rt, Scenario::BeyondThePlan)
+}

@@ -1,0 +1,230 @@
+//! Networks whose nodes switch to new rows while packets are on their way.
+use super::playing::{certificate_of, plan_of};
+use super::telling::told;
+use net_check::{check, check_move};
+use net_plan::{Certificate, Event, Plan};
+use net_sim::{Network, Outcome, Refusal};
+use std::alloc::{AllocError, Global};
+use std::test::Fail;
+
+/// From host to endpoint x there are two ways, through bridge left and through bridge right; host goes by left.
+const TWO_WAYS: &str =
+    r#"{"format":1,"buses":[{"name":"b0","binding":1,"media":4},{"name":"b1","binding":1,"media":4}],"nodes":[
+{"name":"host","kind":"bridge","eid":8,"owner":null,"pool":null,"ports":[{"bus":"b0","address":"10"}],"rows":[{"first":17,"size":1,"port":0,"next":"left"}],"terminus":null},
+{"name":"left","kind":"bridge","eid":16,"owner":null,"pool":null,"ports":[{"bus":"b0","address":"20"},{"bus":"b1","address":"22"}],"rows":[{"first":17,"size":1,"port":1,"next":"x"}],"terminus":null},
+{"name":"right","kind":"bridge","eid":32,"owner":null,"pool":null,"ports":[{"bus":"b0","address":"30"},{"bus":"b1","address":"32"}],"rows":[{"first":17,"size":1,"port":1,"next":"x"}],"terminus":null},
+{"name":"x","kind":"endpoint","eid":17,"owner":null,"pool":null,"ports":[{"bus":"b1","address":"40"}],"rows":[],"terminus":null}]}"#;
+
+const RANKS_OF_TWO_WAYS: &str =
+    r#"{"format":1,"levels":[],"places":[],"ranks":[{"node":"host","ranges":[{"first":17,"rank":2,"size":1}]},{"node":"left","ranges":[{"first":17,"rank":1,"size":1}]},{"node":"right","ranges":[{"first":17,"rank":1,"size":1}]}]}"#;
+
+const HOST: usize = 0;
+
+/// The place behind the last node.
+const NOWHERE: usize = 4;
+
+/// GetTID for endpoint ID 17, put in at the first node.
+fn request(alloc: Global) -> Result<Event, AllocError> {
+    let bytes = [1, 0x11, 8, 0xcb, 1, 0x80, 0, 2].to_vec(alloc)?;
+    Ok(Event::Put { node: HOST, bytes })
+}
+
+fn move_of(flight: u32) -> Event {
+    Event::Move {
+        flight,
+        keep: false,
+    }
+}
+
+/// What comes of events, one text after another.
+fn told_of(
+    alloc: Global,
+    plan: &Plan,
+    network: &mut Network,
+    events: &[Event],
+) -> Result<String, Fail> {
+    let mut texts = Vec::new(alloc);
+    for event in events {
+        let outcome = network.step(event)?;
+        texts.push(told(alloc, plan, &outcome)?)?;
+    }
+    Ok(texts.as_slice().join(alloc, ", ")?)
+}
+
+#[test]
+fn host_goes_by_its_new_row_once_it_has_switched(rt: HostRuntime) -> Result<(), Fail> {
+    let alloc = rt.alloc();
+    let before = plan_of(alloc, TWO_WAYS)?;
+    let text = TWO_WAYS.replacen(alloc, "\"left\"}]", "\"right\"}]", 1)?;
+    let after = plan_of(alloc, &text)?;
+    let certificate = certificate_of(alloc, &before, RANKS_OF_TWO_WAYS)?;
+    let checked = check_move(alloc, &before, &after, &certificate)?;
+    let mut network = Network::new_move(alloc, checked, Vec::new(alloc))?;
+    let events = [
+        request(alloc)?,
+        move_of(1),
+        Event::Switch { node: NOWHERE },
+        Event::Switch { node: HOST },
+        move_of(1),
+        move_of(1),
+        request(alloc)?,
+        move_of(2),
+        Event::Switch { node: HOST },
+    ];
+    let wanted = [
+        "put 1 at host",
+        "moved 1 to left hops 1",
+        "refused N01",
+        "switched host",
+        "moved 1 to x hops 2",
+        "whole 1 at x source 8 tag 3 owner 1 bytes 01800002",
+        "put 2 at host",
+        "moved 2 to right hops 1",
+        "refused N07",
+    ];
+    let wanted = wanted.as_slice().join(alloc, ", ")?;
+    assert_eq!(rt;
+        told_of(alloc, &before, &mut network, &events)?.as_str(),
+        wanted.as_str()
+    );
+    Ok(())
+}
+
+#[test]
+fn nobody_switches_in_a_network_of_one_plan(rt: HostRuntime) -> Result<(), Fail> {
+    let alloc = rt.alloc();
+    let plan = plan_of(alloc, TWO_WAYS)?;
+    let certificate = certificate_of(alloc, &plan, RANKS_OF_TWO_WAYS)?;
+    let checked = check(alloc, &plan, &certificate)?;
+    let mut network = Network::new(alloc, checked, Vec::new(alloc))?;
+    let events = [
+        Event::Switch { node: HOST },
+        Event::Switch { node: NOWHERE },
+        request(alloc)?,
+        move_of(1),
+    ];
+    let wanted = "refused N07, refused N01, put 1 at host, moved 1 to left hops 1";
+    assert_eq!(rt;
+        told_of(alloc, &plan, &mut network, &events)?.as_str(),
+        wanted
+    );
+    Ok(())
+}
+
+/// How many bridges there are in a line to endpoint x, all on one bus. The rank of each is the number of bridges from it
+/// on.
+const BRIDGES: usize = 6;
+
+/// The plan of that line, where each bridge passes on to the one so many places on, or to x.
+fn line_of(alloc: Global, stride: usize) -> Result<String, AllocError> {
+    let mut nodes = Vec::new(alloc);
+    for place in 0..BRIDGES {
+        let eid = place + 8;
+        let place_on = place.saturating_add(stride);
+        let next = if place_on < BRIDGES {
+            format!(in alloc; "n{place_on}")?
+        } else {
+            String::from_str(alloc, "x")?
+        };
+        nodes.push(format!(in alloc;
+            r#"{{"name":"n{place}","kind":"bridge","eid":{eid},"owner":null,"pool":null,"ports":[{{"bus":"b","address":"1{place}"}}],"rows":[{{"first":17,"size":1,"port":0,"next":"{next}"}}],"terminus":null}}"#
+        )?)?;
+    }
+    let nodes = nodes.as_slice().join(alloc, ",")?;
+    format!(in alloc;
+        r#"{{"format":1,"buses":[{{"name":"b","binding":1,"media":4}}],"nodes":[{nodes},{{"name":"x","kind":"endpoint","eid":17,"owner":null,"pool":null,"ports":[{{"bus":"b","address":"20"}}],"rows":[],"terminus":null}}]}}"#
+    )
+}
+
+/// The ranks on that line.
+fn ranks_of_line(alloc: Global) -> Result<String, AllocError> {
+    let mut ranks = Vec::new(alloc);
+    for place in 0..BRIDGES {
+        let rank = BRIDGES - place;
+        ranks.push(format!(in alloc;
+            r#"{{"node":"n{place}","ranges":[{{"first":17,"rank":{rank},"size":1}}]}}"#
+        )?)?;
+    }
+    let ranks = ranks.as_slice().join(alloc, ",")?;
+    format!(in alloc; r#"{{"format":1,"levels":[],"places":[],"ranks":[{ranks}]}}"#)
+}
+
+/// The order of this number, of the bridges' 720 orders.
+fn order_of(alloc: Global, number: usize) -> Result<Vec<usize>, AllocError> {
+    let mut order = Vec::new(alloc);
+    let mut rest = number;
+    for place in 0..BRIDGES {
+        let at = (rest % (place + 1)).min(order.len());
+        order.insert(at, place)?;
+        rest /= place + 1;
+    }
+    Ok(order)
+}
+
+/// A packet is put in before each switch and after the last, and each packet on its way moves between two of these.
+fn events_in(alloc: Global, order: &[usize]) -> Result<Vec<Event>, AllocError> {
+    let mut events = Vec::new(alloc);
+    for round in 0..2 * BRIDGES + 2 {
+        if round <= BRIDGES {
+            events.push(request(alloc)?)?;
+        }
+        for flight in 1..=7 {
+            events.push(move_of(flight))?;
+        }
+        if let Some(node) = order.get(round) {
+            events.push(Event::Switch { node: *node })?;
+        }
+    }
+    Ok(events)
+}
+
+/// Whether an outcome can be where each packet moves within its rank: at a place it has made at most as many hops as there
+/// are places before.
+fn is_lawful(outcome: &Outcome) -> bool {
+    match outcome {
+        Outcome::PutIn { .. } | Outcome::Whole { .. } | Outcome::Switched { .. } => true,
+        Outcome::Moved { node, hops, .. } => usize::from(*hops) <= *node,
+        Outcome::Refused(why) => *why == Refusal::NoFlight,
+        _ => false,
+    }
+}
+
+/// Whether all packets come whole, within their ranks, where the bridges switch in this order.
+fn all_come(
+    alloc: Global,
+    before: &Plan,
+    after: &Plan,
+    certificate: &Certificate,
+    order: &[usize],
+) -> Result<bool, Fail> {
+    let checked = check_move(alloc, before, after, certificate)?;
+    let mut network = Network::new_move(alloc, checked, Vec::new(alloc))?;
+    let played = network.run(&events_in(alloc, order)?)?;
+    let mut come = Vec::new(alloc);
+    for outcome in &played.outcomes {
+        if !is_lawful(outcome) {
+            return Ok(false);
+        }
+        if let Outcome::Whole { number, .. } = outcome {
+            come.push(*number)?;
+        }
+    }
+    Ok(come.len() == BRIDGES + 1)
+}
+
+#[test]
+fn packets_come_in_each_order_of_switches(rt: HostRuntime) -> Result<(), Fail> {
+    let alloc = rt.alloc();
+    let before = plan_of(alloc, &line_of(alloc, 1)?)?;
+    let after = plan_of(alloc, &line_of(alloc, 2)?)?;
+    let certificate = certificate_of(alloc, &before, &ranks_of_line(alloc)?)?;
+    let mut failed = Vec::new(alloc);
+    for number in 0..720usize {
+        let order = order_of(alloc, number)?;
+        if !all_come(alloc, &before, &after, &certificate, &order)? {
+            failed.push(number)?;
+        }
+    }
+    assert!(rt; failed.is_empty());
+    Ok(())
+}
