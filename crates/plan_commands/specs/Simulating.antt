@@ -58,11 +58,14 @@ EndsShowing status.Fault part all IsText output = ⊥
 EndsShowing status.Unreadable part all IsText output = BreaksOff IsText output
 EndsShowing status.NoMemory part all IsText output = part
 
--- what the end of a run says of the events, in runs by these tables from the start, and of what was written
+-- what the end of a run says of the events, in runs by these tables from the state, and of what was written
+abbrev pub SimulatesFrom : Tables → NetworkState → List EventValue → Status → Stream → Type 0
+SimulatesFrom tables w events ended output =
+    EndsShowing ended (ShowsBeginning tables w events output) (ShowsRun tables w events output) (IsRunText tables w events) output
+
+-- so it is from the start
 abbrev pub SimulatesBy : Tables → Certificate → List EventValue → Status → Stream → Type 0
-SimulatesBy tables cert events ended output =
-    let start = at_start tables.plan cert in
-    EndsShowing ended (ShowsBeginning tables start events output) (ShowsRun tables start events output) (IsRunText tables start events) output
+SimulatesBy tables cert events ended output = SimulatesFrom tables (at_start tables.plan cert) events ended output
 
 -- so it is at a checked plan
 abbrev pub Simulates : Plan → Certificate → List EventValue → Status → Stream → Type 0

@@ -4,12 +4,12 @@ ghost use Rattle.plan_commands.specs.declared.status.Status.TheVariants.{Yes};
 ghost use Rattle.net_check.specs.States.{NetworkState, at_start};
 ghost use Rattle.net_check.specs.TwoPlans.{Tables, one_plan, moving};
 ghost use Rattle.net_check.specs.Events.{EventValue};
-ghost use Rattle.net_sim.specs.Dealing.{resting, planned_termini};
+ghost use Rattle.net_sim.specs.Dealing.{resting, at_rest, planned_termini};
 ghost use Rattle.net_sim.specs.Outcomes.{event_value, outcome_value};
 ghost use Rattle.net_sim.specs.Played.{IsRunOf};
 ghost use Rattle.net_sim.specs.Standing.{NetworkValue};
 ghost use Rattle.plan_commands.specs.Answers.{stream};
-ghost use Rattle.plan_commands.specs.Simulating.{IsRunText, ShowsRun, ShowsBeginning, ShowsAllOr, EndsShowing, SimulatesBy, Simulates, AreFirstLines, AreLinesAtMost, ShowsLines, ShowsOutcomes, ShowsAtMost};
+ghost use Rattle.plan_commands.specs.Simulating.{IsRunText, ShowsRun, ShowsBeginning, ShowsAllOr, EndsShowing, SimulatesFrom, SimulatesBy, Simulates, AreFirstLines, AreLinesAtMost, ShowsLines, ShowsOutcomes, ShowsAtMost};
 
 pub mod files;
 pub mod moves;
@@ -41,6 +41,9 @@ pub fn run_sim<O: Sink, E: Sink>(
     ensures plays { let outputs = stream (O.contents output.old) (O.failures output.old) (O.contents output.new) (O.failures output.new) in
         map (resting (λ b. tid b) (λ b. records b)) termini.items ≡ planned_termini checked.entry.0 checked.entry.1
         → Simulates checked.entry.0 checked.entry.1 (map event_value events.now) result outputs }
+    ensures rests { let outputs = stream (O.contents output.old) (O.failures output.old) (O.contents output.new) (O.failures output.new) in
+        SimulatesFrom (one_plan checked.entry.0) (at_rest checked.entry.0 (map (resting (λ b. tid b) (λ b. records b)) termini.items))
+        (map event_value events.now) result outputs }
     ensures lists { let outputs = stream (O.contents output.old) (O.failures output.old) (O.contents output.new) (O.failures output.new) in
         EndsShowing result (ShowsAtMost checked.entry.0 (length events.now) outputs) (ShowsOutcomes checked.entry.0 (length events.now) outputs)
         (AreLinesAtMost checked.entry.0 (length events.now)) outputs }
@@ -65,6 +68,11 @@ fn answer_sim<O: Sink>(
         → ShowsAllOr result (ShowsBeginning (one_plan checked.entry.0) (at_start checked.entry.0 checked.entry.1) (map event_value events.now) outputs)
         (ShowsRun (one_plan checked.entry.0) (at_start checked.entry.0 checked.entry.1) (map event_value events.now) outputs)
         (IsRunText (one_plan checked.entry.0) (at_start checked.entry.0 checked.entry.1) (map event_value events.now)) outputs }
+    ensures rests { let outputs = stream (O.contents output.old) (O.failures output.old) (O.contents output.new) (O.failures output.new) in
+        let start = at_rest checked.entry.0 (map (resting (λ b. tid b) (λ b. records b)) termini.items) in
+        ShowsAllOr result (ShowsBeginning (one_plan checked.entry.0) start (map event_value events.now) outputs)
+        (ShowsRun (one_plan checked.entry.0) start (map event_value events.now) outputs)
+        (IsRunText (one_plan checked.entry.0) start (map event_value events.now)) outputs }
     ensures lists { let outputs = stream (O.contents output.old) (O.failures output.old) (O.contents output.new) (O.failures output.new) in
         ShowsAllOr result (ShowsAtMost checked.entry.0 (length events.now) outputs) (ShowsOutcomes checked.entry.0 (length events.now) outputs)
         (AreLinesAtMost checked.entry.0 (length events.now)) outputs }
@@ -91,6 +99,9 @@ pub fn run_simmove<O: Sink, E: Sink>(
     ensures plays { let outputs = stream (O.contents output.old) (O.failures output.old) (O.contents output.new) (O.failures output.new) in
         map (resting (λ b. tid b) (λ b. records b)) termini.items ≡ planned_termini checked.entry.0 checked.entry.2
         → SimulatesBy (moving checked.entry.0 checked.entry.1) checked.entry.2 (map event_value events.now) result outputs }
+    ensures rests { let outputs = stream (O.contents output.old) (O.failures output.old) (O.contents output.new) (O.failures output.new) in
+        SimulatesFrom (moving checked.entry.0 checked.entry.1) (at_rest checked.entry.0 (map (resting (λ b. tid b) (λ b. records b)) termini.items))
+        (map event_value events.now) result outputs }
     ensures lists { let outputs = stream (O.contents output.old) (O.failures output.old) (O.contents output.new) (O.failures output.new) in
         EndsShowing result (ShowsAtMost checked.entry.0 (length events.now) outputs) (ShowsOutcomes checked.entry.0 (length events.now) outputs)
         (AreLinesAtMost checked.entry.0 (length events.now)) outputs }
@@ -115,6 +126,11 @@ fn answer_simmove<O: Sink>(
         → ShowsAllOr result (ShowsBeginning (moving checked.entry.0 checked.entry.1) (at_start checked.entry.0 checked.entry.2) (map event_value events.now) outputs)
         (ShowsRun (moving checked.entry.0 checked.entry.1) (at_start checked.entry.0 checked.entry.2) (map event_value events.now) outputs)
         (IsRunText (moving checked.entry.0 checked.entry.1) (at_start checked.entry.0 checked.entry.2) (map event_value events.now)) outputs }
+    ensures rests { let outputs = stream (O.contents output.old) (O.failures output.old) (O.contents output.new) (O.failures output.new) in
+        let start = at_rest checked.entry.0 (map (resting (λ b. tid b) (λ b. records b)) termini.items) in
+        ShowsAllOr result (ShowsBeginning (moving checked.entry.0 checked.entry.1) start (map event_value events.now) outputs)
+        (ShowsRun (moving checked.entry.0 checked.entry.1) start (map event_value events.now) outputs)
+        (IsRunText (moving checked.entry.0 checked.entry.1) start (map event_value events.now)) outputs }
     ensures lists { let outputs = stream (O.contents output.old) (O.failures output.old) (O.contents output.new) (O.failures output.new) in
         ShowsAllOr result (ShowsAtMost checked.entry.0 (length events.now) outputs) (ShowsOutcomes checked.entry.0 (length events.now) outputs)
         (AreLinesAtMost checked.entry.0 (length events.now)) outputs }
