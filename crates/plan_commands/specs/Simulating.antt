@@ -70,19 +70,19 @@ SimulatesFrom tables w events ended output =
 abbrev pub SimulatesBy : Tables → Certificate → List EventValue → Status → Stream → Type 0
 SimulatesBy tables cert events ended output = SimulatesFrom tables (at_start tables.plan cert) events ended output
 
+-- so it is at a checked plan
+abbrev pub Simulates : Plan → Certificate → List EventValue → Status → Stream → Type 0
+Simulates plan cert events ended output = SimulatesBy (one_plan plan) cert events ended output
+
 -- termini at which nothing waits, as many as are planned
 pub record AreIdle (plan : Plan) (cert : Certificate) (termini : List TerminusState) : Type 0 where
   pub many : length termini ≡ length (planned_termini plan cert)
   pub none_waits : All (λ (t : TerminusState). t.waiting ≡ []) termini
 
--- so it is from rest over some such termini
+-- what the end of a run says of the events, in runs by these tables from rest over some such termini, and of what was written
 abbrev pub SimulatesAtRest : Tables → Certificate → List EventValue → Status → Stream → Type 0
 SimulatesAtRest tables cert events ended output = (termini : List TerminusState) × AreIdle tables.plan cert termini
     × SimulatesFrom tables (at_rest tables.plan termini) events ended output
-
--- so it is at a checked plan
-abbrev pub Simulates : Plan → Certificate → List EventValue → Status → Stream → Type 0
-Simulates plan cert events ended output = SimulatesBy (one_plan plan) cert events ended output
 
 -- the output was given the lines of so many of the outcomes
 abbrev pub ShowsLines : Plan → List OutcomeValue → ℕ → Stream → Type 0
