@@ -38,8 +38,8 @@ TellsMovedInPart befores afters certificates happenings output = (before : Plan)
     × IsPlayGiven befores afters certificates happenings before after certificate events × AcceptsMove before after certificate
     × ShowsAtMost before (length events) output
 
--- Every rule of a move holds of the plans and the certificate that were given, and what was written is what comes of the events that
--- were given, in runs of the move from rest over some termini.
+-- Every rule of a move holds of the plans and the certificate that were given, and what was written is what comes of
+-- the events that were given, in runs of the move from rest over some termini.
 abbrev pub TellsMovedRun : Status → Stream → Stream → Stream → Stream → Stream → Type 0
 TellsMovedRun ended befores afters certificates happenings output = (before : Plan) × (after : Plan) × (certificate : Certificate) × (events : List Event)
     × IsPlayGiven befores afters certificates happenings before after certificate events × AcceptsMove before after certificate

@@ -79,7 +79,7 @@ pub record AreIdle (plan : Plan) (cert : Certificate) (termini : List TerminusSt
   pub many : length termini ≡ length (planned_termini plan cert)
   pub none_waits : All (λ (t : TerminusState). t.waiting ≡ []) termini
 
--- what the end of a run says of the events, in runs by these tables from rest over some such termini, and of what was written
+-- what the end of a run says of the events, in runs from rest over some such termini, and of what was written
 abbrev pub SimulatesAtRest : Tables → Certificate → List EventValue → Status → Stream → Type 0
 SimulatesAtRest tables cert events ended output = (termini : List TerminusState) × AreIdle tables.plan cert termini
     × SimulatesFrom tables (at_rest tables.plan termini) events ended output
@@ -122,8 +122,8 @@ TellsBeginning plans certificates happenings output = (plan : Plan) × (certific
     × AreGiven plans certificates plan certificate × GaveEvents plan happenings events × Accepts plan certificate
     × ShowsAtMost plan (length events) output
 
--- Every rule holds of the plan and the certificate that were given, and what was written is what comes of the events that were
--- given, in runs of the plan from rest over some termini.
+-- Every rule holds of the plan and the certificate that were given, and what was written is what comes of the events
+-- that were given, in runs of the plan from rest over some termini.
 abbrev pub TellsRun : Status → Stream → Stream → Stream → Stream → Type 0
 TellsRun ended plans certificates happenings output = (plan : Plan) × (certificate : Certificate) × (events : List Event)
     × AreGiven plans certificates plan certificate × GaveEvents plan happenings events × Accepts plan certificate

@@ -26,8 +26,8 @@ use pdr_repository::Terminus;
 use std::alloc::Global;
 
 /// Plays events in the network of a checked plan, and gives on `output` what comes of each. The termini are one for each node
-/// that has one, in the plan's order; the outcomes are those of a run from rest over them, and where they are as planned, of a run
-/// from the start. Where memory runs out, the lines of what was played before are out, and `errors` says so.
+/// that has one, in the plan's order; the outcomes are those of a run from rest over them, and where they are as
+/// planned, of a run from the start. Where memory runs out, the lines of what was played before are out, and `errors` says so.
 pub fn run_sim<O: Sink, E: Sink>(
     alloc: Global,
     checked: Checked,
@@ -84,8 +84,9 @@ fn answer_sim<O: Sink>(
 }
 
 /// Plays events in the network of a checked move, and gives on `output` what comes of each. The termini are those of the plan
-/// before, one for each node that has one, in its order; the outcomes are those of a run from rest over them, and where they are as
-/// planned, of a run from the start. Where memory runs out, the lines of what was played before are out, and `errors` says so.
+/// before, one for each node that has one, in its order; the outcomes are those of a run from rest over them, and where
+/// they are as planned, of a run from the start. Where memory runs out, the lines of what was played before are out, and
+/// `errors` says so.
 pub fn run_simmove<O: Sink, E: Sink>(
     alloc: Global,
     checked: CheckedMove,
