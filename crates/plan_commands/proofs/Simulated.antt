@@ -4,6 +4,7 @@ use Rattle.std.proofs.Math.Seq.{take-append-add}
 use Rattle.std.specs.Prelude.{slice_get, option_map, ◌⊎◌, IfErr}
 use Rattle.std.specs.Io.KnownBytes.{Appends}
 use Rattle.std.proofs.KnownBytes.{Appends-nil, Appends-trans}
+use Rattle.std.proofs.lemmas.List.Elements.{All-map}
 use Rattle.std.proofs.lemmas.List.{length-map, length-take, length-take-le, take_more, take_all, take-map}
 use Rattle.std.proofs.lemmas.Option.{slice_get-map, slice_get-get_or, slice_get_within, get_or_from_slice_get}
 use Rattle.net_plan.specs.declared.event.Event.{Event}
@@ -12,8 +13,11 @@ use Rattle.net_plan.specs.Stream.{AppendsBeginning}
 use Rattle.net_check.specs.Events.{EventValue, OutcomeValue}
 use Rattle.net_check.specs.Runs.{Turn, RunFrom}
 use Rattle.net_check.specs.States.{NetworkState}
+use Rattle.net_check.specs.Termini.{TerminusState}
 use Rattle.net_check.specs.TwoPlans.{Tables}
+use Rattle.pdr_repository.specs.Records.{Entry}
 use Rattle.net_sim.specs.declared.outcome.Outcome.{Outcome}
+use Rattle.net_sim.specs.Dealing.{resting, planned_termini}
 use Rattle.net_sim.specs.Outcomes.{event_value, outcome_value}
 use Rattle.net_sim.specs.Played.{IsRunOf, StopsAfter}
 use Rattle.net_sim.specs.Standing.{NetworkValue}
@@ -35,7 +39,7 @@ use Rattle.net_plan.specs.PlanValues.{plan_value}
 use Rattle.net_plan.specs.TextFaults.{error_count}
 use Rattle.net_plan.specs.Unread.{GaveNoEvents}
 use Rattle.plan_commands.specs.OutcomeLines.{outcome_line, lines_from, outcome_lines}
-use Rattle.plan_commands.specs.Simulating.{IsRunText, ShowsRun, ShowsBeginning, ShowsAllOr, EndsShowing, AreFirstLines, AreLinesAtMost, ShowsLines, ShowsOutcomes, ShowsAtMost, GaveEvents, TellsBeginning, IsSimAnswer, AreUnreadAmong, IsUnsimulatedFor, SimulatesFiles}
+use Rattle.plan_commands.specs.Simulating.{IsRunText, ShowsRun, ShowsBeginning, ShowsAllOr, EndsShowing, AreFirstLines, AreIdle, SimulatesAtRest, AreLinesAtMost, ShowsLines, ShowsOutcomes, ShowsAtMost, GaveEvents, TellsBeginning, IsSimAnswer, AreUnreadAmong, IsUnsimulatedFor, SimulatesFiles}
 
 -- ---- lines
 
@@ -230,6 +234,26 @@ pub lists_by : {T : Type 0} (plan plan' : Plan) (count : ℕ) (result : Result T
     → ShowsAllOr result (ShowsAtMost plan count output) (ShowsOutcomes plan count output) (AreLinesAtMost plan count) output
 lists_by plan plan' count result output same =
     subst (λ (p : Plan). ShowsAllOr result (ShowsAtMost p count output) (ShowsOutcomes p count output) (AreLinesAtMost p count) output) same
+
+-- ---- some termini
+
+pub idle_boxes : {B : Type 0} (tid : B → ℕ) (records : B → List Entry) (boxes : List B) (plan plan' : Plan) (cert cert' : Certificate) (count : ℕ) (planned : List TerminusState)
+    → length boxes ≡ count → count ≡ length planned → planned ≡ planned_termini plan' cert' → plan' ≡ plan → cert' ≡ cert
+    → AreIdle plan cert (map (resting tid records) boxes)
+idle_boxes tid records boxes plan plan' cert cert' count planned boxed all is same same_cert = record {
+  many = length-map boxes (resting tid records) ∙ (boxed ∙ (all ∙ (ap (λ ts. length ts) is
+      ∙ (ap (λ (p : Plan). length (planned_termini p cert')) same ∙ ap (λ (k : Certificate). length (planned_termini plan k)) same_cert))));
+  none_waits = All-map (λ (t : TerminusState). t.waiting ≡ []) (resting tid records) boxes (λ k d within. refl);
+}
+
+pub at_rest_in : (tables tables' : Tables) (cert cert' : Certificate) (events events' : List Event) (ended : Status) (output : Stream)
+    → tables' ≡ tables → cert' ≡ cert → events' ≡ events
+    → SimulatesAtRest tables' cert' (map event_value events') ended output → SimulatesAtRest tables cert (map event_value events) ended output
+at_rest_in tables tables' cert cert' events events' ended output same same_cert listed shown =
+    let P : List Event → Type 0 = λ es. SimulatesAtRest tables cert (map event_value es) ended output in
+    let Q : Certificate → Type 0 = λ k. SimulatesAtRest tables k (map event_value events') ended output in
+    let R : Tables → Type 0 = λ t. SimulatesAtRest t cert' (map event_value events') ended output in
+    subst P listed (subst Q same_cert (subst R same shown))
 
 -- ---- files
 

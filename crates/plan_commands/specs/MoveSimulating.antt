@@ -1,6 +1,8 @@
 -- What the end of `simmove` says of the files that it read, and of what it wrote.
-use Rattle.std.specs.Prelude.{◌≡◌, ◌⊎◌, ℕ, List, length, ⊤}
+use Rattle.std.specs.Prelude.{◌≡◌, ◌⊎◌, ℕ, List, length, map, ⊤}
 use Rattle.net_check.specs.MoveRules.{AcceptsMove}
+use Rattle.net_check.specs.TwoPlans.{moving}
+use Rattle.net_sim.specs.Outcomes.{event_value}
 use Rattle.net_plan.specs.declared.plan.Plan.{Plan}
 use Rattle.net_plan.specs.declared.certificate.Certificate.{Certificate}
 use Rattle.net_plan.specs.declared.error.PlanError.{PlanError}
@@ -15,7 +17,7 @@ use Rattle.plan_commands.specs.declared.status.Status.{Status}
 use Rattle.plan_commands.specs.declared.status.Status.TheVariants as status
 use Rattle.plan_commands.specs.Answers.{Stream, Fails, GaveNothing}
 use Rattle.plan_commands.specs.Moving.{IsMoveGiven, IsMoveFaultText, IsUnreadInMove, TellsMoveFault}
-use Rattle.plan_commands.specs.Simulating.{AreLinesAtMost, ShowsOutcomes, ShowsAtMost, GaveEvents}
+use Rattle.plan_commands.specs.Simulating.{SimulatesAtRest, AreLinesAtMost, ShowsOutcomes, ShowsAtMost, GaveEvents}
 use Rattle.plan_commands.specs.Statuses.{status_of}
 
 -- the sources gave the plans, the certificate, and the events at the nodes of the plan before
@@ -35,6 +37,13 @@ abbrev pub TellsMovedInPart : Stream → Stream → Stream → Stream → Stream
 TellsMovedInPart befores afters certificates happenings output = (before : Plan) × (after : Plan) × (certificate : Certificate) × (events : List Event)
     × IsPlayGiven befores afters certificates happenings before after certificate events × AcceptsMove before after certificate
     × ShowsAtMost before (length events) output
+
+-- Every rule of a move holds of the plans and the certificate that were given, and what was written is what comes of
+-- the events that were given, in runs of the move from rest over some termini.
+abbrev pub TellsMovedRun : Status → Stream → Stream → Stream → Stream → Stream → Type 0
+TellsMovedRun ended befores afters certificates happenings output = (before : Plan) × (after : Plan) × (certificate : Certificate) × (events : List Event)
+    × IsPlayGiven befores afters certificates happenings before after certificate events × AcceptsMove before after certificate
+    × SimulatesAtRest (moving before after) certificate (map event_value events) ended output
 
 -- The text answers for the files that were given: where every rule of a move holds it is an outcome's line for each event of a
 -- beginning of them, else the line of the first fault.

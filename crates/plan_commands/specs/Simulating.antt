@@ -1,5 +1,5 @@
 -- What the end of `sim` says of the events that were played and of what was written.
-use Rattle.std.specs.Prelude.{◌≡◌, ◌≤◌, ◌⊎◌, ℕ, List, length, map, take, Result, Ok, Err, ⊤}
+use Rattle.std.specs.Prelude.{◌≡◌, ◌≤◌, ◌⊎◌, ℕ, List, All, [], length, map, take, Result, Ok, Err, ⊤}
 use Rattle.std.specs.Io.KnownBytes.{Appends}
 use Rattle.net_plan.specs.declared.plan.Plan.{Plan}
 use Rattle.net_plan.specs.declared.certificate.Certificate.{Certificate}
@@ -14,7 +14,10 @@ use Rattle.net_check.specs.Events.{EventValue, OutcomeValue}
 use Rattle.net_check.specs.Rules.{Accepts}
 use Rattle.net_check.specs.Runs.{Turn, RunFrom}
 use Rattle.net_check.specs.States.{NetworkState, at_start}
+use Rattle.net_check.specs.Termini.{TerminusState}
 use Rattle.net_check.specs.TwoPlans.{Tables, one_plan}
+use Rattle.net_sim.specs.Dealing.{at_rest, planned_termini}
+use Rattle.net_sim.specs.Outcomes.{event_value}
 use Rattle.plan_commands.specs.declared.refused.Input.{Input}
 use Rattle.plan_commands.specs.declared.refused.Input.TheVariants as input
 use Rattle.plan_commands.specs.declared.refused.Refused.{Refused}
@@ -58,15 +61,28 @@ EndsShowing status.Fault part all IsText output = ⊥
 EndsShowing status.Unreadable part all IsText output = BreaksOff IsText output
 EndsShowing status.NoMemory part all IsText output = part
 
--- what the end of a run says of the events, in runs by these tables from the start, and of what was written
+-- what the end of a run says of the events, in runs by these tables from the state, and of what was written
+abbrev pub SimulatesFrom : Tables → NetworkState → List EventValue → Status → Stream → Type 0
+SimulatesFrom tables w events ended output =
+    EndsShowing ended (ShowsBeginning tables w events output) (ShowsRun tables w events output) (IsRunText tables w events) output
+
+-- so it is from the start
 abbrev pub SimulatesBy : Tables → Certificate → List EventValue → Status → Stream → Type 0
-SimulatesBy tables cert events ended output =
-    let start = at_start tables.plan cert in
-    EndsShowing ended (ShowsBeginning tables start events output) (ShowsRun tables start events output) (IsRunText tables start events) output
+SimulatesBy tables cert events ended output = SimulatesFrom tables (at_start tables.plan cert) events ended output
 
 -- so it is at a checked plan
 abbrev pub Simulates : Plan → Certificate → List EventValue → Status → Stream → Type 0
 Simulates plan cert events ended output = SimulatesBy (one_plan plan) cert events ended output
+
+-- termini at which nothing waits, as many as are planned
+pub record AreIdle (plan : Plan) (cert : Certificate) (termini : List TerminusState) : Type 0 where
+  pub many : length termini ≡ length (planned_termini plan cert)
+  pub none_waits : All (λ (t : TerminusState). t.waiting ≡ []) termini
+
+-- what the end of a run says of the events, in runs from rest over some such termini, and of what was written
+abbrev pub SimulatesAtRest : Tables → Certificate → List EventValue → Status → Stream → Type 0
+SimulatesAtRest tables cert events ended output = (termini : List TerminusState) × AreIdle tables.plan cert termini
+    × SimulatesFrom tables (at_rest tables.plan termini) events ended output
 
 -- the output was given the lines of so many of the outcomes
 abbrev pub ShowsLines : Plan → List OutcomeValue → ℕ → Stream → Type 0
@@ -105,6 +121,13 @@ abbrev pub TellsBeginning : Stream → Stream → Stream → Stream → Type 0
 TellsBeginning plans certificates happenings output = (plan : Plan) × (certificate : Certificate) × (events : List Event)
     × AreGiven plans certificates plan certificate × GaveEvents plan happenings events × Accepts plan certificate
     × ShowsAtMost plan (length events) output
+
+-- Every rule holds of the plan and the certificate that were given, and what was written is what comes of the events
+-- that were given, in runs of the plan from rest over some termini.
+abbrev pub TellsRun : Status → Stream → Stream → Stream → Stream → Type 0
+TellsRun ended plans certificates happenings output = (plan : Plan) × (certificate : Certificate) × (events : List Event)
+    × AreGiven plans certificates plan certificate × GaveEvents plan happenings events × Accepts plan certificate
+    × SimulatesAtRest (one_plan plan) certificate (map event_value events) ended output
 
 -- The text answers for the plan, the certificate and the events that were given: where every rule holds it is an outcome's line for
 -- each event of a beginning of them, else the line of the first fault.

@@ -4,12 +4,12 @@ ghost use Rattle.plan_commands.specs.declared.status.Status.TheVariants.{Yes};
 ghost use Rattle.net_check.specs.States.{NetworkState, at_start};
 ghost use Rattle.net_check.specs.TwoPlans.{Tables, one_plan, moving};
 ghost use Rattle.net_check.specs.Events.{EventValue};
-ghost use Rattle.net_sim.specs.Dealing.{resting, planned_termini};
+ghost use Rattle.net_sim.specs.Dealing.{resting, at_rest, planned_termini};
 ghost use Rattle.net_sim.specs.Outcomes.{event_value, outcome_value};
 ghost use Rattle.net_sim.specs.Played.{IsRunOf};
 ghost use Rattle.net_sim.specs.Standing.{NetworkValue};
 ghost use Rattle.plan_commands.specs.Answers.{stream};
-ghost use Rattle.plan_commands.specs.Simulating.{IsRunText, ShowsRun, ShowsBeginning, ShowsAllOr, EndsShowing, SimulatesBy, Simulates, AreFirstLines, AreLinesAtMost, ShowsLines, ShowsOutcomes, ShowsAtMost};
+ghost use Rattle.plan_commands.specs.Simulating.{IsRunText, ShowsRun, ShowsBeginning, ShowsAllOr, EndsShowing, SimulatesFrom, SimulatesBy, Simulates, AreFirstLines, AreLinesAtMost, ShowsLines, ShowsOutcomes, ShowsAtMost};
 
 pub mod files;
 pub mod moves;
@@ -26,8 +26,8 @@ use pdr_repository::Terminus;
 use std::alloc::Global;
 
 /// Plays events in the network of a checked plan, and gives on `output` what comes of each. The termini are one for each node
-/// that has one, in the plan's order; where they are as planned, the outcomes are those of a run from the start. Where memory
-/// runs out, the lines of what was played before are out, and `errors` says so.
+/// that has one, in the plan's order; the outcomes are those of a run from rest over them, and where they are as
+/// planned, of a run from the start. Where memory runs out, the lines of what was played before are out, and `errors` says so.
 pub fn run_sim<O: Sink, E: Sink>(
     alloc: Global,
     checked: Checked,
@@ -41,6 +41,9 @@ pub fn run_sim<O: Sink, E: Sink>(
     ensures plays { let outputs = stream (O.contents output.old) (O.failures output.old) (O.contents output.new) (O.failures output.new) in
         map (resting (λ b. tid b) (λ b. records b)) termini.items ≡ planned_termini checked.entry.0 checked.entry.1
         → Simulates checked.entry.0 checked.entry.1 (map event_value events.now) result outputs }
+    ensures rests { let outputs = stream (O.contents output.old) (O.failures output.old) (O.contents output.new) (O.failures output.new) in
+        SimulatesFrom (one_plan checked.entry.0) (at_rest checked.entry.0 (map (resting (λ b. tid b) (λ b. records b)) termini.items))
+        (map event_value events.now) result outputs }
     ensures lists { let outputs = stream (O.contents output.old) (O.failures output.old) (O.contents output.new) (O.failures output.new) in
         EndsShowing result (ShowsAtMost checked.entry.0 (length events.now) outputs) (ShowsOutcomes checked.entry.0 (length events.now) outputs)
         (AreLinesAtMost checked.entry.0 (length events.now)) outputs }
@@ -65,6 +68,11 @@ fn answer_sim<O: Sink>(
         → ShowsAllOr result (ShowsBeginning (one_plan checked.entry.0) (at_start checked.entry.0 checked.entry.1) (map event_value events.now) outputs)
         (ShowsRun (one_plan checked.entry.0) (at_start checked.entry.0 checked.entry.1) (map event_value events.now) outputs)
         (IsRunText (one_plan checked.entry.0) (at_start checked.entry.0 checked.entry.1) (map event_value events.now)) outputs }
+    ensures rests { let outputs = stream (O.contents output.old) (O.failures output.old) (O.contents output.new) (O.failures output.new) in
+        let start = at_rest checked.entry.0 (map (resting (λ b. tid b) (λ b. records b)) termini.items) in
+        ShowsAllOr result (ShowsBeginning (one_plan checked.entry.0) start (map event_value events.now) outputs)
+        (ShowsRun (one_plan checked.entry.0) start (map event_value events.now) outputs)
+        (IsRunText (one_plan checked.entry.0) start (map event_value events.now)) outputs }
     ensures lists { let outputs = stream (O.contents output.old) (O.failures output.old) (O.contents output.new) (O.failures output.new) in
         ShowsAllOr result (ShowsAtMost checked.entry.0 (length events.now) outputs) (ShowsOutcomes checked.entry.0 (length events.now) outputs)
         (AreLinesAtMost checked.entry.0 (length events.now)) outputs }
@@ -76,8 +84,9 @@ fn answer_sim<O: Sink>(
 }
 
 /// Plays events in the network of a checked move, and gives on `output` what comes of each. The termini are those of the plan
-/// before, one for each node that has one, in its order; where they are as planned, the outcomes are those of a run from the start.
-/// Where memory runs out, the lines of what was played before are out, and `errors` says so.
+/// before, one for each node that has one, in its order; the outcomes are those of a run from rest over them, and where
+/// they are as planned, of a run from the start. Where memory runs out, the lines of what was played before are out, and
+/// `errors` says so.
 pub fn run_simmove<O: Sink, E: Sink>(
     alloc: Global,
     checked: CheckedMove,
@@ -91,6 +100,9 @@ pub fn run_simmove<O: Sink, E: Sink>(
     ensures plays { let outputs = stream (O.contents output.old) (O.failures output.old) (O.contents output.new) (O.failures output.new) in
         map (resting (λ b. tid b) (λ b. records b)) termini.items ≡ planned_termini checked.entry.0 checked.entry.2
         → SimulatesBy (moving checked.entry.0 checked.entry.1) checked.entry.2 (map event_value events.now) result outputs }
+    ensures rests { let outputs = stream (O.contents output.old) (O.failures output.old) (O.contents output.new) (O.failures output.new) in
+        SimulatesFrom (moving checked.entry.0 checked.entry.1) (at_rest checked.entry.0 (map (resting (λ b. tid b) (λ b. records b)) termini.items))
+        (map event_value events.now) result outputs }
     ensures lists { let outputs = stream (O.contents output.old) (O.failures output.old) (O.contents output.new) (O.failures output.new) in
         EndsShowing result (ShowsAtMost checked.entry.0 (length events.now) outputs) (ShowsOutcomes checked.entry.0 (length events.now) outputs)
         (AreLinesAtMost checked.entry.0 (length events.now)) outputs }
@@ -115,6 +127,11 @@ fn answer_simmove<O: Sink>(
         → ShowsAllOr result (ShowsBeginning (moving checked.entry.0 checked.entry.1) (at_start checked.entry.0 checked.entry.2) (map event_value events.now) outputs)
         (ShowsRun (moving checked.entry.0 checked.entry.1) (at_start checked.entry.0 checked.entry.2) (map event_value events.now) outputs)
         (IsRunText (moving checked.entry.0 checked.entry.1) (at_start checked.entry.0 checked.entry.2) (map event_value events.now)) outputs }
+    ensures rests { let outputs = stream (O.contents output.old) (O.failures output.old) (O.contents output.new) (O.failures output.new) in
+        let start = at_rest checked.entry.0 (map (resting (λ b. tid b) (λ b. records b)) termini.items) in
+        ShowsAllOr result (ShowsBeginning (moving checked.entry.0 checked.entry.1) start (map event_value events.now) outputs)
+        (ShowsRun (moving checked.entry.0 checked.entry.1) start (map event_value events.now) outputs)
+        (IsRunText (moving checked.entry.0 checked.entry.1) start (map event_value events.now)) outputs }
     ensures lists { let outputs = stream (O.contents output.old) (O.failures output.old) (O.contents output.new) (O.failures output.new) in
         ShowsAllOr result (ShowsAtMost checked.entry.0 (length events.now) outputs) (ShowsOutcomes checked.entry.0 (length events.now) outputs)
         (AreLinesAtMost checked.entry.0 (length events.now)) outputs }

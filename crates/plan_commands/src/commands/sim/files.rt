@@ -1,9 +1,11 @@
 //! The command `sim` over the files that it reads.
-ghost use Rattle.std.specs.Prelude.{◌≡◌, ◌⊎◌, ◌<◌, ◌^◌, ◌-◌, IfOk, IfErr, OnErr, length};
+ghost use Rattle.std.specs.Prelude.{◌≡◌, ◌⊎◌, ◌<◌, ◌^◌, ◌-◌, IfOk, IfErr, OnErr, length, map};
 ghost use Rattle.plan_commands.specs.declared.status.Status.TheVariants.{Yes, Fault, Unreadable, NoMemory};
 ghost use Rattle.plan_commands.specs.declared.refused.Refused.TheVariants.{Unwritten};
+ghost use Rattle.net_check.specs.TwoPlans.{one_plan};
+ghost use Rattle.net_sim.specs.Outcomes.{event_value};
 ghost use Rattle.plan_commands.specs.Answers.{stream, BreaksOff, AreGiven};
-ghost use Rattle.plan_commands.specs.Simulating.{EndsShowing, AreLinesAtMost, ShowsAtMost, ShowsOutcomes, GaveEvents, TellsBeginning, IsSimAnswer, AreUnreadAmong, IsUnsimulatedFor, SimulatesFiles};
+ghost use Rattle.plan_commands.specs.Simulating.{EndsShowing, SimulatesAtRest, AreLinesAtMost, ShowsAtMost, ShowsOutcomes, GaveEvents, TellsBeginning, TellsRun, IsSimAnswer, AreUnreadAmong, IsUnsimulatedFor, SimulatesFiles};
 
 use crate::commands::inputs::read_inputs;
 use crate::commands::sim::run_sim;
@@ -50,6 +52,18 @@ pub fn simulate<P: Source, C: Source, V: Source, O: Sink, E: Sink>(
         let happenings = stream (V.remaining events.old) (V.failures events.old) (V.remaining events.new) (V.failures events.new) in
         let outputs = stream (O.contents output.old) (O.failures output.old) (O.contents output.new) (O.failures output.new) in
         result ≡ NoMemory → (output.new ≡ output.old) ⊎ TellsBeginning plans certificates happenings outputs }
+    ensures runs { let plans = stream (P.remaining plan.old) (P.failures plan.old) (P.remaining plan.new) (P.failures plan.new) in
+        let certificates = stream (C.remaining certificate.old) (C.failures certificate.old)
+        (C.remaining certificate.new) (C.failures certificate.new) in
+        let happenings = stream (V.remaining events.old) (V.failures events.old) (V.remaining events.new) (V.failures events.new) in
+        let outputs = stream (O.contents output.old) (O.failures output.old) (O.contents output.new) (O.failures output.new) in
+        result ≡ Yes → TellsRun result plans certificates happenings outputs }
+    ensures partly_runs { let plans = stream (P.remaining plan.old) (P.failures plan.old) (P.remaining plan.new) (P.failures plan.new) in
+        let certificates = stream (C.remaining certificate.old) (C.failures certificate.old)
+        (C.remaining certificate.new) (C.failures certificate.new) in
+        let happenings = stream (V.remaining events.old) (V.failures events.old) (V.remaining events.new) (V.failures events.new) in
+        let outputs = stream (O.contents output.old) (O.failures output.old) (O.contents output.new) (O.failures output.new) in
+        result ≡ NoMemory → (output.new ≡ output.old) ⊎ TellsRun result plans certificates happenings outputs }
 {
     match answer_files(alloc, plan, certificate, events, output, errors) {
         Ok(status) => status,
@@ -95,6 +109,18 @@ fn answer_files<P: Source, C: Source, V: Source, O: Sink, E: Sink>(
         let happenings = stream (V.remaining events.old) (V.failures events.old) (V.remaining events.new) (V.failures events.new) in
         let outputs = stream (O.contents output.old) (O.failures output.old) (O.contents output.new) (O.failures output.new) in
         IfOk result (λ status. status ≡ NoMemory → TellsBeginning plans certificates happenings outputs) }
+    ensures runs { let plans = stream (P.remaining plan.old) (P.failures plan.old) (P.remaining plan.new) (P.failures plan.new) in
+        let certificates = stream (C.remaining certificate.old) (C.failures certificate.old)
+        (C.remaining certificate.new) (C.failures certificate.new) in
+        let happenings = stream (V.remaining events.old) (V.failures events.old) (V.remaining events.new) (V.failures events.new) in
+        let outputs = stream (O.contents output.old) (O.failures output.old) (O.contents output.new) (O.failures output.new) in
+        IfOk result (λ status. status ≡ Yes → TellsRun status plans certificates happenings outputs) }
+    ensures partly_runs { let plans = stream (P.remaining plan.old) (P.failures plan.old) (P.remaining plan.new) (P.failures plan.new) in
+        let certificates = stream (C.remaining certificate.old) (C.failures certificate.old)
+        (C.remaining certificate.new) (C.failures certificate.new) in
+        let happenings = stream (V.remaining events.old) (V.failures events.old) (V.remaining events.new) (V.failures events.new) in
+        let outputs = stream (O.contents output.old) (O.failures output.old) (O.contents output.new) (O.failures output.new) in
+        IfOk result (λ status. status ≡ NoMemory → TellsRun status plans certificates happenings outputs) }
     ensures untouched { let plans = stream (P.remaining plan.old) (P.failures plan.old) (P.remaining plan.new) (P.failures plan.new) in
         let certificates = stream (C.remaining certificate.old) (C.failures certificate.old)
         (C.remaining certificate.new) (C.failures certificate.new) in
@@ -153,6 +179,8 @@ fn play<O: Sink, E: Sink>(
     ensures lists { let outputs = stream (O.contents output.old) (O.failures output.old) (O.contents output.new) (O.failures output.new) in
         IfOk result (λ status. EndsShowing status (ShowsAtMost checked.entry.0 (length events.now) outputs)
         (ShowsOutcomes checked.entry.0 (length events.now) outputs) (AreLinesAtMost checked.entry.0 (length events.now)) outputs) }
+    ensures rests { let outputs = stream (O.contents output.old) (O.failures output.old) (O.contents output.new) (O.failures output.new) in
+        IfOk result (λ status. SimulatesAtRest (one_plan checked.entry.0) checked.entry.1 (map event_value events.now) status outputs) }
     ensures untouched { OnErr result (output.new ≡ output.old) }
     ensures silent { IfOk result (λ status. status ≡ Yes → errors.new ≡ errors.old) }
     ensures unsaid { OnErr result (errors.new ≡ errors.old) }

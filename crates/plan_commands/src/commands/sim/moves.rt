@@ -1,10 +1,12 @@
 //! The command `simmove` over the files that it reads.
-ghost use Rattle.std.specs.Prelude.{◌≡◌, ◌⊎◌, ◌<◌, ◌^◌, ◌-◌, IfOk, IfErr, OnErr, length};
+ghost use Rattle.std.specs.Prelude.{◌≡◌, ◌⊎◌, ◌<◌, ◌^◌, ◌-◌, IfOk, IfErr, OnErr, length, map};
 ghost use Rattle.plan_commands.specs.declared.refused.Refused.TheVariants.{Unwritten};
 ghost use Rattle.plan_commands.specs.declared.status.Status.TheVariants.{Yes, Fault, Unreadable, NoMemory};
+ghost use Rattle.net_check.specs.TwoPlans.{moving};
+ghost use Rattle.net_sim.specs.Outcomes.{event_value};
 ghost use Rattle.plan_commands.specs.Answers.{stream, BreaksOff};
-ghost use Rattle.plan_commands.specs.MoveSimulating.{IsPlayGiven, TellsMovedInPart, IsPlayAnswer, IsPlayUnread, IsUnplayedFor, SimulatesMoveFiles};
-ghost use Rattle.plan_commands.specs.Simulating.{EndsShowing, AreLinesAtMost, ShowsAtMost, ShowsOutcomes};
+ghost use Rattle.plan_commands.specs.MoveSimulating.{IsPlayGiven, TellsMovedInPart, TellsMovedRun, IsPlayAnswer, IsPlayUnread, IsUnplayedFor, SimulatesMoveFiles};
+ghost use Rattle.plan_commands.specs.Simulating.{EndsShowing, SimulatesAtRest, AreLinesAtMost, ShowsAtMost, ShowsOutcomes};
 
 use crate::commands::inputs::read_move;
 use crate::commands::moving::print_move_error;
@@ -57,6 +59,20 @@ pub fn simulate_move<P: Source, Q: Source, C: Source, V: Source, O: Sink, E: Sin
         let happenings = stream (V.remaining events.old) (V.failures events.old) (V.remaining events.new) (V.failures events.new) in
         let outputs = stream (O.contents output.old) (O.failures output.old) (O.contents output.new) (O.failures output.new) in
         result ≡ NoMemory → (output.new ≡ output.old) ⊎ TellsMovedInPart befores afters certificates happenings outputs }
+    ensures runs { let befores = stream (P.remaining before.old) (P.failures before.old) (P.remaining before.new) (P.failures before.new) in
+        let afters = stream (Q.remaining after.old) (Q.failures after.old) (Q.remaining after.new) (Q.failures after.new) in
+        let certificates = stream (C.remaining certificate.old) (C.failures certificate.old)
+        (C.remaining certificate.new) (C.failures certificate.new) in
+        let happenings = stream (V.remaining events.old) (V.failures events.old) (V.remaining events.new) (V.failures events.new) in
+        let outputs = stream (O.contents output.old) (O.failures output.old) (O.contents output.new) (O.failures output.new) in
+        result ≡ Yes → TellsMovedRun result befores afters certificates happenings outputs }
+    ensures partly_runs { let befores = stream (P.remaining before.old) (P.failures before.old) (P.remaining before.new) (P.failures before.new) in
+        let afters = stream (Q.remaining after.old) (Q.failures after.old) (Q.remaining after.new) (Q.failures after.new) in
+        let certificates = stream (C.remaining certificate.old) (C.failures certificate.old)
+        (C.remaining certificate.new) (C.failures certificate.new) in
+        let happenings = stream (V.remaining events.old) (V.failures events.old) (V.remaining events.new) (V.failures events.new) in
+        let outputs = stream (O.contents output.old) (O.failures output.old) (O.contents output.new) (O.failures output.new) in
+        result ≡ NoMemory → (output.new ≡ output.old) ⊎ TellsMovedRun result befores afters certificates happenings outputs }
 {
     match answer_move_files(alloc, before, after, certificate, events, output, errors) {
         Ok(status) => status,
@@ -108,6 +124,20 @@ fn answer_move_files<P: Source, Q: Source, C: Source, V: Source, O: Sink, E: Sin
         let happenings = stream (V.remaining events.old) (V.failures events.old) (V.remaining events.new) (V.failures events.new) in
         let outputs = stream (O.contents output.old) (O.failures output.old) (O.contents output.new) (O.failures output.new) in
         IfOk result (λ status. status ≡ NoMemory → TellsMovedInPart befores afters certificates happenings outputs) }
+    ensures runs { let befores = stream (P.remaining before.old) (P.failures before.old) (P.remaining before.new) (P.failures before.new) in
+        let afters = stream (Q.remaining after.old) (Q.failures after.old) (Q.remaining after.new) (Q.failures after.new) in
+        let certificates = stream (C.remaining certificate.old) (C.failures certificate.old)
+        (C.remaining certificate.new) (C.failures certificate.new) in
+        let happenings = stream (V.remaining events.old) (V.failures events.old) (V.remaining events.new) (V.failures events.new) in
+        let outputs = stream (O.contents output.old) (O.failures output.old) (O.contents output.new) (O.failures output.new) in
+        IfOk result (λ status. status ≡ Yes → TellsMovedRun status befores afters certificates happenings outputs) }
+    ensures partly_runs { let befores = stream (P.remaining before.old) (P.failures before.old) (P.remaining before.new) (P.failures before.new) in
+        let afters = stream (Q.remaining after.old) (Q.failures after.old) (Q.remaining after.new) (Q.failures after.new) in
+        let certificates = stream (C.remaining certificate.old) (C.failures certificate.old)
+        (C.remaining certificate.new) (C.failures certificate.new) in
+        let happenings = stream (V.remaining events.old) (V.failures events.old) (V.remaining events.new) (V.failures events.new) in
+        let outputs = stream (O.contents output.old) (O.failures output.old) (O.contents output.new) (O.failures output.new) in
+        IfOk result (λ status. status ≡ NoMemory → TellsMovedRun status befores afters certificates happenings outputs) }
     ensures untouched { let befores = stream (P.remaining before.old) (P.failures before.old) (P.remaining before.new) (P.failures before.new) in
         let afters = stream (Q.remaining after.old) (Q.failures after.old) (Q.remaining after.new) (Q.failures after.new) in
         let certificates = stream (C.remaining certificate.old) (C.failures certificate.old)
@@ -178,6 +208,8 @@ fn play_move<O: Sink, E: Sink>(
     ensures lists { let outputs = stream (O.contents output.old) (O.failures output.old) (O.contents output.new) (O.failures output.new) in
         IfOk result (λ status. EndsShowing status (ShowsAtMost checked.entry.0 (length events.now) outputs)
         (ShowsOutcomes checked.entry.0 (length events.now) outputs) (AreLinesAtMost checked.entry.0 (length events.now)) outputs) }
+    ensures rests { let outputs = stream (O.contents output.old) (O.failures output.old) (O.contents output.new) (O.failures output.new) in
+        IfOk result (λ status. SimulatesAtRest (moving checked.entry.0 checked.entry.1) checked.entry.2 (map event_value events.now) status outputs) }
     ensures untouched { OnErr result (output.new ≡ output.old) }
     ensures silent { IfOk result (λ status. status ≡ Yes → errors.new ≡ errors.old) }
     ensures unsaid { OnErr result (errors.new ≡ errors.old) }

@@ -48,3 +48,23 @@ returns-clause-lists g c =
     let output = stream (g.O.Sink.contents c.args.output.now) (g.O.Sink.failures c.args.output.now) (g.O.Sink.contents c.tell_played.new.output) (g.O.Sink.failures c.tell_played.new.output) in
     lists_by c.args.checked.0 c.before-before.result.now (length c.args.events.now) c.tell_played.result output c.before-before.ensures.plan
     (c.tell_played.ensures.lists (length c.args.events.now) few played.whole)
+
+pub returns-in_err-network-clause-rests : goal.returns-in_err-network-clause-rests
+returns-in_err-network-clause-rests g c =
+    let ended : c.from_residual.result ≡ Err refused.NoMemory = search rules in
+    rw ended (shows_nothing (moving c.args.checked.0 c.args.checked.1) _ _ _ refl)
+
+pub returns-in_err-played-clause-rests : goal.returns-in_err-played-clause-rests
+returns-in_err-played-clause-rests g c =
+    let ended : c.from_residual-in_err-played.result ≡ Err refused.NoMemory = search rules in
+    rw ended (shows_nothing (moving c.args.checked.0 c.args.checked.1) _ _ _ refl)
+
+pub returns-clause-rests : goal.returns-clause-rests
+returns-clause-rests g c =
+    let tables = (checked_of c.in_ok-network.network).0 in
+    let events = map event_value c.args.events.now in
+    let played = c.in_ok-played.ensures in
+    let output = stream (g.O.Sink.contents c.args.output.now) (g.O.Sink.failures c.args.output.now) (g.O.Sink.contents c.tell_played.new.output) (g.O.Sink.failures c.tell_played.new.output) in
+    shows_by (moving c.args.checked.0 c.args.checked.1) tables _ events c.tell_played.result output (ap (λ r. r.0) c.in_ok-network.ensures.checked)
+    (c.tell_played.ensures.tells tables _ events _ (c.before-before.ensures.plan ∙ sym (ap (λ r. r.0.plan) c.in_ok-network.ensures.checked))
+    (λ all. played.whole all ∙ sym (length-map c.args.events.now event_value)) (played.plays _ c.in_ok-network.ensures.at_rest))

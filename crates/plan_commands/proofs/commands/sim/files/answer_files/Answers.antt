@@ -1,6 +1,7 @@
 use Rattle.std.proofs.Common.{length, ap}
+use Rattle.net_check.specs.TwoPlans.{one_plan}
 use Rattle.plan_commands.specs.Answers.{stream}
-use Rattle.plan_commands.proofs.Simulated.{files_played, files_broken, files_begun, files_fault_broken, shown_in}
+use Rattle.plan_commands.proofs.Simulated.{files_played, files_broken, files_begun, files_fault_broken, shown_in, at_rest_in}
 use Rattle.plan_commands.proofs.commands.sim.files.answer_files.Goals as goal
 
 pub returns-in-Ok-clause-simulates : goal.returns-in-Ok-clause-simulates
@@ -45,3 +46,33 @@ returns-clause-untouched g c =
     let output = stream (g.O.Sink.contents c.args.output.now) (g.O.Sink.failures c.args.output.now) (g.O.Sink.contents c.print_fault.new.output) (g.O.Sink.failures c.print_fault.new.output) in
     files_fault_broken files.plan files.certificate plans certificates happenings output files.events.items files.ensures.given files.ensures.events c.in-Err.error _ c.print_fault.result
     c.in-Err.ensures.first_fault c.print_fault.ensures.untouched
+
+pub returns-in-Ok-clause-runs : goal.returns-in-Ok-clause-runs
+returns-in-Ok-clause-runs g c = λ is.
+    let files = c.in_ok-plan in
+    let ended = c.in_ok-play-in-Ok in
+    let output = stream (g.O.Sink.contents c.args.output.now) (g.O.Sink.failures c.args.output.now) (g.O.Sink.contents c.play.new.output) (g.O.Sink.failures c.play.new.output) in (
+      files.plan,
+      files.certificate,
+      files.events.items,
+      files.ensures.given,
+      files.ensures.events,
+      c.in-Ok.ensures.accepted,
+      at_rest_in (one_plan files.plan) (one_plan c.in-Ok.checked.0) files.certificate c.in-Ok.checked.1 files.events.items c.deref.result.now ended.field-0 output
+          (ap (λ r. one_plan r.0) c.in-Ok.ensures.checked) (ap (λ r. r.1) c.in-Ok.ensures.checked) c.deref.ensures.value ended.ensures.rests,
+    )
+
+pub returns-in-Ok-clause-partly_runs : goal.returns-in-Ok-clause-partly_runs
+returns-in-Ok-clause-partly_runs g c = λ is.
+    let files = c.in_ok-plan in
+    let ended = c.in_ok-play-in-Ok in
+    let output = stream (g.O.Sink.contents c.args.output.now) (g.O.Sink.failures c.args.output.now) (g.O.Sink.contents c.play.new.output) (g.O.Sink.failures c.play.new.output) in (
+      files.plan,
+      files.certificate,
+      files.events.items,
+      files.ensures.given,
+      files.ensures.events,
+      c.in-Ok.ensures.accepted,
+      at_rest_in (one_plan files.plan) (one_plan c.in-Ok.checked.0) files.certificate c.in-Ok.checked.1 files.events.items c.deref.result.now ended.field-0 output
+          (ap (λ r. one_plan r.0) c.in-Ok.ensures.checked) (ap (λ r. r.1) c.in-Ok.ensures.checked) c.deref.ensures.value ended.ensures.rests,
+    )

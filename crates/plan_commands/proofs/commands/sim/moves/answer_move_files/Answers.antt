@@ -1,7 +1,8 @@
 use Rattle.std.proofs.Common.{length, ap}
+use Rattle.net_check.specs.TwoPlans.{moving}
 use Rattle.plan_commands.specs.Answers.{stream}
 use Rattle.plan_commands.proofs.MovePlayed.{tells_play_fault_in, play_fault_broken, move_played, move_broken, move_begun}
-use Rattle.plan_commands.proofs.Simulated.{shown_in}
+use Rattle.plan_commands.proofs.Simulated.{shown_in, at_rest_in}
 use Rattle.plan_commands.proofs.commands.sim.moves.answer_move_files.Goals as goal
 
 pub returns-in-Ok-clause-simulates : goal.returns-in-Ok-clause-simulates
@@ -64,3 +65,33 @@ returns-clause-simulates g c =
     let output = stream (g.O.Sink.contents c.args.output.now) (g.O.Sink.failures c.args.output.now) (g.O.Sink.contents c.print_move_error.new.output) (g.O.Sink.failures c.print_move_error.new.output) in
     tells_play_fault_in files.before files.after files.certificate befores afters certificates happenings output files.events.items files.ensures.given
     c.in-Err.error c.print_move_error.result c.in-Err.ensures.first_fault c.print_move_error.ensures.written
+
+pub returns-in-Ok-clause-runs : goal.returns-in-Ok-clause-runs
+returns-in-Ok-clause-runs g c = λ is.
+    let files = c.in_ok-before in
+    let ended = c.in_ok-play_move-in-Ok in
+    let output = stream (g.O.Sink.contents c.args.output.now) (g.O.Sink.failures c.args.output.now) (g.O.Sink.contents c.play_move.new.output) (g.O.Sink.failures c.play_move.new.output) in (
+      files.before,
+      files.after,
+      files.certificate,
+      files.events.items,
+      files.ensures.given,
+      c.in-Ok.ensures.accepted,
+      at_rest_in (moving files.before files.after) (moving c.in-Ok.checked.0 c.in-Ok.checked.1) files.certificate c.in-Ok.checked.2 files.events.items c.deref.result.now
+          ended.field-0 output (ap (λ r. moving r.0 r.1) c.in-Ok.ensures.checked) (ap (λ r. r.2) c.in-Ok.ensures.checked) c.deref.ensures.value ended.ensures.rests,
+    )
+
+pub returns-in-Ok-clause-partly_runs : goal.returns-in-Ok-clause-partly_runs
+returns-in-Ok-clause-partly_runs g c = λ is.
+    let files = c.in_ok-before in
+    let ended = c.in_ok-play_move-in-Ok in
+    let output = stream (g.O.Sink.contents c.args.output.now) (g.O.Sink.failures c.args.output.now) (g.O.Sink.contents c.play_move.new.output) (g.O.Sink.failures c.play_move.new.output) in (
+      files.before,
+      files.after,
+      files.certificate,
+      files.events.items,
+      files.ensures.given,
+      c.in-Ok.ensures.accepted,
+      at_rest_in (moving files.before files.after) (moving c.in-Ok.checked.0 c.in-Ok.checked.1) files.certificate c.in-Ok.checked.2 files.events.items c.deref.result.now
+          ended.field-0 output (ap (λ r. moving r.0 r.1) c.in-Ok.ensures.checked) (ap (λ r. r.2) c.in-Ok.ensures.checked) c.deref.ensures.value ended.ensures.rests,
+    )
