@@ -56,7 +56,7 @@ abbrev pub GaveCertificate : Plan → Stream → Certificate → Type 0
 GaveCertificate plan stream certificate = Gave 16777216 stream.before stream.after (λ text. StandsFor (IsCertificateOf (plan_value plan)) text (certificate_value certificate))
 
 -- Why a source gave nothing, by the error: it failed, it gave too many bytes, it gave no JSON, or JSON at whose first fault the
--- reader stops. Want of memory says nothing of what it gave.
+-- reader stops. Want of memory is no such cause.
 abbrev pub GaveNothing : (Option (List ℕ) → Option (List ℕ) → PlanError → Type 0) → Stream → PlanError → Type 0
 GaveNothing GaveNone stream error.Device = Fails stream
 GaveNothing GaveNone stream error.OutOfMemory = ⊥
