@@ -27,7 +27,8 @@ use std::alloc::Global;
 
 /// Plays events in the network of a checked plan, and gives on `output` what comes of each. The termini are one for each node
 /// that has one, in the plan's order; the outcomes are those of a run from rest over them, and where they are as
-/// planned, of a run from the start. Where memory runs out, the lines of what was played before are out, and `errors` says so.
+/// planned, of a run from the start. Where memory runs out, the lines of what was played before are out, and `errors`
+/// says so.
 pub fn run_sim<O: Sink, E: Sink>(
     alloc: Global,
     checked: Checked,
@@ -85,8 +86,8 @@ fn answer_sim<O: Sink>(
 
 /// Plays events in the network of a checked move, and gives on `output` what comes of each. The termini are those of the plan
 /// before, one for each node that has one, in its order; the outcomes are those of a run from rest over them, and where
-/// they are as planned, of a run from the start. Where memory runs out, the lines of what was played before are out, and
-/// `errors` says so.
+/// they are as planned, of a run from the start. Where memory runs out, the lines of what was played before are out,
+/// and `errors` says so.
 pub fn run_simmove<O: Sink, E: Sink>(
     alloc: Global,
     checked: CheckedMove,
