@@ -8,7 +8,7 @@ use Rattle.net_plan.specs.EventReading.{format, format_of, switch_in, verb, put_
 use Rattle.net_plan.specs.EventText.{Does, IsPutOf, IsMoveOf, IsLoseOf, IsBit, IsExpireOf, IsAnswerOf, IsSwitchOf, IsEventOf, IsFormat, AreEventsOf}
 use Rattle.net_plan.specs.EventValues.{EventEntry, put, move, lose, expire, answer, switch, is_known_event}
 use Rattle.net_plan.specs.Json.{keyed, some_object, at_key, list_within, demand, reference, whole_number, truth, hex_text}
-use Rattle.net_plan.specs.JsonWords.{HasKeys, At, IsShortListOf, IsNumber, IsNumberWithin, IsTruth, IsText}
+use Rattle.net_plan.specs.JsonWords.{HasKeys, At, IsShortListOf, IsNumberWithin, IsTruth, IsText}
 use Rattle.net_plan.specs.Keys.{events_keys, put_keys, move_keys, lose_keys, expire_keys, answer_keys, switch_keys}
 use Rattle.net_plan.specs.Names.{place_among}
 use Rattle.net_plan.specs.PlanReading.{byte, word}

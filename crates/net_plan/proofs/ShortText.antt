@@ -1,5 +1,5 @@
 -- How long the text of a certificate may be.
-use Rattle.std.proofs.Common.{◌≡◌, ◌≢◌, ℕ, zero, suc, ◌+◌, ◌*◌, ◌/◌, ◌%◌, ◌<◌, ◌≤◌, ◌&&◌, List, [], ◌∷◌, ◌++◌, length, map, get_or, Bool, true, false, cond, nat_lt, nat_le, AllPairs, IsTrue, refl, sym, ap, ◌∙◌, arith, codes, decimal}
+use Rattle.std.proofs.Common.{◌≡◌, ◌≢◌, ℕ, zero, suc, ◌+◌, ◌*◌, ◌/◌, ◌%◌, ◌<◌, ◌≤◌, ◌&&◌, List, [], ◌∷◌, ◌++◌, length, map, get_or, Bool, true, false, cond, nat_lt, nat_le, AllPairs, refl, sym, arith, codes, decimal}
 use Rattle.std.proofs.Math.Nat.{suc-mul}
 use Rattle.std.proofs.lemmas.Bool.{ltb-true, leb-true}
 use Rattle.std.proofs.lemmas.Fmt.{length-decimal-le}
@@ -15,8 +15,8 @@ use Rattle.serde_json.specs.Written.{compact_text, comma_if, items_text, members
 use Rattle.net_plan.specs.CertificateJson.{list_data, number_data, name_data, level_data, places_data, range_data, ranks_data, certificate_data, certificate_text}
 use Rattle.net_plan.specs.CertificateReading.{are_known}
 use Rattle.net_plan.specs.CertificateText.{IsAscending}
-use Rattle.net_plan.specs.CertificateValues.{LevelValue, PlacesValue, RangeValue, NodeRanksValue, CertificateValue, level_value, places_value, range_value, node_ranks_value, certificate_value}
-use Rattle.net_plan.specs.NameText.{is_name, is_name_byte, has_name_length}
+use Rattle.net_plan.specs.CertificateValues.{RangeValue, level_value, places_value, range_value, node_ranks_value, certificate_value}
+use Rattle.net_plan.specs.NameText.{is_name_byte, has_name_length}
 use Rattle.net_plan.specs.PlanValues.{node_value, node_names, plan_value}
 use Rattle.net_plan.specs.WellFormed.{IsWellFormed}
 use Rattle.net_plan.specs.ShortText.{HasFewPlaces}
