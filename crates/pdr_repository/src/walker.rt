@@ -48,7 +48,7 @@ pub struct Walker {
 }
 
 impl Walker {
-    ghost use Rattle.std.specs.Prelude.{List, IfOk, OnOk, OnErr, Ok, None, [], option_map, vec_len, vec_capacity};
+    ghost use Rattle.std.specs.Prelude.{◌↔◌, List, IsTrue, IfOk, OnOk, OnErr, Ok, None, [], option_map, vec_len, vec_capacity};
     ghost use Rattle.pldm_message.specs.PdrValues.{part};
     ghost use Rattle.pldm_message.specs.Pdrs.{Part};
     ghost use Rattle.pldm_message.specs.Heads.{outcome_value};
@@ -315,6 +315,20 @@ impl Walker {
         ensures collected { (xs : List Exchange) → StandsFor (state_of self.now) xs → Collects xs (map (λ v. v.items) result.now) (state_of self.now).under_way }
     {
         self.records.as_slice()
+    }
+
+    /// Whether the last record is complete, so that nothing is due.
+    pub fn is_done(&self) -> bool
+        ensures { IsTrue result ↔ ((state_of self.now).due ≡ None) }
+    {
+        self.due.is_none()
+    }
+
+    /// Whether nothing is asked any more: the walk is done, or has failed.
+    pub fn is_over(&self) -> bool
+        ensures { IsTrue result ↔ (((state_of self.now).failed ≡ true) ⊎ ((state_of self.now).due ≡ None)) }
+    {
+        self.failed || self.is_done()
     }
 
     /// How many answers were taken: all but those that were not asked for, that came after a failure or that memory
