@@ -16,7 +16,7 @@ use Rattle.net_plan.specs.Reading.{then_with}
 use Rattle.net_plan.specs.declared.error.Fault.TheVariants.{UnknownKey, MissingKey}
 use Rattle.net_plan.proofs.Telling.{no_value, then_Ok, demanded}
 
-among_Contains : (keys : List (List ℕ)) (k : List ℕ) → is_among keys k ≡ true → Contains keys k
+pub among_Contains : (keys : List (List ℕ)) (k : List ℕ) → is_among keys k ≡ true → Contains keys k
 among_Contains keys k e = Contains-from_any (λ x y. (bytes_eq-Decides x y).0) k keys e
 
 or_true : (a b : Bool) → b ≡ true → (a || b) ≡ true
@@ -64,7 +64,7 @@ none_unknown keys (member l d ms) h =
     let here : IsSome (get_member l (member l d ms)) = ap (λ o. is_some (match_ordering o (get_member l ms) (Some d) (get_member l ms))) (same_text l) in
     ap (λ b. not b || has_unknown_key keys ms) (h l here) ∙ none_unknown keys ms (λ k there. h k (more k l d ms there))
 
-any_false : (p : List ℕ → Bool) (xs : List (List ℕ)) → list_any p xs ≡ false → (x : List ℕ) → Contains xs x → p x ≡ false
+pub any_false : (p : List ℕ → Bool) (xs : List (List ℕ)) → list_any p xs ≡ false → (x : List ℕ) → Contains xs x → p x ≡ false
 any_false p xs none x h = by (p x) refl
   where
     by : (b : Bool) → p x ≡ b → b ≡ false
@@ -76,7 +76,7 @@ all_false p [] h = refl
 all_false p (x ∷ xs) h = ap (λ b. b || list_any p xs) (h x (ap (λ b. b || is_among xs x) ((bytes_eq-Decides x x).1 refl)))
     ∙ all_false p xs (λ y among. h y (or_true (bytes_eq y x) (is_among xs y) among))
 
-not_false : (b : Bool) → not b ≡ false → b ≡ true
+pub not_false : (b : Bool) → not b ≡ false → b ≡ true
 not_false true e = refl
 not_false false e = absurd (true≢false e)
 

@@ -1,13 +1,13 @@
 -- Which events a JSON value is.
-use Rattle.std.specs.Prelude.{ℕ, ◌≡◌, Bool, true, false, codes, List}
+use Rattle.std.specs.Prelude.{ℕ, ◌≡◌, ◌≢◌, Bool, true, false, codes, List}
 use Rattle.serde_json.specs.Data.{Data}
-use Rattle.net_plan.specs.EventValues.{EventEntry, put, move, lose, expire, answer, switch}
+use Rattle.net_plan.specs.EventValues.{EventEntry, put, move, lose, expire, answer, switch, walk, ask, collected}
 use Rattle.net_plan.specs.JsonWords.{HasKeys, At, IsShortListOf, IsNumber, IsNumberWithin, IsTruth, IsText, IsHex, IsPlace}
-use Rattle.net_plan.specs.Keys.{events_keys, put_keys, move_keys, lose_keys, expire_keys, answer_keys, switch_keys}
+use Rattle.net_plan.specs.Keys.{events_keys, put_keys, move_keys, lose_keys, expire_keys, answer_keys, switch_keys, walk_keys, ask_keys, collected_keys}
 use Rattle.net_plan.specs.PlanText.{IsByte, IsWord}
 use Rattle.net_plan.specs.PlanValues.{PlanValue, node_names}
 use Rattle.net_plan.specs.declared.event_text.Format.{Format}
-use Rattle.net_plan.specs.declared.event_text.Format.TheVariants.{One, Two}
+use Rattle.net_plan.specs.declared.event_text.Format.TheVariants.{One, Two, Three}
 
 -- what happens is this
 abbrev pub Does : List ℕ → Data → Type 0
@@ -48,12 +48,36 @@ pub record IsAnswerOf (nodes : List (List ℕ)) (d : Data) (node : ℕ) : Type 0
   pub does : Does (codes "answer") d
   pub at_node : At (codes "node") (IsPlace nodes) d node
 
--- the event is one of format 2 alone
+-- the event is one of formats 2 and 3
 pub record IsSwitchOf (format : Format) (nodes : List (List ℕ)) (d : Data) (node : ℕ) : Type 0 where
-  pub second : format ≡ Two
+  pub later : format ≢ One
   pub keys : HasKeys switch_keys d
   pub does : Does (codes "switch") d
   pub at_node : At (codes "node") (IsPlace nodes) d node
+
+-- the event is one of format 3 alone; the endpoint ID can be assigned, and a part of a record has 8 to 4079 bytes
+pub record IsWalkOf (format : Format) (nodes : List (List ℕ)) (d : Data) (node eid tag count : ℕ) : Type 0 where
+  pub third : format ≡ Three
+  pub keys : HasKeys walk_keys d
+  pub does : Does (codes "walk") d
+  pub at_node : At (codes "node") (IsPlace nodes) d node
+  pub asked : At (codes "eid") (IsNumberWithin 8 254) d eid
+  pub tagged : At (codes "tag") (IsNumberWithin 0 7) d tag
+  pub counted : At (codes "count") (IsNumberWithin 8 4079) d count
+
+-- the event is one of format 3 alone
+pub record IsAskOf (format : Format) (d : Data) (walker : ℕ) : Type 0 where
+  pub third : format ≡ Three
+  pub keys : HasKeys ask_keys d
+  pub does : Does (codes "ask") d
+  pub number : At (codes "walker") IsWord d walker
+
+-- the event is one of format 3 alone
+pub record IsCollectedOf (format : Format) (d : Data) (walker : ℕ) : Type 0 where
+  pub third : format ≡ Three
+  pub keys : HasKeys collected_keys d
+  pub does : Does (codes "collected") d
+  pub number : At (codes "walker") IsWord d walker
 
 -- an event at nodes with these names, in a list of this format
 abbrev pub IsEventOf : Format → List (List ℕ) → Data → EventEntry → Type 0
@@ -63,11 +87,15 @@ IsEventOf format nodes d (lose flight) = IsLoseOf d flight
 IsEventOf format nodes d (expire node source tag owner) = IsExpireOf nodes d node source tag owner
 IsEventOf format nodes d (answer node) = IsAnswerOf nodes d node
 IsEventOf format nodes d (switch node) = IsSwitchOf format nodes d node
+IsEventOf format nodes d (walk node eid tag count) = IsWalkOf format nodes d node eid tag count
+IsEventOf format nodes d (ask walker) = IsAskOf format d walker
+IsEventOf format nodes d (collected walker) = IsCollectedOf format d walker
 
 -- the number of the format
 abbrev pub IsFormat : Data → Format → Type 0
 IsFormat d One = IsNumber d 1
 IsFormat d Two = IsNumber d 2
+IsFormat d Three = IsNumber d 3
 
 -- a list of events at the nodes of a plan
 pub record AreEventsOf (plan : PlanValue) (d : Data) (es : List EventEntry) : Type 0 where

@@ -60,3 +60,12 @@ answer_keys = codes "do" ∷ codes "node" ∷ []
 
 abbrev pub switch_keys : List (List ℕ)
 switch_keys = codes "do" ∷ codes "node" ∷ []
+
+abbrev pub walk_keys : List (List ℕ)
+walk_keys = codes "do" ∷ codes "node" ∷ codes "eid" ∷ codes "tag" ∷ codes "count" ∷ []
+
+abbrev pub ask_keys : List (List ℕ)
+ask_keys = codes "do" ∷ codes "walker" ∷ []
+
+abbrev pub collected_keys : List (List ℕ)
+collected_keys = codes "do" ∷ codes "walker" ∷ []

@@ -1,14 +1,14 @@
 //! A certificate's JSON value.
-ghost use Rattle.std.specs.Prelude.{◌≡◌, IfOk, ℕ, List, map, slice_index_or, [], ◌∷◌};
-ghost use Rattle.serde_json.specs.Data.{Data};
-ghost use Rattle.serde_json.specs.View.{view};
+ghost use Rattle.std.specs.Prelude.{codes, ◌≡◌, IfOk, ℕ, List, map, slice_index_or, [], ◌∷◌};
+ghost use Rattle.serde_json.specs.Data.{Data, object, member, no_members};
+ghost use Rattle.serde_json.specs.View.{view, members_view};
 ghost use Rattle.net_plan.specs.CertificateJson.{list_data, number_data, level_data, places_data, range_data, ranks_data, certificate_data};
 ghost use Rattle.net_plan.specs.CertificateValues.{LevelValue, PlacesValue, RangeValue, NodeRanksValue, level_value, places_value, range_value, node_ranks_value, certificate_value};
 ghost use Rattle.net_plan.specs.PlanValues.{node_value, node_names};
 
 use crate::certificate::{Certificate, NodeLevel, NodePlaces, NodeRanks, RankRange, RecordPlace};
 use crate::nodes::Node;
-use serde_json::{Value, json};
+use serde_json::{Map, Value, json, put};
 use std::alloc::{AllocError, Global};
 
 /// Makes the JSON values of items, all of one kind.
@@ -165,5 +165,27 @@ pub fn certificate_json(
         certificate.places.as_slice(),
     )?;
     let ranks = list_value(alloc, &RanksWriter { nodes }, certificate.ranks.as_slice())?;
-    json!(in alloc; {"format": 1u8, "levels": levels, "places": places, "ranks": ranks})
+    object_of(alloc, levels, places, ranks)
+}
+
+/// The JSON object of these lists.
+fn object_of(alloc: Global, levels: Value, places: Value, ranks: Value) -> Result<Value, AllocError>
+    ensures { IfOk result (λ v. view v ≡ object (member (codes "format") (number_data 1) (member (codes "levels") (view levels)
+        (member (codes "places") (view places) (member (codes "ranks") (view ranks) no_members))))) }
+{
+    let mut members = first_members(alloc, levels)?;
+    put(&mut members, alloc, "places", places)?;
+    put(&mut members, alloc, "ranks", ranks)?;
+    Ok(Value::Object(members))
+}
+
+/// The format and the levels, as members of an object.
+fn first_members(alloc: Global, levels: Value) -> Result<Map<String, Value>, AllocError>
+    ensures { IfOk result (λ members. members_view members.entries ≡ member (codes "format") (number_data 1)
+        (member (codes "levels") (view levels) no_members)) }
+{
+    let mut members = Map::new(alloc);
+    put(&mut members, alloc, "format", Value::from(1u8))?;
+    put(&mut members, alloc, "levels", levels)?;
+    Ok(members)
 }

@@ -1,19 +1,51 @@
 //! The events of a run of a network.
-use mctp_transport::Key;
+use mctp_transport::{Eid, Key, Tag};
 
-/// What happens in a run of a network. Nodes are given by their places in the plan's list, flights by their numbers.
+/// What happens in a run of a network. Nodes are given by their places in the plan's list, flights and walkers by their
+/// numbers.
 #[derive(Debug, Drop)]
 pub enum Event {
     /// A packet of these bytes is put in at a node.
-    Put { node: usize, bytes: Vec<u8> },
+    Put {
+        node: usize,
+        bytes: Vec<u8>,
+    },
     /// A flight goes on from where it is; with `keep` it stays as well, and a new one goes on.
-    Move { flight: u32, keep: bool },
+    Move {
+        flight: u32,
+        keep: bool,
+    },
     /// A flight is lost.
-    Lose { flight: u32 },
+    Lose {
+        flight: u32,
+    },
     /// A node gives up the message of this key that it is assembling.
-    Expire { node: usize, key: Key },
+    Expire {
+        node: usize,
+        key: Key,
+    },
     /// The terminus of a node answers the oldest request that waits there.
-    Answer { node: usize },
+    Answer {
+        node: usize,
+    },
     /// A node forwards by the rows of the new plan from now on.
-    Switch { node: usize },
+    Switch {
+        node: usize,
+    },
+    /// A walker is set up at a node: it collects the records of the terminus that holds `eid` (8 to 254), by requests
+    /// under `tag`, each of which asks for at most `count` bytes of a record (8 to 4079).
+    Walk {
+        node: usize,
+        eid: Eid,
+        tag: Tag,
+        count: u16,
+    },
+    /// A walker puts in its next request, or once more the one that has no answer yet.
+    Ask {
+        walker: u32,
+    },
+    /// A walker is asked what it has collected so far.
+    Collected {
+        walker: u32,
+    },
 }

@@ -1,0 +1,97 @@
+//! Objects straight from a text, key by key.
+ghost use Rattle.std.specs.Prelude.{◌≡◌, ◌≤◌, Some, IfSome, length, vec_len};
+ghost use Rattle.json.specs.Json.{Json, Members, no_members, object, members, value};
+ghost use Rattle.net_plan.specs.Gathered.{IsMore, IsThere, IsArrayOf};
+
+use json::{Reader, Token};
+use std::alloc::Global;
+
+/// Gathers the members of an object, one after another. It gives up at anything unusual.
+pub trait Gather<'t> {
+    // What was gathered is that of these members.
+    ghost Holds: { Self → Members → Type 0 };
+
+    fn take(
+        &mut self,
+        alloc: Global,
+        key: &'t str,
+        reader: &mut Reader<'t>,
+        depth: usize,
+    ) -> Option<()>
+        ensures { IfSome result (λ _. IsMore depth key.now reader.old reader.new (Holds self.old) (Holds self.new)) };
+}
+
+/// Reads an object, and gathers its members.
+pub fn read_object<'t, G: Gather<'t>>(
+    alloc: Global,
+    gathered: &mut G,
+    reader: &mut Reader<'t>,
+    depth: usize,
+) -> Option<()>
+    ensures { IfSome result (λ _. (ms : Members) × (value depth reader.old ≡ Some (object ms, reader.new)) × (G.Holds gathered.old no_members → G.Holds gathered.new ms)) }
+{
+    let Some(Token::BeginObject) = reader.next() else {
+        return None;
+    };
+    if depth == 0 {
+        return None;
+    }
+    read_members(alloc, gathered, reader, depth - 1)
+}
+
+/// Gathers the members of an object that was begun.
+pub fn read_members<'t, G: Gather<'t>>(
+    alloc: Global,
+    gathered: &mut G,
+    reader: &mut Reader<'t>,
+    depth: usize,
+) -> Option<()>
+    ensures { IfSome result (λ _. (ms : Members) × (members (value depth) (length reader.old) reader.old ≡ Some (ms, reader.new)) × (G.Holds gathered.old no_members → G.Holds gathered.new ms)) }
+{
+    'members: while let Some(key) = reader.next_key().ok()? {
+        gathered.take(alloc, key, reader, depth)?;
+    }
+    Some(())
+}
+
+/// The next value, where it is an item of some kind.
+pub trait NextItem<'t> {
+    type Item;
+
+    ghost IsOf: { Self → Json → Self.Item → Type 0 };
+
+    fn next_item(&self, alloc: Global, reader: &mut Reader<'t>, depth: usize) -> Option<Self::Item>
+        ensures { IfSome result (λ x. IsThere depth reader.old reader.new (λ j. IsOf self.now j x)) };
+}
+
+/// Reads a list of at most so many items.
+pub fn next_list<'t, N: NextItem<'t>>(
+    alloc: Global,
+    each: &N,
+    reader: &mut Reader<'t>,
+    depth: usize,
+    most: usize,
+) -> Option<Vec<N::Item>>
+where
+    N::Item: Drop,
+    ensures read { IfSome result (λ v. IsThere depth reader.old reader.new (λ j. IsArrayOf (N.IsOf each.now) j v.items)) }
+    ensures within { IfSome result (λ v. vec_len v ≤ most) }
+{
+    let Some(Token::BeginArray) = reader.next() else {
+        return None;
+    };
+    if depth == 0 {
+        return None;
+    }
+    let mut list = Vec::new(alloc);
+    'items: while !reader.take_end_array() {
+        if list.len() >= most {
+            return None;
+        }
+        let item = each.next_item(alloc, reader, depth - 1)?;
+        if list.push(item).is_err() {
+            return None;
+        }
+    }
+    Some(list)
+}
