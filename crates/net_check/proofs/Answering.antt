@@ -46,7 +46,7 @@ crc_after before crc below is (b ∷ bs) all =
     let rest = crc_after (before ++ b ∷ []) entry.0 entry.1.2 (crc-more before b crc entry.0 all.0 is entry.1) bs all.1 in
     (rest.0, subst (λ (xs : List ℕ). IsCrc xs rest.0) (append_assoc before (b ∷ []) bs) rest.1)
 
-some_crc : (bytes : List ℕ) → EachByte bytes → (crc : ℕ) × IsCrc bytes crc
+pub some_crc : (bytes : List ℕ) → EachByte bytes → (crc : ℕ) × IsCrc bytes crc
 some_crc bytes all = crc_after [] 0 (omega arith) crc-none bytes all
 
 -- the flags of a start and of a middle are no end's
@@ -265,7 +265,7 @@ some_command h tid records asked all bytes = elim (both_or_not _ _ (not_or_not _
 ]
 
 -- the bytes are those of a request that is to be answered, or not
-flag_of : (n : ℕ) → n < 2 → (b : Bool) × (bit b ≡ n)
+pub flag_of : (n : ℕ) → n < 2 → (b : Bool) × (bit b ≡ n)
 flag_of n small = elim (cases_lt n 1) [ inl none ↦ (false, omega arith) | inr one ↦ (true, omega arith) ]
 
 asked_or_not : (request : List ℕ) → OrNot (IsAsked request)

@@ -1,5 +1,5 @@
 -- A plan that meets the rules, and the certificate that is exactly its own: it is accepted, and well formed.
-use Rattle.std.proofs.Common.{◌≡◌, ◌≢◌, ℕ, zero, suc, ◌+◌, ◌<◌, ◌≤◌, List, length, map, get_or, slice_get, Option, Some, None, refl, sym, ◌∙◌, ap, subst, arith, option_map, AllPairs, All, nat_lt, Bool, true, [], ◌∷◌, string_bytes}
+use Rattle.std.proofs.Common.{◌≡◌, ◌≢◌, ℕ, zero, suc, ◌+◌, ◌<◌, ◌≤◌, List, length, map, get_or, slice_get, Option, Some, None, unwrap_or, refl, sym, ◌∙◌, ap, subst, arith, option_map, AllPairs, All, nat_lt, Bool, true, [], ◌∷◌, string_bytes}
 use Rattle.std.specs.List.{list_all}
 use Rattle.std.proofs.lemmas.Bool.{and_from, lt-ltb}
 use Rattle.std.proofs.lemmas.List.{length-map}
@@ -9,17 +9,21 @@ use Rattle.net_check.specs.declared.rule.Rule.TheVariants.{C01, C02, C03, C04, C
 use Rattle.net_plan.specs.declared.plan.Plan.{Plan}
 use Rattle.net_plan.specs.declared.nodes.Node.{Node}
 use Rattle.net_plan.specs.declared.certificate.Certificate.{Certificate}
+use Rattle.net_plan.specs.declared.certificate.NodePlaces.{NodePlaces}
+use Rattle.net_plan.specs.declared.terminus.Terminus.{Terminus}
 use Rattle.net_plan.specs.CertificateValues.{certificate_value, level_value, places_value, node_ranks_value, range_value}
 use Rattle.net_plan.specs.CertificateText.{IsAscending}
 use Rattle.net_plan.specs.CertificateReading.{are_known}
 use Rattle.net_plan.specs.NodeValues.{node_value, node_names}
 use Rattle.net_plan.specs.PlanValues.{plan_value}
+use Rattle.net_plan.specs.ShortText.{HasFewPlaces}
 use Rattle.net_plan.specs.WellFormed.{IsWellFormed}
 use Rattle.net_check.specs.Routing.{Holds, HasRow}
 use Rattle.net_check.specs.Names.{HaveOneName, HasNewName}
 use Rattle.net_check.specs.Owners.{owner_of, IsOwnedBy, given_level, level, IsBelowItsOwner}
 use Rattle.net_check.specs.OwnerLoops.{IsLevel}
 use Rattle.net_check.specs.Ranks.{rank}
+use Rattle.net_check.specs.Repositories.{terminus_of, records_of, places_given}
 use Rattle.net_check.specs.Superfluous.{NeedsItsLevel, NeedsItsPlaces, NeedsWhatItIsGiven, NeedsItsRank}
 use Rattle.net_check.specs.Rules.{CertificateDemands, Accepts}
 use Rattle.net_check.specs.PlanFaults.{PlanMeetsAll}
@@ -30,7 +34,7 @@ use Rattle.net_check.proofs.Elements.{element}
 use Rattle.net_check.proofs.CertificateLaws.{rows_apart, exact_falls}
 use Rattle.net_check.proofs.RuleOrder.{all_below}
 use Rattle.net_check.proofs.OneCertificate.{one_ranks}
-use Rattle.net_check.proofs.OneOrder.{one_levels, one_places}
+use Rattle.net_check.proofs.OneOrder.{found_there, one_levels, one_places}
 use Rattle.net_check.proofs.LevelLaws.{one_owner, exact_levels_fall}
 
 -- ---- it is accepted
@@ -152,6 +156,30 @@ exact_well_formed plan cert met exact = record {
   ascending = all_seen node_ranks_value cert.ranks.items (λ r. IsAscending r.ranges) (λ i one is.
       pairs_seen range_value one.ranges.items (λ a b. a.first + a.size ≤ b.first) (λ k l x y less here there. (exact.ranks.longest i one is).ascend k l x y less here there));
 }
+
+-- ---- it has few places
+
+-- a terminus has few records
+few_records : (plan : Plan) (n : ℕ) → length (records_of plan n) ≤ 4096
+few_records plan n = by (terminus_of plan n)
+  where
+    by : (t : Option Terminus) → length (unwrap_or (option_map (λ t. t.records.items) t) []) ≤ 4096
+    by None = omega arith
+    by (Some t) = omega (arith, t.few_records, t.records.ok.0)
+
+place_numbers : NodePlaces → List ℕ
+place_numbers given = map (λ p. p.value) given.places.items
+
+given_numbers : Option NodePlaces → List ℕ
+given_numbers given = unwrap_or (option_map place_numbers given) []
+
+-- a node is given a place for each of its records
+pub exact_few : (plan : Plan) (cert : Certificate) → IsExact plan cert → HasFewPlaces (certificate_value cert)
+unfolding given_numbers place_numbers
+exact_few plan cert exact = all_seen places_value cert.places.items (λ p. length p.places ≤ 4096) (λ i one is.
+    let given : places_given cert.places.items one.node ≡ place_numbers one = ap given_numbers (found_there (λ (x : NodePlaces). x.node) cert.places.items exact.places.ascend i one is) in
+    let long = (exact.places.places one.node).0 in
+    omega (arith, ap length given, long, few_records plan one.node))
 
 -- ---- it is the only one
 

@@ -27,7 +27,7 @@ use Rattle.net_check.proofs.OneCertificate.{one_list}
 
 -- what stands in a list that ascends by a key is found by its key
 module _ {X : Type 0} (key : X → ℕ) (xs : List X) (up : (i j : ℕ) (x y : X) → i < j → slice_get xs i ≡ Some x → slice_get xs j ≡ Some y → key x < key y) where
-  found_there : (i : ℕ) (x : X) → slice_get xs i ≡ Some x → find (λ y. key y == key x) xs ≡ Some x
+  pub found_there : (i : ℕ) (x : X) → slice_get xs i ≡ Some x → find (λ y. key y == key x) xs ≡ Some x
   found_there i x is = elim (find_cases (λ y. key y == key x) xs) [
     | inl (none, fail) ↦ absurd (false≢true (sym (fail i x is) ∙ eq-eqb (key x) (key x) refl))
     | inr (j, y, at, passes, found) ↦ (

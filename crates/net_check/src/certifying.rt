@@ -2,6 +2,7 @@
 ghost use Rattle.std.specs.Prelude.{◌+◌, IfOk, IfErr, OnOk};
 ghost use Rattle.net_plan.specs.CertificateValues.{certificate_value};
 ghost use Rattle.net_plan.specs.PlanValues.{plan_value};
+ghost use Rattle.net_plan.specs.ShortText.{HasFewPlaces};
 ghost use Rattle.net_plan.specs.WellFormed.{IsWellFormed};
 ghost use Rattle.net_check.specs.Rules.{Accepts};
 ghost use Rattle.net_check.specs.Faults.{order_of};
@@ -35,12 +36,13 @@ use std::alloc::Global;
 /// handles lead to it, and the rank of each node and endpoint ID is the number of moves along rows from the node to the
 /// endpoint ID's holder, or to a node without a row for it. It is answered exactly where a certificate exists; otherwise,
 /// unless memory ran out, that which comes first in the order of the rules of what rules certificates out.
-#[tactic(auto, using(crate::proofs::ExactCertificates::made_exact, crate::proofs::ExactCertificates::made_meets, crate::proofs::Obstacles::none_made, crate::proofs::ExactCertificates::exact_accepted, crate::proofs::ExactCertificates::exact_only))]
+#[tactic(auto, using(crate::proofs::ExactCertificates::made_exact, crate::proofs::ExactCertificates::made_meets, crate::proofs::ExactCertificates::exact_few, crate::proofs::Obstacles::none_made, crate::proofs::ExactCertificates::exact_accepted, crate::proofs::ExactCertificates::exact_only))]
 pub fn certify(alloc: Global, plan: &Plan) -> Result<Certificate, CertifyError>
     ensures accepted { IfOk result (λ certificate. Accepts plan.now certificate) }
     ensures exact { IfOk result (λ certificate. IsExact plan.now certificate) }
     ensures only { IfOk result (λ certificate. IsOnlyExact plan.now certificate) }
     ensures well_formed { IfOk result (λ certificate. IsWellFormed (plan_value plan.now) (certificate_value certificate)) }
+    ensures few { IfOk result (λ certificate. HasFewPlaces (certificate_value certificate)) }
     ensures obstacle { IfErr result (λ error. NamesObstacle plan.now error) }
     ensures none { IfErr result (λ error. RulesOutCertificates plan.now error) }
 {
