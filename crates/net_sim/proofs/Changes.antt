@@ -10,7 +10,7 @@ use Rattle.net_check.specs.Termini.{TerminusState}
 use Rattle.net_check.specs.States.{NetworkState, Flight, with_made, with_input, with_terminus}
 use Rattle.net_check.proofs.Elements.{in_set}
 use Rattle.net_sim.specs.Routers.{RouterValue, has_switched}
-use Rattle.net_sim.specs.Standing.{NetworkValue, StandsFor, at_place}
+use Rattle.net_sim.specs.Standing.{TrafficValue, StandsFor, at_place}
 use Rattle.net_sim.proofs.Slots.{set_slot, push_slot, push_none}
 
 -- the same marks in the same router
@@ -21,7 +21,7 @@ same_marks r q same = ap (λ (x : RouterValue). x.switched) same
 abbrev pub with_slot : NetworkState → ℕ → Option Flight → NetworkState
 with_slot w number o = record w { flight = λ k. cond (eqb k number) o (w.flight k) }
 
-pub same_stands : (v u : NetworkValue) (w : NetworkState) → u.flights ≡ v.flights → u.assemblers ≡ v.assemblers → u.termini ≡ v.termini
+pub same_stands : (v u : TrafficValue) (w : NetworkState) → u.flights ≡ v.flights → u.assemblers ≡ v.assemblers → u.termini ≡ v.termini
     → u.switched ≡ v.switched → StandsFor v w → StandsFor u w
 same_stands v u w flights assemblers termini switched s = record {
   flights = λ k. s.flights k ∙ ap (λ (fs : List (Option Flight)). at_place fs k) (sym flights);
@@ -31,7 +31,7 @@ same_stands v u w flights assemblers termini switched s = record {
   switched = λ n. s.switched n ∙ ap (λ (ms : List Bool). has_switched ms n) (sym switched);
 }
 
-module _ (v u : NetworkValue) (w : NetworkState) (s : StandsFor v w) where
+module _ (v u : TrafficValue) (w : NetworkState) (s : StandsFor v w) where
   pub set_stands : (number : ℕ) (o : Option Flight) → number < length v.flights → u.flights ≡ slice_set v.flights number o → u.assemblers ≡ v.assemblers
       → u.termini ≡ v.termini → u.switched ≡ v.switched → StandsFor u (with_slot w number o)
   set_stands number o within flights assemblers termini switched = record {

@@ -18,7 +18,7 @@ use Rattle.net_check.specs.Termini.{TerminusState, WaitingMessage, with_waiting}
 use Rattle.net_check.specs.States.{NetworkState, Flight, with_input, with_terminus, with_received, slots, limit}
 use Rattle.net_check.specs.Events.{Entered}
 use Rattle.net_sim.specs.Desks.{with_message}
-use Rattle.net_sim.specs.Standing.{NetworkValue, StandsFor, Receives, at_place}
+use Rattle.net_sim.specs.Standing.{TrafficValue, StandsFor, Receives, at_place}
 use Rattle.net_sim.proofs.Changes.{input_stands, terminus_stands}
 
 -- a list keeps its meaning where an element is replaced by one of the same meaning
@@ -28,7 +28,7 @@ map_set_same f (d ∷ ds) zero old new is same = ap (λ x. x ∷ map f ds) (same
 map_set_same f (d ∷ ds) (suc i) old new is same = ap (λ xs. f d ∷ xs) (map_set_same f ds i old new is same)
 
 -- a terminus that is as it was
-same_terminus : (u : NetworkValue) (w : NetworkState) (node : ℕ) (o : Option TerminusState) → w.terminus node ≡ o → StandsFor u (with_terminus w node o) → StandsFor u w
+same_terminus : (u : TrafficValue) (w : NetworkState) (node : ℕ) (o : Option TerminusState) → w.terminus node ≡ o → StandsFor u (with_terminus w node o) → StandsFor u w
 same_terminus u w node o is s = record {
   flights = s.flights;
   made = s.made;
@@ -46,7 +46,7 @@ same_terminus u w node o is s = record {
   ];
 }
 
-module _ (v u : NetworkValue) (number : ℕ) (f : Flight) (a b : Assembler) (key : KeyValue) (of_key : key ≡ key_of f.packet) (within : f.node < length v.assemblers)
+module _ (v u : TrafficValue) (number : ℕ) (f : Flight) (a b : Assembler) (key : KeyValue) (of_key : key ≡ key_of f.packet) (within : f.node < length v.assemblers)
     (here : slice_get v.assemblers f.node ≡ Some a)
     (stands : (h : History) → assembly.StandsFor a h → assembly.StandsFor b (after h (Arrived f.packet)))
     (flights : u.flights ≡ v.flights) (assemblers : u.assemblers ≡ slice_set v.assemblers f.node b)
@@ -79,7 +79,7 @@ module _ (v u : NetworkValue) (number : ℕ) (f : Flight) (a b : Assembler) (key
         by key.owner refl (termini heard.fits),
       )
     where
-      middle : NetworkValue
+      middle : TrafficValue
       middle = record v { assemblers = slice_set v.assemblers f.node b }
 
       given : StandsFor middle (with_input w f.node (Arrived f.packet))

@@ -11,7 +11,7 @@ use Rattle.net_check.specs.Termini.{TerminusState, WaitingMessage}
 use Rattle.net_check.specs.States.{NetworkState, Flight}
 use Rattle.net_check.specs.ExactMessages.{IsSettled}
 use Rattle.net_sim.specs.Flights.{flight_at}
-use Rattle.net_sim.specs.Standing.{NetworkValue, StandsFor}
+use Rattle.net_sim.specs.Standing.{TrafficValue, StandsFor}
 use Rattle.net_sim.specs.Settling.{IsTo, IsNotTo, NoneWaits, IsClearAt}
 use Rattle.net_sim.proofs.Dealt.{all_at}
 
@@ -48,7 +48,7 @@ waits_if_there key None each = tt
 waits_if_there key (Some t) each = each t refl
 
 -- a node beyond the plan holds nothing
-held_within : (plan : Plan) (n e : ℕ) → Holds plan n e → n < length plan.nodes.items
+pub held_within : (plan : Plan) (n e : ℕ) → Holds plan n e → n < length plan.nodes.items
 held_within plan n e holds = by (slice_get plan.nodes.items n) refl holds
   where
     by : (o : Option Node) → slice_get plan.nodes.items n ≡ o → option_map (λ (x : Node). x.eid.value) o ≡ Some e → n < length plan.nodes.items
@@ -59,7 +59,7 @@ held_within plan n e holds = by (slice_get plan.nodes.items n) refl holds
 pub settled_clear : (plan : Plan) (w : NetworkState) (key : KeyValue) (d : ℕ) → IsSettled plan w key d → (n : ℕ) → Holds plan n d → IsClearAt w key n
 settled_clear plan w key d settled n holds = (settled.quiet.not_open n holds, waits_if_there key (w.terminus n) (λ t is. settled.none_waits n t holds is))
 
-module _ (plan : Plan) (v : NetworkValue) (w : NetworkState) (key : KeyValue) (d : ℕ) where
+module _ (plan : Plan) (v : TrafficValue) (w : NetworkState) (key : KeyValue) (d : ℕ) where
   module _ {F : Type 0} (see : F → Option Flight) (fs : List F) (s : StandsFor v w) (flights : v.flights ≡ map see fs) where
     at : (number : ℕ) → w.flight number ≡ flight_at (map see fs) number
     at number = s.flights number ∙ ap (λ (os : List (Option Flight)). flight_at os number) flights

@@ -1,33 +1,34 @@
 -- Where what is sent keeps apart, the whole messages that a network tells are those that were sent.
-use Rattle.std.specs.Prelude.{◌≡◌, ℕ, ◌*◌, ◌≤◌, List, length, slice_get, Some}
+use Rattle.std.specs.Prelude.{◌≡◌, ℕ, ◌*◌, ◌≤◌, List, length, slice_get, Option, Some}
 use Rattle.std.specs.List.{zip}
 use Rattle.mctp_transport.specs.Frames.{KeyValue}
 use Rattle.mctp_transport.specs.Hearing.{Whole}
 use Rattle.net_plan.specs.declared.plan.Plan.{Plan}
 use Rattle.net_check.specs.Routing.{Holds}
 use Rattle.net_check.specs.TwoPlans.{Tables}
-use Rattle.net_check.specs.States.{NetworkState}
-use Rattle.net_check.specs.Events.{EventValue, OutcomeValue, Entered}
-use Rattle.net_check.specs.ExactMessages.{Epoch, IsQuiet, IsTidyFrom}
-use Rattle.net_sim.specs.Standing.{NetworkValue, StandsFor}
+use Rattle.net_check.specs.Events.{Entered}
+use Rattle.net_check.specs.ExactMessages.{Epoch, IsQuiet}
+use Rattle.net_check.specs.Walkers.{WalkedState, WalkedEvent, WalkedOutcome, Happened, Handed}
+use Rattle.net_check.specs.WalkedMessages.{IsWalkedTidyFrom}
+use Rattle.net_sim.specs.WalkedStanding.{NetworkValue, StandsForWalked}
 use Rattle.net_sim.specs.Played.{IsRunOf}
 
 -- Each whole message that the outcomes tell under the key, at a node that holds d, is the message of the epoch at the
 -- outcome's place, where that is of five packets at most.
-abbrev pub TellWhatWasSent : (unit : ℕ) → Plan → KeyValue → ℕ → List OutcomeValue → List Epoch → Type 0
-TellWhatWasSent unit plan key d outcomes epochs = (i number n : ℕ) (message : List ℕ) (epoch : Epoch)
-    → slice_get outcomes i ≡ Some (Entered number n key (Whole message)) → slice_get epochs i ≡ Some epoch → Holds plan n d
+abbrev pub TellWhatWasSent : (unit : ℕ) → Plan → KeyValue → ℕ → List WalkedOutcome → List Epoch → Type 0
+TellWhatWasSent unit plan key d outcomes epochs = (i number n : ℕ) (message : List ℕ) (epoch : Epoch) (handed : Option Handed)
+    → slice_get outcomes i ≡ Some (Happened (Entered number n key (Whole message)) handed) → slice_get epochs i ≡ Some epoch → Holds plan n d
     → length epoch.message ≤ 5 * unit → message ≡ epoch.message
 
 -- Where a key is quiet for d at first, and the turns of the run are tidy in epochs, one for each turn, the outcomes tell
 -- what was sent.
-abbrev pub IsToldAsSent : (unit : ℕ) {tables : Tables} {w : NetworkState} {events : List EventValue} {outcomes : List OutcomeValue} {new : NetworkValue}
+abbrev pub IsToldAsSent : (unit : ℕ) {tables : Tables} {w : WalkedState} {events : List WalkedEvent} {outcomes : List WalkedOutcome} {new : NetworkValue}
     → IsRunOf tables w events outcomes new → Type 0
 IsToldAsSent unit {tables} {w} {events} {outcomes} run = (key : KeyValue) (d : ℕ) (first : Epoch) (epochs : List Epoch) → length epochs ≡ length outcomes
-    → IsQuiet tables.plan w key d → IsTidyFrom unit tables.plan key d w first (zip run.turns epochs) → TellWhatWasSent unit tables.plan key d outcomes epochs
+    → IsQuiet tables.plan w.network key d → IsWalkedTidyFrom unit tables.plan key d w first (zip run.turns epochs) → TellWhatWasSent unit tables.plan key d outcomes epochs
 
 -- From every state that the network stood for, these events with these outcomes are the turns of a run, and each such run
 -- is told as what was sent.
-abbrev pub PlaysAsSent : (unit : ℕ) → Tables → NetworkValue → List EventValue → List OutcomeValue → NetworkValue → Type 0
-PlaysAsSent unit tables old events outcomes new = (w : NetworkState) → StandsFor old w
+abbrev pub PlaysAsSent : (unit : ℕ) → Tables → NetworkValue → List WalkedEvent → List WalkedOutcome → NetworkValue → Type 0
+PlaysAsSent unit tables old events outcomes new = (w : WalkedState) → StandsForWalked old w
     → IsRunOf tables w events outcomes new × ((run : IsRunOf tables w events outcomes new) → IsToldAsSent unit run)

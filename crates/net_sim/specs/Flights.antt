@@ -1,23 +1,30 @@
--- The flights that a network holds, each in the place of its number.
-use Rattle.std.specs.Prelude.{ℕ, ◌-◌, List, map, length, slice_get, Option, Some, option_map, option_and_then, vec_capacity}
+-- The flights that a network holds, each under its number.
+use Rattle.std.specs.Prelude.{ℕ, ◌-◌, ◌==◌, if◌then◌else◌, List, [], ◌∷◌, map, length, slice_get, Option, Some, None, option_map, option_and_then, vec_capacity}
+use Rattle.std.specs.List.{range_with_len}
 use Rattle.mctp_transport.specs.Frames.{Frame}
 use Rattle.mctp_transport.specs.Packets.{packet_frame}
 use Rattle.net_check.specs.States as state
 use Rattle.net_sim.specs.declared.flights.Flight.{Flight}
+use Rattle.net_sim.specs.declared.flights.Slot.{Slot}
 use Rattle.net_sim.specs.declared.flights.Flights.{Flights}
 
 abbrev pub flight_value : Flight → state.Flight
 flight_value f = record { packet = packet_frame f.packet; origin = f.origin; node = f.node; hops = f.hops }
 
--- place by place, the flight that is there
+-- the flight that is kept under a number
+abbrev pub kept : List Slot → ℕ → Option Flight
+kept [] number = None
+kept (slot ∷ slots) number = if slot.number == number then slot.flight else kept slots number
+
+-- number by number, from 0 to the last that was given, the flight that is there
 abbrev pub slots_of : Flights → List (Option state.Flight)
-slots_of flights = map (option_map flight_value) flights.slots.items
+slots_of flights = map (λ number. option_map flight_value (kept flights.slots.items number)) (range_with_len 0 flights.next)
 
 -- the flight of a number
 abbrev pub flight_at : List (Option state.Flight) → ℕ → Option state.Flight
 flight_at slots number = option_and_then (λ f. f) (slice_get slots number)
 
--- how many flights more can be made without growing
+-- how many numbers more can be given without growing
 abbrev pub room_of : Flights → ℕ
 room_of flights = vec_capacity flights.slots - length flights.slots.items
 

@@ -1,16 +1,17 @@
--- The walkers that a network holds, and what it stands for with them.
-use Rattle.std.specs.Prelude.{◌≡◌, ◌≢◌, ℕ, ◌+◌, List, length, slice_get, Some, None, Result, Err, MatchResult}
-use Rattle.pldm_message.specs.InstanceIds.{IdSet, TakesBack}
+-- The walkers that a network holds.
+use Rattle.std.specs.Prelude.{◌≡◌, ◌≢◌, ◌⊎◌, ℕ, List, Option, Some, None, Result, Err, MatchResult, slice_get}
+use Rattle.mctp_transport.specs.Frames.{KeyValue}
+use Rattle.mctp_transport.specs.Hearing.{Whole}
+use Rattle.pldm_message.specs.InstanceIds.{IdSet, Gives, TakesBack}
 use Rattle.pldm_message.specs.InstanceIdValues.{ids_of}
 use Rattle.pdr_repository.specs.declared.walk_fault.Step.{Step}
 use Rattle.pdr_repository.specs.declared.walk_fault.WalkFault.{WalkFault}
 use Rattle.pdr_repository.specs.declared.walk_fault.WalkFault.TheVariants.{OutOfMemory}
-use Rattle.pdr_repository.specs.Walkers.{WalkState, Takes}
+use Rattle.pdr_repository.specs.Walkers.{WalkState, Asks, Takes}
+use Rattle.pdr_repository.specs.WalkerRooms.{HasRoom}
 use Rattle.pdr_repository.specs.WalkerStates.{state_of}
-use Rattle.net_check.specs.TwoPlans.{Tables}
-use Rattle.net_check.specs.Walkers.{WalkerValue, WalkedState, WalkedEvent, WalkedOutcome, ended_after}
-use Rattle.net_check.specs.WalkedRuns.{WalkedStep}
-use Rattle.net_sim.specs.Standing.{NetworkValue, StandsFor}
+use Rattle.net_check.specs.Events.{OutcomeValue, Entered}
+use Rattle.net_check.specs.Walkers.{WalkerValue, Handed, answering_key, ended_after}
 use Rattle.net_sim.specs.declared.network_walker.NetworkWalker.{NetworkWalker}
 
 abbrev pub walker_value : NetworkWalker → WalkerValue
@@ -26,19 +27,36 @@ pub record HasTakenMessage (old : WalkerValue) (message : List ℕ) (result : Re
   pub given_back : MatchResult result (λ step. (id : ℕ) × (old.walk.waiting ≡ Some id) × TakesBack old.ids id ids) (λ fault. ids ≡ old.ids)
   pub is : new ≡ record old { walk = walk; ids = ids; ended = ended_after old.ended result }
 
--- what a network holds, and its walkers in the order in which they began
-pub record WalkedValue : Type 0 where
-  pub network : NetworkValue
-  pub walkers : List WalkerValue
+-- it is at this node, and asks this endpoint ID under this tag
+abbrev pub IsAt : (node eid tag : ℕ) → WalkerValue → Type 0
+IsAt node eid tag walker = (walker.node ≡ node) × (walker.eid ≡ eid) × (walker.tag ≡ tag)
 
--- The network is as its state says, and the walkers are those of the numbers from 1 on.
-pub record StandsForWalked (v : WalkedValue) (w : WalkedState) : Type 0 where
-  pub network : StandsFor v.network w.network
-  pub none : w.walker 0 ≡ None
-  pub walkers : (i : ℕ) → w.walker (i + 1) ≡ slice_get v.walkers i
-  pub begun : w.begun ≡ length v.walkers
+-- one message more can be taken without growing
+abbrev pub IsReady : NetworkWalker → Type 0
+IsReady w = HasRoom w.walker
 
--- From every state that it stood for, this is a step, to a state that it stands for then.
-abbrev pub WalkedPlays : Tables → WalkedValue → WalkedEvent → WalkedOutcome → WalkedValue → Type 0
-WalkedPlays tables old event outcome new = (w : WalkedState) → StandsForWalked old w
-    → (next : WalkedState) × WalkedStep tables w event outcome next × StandsForWalked new next
+-- it is at this node, and this is the key of its answers
+abbrev pub Listens : ℕ → KeyValue → WalkerValue → Type 0
+Listens node key walker = (walker.node ≡ node) × (answering_key walker ≡ key)
+
+-- such a walker stands at this place
+abbrev pub ListensAt : ℕ → KeyValue → List NetworkWalker → ℕ → Type 0
+ListensAt node key walkers place =
+    (walker : NetworkWalker) × (slice_get walkers place ≡ Some walker) × Listens node key (walker_value walker)
+
+-- The walker's request is told: the outstanding one again under its instance ID, or a new one under the next ID.
+pub record TellsRequest (old : WalkerValue) (request : List ℕ) (new : WalkerValue) : Type 0 where
+  pub id : ℕ
+  pub walk : WalkState
+  pub ids : IdSet
+  pub under : ((old.walk.waiting ≡ Some id) × (ids ≡ old.ids)) ⊎ ((old.walk.waiting ≡ None) × Gives old.ids id ids)
+  pub asks : Asks old.walk id (Some request) walk
+  pub is : new ≡ record old { walk = walk; ids = ids }
+
+-- The walker of this number takes the message that the outcome tells. Where it tells none, the walker stays as it is.
+abbrev pub HandsOver : WalkerValue → ℕ → OutcomeValue → Option Handed → WalkerValue → Type 0
+HandsOver old number outcome None new =
+    (new ≡ old) × ((flight node : ℕ) (key : KeyValue) (message : List ℕ) → outcome ≢ Entered flight node key (Whole message))
+HandsOver old number outcome (Some handed) new =
+    (handed.number ≡ number) × (flight : ℕ) × (node : ℕ) × (key : KeyValue) × (message : List ℕ)
+    × (outcome ≡ Entered flight node key (Whole message)) × HasTakenMessage old message handed.result new

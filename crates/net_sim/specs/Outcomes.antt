@@ -1,53 +1,61 @@
--- Events and outcomes as plain values.
-use Rattle.std.specs.Prelude.{ℕ, List, codes}
+-- Events and what comes of them, as plain values.
+use Rattle.std.specs.Prelude.{ℕ, List, codes, option_map}
 use Rattle.mctp_transport.specs.Packets.{key_value}
-use Rattle.mctp_transport.specs.Hearing as heard
 use Rattle.net_plan.specs.declared.event.Event.{Event}
 use Rattle.net_plan.specs.declared.event.Event.TheVariants as event
-use Rattle.net_check.specs.Events.{EventValue, Put, Move, Lose, Expire, AnswerAt, Switch, OutcomeValue, N01, N02, N03, N04, N05, N06, N07}
-use Rattle.net_check.specs.Events as value
-use Rattle.net_sim.specs.declared.refusal.Refusal.{Refusal}
-use Rattle.net_sim.specs.declared.refusal.Refusal.TheVariants.{NoNode, NoPacket, NoFlight, NoTerminus, NothingWaits, NoNumbers, NoSwitch}
+use Rattle.net_check.specs.Events.{Put, Move, Lose, Expire, AnswerAt, Switch}
+use Rattle.net_check.specs.Walkers.{WalkedEvent, Happening, BeginWalk, Ask, TellWalk, WalkedOutcome, Happened, Begun, Asked, ToldWalk, WalkRefused}
+use Rattle.net_check.specs.Walkers as value
+use Rattle.net_sim.specs.declared.handed.Handed.{Handed}
+use Rattle.net_sim.specs.declared.standing.Standing.{Standing}
+use Rattle.net_sim.specs.declared.standing.Standing.TheVariants.{Open, Done, Ended}
+use Rattle.net_sim.specs.declared.walk_refusal.WalkRefusal.{WalkRefusal}
+use Rattle.net_sim.specs.declared.walk_refusal.WalkRefusal.TheVariants.{Shared, WalkerThere, NoTerminusThere, WrongCount, NoWalker, Unsettled, WalkOver}
 use Rattle.net_sim.specs.declared.outcome.Outcome.{Outcome}
 use Rattle.net_sim.specs.declared.outcome.Outcome.TheVariants as outcome
+use Rattle.net_sim.specs.Effects.{effect_value, refusal_value, refusal_code}
 
-abbrev pub event_value : Event → EventValue
-event_value (event.Put node bytes) = Put node bytes.items
-event_value (event.Move flight keep) = Move flight keep
-event_value (event.Lose flight) = Lose flight
-event_value (event.Expire node key) = Expire node (key_value key)
-event_value (event.Answer node) = AnswerAt node
-event_value (event.Switch node) = Switch node
+abbrev pub event_value : Event → WalkedEvent
+event_value (event.Put node bytes) = Happening (Put node bytes.items)
+event_value (event.Move flight keep) = Happening (Move flight keep)
+event_value (event.Lose flight) = Happening (Lose flight)
+event_value (event.Expire node key) = Happening (Expire node (key_value key))
+event_value (event.Answer node) = Happening (AnswerAt node)
+event_value (event.Switch node) = Happening (Switch node)
+event_value (event.Walk node eid tag count) = BeginWalk node eid.value tag.value count
+event_value (event.Ask walker) = Ask walker
+event_value (event.Collected walker) = TellWalk walker
 
-abbrev pub refusal_value : Refusal → value.Refusal
-refusal_value NoNode = N01
-refusal_value NoPacket = N02
-refusal_value NoFlight = N03
-refusal_value NoTerminus = N04
-refusal_value NothingWaits = N05
-refusal_value NoNumbers = N06
-refusal_value NoSwitch = N07
+abbrev pub walk_refusal_value : WalkRefusal → value.WalkRefusal
+walk_refusal_value (Shared why) = value.Also (refusal_value why)
+walk_refusal_value WalkerThere = value.N08
+walk_refusal_value NoTerminusThere = value.N09
+walk_refusal_value WrongCount = value.N10
+walk_refusal_value NoWalker = value.N11
+walk_refusal_value Unsettled = value.N12
+walk_refusal_value WalkOver = value.N13
 
-abbrev pub outcome_value : Outcome → OutcomeValue
-outcome_value (outcome.PutIn number node) = value.PutIn number node
-outcome_value (outcome.Moved number node hops) = value.Moved number node hops
-outcome_value (outcome.Held number node key) = value.Entered number node (key_value key) heard.Held
-outcome_value (outcome.Whole number node key bytes) = value.Entered number node (key_value key) (heard.Whole bytes.items)
-outcome_value (outcome.Dropped number node key why) = value.Entered number node (key_value key) (heard.Dropped why)
-outcome_value (outcome.Stopped number why) = value.Stopped number why
-outcome_value (outcome.Lost number) = value.Lost number
-outcome_value (outcome.Expired node was_open) = value.Expired node was_open
-outcome_value (outcome.Answered node first last) = value.Answered node first last
-outcome_value (outcome.Silent node) = value.Silent node
-outcome_value (outcome.Switched node) = value.Switched node
-outcome_value (outcome.Refused why) = value.Refused (refusal_value why)
+abbrev pub handed_value : Handed → value.Handed
+handed_value handed = record { number = handed.walker; result = handed.result }
+
+abbrev pub standing_value : Standing → value.Standing
+standing_value Open = value.Open
+standing_value Done = value.Finished
+standing_value (Ended fault) = value.EndedBy fault
+
+abbrev pub outcome_value : Outcome → WalkedOutcome
+outcome_value (outcome.Happened effect handed) = Happened (effect_value effect) (option_map handed_value handed)
+outcome_value (outcome.Begun walker) = Begun walker
+outcome_value (outcome.Asked walker number) = Asked walker number
+outcome_value (outcome.Collected walker records standing) = ToldWalk walker records (standing_value standing)
+outcome_value (outcome.Refused why) = WalkRefused (walk_refusal_value why)
 
 -- the code that users see
-abbrev pub refusal_code : Refusal → List ℕ
-refusal_code NoNode = codes "N01"
-refusal_code NoPacket = codes "N02"
-refusal_code NoFlight = codes "N03"
-refusal_code NoTerminus = codes "N04"
-refusal_code NothingWaits = codes "N05"
-refusal_code NoNumbers = codes "N06"
-refusal_code NoSwitch = codes "N07"
+abbrev pub walk_refusal_code : WalkRefusal → List ℕ
+walk_refusal_code (Shared why) = refusal_code why
+walk_refusal_code WalkerThere = codes "N08"
+walk_refusal_code NoTerminusThere = codes "N09"
+walk_refusal_code WrongCount = codes "N10"
+walk_refusal_code NoWalker = codes "N11"
+walk_refusal_code Unsettled = codes "N12"
+walk_refusal_code WalkOver = codes "N13"

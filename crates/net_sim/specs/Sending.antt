@@ -1,13 +1,15 @@
--- The packets of an answer are put in at a node.
-use Rattle.std.specs.Prelude.{◌≡◌, ℕ, ◌+◌, List, ◌++◌, length, map, Option}
-use Rattle.mctp_transport.specs.Frames.{Frame, KeyValue}
+-- The packets of an answer, or the one packet of a request, are put in at a node.
+use Rattle.std.specs.Prelude.{◌≡◌, ℕ, ◌+◌, List, [], ◌∷◌, ◌++◌, length, map, Option}
+use Rattle.mctp_transport.specs.Frames.{Frame, KeyValue, Spelled}
 use Rattle.mctp_transport.specs.Cutting.{ArePacketsOf}
 use Rattle.net_plan.specs.declared.plan.Plan.{Plan}
 use Rattle.net_check.specs.Routing.{Holds}
-use Rattle.net_check.specs.States.{Flight}
+use Rattle.net_check.specs.TwoPlans.{Tables}
+use Rattle.net_check.specs.States.{Flight, unit}
 use Rattle.net_check.specs.Networks.{answer_key}
-use Rattle.net_check.specs.Events.{OutcomeValue, Answered}
+use Rattle.net_check.specs.Events.{Put, OutcomeValue, Answered, PutIn}
 use Rattle.net_sim.specs.Flights.{begun}
+use Rattle.net_sim.specs.Standing.{TrafficValue, Plays}
 
 -- The packets of the answer to a message of this key are put in at the node, which holds the key's source, as the flights
 -- that the outcome tells.
@@ -22,3 +24,11 @@ pub record Sends (plan : Plan) (node : ℕ) (asked : KeyValue) (answer : List �
   pub begins : first ≡ length old
   pub ends : last + 1 ≡ length old + length packets
   pub flights : new ≡ old ++ map (begun node) packets
+
+-- The message is one packet, and that packet's bytes are put in at the node, as the flight of this number.
+pub record PutsOne (tables : Tables) (old : TrafficValue) (node : ℕ) (message : List ℕ) (destination : ℕ) (key : KeyValue) (number : ℕ) (new : TrafficValue) : Type 0 where
+  pub packet : Frame
+  pub bytes : List ℕ
+  pub cut : ArePacketsOf unit message destination key 0 (packet ∷ [])
+  pub spelled : Spelled unit packet bytes
+  pub plays : Plays tables old (Put node bytes) (PutIn number node) new

@@ -1,15 +1,30 @@
 //! Termini dealt to the nodes of a plan.
-ghost use Rattle.std.specs.Prelude.{◌≡◌, ◌∷◌, List, IfOk, map, option_map};
+ghost use Rattle.std.specs.Prelude.{◌≡◌, ◌∷◌, List, IfOk, count_by, is_some, length, map, option_map};
 ghost use Rattle.std.specs.Vec.Iter.{into_iter_items};
 ghost use Rattle.net_plan.specs.declared.nodes.Node.{Node};
+ghost use Rattle.net_plan.specs.declared.certificate.Certificate.{Certificate};
 ghost use Rattle.net_sim.specs.Desks.{desk_state};
-ghost use Rattle.net_sim.specs.Dealing.{resting, dealt};
+ghost use Rattle.net_sim.specs.Dealing.{resting, dealt, planned_termini};
 
 use crate::desk::Desk;
 use net_plan::{Node, Plan};
 use pdr_repository::Terminus;
 use std::alloc::{AllocError, Global};
 use std::vec::IntoIter;
+
+/// How many nodes of a plan have a terminus: its network takes as many termini.
+pub fn planned_termini_count(plan: &Plan) -> usize
+    ensures { (cert : Certificate) → result ≡ length (planned_termini plan.now cert) }
+{
+    with_terminus(&plan.nodes)
+}
+
+/// How many nodes have a terminus.
+fn with_terminus(nodes: &[Node]) -> usize
+    ensures { result ≡ count_by (λ node. is_some node.terminus) nodes.now }
+{
+    nodes.iter().filter(|node| node.terminus.is_some()).count()
+}
 
 /// A desk for each node that has a terminus, with the next of the termini.
 pub fn deal(

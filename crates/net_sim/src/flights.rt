@@ -1,7 +1,9 @@
 //! The packets on their way, by number.
-ghost use Rattle.std.specs.Prelude.{◌≡◌, ◌↔◌, ℕ, ◌+◌, ◌-◌, ◌<◌, ◌≤◌, ◌^◌, ◌++◌, ◌∷◌, [], length, Option, None, option_map, slice_set, is_some, All, IsTrue, IfOk, OnOk};
+ghost use Rattle.std.specs.Prelude.{◌≡◌, ◌↔◌, ◌≢◌, ◌+◌, ◌*◌, ◌<◌, ◌≤◌, ◌++◌, ◌∷◌, [], length, None, option_map, slice_set, is_some, is_none, All, AllPairs, IsTrue, IfOk, IfSome, IfNone, OnOk, true};
+ghost use Rattle.std.specs.List.{HoldsAt, count_by};
 ghost use Rattle.mctp_transport.specs.Packets.{key_value};
 ghost use Rattle.net_sim.specs.Settling.{IsTo, IsNotTo};
+ghost use Rattle.std.proofs.Props.{props};
 
 use mctp_transport::{Eid, Key, Packet, PacketView};
 use std::alloc::{AllocError, Global};
@@ -53,16 +55,6 @@ impl Flight {
         self.packet.header.destination == eid && is_same_key(self.packet.view().key(), key)
     }
 
-    /// Whether there is no flight of the key to the endpoint ID in the place.
-    fn is_not_to(slot: &Option<Flight>, key: Key, eid: Eid) -> bool
-        ensures { IsTrue result ↔ IsNotTo (key_value key) eid.value (option_map flight_value slot.now) }
-    {
-        match slot {
-            Some(flight) => !flight.is_to(key, eid),
-            None => true,
-        }
-    }
-
     /// The flight one hop further, at this node.
     pub fn moved(self, node: usize) -> Flight
         requires { self.hops < 255 }
@@ -76,12 +68,42 @@ impl Flight {
     }
 }
 
-/// The flights of a network. Each has a place of its own, that of its number, and number 0 is never given. A place stays
-/// empty once its flight has ended, so each number costs as many bytes as a flight, about 120.
+/// A number that was given, and the flight under it. It is empty once that flight has ended.
+#[derive(Debug, Drop)]
+struct Slot {
+    number: u32,
+    flight: Option<Flight>,
+}
+
+impl Slot {
+    ghost use Rattle.net_sim.specs.Flights.{flight_value};
+
+    /// Whether there is no flight of the key to the endpoint ID in it.
+    fn is_not_to(&self, key: Key, eid: Eid) -> bool
+        ensures { IsTrue result ↔ IsNotTo (key_value key) eid.value (option_map flight_value self.now.flight) }
+    {
+        match &self.flight {
+            Some(flight) => !flight.is_to(key, eid),
+            None => true,
+        }
+    }
+}
+
+/// The flights of a network. Each has a number of its own, and number 0 is never given; a flight is found by halving.
+/// One that ends leaves an empty slot. The empty slots are swept out when room is made and they are half of all or more,
+/// so that the memory follows the flights that have not ended, and a sweep passes two slots at most for each empty one.
 #[derive(Debug, Drop)]
 pub struct Flights {
-    slots: Vec<Option<Flight>>,
-    ghost begun: { 0 < length slots.items },
+    /// In the order of their numbers.
+    slots: Vec<Slot>,
+    /// How many of the slots are empty.
+    empty: usize,
+    /// The number that is given next.
+    next: usize,
+    ghost begun: { 0 < next },
+    ghost ascending: { AllPairs (λ slot later. slot.number < later.number) slots.items } by { Prim.hlevel props },
+    ghost given: { All (λ slot. slot.number < next) slots.items } by { Prim.hlevel props },
+    ghost counted: { empty ≡ count_by (λ slot. is_none slot.flight) slots.items },
 }
 
 impl Flights {
@@ -92,24 +114,39 @@ impl Flights {
     pub fn new(alloc: Global) -> Result<Self, AllocError>
         ensures { IfOk result (λ flights. slots_of flights ≡ None ∷ []) }
     {
-        let mut slots = Vec::new(alloc);
-        slots.push(None)?;
-        Ok(Flights { slots })
+        Ok(Flights {
+            slots: Vec::new(alloc),
+            empty: 0,
+            next: 1,
+        })
     }
 
-    /// How many places there are, that of number 0 among them: the number that is given next.
+    /// The number that is given next.
     pub fn next_number(&self) -> usize
         ensures next { result ≡ length (slots_of self.now) }
         ensures some { 0 < result }
     {
-        self.slots.len()
+        self.next
+    }
+
+    /// The place of the slot of this number, by halving.
+    fn place_of(&self, number: u32) -> Option<usize>
+        ensures found { IfSome result (λ place. (place < length self.now.slots.items) × HoldsAt (λ slot. slot.number ≡ number) self.now.slots.items place) }
+        ensures none { IfNone result (All (λ slot. slot.number ≢ number) self.now.slots.items) }
+    {
+        let slots = self.slots.as_slice();
+        match slots.binary_search_by_key(&number, |slot| slot.number) {
+            Ok(place) => Some(place),
+            Err(_) => None,
+        }
     }
 
     /// The flight of this number, with a packet of its own.
     pub fn get(&self, number: u32) -> Option<Flight>
         ensures { option_map flight_value result ≡ flight_at (slots_of self.now) number }
     {
-        let flight = self.slots.get(number as usize)?.as_ref()?;
+        let place = self.place_of(number)?;
+        let flight = self.slots[place].flight.as_ref()?;
         Some(flight.copy())
     }
 
@@ -117,45 +154,66 @@ impl Flights {
     pub fn has(&self, number: u32) -> bool
         ensures { result ≡ is_some (flight_at (slots_of self.now) number) }
     {
-        match self.slots.get(number as usize) {
-            Some(slot) => slot.is_some(),
+        match self.place_of(number) {
+            Some(place) => self.slots[place].flight.is_some(),
             None => false,
         }
     }
 
-    /// Whether no packet of the key is on its way to the endpoint ID. It looks at the place of each number that was given.
+    /// Whether no packet of the key is on its way to the endpoint ID. It looks at the slots that are kept.
     pub fn none_is_to(&self, key: Key, eid: Eid) -> bool
-        ensures { IsTrue result ↔ All (λ slot. IsNotTo (key_value key) eid.value (option_map flight_value slot)) self.now.slots.items }
+        ensures { IsTrue result ↔ All (IsNotTo (key_value key) eid.value) (slots_of self.now) }
     {
-        self.slots
-            .iter()
-            .all(|slot| Flight::is_not_to(slot, key, eid))
+        self.slots.iter().all(|slot| slot.is_not_to(key, eid))
     }
 
-    /// Makes room for so many flights more.
+    /// Makes room for so many numbers more.
     pub fn reserve(&mut self, count: usize) -> Result<(), AllocError>
         ensures same { slots_of self.new ≡ slots_of self.old }
         ensures room { OnOk result (count ≤ room_of self.new) }
+        // At most half of the slots are empty then.
+        ensures half { 2 * self.new.empty ≤ length self.new.slots.items }
     {
+        if self.slots.len() - self.empty <= self.empty {
+            self.sweep();
+        }
         self.slots.reserve(count)
+    }
+
+    /// Forgets the empty slots.
+    fn sweep(&mut self)
+        ensures same { slots_of self.new ≡ slots_of self.old }
+        ensures swept { self.new.empty ≡ 0 }
+    {
+        self.slots.retain(|slot| slot.flight.is_some());
+        self.empty = 0;
     }
 
     /// Gives the next number to this flight, or to none that stays.
     pub fn push(&mut self, flight: Option<Flight>)
-        requires { 0 < room_of self.old }
+        requires room { 0 < room_of self.old }
+        requires few { length (slots_of self.old) ≤ most_flights }
         ensures slots { slots_of self.new ≡ slots_of self.old ++ option_map flight_value flight ∷ [] }
         ensures room { room_of self.new + 1 ≡ room_of self.old }
     {
-        self.slots.push_reserved(flight);
+        self.empty += usize::from(flight.is_none());
+        self.slots.push_reserved(Slot {
+            number: self.next as u32,
+            flight,
+        });
+        self.next += 1;
     }
 
-    /// Puts this flight in the place of a number that was given, or none.
+    /// Puts this flight in the place of one, or none.
     pub fn set(&mut self, number: u32, flight: Option<Flight>)
-        requires { number < length (slots_of self.old) }
+        requires { is_some (flight_at (slots_of self.old) number) ≡ true }
         ensures slots { slots_of self.new ≡ slice_set (slots_of self.old) number (option_map flight_value flight) }
         ensures room { room_of self.new ≡ room_of self.old }
     {
-        self.slots[number as usize] = flight;
+        if let Some(place) = self.place_of(number) {
+            self.empty += usize::from(flight.is_none());
+            self.slots[place] = Slot { number, flight };
+        }
     }
 }
 

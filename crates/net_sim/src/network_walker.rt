@@ -1,11 +1,13 @@
 //! A walker at a node of a network.
-ghost use Rattle.std.specs.Prelude.{◌≡◌, ◌↔◌, ◌≤◌, ℕ, IsTrue, IfOk, Some, Err, map};
+ghost use Rattle.std.specs.Prelude.{◌≡◌, ◌↔◌, ◌≤◌, ◌<◌, ℕ, IsTrue, IfOk, OnOk, MatchOption, Some, None, Err, map, true};
 ghost use Rattle.pldm_message.specs.InstanceIds.{TakesBack};
 ghost use Rattle.pldm_message.specs.InstanceIdValues.{id_value, ids_of};
 ghost use Rattle.pdr_repository.specs.WalkerStates.{state_of};
 ghost use Rattle.mctp_transport.specs.Packets.{key_value};
 ghost use Rattle.net_check.specs.Walkers.{fresh_walker, asking_key, answering_key, ended_after};
 
+use crate::flights::is_same_key;
+use crate::standing::Standing;
 use mctp_transport::{Eid, Key, Tag};
 use pdr_repository::{Step, WalkFault, Walker};
 use pldm_message::{InstanceId, InstanceIds};
@@ -31,11 +33,13 @@ pub struct NetworkWalker {
     /// The fault that ended the walk.
     ended: Option<WalkFault>,
     ghost waits: { id_value outstanding ≡ (state_of walker).waiting },
+    ghost alone: { (id : ℕ) → (ids_of ids).out id ≡ true → id_value outstanding ≡ Some id },
 }
 
 impl NetworkWalker {
-    ghost use Rattle.pdr_repository.specs.WalkerRooms.{HasRoom};
-    ghost use Rattle.net_sim.specs.NetworkWalkers.{walker_value, HasTakenMessage};
+    ghost use Rattle.net_check.specs.Walkers.{IsOver, standing_of};
+    ghost use Rattle.net_sim.specs.Outcomes.{standing_value};
+    ghost use Rattle.net_sim.specs.NetworkWalkers.{walker_value, IsReady, Listens, TellsRequest, HasTakenMessage};
 
     /// A walker that has asked nothing yet, for parts of at most `count` bytes, 8 to 4079.
     pub fn new(
@@ -68,6 +72,55 @@ impl NetworkWalker {
         self.node == node && self.eid == eid && self.tag == tag
     }
 
+    /// The node where it is.
+    pub fn node(&self) -> usize
+        ensures { result ≡ (walker_value self.now).node }
+    {
+        self.node
+    }
+
+    /// The endpoint ID that it asks.
+    pub fn eid(&self) -> Eid
+        ensures { result.value ≡ (walker_value self.now).eid }
+    {
+        self.eid
+    }
+
+    /// Whether a message that comes at this node under this key is for it.
+    pub fn listens(&self, node: usize, key: Key) -> bool
+        ensures { IsTrue result ↔ Listens node (key_value key) (walker_value self.now) }
+    {
+        self.node == node && is_same_key(self.answering_key(), key)
+    }
+
+    /// Whether its walk is done or has failed.
+    pub fn is_over(&self) -> bool
+        ensures { IsTrue result ↔ IsOver (walker_value self.now) }
+    {
+        self.walker.is_over()
+    }
+
+    /// Whether no request of it is outstanding.
+    pub fn is_idle(&self) -> bool
+        ensures { IsTrue result ↔ ((walker_value self.now).walk.waiting ≡ None) }
+    {
+        self.outstanding.is_none()
+    }
+
+    /// How its walk stands.
+    pub fn standing(&self) -> Standing
+        ensures { standing_value result ≡ standing_of (walker_value self.now) }
+    {
+        if let Some(fault) = self.ended {
+            return Standing::Ended(fault);
+        }
+        if self.walker.is_done() {
+            Standing::Done
+        } else {
+            Standing::Open
+        }
+    }
+
     /// The key of its requests, where its node has this endpoint ID.
     pub fn asking_key(&self, own: Eid) -> Key
         ensures { key_value result ≡ asking_key own.value (walker_value self.now) }
@@ -90,10 +143,35 @@ impl NetworkWalker {
         }
     }
 
+    /// The bytes of its request: of the outstanding one again, under its instance ID, or of a new one, which is outstanding
+    /// then, under the next ID. None where the walk is over. It takes no memory.
+    pub fn next_request(&mut self) -> Option<[u8; 17]>
+        ensures { MatchOption result (IsOver (walker_value self.old) × (walker_value self.new ≡ walker_value self.old))
+            (λ request. TellsRequest (walker_value self.old) request (walker_value self.new)) }
+    {
+        if self.walker.is_over() {
+            return None;
+        }
+        let id = match self.outstanding {
+            Some(id) => id,
+            None => self.ids.take()?,
+        };
+        self.outstanding = Some(id);
+        self.walker.next_request(id)
+    }
+
+    /// Makes room for a message, so that the next `take` wants no memory.
+    pub fn reserve(&mut self) -> Result<(), AllocError>
+        ensures value { walker_value self.new ≡ walker_value self.old }
+        ensures room { OnOk result (IsReady self.new) }
+    {
+        self.walker.reserve()
+    }
+
     /// Takes a message that came under the key of its answers, where room was made before. The instance ID of the outstanding
     /// request is free again where the message is its answer.
     pub fn take(&mut self, message: &[u8]) -> Result<Step, WalkFault>
-        requires { HasRoom self.old.walker }
+        requires { IsReady self.old }
         ensures { HasTakenMessage (walker_value self.old) message.now result (walker_value self.new) }
     {
         match self.walker.take(message) {

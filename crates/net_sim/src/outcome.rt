@@ -1,70 +1,32 @@
 //! What comes of an event.
-use crate::refusal::Refusal;
-use mctp_bridge::Obstacle;
-use mctp_transport::{Key, Why};
+use crate::effect::Effect;
+use crate::handed::Handed;
+use crate::standing::Standing;
+use crate::walk_refusal::WalkRefusal;
 
-/// What comes of an event. Nodes are places in the plan's list.
+/// What comes of an event. Walkers are numbered from 1.
 #[derive(Debug, Drop)]
 pub enum Outcome {
-    /// The flight of this number was put in at the node.
-    PutIn {
-        number: u32,
-        node: usize,
+    /// What happened to the packets, and what a walker made of the message that came with it, if one was handed it.
+    Happened {
+        effect: Effect,
+        handed: Option<Handed>,
     },
-    /// The flight went on to the node, its hop of this number.
-    Moved {
-        number: u32,
-        node: usize,
-        hops: u8,
+    /// The walk of this walker begins.
+    Begun {
+        walker: usize,
     },
-    /// The flight ended at the node, and its message is open there.
-    Held {
-        number: u32,
-        node: usize,
-        key: Key,
-    },
-    /// The flight ended at the node, and with it its message came, which is these bytes.
-    Whole {
-        number: u32,
-        node: usize,
-        key: Key,
-        bytes: Vec<u8>,
-    },
-    /// The flight ended at the node, whose assembler dropped its packet.
-    Dropped {
-        number: u32,
-        node: usize,
-        key: Key,
-        why: Why,
-    },
-    /// The flight ended on its way.
-    Stopped {
-        number: u32,
-        why: Obstacle,
-    },
-    /// The flight was lost.
-    Lost {
+    /// The walker's request was put in, as the flight of this number.
+    Asked {
+        walker: usize,
         number: u32,
     },
-    /// The time of a key was up at the node, and a message of the key was open there or not.
-    Expired {
-        node: usize,
-        was_open: bool,
+    /// The walker has collected so many records.
+    Collected {
+        walker: usize,
+        records: usize,
+        standing: Standing,
     },
-    /// The node's terminus answered, by the flights from the first to the last.
-    Answered {
-        node: usize,
-        first: u32,
-        last: u32,
-    },
-    /// The node's terminus has no answer.
-    Silent {
-        node: usize,
-    },
-    /// The node goes by its new rows from now on.
-    Switched {
-        node: usize,
-    },
-    /// Nothing has changed.
-    Refused(Refusal),
+    /// An event of a walk was refused. Nothing has changed.
+    Refused(WalkRefusal),
 }

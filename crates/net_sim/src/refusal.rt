@@ -21,7 +21,7 @@ pub enum Refusal {
 }
 
 impl Refusal {
-    ghost use Rattle.net_sim.specs.Outcomes.{refusal_code};
+    ghost use Rattle.net_sim.specs.Effects.{refusal_code};
 
     /// The code that users see, as `N01`.
     pub fn code(self) -> &'static str

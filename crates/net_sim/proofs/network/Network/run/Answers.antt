@@ -1,11 +1,13 @@
 use Rattle.std.proofs.Common.{refl, ◌∙◌, ap, arith}
-use Rattle.net_sim.proofs.Playing.{played_start, played_plays, played_next, stopped_plays, stopped_after}
+use Rattle.net_sim.specs.Networks.{checked_of}
+use Rattle.net_sim.proofs.PlayedRuns.{played_start, played_plays, played_next, stopped_plays, stopped_after}
 use Rattle.net_sim.proofs.AsSent.{plays_as_sent}
+use Rattle.net_sim.proofs.PlayedWalks.{plays_walks}
 use Rattle.net_sim.proofs.network.Network.run.Goals as goal
 
 pub loop-event-init : goal.loop-event-init
 loop-event-init g c =
-    (refl, played_start c.args.self.now.router.tables _ c.args.events.now _ c.in_ok-outcomes.ensures.items, c.in_ok-outcomes.ensures.capacity)
+    (refl, played_start (checked_of c.args.self.now).0 _ c.args.events.now _ c.in_ok-outcomes.ensures.items, c.in_ok-outcomes.ensures.capacity)
 
 pub push_reserved-requires : goal.push_reserved-requires
 push_reserved-requires g c =
@@ -15,7 +17,7 @@ pub loop-event-preserved : goal.loop-event-preserved
 loop-event-preserved g c =
     let same = ap (λ r. r.0) c.loop-event.invariant.0 in (
       c.in-Ok.ensures.checked ∙ c.loop-event.invariant.0,
-      played_next c.args.events.now c.loop-event.event-index c.event-item.result c.loop-event-test.true c.event-item.is c.args.self.now.router.tables c.loop-event.self.router.tables same
+      played_next c.args.events.now c.loop-event.event-index c.event-item.result c.loop-event-test.true c.event-item.is (checked_of c.args.self.now).0 (checked_of c.loop-event.self).0 same
           _ _ _ _ _ c.in-Ok.outcome c.push_reserved.ensures.items c.loop-event.invariant.1 c.in-Ok.ensures.plays,
       omega (arith, c.loop-event.invariant.2, c.push_reserved.ensures.capacity),
     )
@@ -26,26 +28,33 @@ returns-in-Err-clause-checked g c = c.in-Err.ensures.checked ∙ c.loop-event.in
 pub returns-in-Err-clause-plays : goal.returns-in-Err-clause-plays
 returns-in-Err-clause-plays g c =
     let same = ap (λ r. r.0) c.loop-event.invariant.0 in
-    stopped_plays c.args.events.now c.loop-event.event-index c.event-item.result c.loop-event-test.true c.event-item.is c.args.self.now.router.tables c.loop-event.self.router.tables same
+    stopped_plays c.args.events.now c.loop-event.event-index c.event-item.result c.loop-event-test.true c.event-item.is (checked_of c.args.self.now).0 (checked_of c.loop-event.self).0 same
     _ _ _ _ c.loop-event.invariant.1 c.in-Err.ensures.plays
 
 pub returns-in-Err-clause-exact : goal.returns-in-Err-clause-exact
-returns-in-Err-clause-exact g c = plays_as_sent 64 c.args.self.now.router.tables _ _ _ _ (returns-in-Err-clause-plays g c)
+returns-in-Err-clause-exact g c = plays_as_sent 64 (checked_of c.args.self.now).0 _ _ _ _ (returns-in-Err-clause-plays g c)
+
+pub returns-in-Err-clause-walks : goal.returns-in-Err-clause-walks
+returns-in-Err-clause-walks g c =
+    plays_walks (checked_of c.args.self.now).0 (checked_of c.args.self.now).1 _ _ _ _ c.plan-plan.ensures.accepted (returns-in-Err-clause-plays g c)
 
 pub returns-in-Err-clause-stopped : goal.returns-in-Err-clause-stopped
 returns-in-Err-clause-stopped g c = λ stopped.
     let same = ap (λ r. r.0) c.loop-event.invariant.0 in
-    stopped_after c.args.events.now c.loop-event.event-index c.event-item.result c.loop-event-test.true c.event-item.is c.args.self.now.router.tables c.loop-event.self.router.tables same
+    stopped_after c.args.events.now c.loop-event.event-index c.event-item.result c.loop-event-test.true c.event-item.is (checked_of c.args.self.now).0 (checked_of c.loop-event.self).0 same
     _ _ _ _ c.loop-event.invariant.1 c.in-Err.ensures.plays
 
 pub returns-clause-checked : goal.returns-clause-checked
 returns-clause-checked g c = c.loop-event.invariant.0
 
 pub returns-clause-plays : goal.returns-clause-plays
-returns-clause-plays g c = played_plays c.args.self.now.router.tables _ _ c.args.events.now c.loop-event.event-index _ c.loop-event.invariant.1
+returns-clause-plays g c = played_plays (checked_of c.args.self.now).0 _ _ c.args.events.now c.loop-event.event-index _ c.loop-event.invariant.1
 
 pub returns-clause-exact : goal.returns-clause-exact
-returns-clause-exact g c = plays_as_sent 64 c.args.self.now.router.tables _ _ _ _ (returns-clause-plays g c)
+returns-clause-exact g c = plays_as_sent 64 (checked_of c.args.self.now).0 _ _ _ _ (returns-clause-plays g c)
+
+pub returns-clause-walks : goal.returns-clause-walks
+returns-clause-walks g c = plays_walks (checked_of c.args.self.now).0 (checked_of c.args.self.now).1 _ _ _ _ c.plan-plan.ensures.accepted (returns-clause-plays g c)
 
 pub returns-clause-whole : goal.returns-clause-whole
 returns-clause-whole g c = λ whole. omega (arith, c.loop-event.invariant.1.long)

@@ -1,12 +1,12 @@
 use Rattle.std.proofs.Common.{◌≡◌, ◌≤◌, length, vec_capacity}
 use Rattle.net_sim.specs.Networks.{network_value, checked_of}
-use Rattle.net_sim.proofs.Playing.{HasPlayed}
+use Rattle.net_sim.proofs.PlayedRuns.{HasPlayed}
 use Rattle.net_sim.proofs.network.Network.run.Given as goal
 
 abbrev pub invariant-loop-event : goal.invariant-loop-event
 invariant-loop-event g l =
     (checked_of l.self ≡ checked_of l.initial.self)
-    × HasPlayed l.initial.self.router.tables
+    × HasPlayed (checked_of l.initial.self).0
     (network_value (λ d. (goal.Terminus-dyn g (d.terminus.vtable, d.terminus.value)).tid d.terminus.value) (λ d. (goal.Terminus-dyn g (d.terminus.vtable, d.terminus.value)).records d.terminus.value) l.initial.self)
     l.events l.event-index l.outcomes.items
     (network_value (λ d. (goal.Terminus-dyn g (d.terminus.vtable, d.terminus.value)).tid d.terminus.value) (λ d. (goal.Terminus-dyn g (d.terminus.vtable, d.terminus.value)).records d.terminus.value) l.self)

@@ -1,0 +1,45 @@
+-- A walker's request is one packet, which is put in at its node.
+use Rattle.std.proofs.Common.{◌≡◌, ℕ, ◌<◌, ◌≤◌, List, [], ◌∷◌, ◌++◌, length, map, refl, ap, arith}
+use Rattle.mctp_transport.specs.Frames.{Frame, KeyValue, IsFrame, frame_bytes}
+use Rattle.mctp_transport.specs.Cutting.{ArePacketsOf}
+use Rattle.mctp_transport.proofs.Sending.{few_packets, many_packets}
+use Rattle.net_check.specs.TwoPlans.{Tables}
+use Rattle.net_check.specs.States.{unit}
+use Rattle.net_check.specs.Events.{most_flights}
+use Rattle.net_sim.specs.Flights.{begun}
+use Rattle.net_sim.specs.Standing.{TrafficValue}
+use Rattle.net_sim.specs.Sending.{PutsOne}
+use Rattle.net_sim.proofs.Putting.{puts}
+
+-- the packet of such a message fits its bits
+one_is_frame : (message : List ℕ) (d : ℕ) (key : KeyValue) (p : Frame) → ArePacketsOf unit message d key 0 (p ∷ []) → d < 256 → key.source < 256 → key.tag < 8 → IsFrame unit p
+one_is_frame message d key p are small source tag =
+    let of_key = are.of_key 0 p refl in
+    let last = are.cut.last 0 p.payload refl (omega arith) in
+    record {
+      reserved = omega (arith, are.reserved 0 p refl);
+      destination = omega (arith, are.addressed 0 p refl, small);
+      source = omega (arith, ap (λ (k : KeyValue). k.source) of_key, source);
+      number = omega (arith, are.numbers 0 p refl);
+      tag = omega (arith, ap (λ (k : KeyValue). k.tag) of_key, tag);
+      some = last.0;
+      most = last.1;
+    }
+
+pub puts_one : (tables : Tables) (v u : TrafficValue) (node number : ℕ) (message : List ℕ) (d : ℕ) (key : KeyValue) → node < length tables.plan.nodes.items
+    → length v.flights ≤ most_flights → number ≡ length v.flights → 0 < length message → length message ≤ 64 → d < 256 → key.source < 256 → key.tag < 8
+    → (ps : List Frame) → ArePacketsOf unit message d key 0 ps → u.flights ≡ v.flights ++ map (begun node) ps → u.assemblers ≡ v.assemblers → u.termini ≡ v.termini
+    → u.switched ≡ v.switched → PutsOne tables v node message d key number u
+puts_one tables v u node number message d key within few is some most small source tag [] are flights assemblers termini switched =
+    absurd (omega (arith, some, many_packets unit message d key 0 [] are))
+puts_one tables v u node number message d key within few is some most small source tag (p ∷ q ∷ ps) are flights assemblers termini switched =
+    absurd (omega (arith, few_packets unit 1 message d key 0 (p ∷ q ∷ ps) are (omega (arith, most))))
+puts_one tables v u node number message d key within few is some most small source tag (p ∷ []) are flights assemblers termini switched =
+    let lawful : IsFrame unit p = one_is_frame message d key p are small source tag in
+    record {
+      packet = p;
+      bytes = frame_bytes p;
+      cut = are;
+      spelled = (lawful, refl);
+      plays = puts tables v node (frame_bytes p) u p number within (lawful, refl) few is flights assemblers termini switched;
+    }

@@ -1,0 +1,17 @@
+use Rattle.std.proofs.Common.{rules, of_calls, ◌↔◌, All, IsTrue, Option, option_map}
+use Rattle.mctp_transport.specs.Packets.{key_value}
+use Rattle.net_check.specs.States as state
+use Rattle.net_sim.specs.Flights.{flight_value}
+use Rattle.net_sim.specs.Settling.{IsNotTo}
+use Rattle.net_sim.specs.declared.flights.Slot.{Slot}
+use Rattle.net_sim.proofs.Keeping.{each_number, each_slot}
+use Rattle.net_sim.proofs.flights.Flights.none_is_to.Goals as goal
+
+pub returns : goal.returns
+returns c =
+    let now = c.args.self.now in
+    let P : Option state.Flight → Type 0 = IsNotTo (key_value c.args.key) c.args.eid.value in
+    let told : IsTrue c.all.result ↔ All (λ (slot : Slot). P (option_map flight_value slot.flight)) now.slots.items = search (rules, of_calls) in (
+      λ yes. each_number now.slots.items now.next now.ascending now.given P tt (told.0 yes),
+      λ all. told.1 (each_slot now.slots.items now.next now.ascending now.given P tt all),
+    )

@@ -1,6 +1,0 @@
-use Rattle.net_sim.proofs.network.Network.reserve.Goals as goal
-
-pub invariant_of-self : goal.invariant_of-self
-invariant_of-self g c =
-    let now = c.args.self.now in
-    record { desked = now.desked; assembled = now.assembled; sized = now.sized; placed = λ k f is. now.placed k f (rw c.reserve.ensures.same at is) }

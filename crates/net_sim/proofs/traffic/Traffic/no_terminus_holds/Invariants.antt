@@ -1,0 +1,11 @@
+use Rattle.std.proofs.Common.{ℕ, ◌≡◌, ◌<◌, None}
+use Rattle.net_check.specs.Routing.{Holds}
+use Rattle.net_check.specs.States.{NetworkState}
+use Rattle.net_sim.specs.Traffics.{traffic_value}
+use Rattle.net_sim.specs.Standing.{StandsFor}
+use Rattle.net_sim.proofs.traffic.Traffic.no_terminus_holds.Given as goal
+
+abbrev pub invariant-loop-node : goal.invariant-loop-node
+invariant-loop-node g l = (w : NetworkState)
+    → StandsFor (traffic_value (λ d. (goal.Terminus-dyn g (d.terminus.vtable, d.terminus.value)).tid d.terminus.value) (λ d. (goal.Terminus-dyn g (d.terminus.vtable, d.terminus.value)).records d.terminus.value) l.self) w
+    → (n : ℕ) → n < l.node → Holds l.self.router.tables.plan n l.eid.value → w.terminus n ≡ None

@@ -1,0 +1,47 @@
+use Rattle.std.proofs.Common.{◌≡◌, ◌<◌, length, Some, refl, sym, ◌∙◌, ap, arith}
+use Rattle.std.specs.Prelude.{slice_get}
+use Rattle.std.proofs.lemmas.Option.{slice_get_read}
+use Rattle.mctp_transport.specs.Frames.{key_of}
+use Rattle.mctp_transport.specs.Packets.{key_value}
+use Rattle.mctp_transport.specs.Hearing.{Whole, Held, Dropped}
+use Rattle.net_check.specs.Termini.{WaitingMessage}
+use Rattle.net_sim.specs.Flights.{flight_value}
+use Rattle.net_sim.proofs.Entering.{receives_held, receives_dropped, receives_whole, desk_waits, desk_there, short_map, at_bytes, as_sized}
+use Rattle.net_sim.proofs.traffic.Traffic.receive.Goals as goal
+
+pub returns-in-Held-clause-receives : goal.returns-in-Held-clause-receives
+returns-in-Held-clause-receives g c =
+    let now = c.args.self.now in
+    let f = flight_value c.args.flight.now in
+    let a = c.index_mut.result.now in
+    let within : f.node < length now.assemblers.items = omega (arith, c.requires.node, now.assembled) in
+    let here : slice_get now.assemblers.items f.node ≡ Some a = slice_get_read now.assemblers.items _ _ a refl within c.index_mut.ensures.value in
+    receives_held _ _ c.args.number f a c.feed.new.assembler (key_value c.key-key.result) (c.key-key.ensures ∙ ap key_of c.view.ensures) within here
+    c.feed.ensures.stands refl refl refl (as_sized a f.packet Held (now.sized f.node a here) c.in-Held.ensures.hears) refl
+
+pub returns-in-Dropped-clause-receives : goal.returns-in-Dropped-clause-receives
+returns-in-Dropped-clause-receives g c =
+    let now = c.args.self.now in
+    let f = flight_value c.args.flight.now in
+    let a = c.index_mut.result.now in
+    let within : f.node < length now.assemblers.items = omega (arith, c.requires.node, now.assembled) in
+    let here : slice_get now.assemblers.items f.node ≡ Some a = slice_get_read now.assemblers.items _ _ a refl within c.index_mut.ensures.value in
+    receives_dropped _ _ c.args.number f a c.feed.new.assembler (key_value c.key-key.result) (c.key-key.ensures ∙ ap key_of c.view.ensures) within here
+    c.feed.ensures.stands refl refl refl c.in-Dropped.why (as_sized a f.packet (Dropped c.in-Dropped.why) (now.sized f.node a here) c.in-Dropped.ensures.hears) refl
+
+pub returns-in-Whole-clause-receives : goal.returns-in-Whole-clause-receives
+returns-in-Whole-clause-receives g c =
+    let now = c.args.self.now in
+    let f = flight_value c.args.flight.now in
+    let a = c.index_mut.result.now in
+    let within : f.node < length now.assemblers.items = omega (arith, c.requires.node, now.assembled) in
+    let here : slice_get now.assemblers.items f.node ≡ Some a = slice_get_read now.assemblers.items _ _ a refl within c.index_mut.ensures.value in
+    let m = c.in-Whole.bytes.items in
+    let key = key_value c.key-key.result in
+    let message : WaitingMessage = record { key = key; bytes = m } in
+    receives_whole _ _ c.args.number f a c.feed.new.assembler key (c.key-key.ensures ∙ ap key_of c.view.ensures) within here
+    c.feed.ensures.stands refl refl refl m _ (as_sized a f.packet (Whole m) (now.sized f.node a here) c.in-Whole.ensures.hears)
+    (short_map _ now.desks.items f.node (omega (arith, c.requires.node, now.desked)))
+    (desk_there _ now.desks.items f.node c.index_mut-in-Whole.result.now
+    (slice_get_read now.desks.items _ _ c.index_mut-in-Whole.result.now refl (omega (arith, c.requires.node, now.desked)) c.index_mut-in-Whole.ensures.value))
+    (λ fits. desk_waits _ _ _ _ message _ (at_bytes m c.deref.result.now (sym c.deref.ensures.value) key _ _ c.wait_at.ensures fits))

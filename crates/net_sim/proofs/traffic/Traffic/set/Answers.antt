@@ -1,0 +1,17 @@
+use Rattle.std.proofs.Common.{Option}
+use Rattle.std.specs.Prelude.{option_map}
+use Rattle.net_check.specs.States.{Flight}
+use Rattle.net_sim.specs.Flights.{slots_of, flight_at, flight_value}
+use Rattle.net_sim.specs.Placing.{IsPlaced}
+use Rattle.net_sim.proofs.Slots.{each_set, mapped_some, some_by, some_within}
+use Rattle.net_sim.proofs.traffic.Traffic.set.Goals as goal
+
+pub invariant_of-self : goal.invariant_of-self
+invariant_of-self g c =
+    let now = c.args.self.now in
+    let P : Flight → Type 0 = IsPlaced now.router.tables.plan now.router.certificate in
+    let o : Option Flight = option_map flight_value c.args.flight in
+    let found = some_by (flight_at (slots_of now.flights) c.args.number) c.requires.number in
+    let within = some_within (slots_of now.flights) c.args.number found.0 found.1 in
+    let placed = each_set (slots_of now.flights) P c.args.number o within now.placed (λ a is. mapped_some flight_value P c.args.flight c.requires.placed a is) in
+    record { desked = now.desked; assembled = now.assembled; sized = now.sized; placed = λ k f is. placed k f (rw c.set.ensures.slots at is) }

@@ -1,0 +1,61 @@
+//! One event of a network with walkers.
+ghost use Rattle.std.specs.Prelude.{◌≡◌, MatchResult, None};
+ghost use Rattle.net_check.specs.Walkers.{Happened};
+ghost use Rattle.net_sim.specs.Effects.{effect_value};
+ghost use Rattle.net_sim.specs.Outcomes.{outcome_value};
+
+mod asking;
+mod beginning;
+mod handing;
+mod telling;
+
+use crate::effect::Effect;
+use crate::network::Network;
+use crate::outcome::Outcome;
+use net_plan::Event;
+use std::alloc::AllocError;
+
+impl<'a> Network<'a> {
+    ghost use Rattle.net_sim.specs.Outcomes.{event_value};
+    ghost use Rattle.net_sim.specs.WalkedStanding.{WalkedPlays, WalkedWants};
+    ghost use Rattle.net_sim.specs.Networks.{network_value, checked_of};
+
+    /// Plays an event. Where memory runs out, nothing has changed.
+    pub fn play(&mut self, event: &Event) -> Result<Outcome, AllocError>
+        ensures checked { checked_of self.new ≡ checked_of self.old }
+        ensures plays { MatchResult result
+            (λ outcome. WalkedPlays (checked_of self.old).0
+            (network_value (λ d. tid d.terminus) (λ d. records d.terminus) self.old) (event_value event.now) (outcome_value outcome)
+            (network_value (λ d. tid d.terminus) (λ d. records d.terminus) self.new))
+            (λ _. WalkedWants (checked_of self.old).0
+            (network_value (λ d. tid d.terminus) (λ d. records d.terminus) self.old) (event_value event.now)
+            (network_value (λ d. tid d.terminus) (λ d. records d.terminus) self.new)) }
+    {
+        match event {
+            Event::Put { node, bytes } => Ok(happened(self.traffic.put(*node, bytes)?)),
+            Event::Move { flight, keep } => self.move_flight(*flight, *keep),
+            Event::Lose { flight } => Ok(happened(self.traffic.lose(*flight))),
+            Event::Expire { node, key } => Ok(happened(self.traffic.expire(*node, *key))),
+            Event::Answer { node } => Ok(happened(self.traffic.answer(*node)?)),
+            Event::Switch { node } => Ok(happened(self.traffic.switch(*node))),
+            Event::Walk {
+                node,
+                eid,
+                tag,
+                count,
+            } => self.begin(*node, *eid, *tag, *count),
+            Event::Ask { walker } => self.ask(*walker),
+            Event::Collected { walker } => Ok(self.tell(*walker)),
+        }
+    }
+}
+
+/// The outcome of an event with which no walker is handed anything.
+fn happened(effect: Effect) -> Outcome
+    ensures { outcome_value result ≡ Happened (effect_value effect) None }
+{
+    Outcome::Happened {
+        effect,
+        handed: None,
+    }
+}

@@ -1,0 +1,104 @@
+//! A walker's request is put in.
+ghost use Rattle.std.specs.Prelude.{◌≡◌, ◌↔◌, ◌<◌, ℕ, length, IsTrue, MatchOption, MatchResult};
+ghost use Rattle.net_check.specs.Routing.{Holds};
+ghost use Rattle.net_check.specs.States.{NetworkState};
+ghost use Rattle.net_check.specs.Walkers.{IsOver, AreSettled};
+ghost use Rattle.net_sim.specs.Standing.{StandsFor};
+ghost use Rattle.net_sim.specs.Traffics.{traffic_value, traffic_checked, HasNumberAndRoom};
+ghost use Rattle.net_sim.specs.NetworkWalkers.{walker_value};
+ghost use Rattle.net_sim.specs.Requests.{MayAsk, MayNotAsk, PutsRequest};
+ghost use Rattle.net_sim.specs.Outcomes.{walk_refusal_value};
+
+use crate::network::Network;
+use crate::network_walker::NetworkWalker;
+use crate::outcome::Outcome;
+use crate::refusal::Refusal;
+use crate::traffic::Traffic;
+use crate::walk_refusal::WalkRefusal;
+use std::alloc::AllocError;
+
+impl<'a> Network<'a> {
+    ghost use Rattle.net_check.specs.Walkers.{Ask};
+    ghost use Rattle.net_sim.specs.Outcomes.{outcome_value};
+    ghost use Rattle.net_sim.specs.WalkedStanding.{WalkedPlays, WalkedWants};
+    ghost use Rattle.net_sim.specs.Networks.{network_value, checked_of};
+
+    /// Puts the request of the walker of this number in at its node: the next one, or once more the outstanding one.
+    pub(super) fn ask(&mut self, number: u32) -> Result<Outcome, AllocError>
+        ensures checked { checked_of self.new ≡ checked_of self.old }
+        ensures plays { MatchResult result
+            (λ outcome. WalkedPlays (checked_of self.old).0
+            (network_value (λ d. tid d.terminus) (λ d. records d.terminus) self.old) (Ask number) (outcome_value outcome)
+            (network_value (λ d. tid d.terminus) (λ d. records d.terminus) self.new))
+            (λ _. WalkedWants (checked_of self.old).0
+            (network_value (λ d. tid d.terminus) (λ d. records d.terminus) self.old) (Ask number)
+            (network_value (λ d. tid d.terminus) (λ d. records d.terminus) self.new)) }
+    {
+        if self.traffic.left() < 1 {
+            return Ok(Outcome::Refused(WalkRefusal::Shared(Refusal::NoNumbers)));
+        }
+        let Some(index) = self.place_of(number) else {
+            return Ok(Outcome::Refused(WalkRefusal::NoWalker));
+        };
+        if let Some(why) = why_not_ask(&self.traffic, &self.walkers[index]) {
+            return Ok(Outcome::Refused(why));
+        }
+        self.traffic.reserve(1)?;
+        match put_request(&mut self.traffic, &mut self.walkers[index]) {
+            Some(number) => Ok(Outcome::Asked {
+                walker: index + 1,
+                number,
+            }),
+            None => Ok(Outcome::Refused(WalkRefusal::WalkOver)),
+        }
+    }
+}
+
+/// Why the walker can't ask, if so: its walk is over, or a new request of it has to wait.
+fn why_not_ask(traffic: &Traffic, walker: &NetworkWalker) -> Option<WalkRefusal>
+    requires { (walker_value walker.now).node < length (traffic_checked traffic.now).0.plan.nodes.items }
+    ensures { (w : NetworkState) → StandsFor (traffic_value (λ d. tid d.terminus) (λ d. records d.terminus) traffic.now) w
+        → MatchOption result (MayAsk (traffic_checked traffic.now).0.plan w (walker_value walker.now))
+        (λ why. MayNotAsk (traffic_checked traffic.now).0.plan w (walker_value walker.now) (walk_refusal_value why)) }
+{
+    if walker.is_over() {
+        return Some(WalkRefusal::WalkOver);
+    }
+    if walker.is_idle() && !are_settled(traffic, walker) {
+        return Some(WalkRefusal::Unsettled);
+    }
+    None
+}
+
+/// Whether the keys of the walker's requests and of their answers are settled.
+fn are_settled(traffic: &Traffic, walker: &NetworkWalker) -> bool
+    requires { (walker_value walker.now).node < length (traffic_checked traffic.now).0.plan.nodes.items }
+    ensures { (w : NetworkState) (own : ℕ) → StandsFor (traffic_value (λ d. tid d.terminus) (λ d. records d.terminus) traffic.now) w
+        → Holds (traffic_checked traffic.now).0.plan (walker_value walker.now).node own
+        → IsTrue result ↔ AreSettled (traffic_checked traffic.now).0.plan w own (walker_value walker.now) }
+{
+    let own = traffic.eid_at(walker.node());
+    traffic.is_settled(walker.asking_key(own), walker.eid())
+        && traffic.is_settled(walker.answering_key(), own)
+}
+
+/// Puts the walker's request in at its node, under the number that is told. None where its walk is over.
+fn put_request(traffic: &mut Traffic, walker: &mut NetworkWalker) -> Option<u32>
+    requires node { (walker_value walker.old).node < length (traffic_checked traffic.old).0.plan.nodes.items }
+    requires room { HasNumberAndRoom traffic.old }
+    ensures checked { traffic_checked traffic.new ≡ traffic_checked traffic.old }
+    ensures puts { MatchOption result
+        (IsOver (walker_value walker.old) × (walker_value walker.new ≡ walker_value walker.old)
+        × (traffic_value (λ d. tid d.terminus) (λ d. records d.terminus) traffic.new ≡ traffic_value (λ d. tid d.terminus) (λ d. records d.terminus) traffic.old))
+        (λ number. PutsRequest (traffic_checked traffic.old).0 (traffic_value (λ d. tid d.terminus) (λ d. records d.terminus) traffic.old) (walker_value walker.old) number
+        (traffic_value (λ d. tid d.terminus) (λ d. records d.terminus) traffic.new) (walker_value walker.new)) }
+{
+    let own = traffic.eid_at(walker.node());
+    let request = walker.next_request()?;
+    Some(traffic.put_one(
+        walker.node(),
+        walker.eid(),
+        walker.asking_key(own),
+        &request,
+    ))
+}

@@ -1,0 +1,85 @@
+//! A walk begins.
+ghost use Rattle.std.specs.Prelude.{◌≡◌, ◌↔◌, ◌≤◌, ◌<◌, length, option_map, Any, IsTrue, IfNone, MatchResult};
+
+use crate::network::Network;
+use crate::network_walker::NetworkWalker;
+use crate::outcome::Outcome;
+use crate::refusal::Refusal;
+use crate::walk_refusal::WalkRefusal;
+use mctp_transport::{Eid, Tag};
+use pdr_repository::five_packets;
+use std::alloc::AllocError;
+
+/// The fewest bytes that a request may ask for.
+const LEAST_COUNT: u16 = 8;
+
+/// The most payload bytes of a packet.
+const UNIT: u16 = 64;
+
+impl<'a> Network<'a> {
+    ghost use Rattle.net_check.specs.Walkers.{WalkedState, BeginWalk};
+    ghost use Rattle.net_sim.specs.Requests.{WhyNot};
+    ghost use Rattle.net_sim.specs.Outcomes.{outcome_value, walk_refusal_value};
+    ghost use Rattle.net_sim.specs.NetworkWalkers.{walker_value, IsAt};
+    ghost use Rattle.net_sim.specs.WalkedStanding.{StandsForWalked, WalkedPlays, WalkedWants};
+    ghost use Rattle.net_sim.specs.Networks.{network_value, checked_of};
+
+    /// Begins a walk at a node, which asks the terminus at the endpoint ID under the tag for parts of at most `count` bytes.
+    pub(super) fn begin(
+        &mut self,
+        node: usize,
+        eid: Eid,
+        tag: Tag,
+        count: u16,
+    ) -> Result<Outcome, AllocError>
+        ensures checked { checked_of self.new ≡ checked_of self.old }
+        ensures plays { MatchResult result
+            (λ outcome. WalkedPlays (checked_of self.old).0
+            (network_value (λ d. tid d.terminus) (λ d. records d.terminus) self.old) (BeginWalk node eid.value tag.value count) (outcome_value outcome)
+            (network_value (λ d. tid d.terminus) (λ d. records d.terminus) self.new))
+            (λ _. WalkedWants (checked_of self.old).0
+            (network_value (λ d. tid d.terminus) (λ d. records d.terminus) self.old) (BeginWalk node eid.value tag.value count)
+            (network_value (λ d. tid d.terminus) (λ d. records d.terminus) self.new)) }
+    {
+        if let Some(why) = self.why_not_begin(node, eid, tag, count) {
+            return Ok(Outcome::Refused(why));
+        }
+        self.walkers.reserve(1)?;
+        let walker = NetworkWalker::new(self.alloc, node, eid, tag, count)?;
+        self.walkers.push_reserved(walker);
+        Ok(Outcome::Begun {
+            walker: self.walkers.len(),
+        })
+    }
+
+    /// Why no such walk can begin, if so.
+    fn why_not_begin(&self, node: usize, eid: Eid, tag: Tag, count: u16) -> Option<WalkRefusal>
+        ensures first { (w : WalkedState) → StandsForWalked (network_value (λ d. tid d.terminus) (λ d. records d.terminus) self.now) w
+            → WhyNot (checked_of self.now).0.plan w (BeginWalk node eid.value tag.value count) (option_map walk_refusal_value result) }
+        ensures node { IfNone result (node < length (checked_of self.now).0.plan.nodes.items) }
+        ensures count { IfNone result ((8 ≤ count) × (count ≤ 4079)) }
+    {
+        if !self.traffic.has_node(node) {
+            return Some(WalkRefusal::Shared(Refusal::NoNode));
+        }
+        if self.has_walker(node, eid, tag) {
+            return Some(WalkRefusal::WalkerThere);
+        }
+        if self.traffic.no_terminus_holds(eid) {
+            return Some(WalkRefusal::NoTerminusThere);
+        }
+        if count < LEAST_COUNT || five_packets(UNIT) < count {
+            return Some(WalkRefusal::WrongCount);
+        }
+        None
+    }
+
+    /// Whether a walker of this node, endpoint ID and tag exists.
+    fn has_walker(&self, node: usize, eid: Eid, tag: Tag) -> bool
+        ensures { IsTrue result ↔ Any (λ walker. IsAt node eid.value tag.value (walker_value walker)) self.now.walkers.items }
+    {
+        self.walkers
+            .iter()
+            .any(|walker| walker.is_at(node, eid, tag))
+    }
+}

@@ -1,0 +1,43 @@
+//! What a walker has collected is told.
+ghost use Rattle.std.specs.Prelude.{◌≡◌, ◌+◌, ◌<◌, ◌⊎◌, length, MatchOption};
+
+use crate::network::Network;
+use crate::outcome::Outcome;
+use crate::walk_refusal::WalkRefusal;
+
+impl<'a> Network<'a> {
+    ghost use Rattle.net_check.specs.Walkers.{TellWalk};
+    ghost use Rattle.net_sim.specs.Outcomes.{outcome_value};
+    ghost use Rattle.net_sim.specs.WalkedStanding.{WalkedPlays};
+    ghost use Rattle.net_sim.specs.Networks.{network_value, checked_of};
+
+    /// Tells how many records the walker of this number has collected, and how its walk stands.
+    pub(super) fn tell(&self, number: u32) -> Outcome
+        ensures { WalkedPlays (checked_of self.now).0
+            (network_value (λ d. tid d.terminus) (λ d. records d.terminus) self.now) (TellWalk number) (outcome_value result)
+            (network_value (λ d. tid d.terminus) (λ d. records d.terminus) self.now) }
+    {
+        let Some(index) = self.place_of(number) else {
+            return Outcome::Refused(WalkRefusal::NoWalker);
+        };
+        let walker = &self.walkers[index];
+        Outcome::Collected {
+            walker: index + 1,
+            records: walker.records().len(),
+            standing: walker.standing(),
+        }
+    }
+
+    /// The place of the walker of this number, if there is one.
+    pub(super) fn place_of(&self, number: u32) -> Option<usize>
+        ensures { MatchOption result ((number ≡ 0) ⊎ (length self.now.walkers.items < number))
+            (λ index. (index + 1 ≡ number) × (index < length self.now.walkers.items)) }
+    {
+        let index = (number as usize).checked_sub(1)?;
+        if index < self.walkers.len() {
+            Some(index)
+        } else {
+            None
+        }
+    }
+}
