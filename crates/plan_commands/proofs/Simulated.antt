@@ -1,18 +1,17 @@
 -- Lines of outcomes, and runs of which they are.
-use Rattle.std.proofs.Common.{◌≡◌, ℕ, zero, suc, ◌+◌, ◌<◌, ◌≤◌, Bool, true, false, List, [], ◌∷◌, ◌++◌, length, map, take, get_or, Option, Some, Result, Err, inl, inr, refl, sym, ◌∙◌, ap, subst, append_assoc, append-nil, length-append, arith}
+use Rattle.std.proofs.Common.{◌≡◌, ℕ, zero, suc, ◌+◌, ◌<◌, ◌≤◌, Bool, true, false, List, [], ◌∷◌, ◌++◌, length, map, take, drop, get_or, Option, Some, Result, Err, inl, inr, refl, sym, ◌∙◌, ap, subst, append_assoc, append-nil, length-append, arith}
 use Rattle.std.proofs.Math.Seq.{take-append-add}
 use Rattle.std.specs.Prelude.{slice_get, option_map, ◌⊎◌, IfErr}
 use Rattle.std.specs.Io.KnownBytes.{Appends}
 use Rattle.std.proofs.KnownBytes.{Appends-nil, Appends-trans}
 use Rattle.std.proofs.lemmas.List.Elements.{All-map}
-use Rattle.std.proofs.lemmas.List.{length-map, length-take, length-take-le, take_more, take_all, take-map}
+use Rattle.std.proofs.lemmas.List.{take-append-drop, length-map, length-take, length-take-le, take_more, take_all, take-map}
 use Rattle.std.proofs.lemmas.Option.{slice_get-map, slice_get-get_or, slice_get_within, get_or_from_slice_get}
 use Rattle.net_plan.specs.declared.event.Event.{Event}
 use Rattle.net_plan.specs.declared.plan.Plan.{Plan}
 use Rattle.net_plan.specs.Stream.{AppendsBeginning}
-use Rattle.net_check.specs.Events.{EventValue, OutcomeValue}
-use Rattle.net_check.specs.Runs.{Turn, RunFrom}
-use Rattle.net_check.specs.States.{NetworkState}
+use Rattle.net_check.specs.WalkedRuns.{WalkedTurn, WalkedRunFrom}
+use Rattle.net_check.specs.Walkers.{WalkedState, WalkedEvent, WalkedOutcome, walked_at_start}
 use Rattle.net_check.specs.Termini.{TerminusState}
 use Rattle.net_check.specs.TwoPlans.{Tables}
 use Rattle.pdr_repository.specs.Records.{Entry}
@@ -20,7 +19,8 @@ use Rattle.net_sim.specs.declared.outcome.Outcome.{Outcome}
 use Rattle.net_sim.specs.Dealing.{resting, planned_termini}
 use Rattle.net_sim.specs.Outcomes.{event_value, outcome_value}
 use Rattle.net_sim.specs.Played.{IsRunOf, StopsAfter}
-use Rattle.net_sim.specs.Standing.{NetworkValue}
+use Rattle.net_sim.specs.WalkedStanding.{NetworkValue, StandsForWalked}
+use Rattle.net_sim.specs.Walks.{HaveWalked, PlaysWalks}
 use Rattle.plan_commands.specs.declared.refused.Refused.{Refused}
 use Rattle.plan_commands.specs.declared.refused.Refused.TheVariants as refused
 use Rattle.plan_commands.specs.declared.refused.Input.TheVariants as input
@@ -39,11 +39,11 @@ use Rattle.net_plan.specs.PlanValues.{plan_value}
 use Rattle.net_plan.specs.TextFaults.{error_count}
 use Rattle.net_plan.specs.Unread.{GaveNoEvents}
 use Rattle.plan_commands.specs.OutcomeLines.{outcome_line, lines_from, outcome_lines}
-use Rattle.plan_commands.specs.Simulating.{IsRunText, ShowsRun, ShowsBeginning, ShowsAllOr, EndsShowing, AreFirstLines, AreIdle, SimulatesAtRest, AreLinesAtMost, ShowsLines, ShowsOutcomes, ShowsAtMost, GaveEvents, TellsBeginning, IsSimAnswer, AreUnreadAmong, IsUnsimulatedFor, SimulatesFiles}
+use Rattle.plan_commands.specs.Simulating.{IsRunText, ShowsRun, ShowsBeginning, ShowsWalks, ShowsBegunWalks, IsWalksText, ShowsAllOr, EndsShowing, AreFirstLines, AreIdle, SimulatesAtRest, AreLinesAtMost, ShowsLines, ShowsOutcomes, ShowsAtMost, GaveEvents, TellsBeginning, IsSimAnswer, AreUnreadAmong, IsUnsimulatedFor, SimulatesFiles}
 
 -- ---- lines
 
-lines_more : (plan : Plan) (number : ℕ) (outcomes : List OutcomeValue) (outcome : OutcomeValue)
+lines_more : (plan : Plan) (number : ℕ) (outcomes : List WalkedOutcome) (outcome : WalkedOutcome)
     → lines_from plan number (outcomes ++ outcome ∷ []) ≡ lines_from plan number outcomes ++ outcome_line plan (number + length outcomes) outcome
 lines_more plan number [] outcome =
     append-nil (outcome_line plan number outcome) ∙ ap (λ n. outcome_line plan n outcome) (let same : number ≡ number + 0 = omega arith in same)
@@ -114,44 +114,41 @@ take_twice (suc k) (suc n) (x ∷ xs) =
     let (m, is) = take_twice k n xs in (suc m, ap (λ ys. x ∷ ys) is)
 
 -- each beginning of a run is a run
-run_begins : (tables : Tables) (w : NetworkState) (k : ℕ) (turns : List Turn) → RunFrom tables w turns → RunFrom tables w (take k turns)
+run_begins : (tables : Tables) (w : WalkedState) (k : ℕ) (turns : List WalkedTurn) → WalkedRunFrom tables w turns → WalkedRunFrom tables w (take k turns)
 run_begins tables w zero turns run = tt
 run_begins tables w (suc k) [] run = tt
 run_begins tables w (suc k) (turn ∷ turns) (step, rest) = (step, run_begins tables turn.after k turns rest)
 
-module _ (tables : Tables) (w : NetworkState) (events : List EventValue) (output : Stream) where
+module _ (tables : Tables) (w : WalkedState) (events : List WalkedEvent) (output : Stream) where
   -- the lines of some of the outcomes of a run over some of the events
-  pub shows_beginning : (new : NetworkValue) (n : ℕ) (outcomes : List OutcomeValue) (k : ℕ) → IsRunOf tables w (take n events) outcomes new
-      → ShowsLines tables.plan outcomes k output → ShowsBeginning tables w events output
-  shows_beginning new n outcomes k run shown =
-      let (m, same) = take_twice k n events in
-      let S : List OutcomeValue → Type 0 = λ os. Appends output.before output.after (outcome_lines tables.plan os) in (
-        m,
-        record {
-          turns = take k run.turns;
-          events_are = sym (take-map (λ (t : Turn). t.event) k run.turns) ∙ (ap (take k) run.events_are ∙ same);
-          runs = run_begins tables w k run.turns run.runs;
-          shown = subst S (ap (take k) (sym run.outcomes_are) ∙ take-map (λ (t : Turn). t.outcome) k run.turns) shown;
-        },
-      )
-
-  pub run_text : (new : NetworkValue) (n : ℕ) (outcomes : List OutcomeValue) (text : List ℕ) → IsRunOf tables w (take n events) outcomes new
-      → AreFirstLines tables.plan outcomes text → IsRunText tables w events text
-  run_text new n outcomes text run (k, is) =
-      let (m, same) = take_twice k n events in
+  abbrev begun_run : (new : NetworkValue) (n : ℕ) (outcomes : List WalkedOutcome) (k : ℕ) → IsRunOf tables w (take n events) outcomes new
+      → ShowsLines tables.plan outcomes k output → ShowsRun tables w (take (take_twice k n events).0 events) output
+  begun_run new n outcomes k run shown =
+      let S : List WalkedOutcome → Type 0 = λ os. Appends output.before output.after (outcome_lines tables.plan os) in
       record {
-        played = m;
         turns = take k run.turns;
-        events_are = sym (take-map (λ (t : Turn). t.event) k run.turns) ∙ (ap (take k) run.events_are ∙ same);
+        events_are = sym (take-map (λ (t : WalkedTurn). t.event) k run.turns) ∙ (ap (take k) run.events_are ∙ (take_twice k n events).1);
         runs = run_begins tables w k run.turns run.runs;
-        written = is ∙ ap (outcome_lines tables.plan) (ap (take k) (sym run.outcomes_are) ∙ take-map (λ (t : Turn). t.outcome) k run.turns);
+        shown = subst S (ap (take k) (sym run.outcomes_are) ∙ take-map (λ (t : WalkedTurn). t.outcome) k run.turns) shown;
+      }
+
+  abbrev text_of_run : (new : NetworkValue) (n : ℕ) (outcomes : List WalkedOutcome) (text : List ℕ) → IsRunOf tables w (take n events) outcomes new
+      → AreFirstLines tables.plan outcomes text → IsRunText tables w events text
+  text_of_run new n outcomes text run lines =
+      let k = lines.0 in
+      record {
+        played = (take_twice k n events).0;
+        turns = take k run.turns;
+        events_are = sym (take-map (λ (t : WalkedTurn). t.event) k run.turns) ∙ (ap (take k) run.events_are ∙ (take_twice k n events).1);
+        runs = run_begins tables w k run.turns run.runs;
+        written = lines.1 ∙ ap (outcome_lines tables.plan) (ap (take k) (sym run.outcomes_are) ∙ take-map (λ (t : WalkedTurn). t.outcome) k run.turns);
       }
 
   -- the lines of all outcomes of a run over all events
-  pub shows_run : (new : NetworkValue) (n : ℕ) (outcomes : List OutcomeValue) (k : ℕ) → length events ≤ n → length outcomes ≤ k
+  abbrev whole_run : (new : NetworkValue) (n : ℕ) (outcomes : List WalkedOutcome) (k : ℕ) → length events ≤ n → length outcomes ≤ k
       → IsRunOf tables w (take n events) outcomes new → ShowsLines tables.plan outcomes k output → ShowsRun tables w events output
-  shows_run new n outcomes k all_events all_outcomes run shown =
-      let S : List OutcomeValue → Type 0 = λ os. Appends output.before output.after (outcome_lines tables.plan os) in
+  whole_run new n outcomes k all_events all_outcomes run shown =
+      let S : List WalkedOutcome → Type 0 = λ os. Appends output.before output.after (outcome_lines tables.plan os) in
       record {
         turns = run.turns;
         events_are = run.events_are ∙ take_all n events all_events;
@@ -159,11 +156,74 @@ module _ (tables : Tables) (w : NetworkState) (events : List EventValue) (output
         shown = subst S (take_all k outcomes all_outcomes ∙ sym run.outcomes_are) shown;
       }
 
+  pub shows_beginning : (new : NetworkValue) (n : ℕ) (outcomes : List WalkedOutcome) (k : ℕ) → IsRunOf tables w (take n events) outcomes new
+      → ShowsLines tables.plan outcomes k output → ShowsBeginning tables w events output
+  shows_beginning new n outcomes k run shown = ((take_twice k n events).0, begun_run new n outcomes k run shown)
+
+  pub run_text : (new : NetworkValue) (n : ℕ) (outcomes : List WalkedOutcome) (text : List ℕ) → IsRunOf tables w (take n events) outcomes new
+      → AreFirstLines tables.plan outcomes text → IsRunText tables w events text
+  run_text new n outcomes text run lines = text_of_run new n outcomes text run lines
+
+  pub shows_run : (new : NetworkValue) (n : ℕ) (outcomes : List WalkedOutcome) (k : ℕ) → length events ≤ n → length outcomes ≤ k
+      → IsRunOf tables w (take n events) outcomes new → ShowsLines tables.plan outcomes k output → ShowsRun tables w events output
+  shows_run new n outcomes k all_events all_outcomes run shown = whole_run new n outcomes k all_events all_outcomes run shown
+
   -- nothing was played, and nothing is out
-  pub shows_nothing : output.before ≡ output.after → ShowsBeginning tables w events output
-  shows_nothing same =
+  abbrev empty_run : output.before ≡ output.after → ShowsRun tables w [] output
+  empty_run same =
       let A : Option (List ℕ) → Type 0 = λ new. Appends output.before new [] in
-      (0, record { turns = []; events_are = refl; runs = tt; shown = subst A same (Appends-nil output.before) })
+      record { turns = []; events_are = refl; runs = tt; shown = subst A same (Appends-nil output.before) }
+
+  pub shows_nothing : output.before ≡ output.after → ShowsBeginning tables w events output
+  shows_nothing same = (0, empty_run same)
+
+-- ---- runs in which the walkers have walked
+
+module _ (tables : Tables) (cert : Certificate) where
+  -- so they have in each beginning of such a run
+  walked_before : (k : ℕ) (turns : List WalkedTurn) → HaveWalked tables cert turns → HaveWalked tables cert (take k turns)
+  walked_before k turns walked = λ earlier later rest begins j node eid tag count n is.
+      walked earlier later (rest ++ drop k turns) begins j node eid tag count n
+      (sym (take-append-drop k turns) ∙ (ap (λ ts. ts ++ drop k turns) is ∙ append_assoc (earlier ++ begins ∷ later) rest (drop k turns)))
+
+  -- and where nothing was played
+  walked_nowhere : HaveWalked tables cert []
+  walked_nowhere [] later rest begins j node eid tag count n is = absurd (cc)
+  walked_nowhere (first ∷ earlier) later rest begins j node eid tag count n is = absurd (cc)
+
+  module _ (events : List WalkedEvent) (output : Stream) where
+    pub shows_begun_walks : (new : NetworkValue) (n : ℕ) (outcomes : List WalkedOutcome) (k : ℕ)
+        → (run : IsRunOf tables (walked_at_start tables.plan cert) (take n events) outcomes new) → HaveWalked tables cert run.turns
+        → ShowsLines tables.plan outcomes k output → ShowsBegunWalks tables cert events output
+    shows_begun_walks new n outcomes k run walked shown = (
+      (take_twice k n events).0,
+      (begun_run tables (walked_at_start tables.plan cert) events output new n outcomes k run shown, walked_before k run.turns walked),
+    )
+
+    pub walks_text : (new : NetworkValue) (n : ℕ) (outcomes : List WalkedOutcome) (text : List ℕ)
+        → (run : IsRunOf tables (walked_at_start tables.plan cert) (take n events) outcomes new) → HaveWalked tables cert run.turns
+        → AreFirstLines tables.plan outcomes text → IsWalksText tables cert events text
+    walks_text new n outcomes text run walked lines = (
+      text_of_run tables (walked_at_start tables.plan cert) events output new n outcomes text run lines,
+      walked_before lines.0 run.turns walked,
+    )
+
+    pub shows_walks : (new : NetworkValue) (n : ℕ) (outcomes : List WalkedOutcome) (k : ℕ) → length events ≤ n → length outcomes ≤ k
+        → (run : IsRunOf tables (walked_at_start tables.plan cert) (take n events) outcomes new) → HaveWalked tables cert run.turns
+        → ShowsLines tables.plan outcomes k output → ShowsWalks tables cert events output
+    shows_walks new n outcomes k all_events all_outcomes run walked shown =
+        (whole_run tables (walked_at_start tables.plan cert) events output new n outcomes k all_events all_outcomes run shown, walked)
+
+    pub shows_no_walks : output.before ≡ output.after → ShowsBegunWalks tables cert events output
+    shows_no_walks same = (0, (empty_run tables (walked_at_start tables.plan cert) events output same, walked_nowhere))
+
+-- the run that a network plays from the start is one in which the walkers have walked
+pub walks_in : (checked checked' : Tables × Certificate) (events : List WalkedEvent) (outcomes : List WalkedOutcome) (old new : NetworkValue)
+    → checked' ≡ checked → StandsForWalked old (walked_at_start checked.0.plan checked.1) → PlaysWalks checked'.0 checked'.1 old events outcomes new
+    → (run : IsRunOf checked.0 (walked_at_start checked.0.plan checked.1) events outcomes new) × HaveWalked checked.0 checked.1 run.turns
+walks_in checked checked' events outcomes old new same stands plays =
+    let P : Tables × Certificate → Type 0 = λ c. PlaysWalks c.0 c.1 old events outcomes new in
+    subst P same plays [] tt stands
 
 -- ---- so many outcomes
 
@@ -172,18 +232,18 @@ lists_nothing plan count output same =
     let A : Option (List ℕ) → Type 0 = λ new. Appends output.before new [] in
     (0, omega arith, ([], refl, subst A same (Appends-nil output.before)))
 
-pub lists_some : (plan : Plan) (count : ℕ) (output : Stream) (outcomes : List OutcomeValue) (k : ℕ) → length outcomes ≤ count → ShowsLines plan outcomes k output
+pub lists_some : (plan : Plan) (count : ℕ) (output : Stream) (outcomes : List WalkedOutcome) (k : ℕ) → length outcomes ≤ count → ShowsLines plan outcomes k output
     → ShowsAtMost plan count output
 lists_some plan count output outcomes k few shown =
     let part : length (take k outcomes) ≤ length outcomes = omega (arith, length-take k outcomes) in
     (length (take k outcomes), omega (arith, few, part), (take k outcomes, refl, shown))
 
-pub lists_all : (plan : Plan) (count : ℕ) (output : Stream) (outcomes : List OutcomeValue) (k : ℕ) → length outcomes ≡ count → length outcomes ≤ k
+pub lists_all : (plan : Plan) (count : ℕ) (output : Stream) (outcomes : List WalkedOutcome) (k : ℕ) → length outcomes ≡ count → length outcomes ≤ k
     → ShowsLines plan outcomes k output → ShowsOutcomes plan count output
 lists_all plan count output outcomes k all whole shown =
     (outcomes, all, subst (λ os. Appends output.before output.after (outcome_lines plan os)) (take_all k outcomes whole) shown)
 
-pub lines_at_most : (plan : Plan) (count : ℕ) (outcomes : List OutcomeValue) (text : List ℕ) → length outcomes ≤ count → AreFirstLines plan outcomes text
+pub lines_at_most : (plan : Plan) (count : ℕ) (outcomes : List WalkedOutcome) (text : List ℕ) → length outcomes ≤ count → AreFirstLines plan outcomes text
     → AreLinesAtMost plan count text
 lines_at_most plan count outcomes text few (k, is) =
     let part : length (take k outcomes) ≤ length outcomes = omega (arith, length-take k outcomes) in
@@ -223,7 +283,7 @@ pub first_lines_in : (plan plan' : Plan) (outcomes outcomes' : List Outcome) (te
 first_lines_in plan plan' outcomes outcomes' text same listed (k, is) =
     (k, is ∙ (ap (λ (p : Plan). outcome_lines p (take k (map outcome_value outcomes'))) same ∙ ap (λ os. outcome_lines plan (take k (map outcome_value os))) listed))
 
-pub shows_by : {T : Type 0} (tables tables' : Tables) (w : NetworkState) (events : List EventValue) (result : Result T Refused) (output : Stream) → tables' ≡ tables
+pub shows_by : {T : Type 0} (tables tables' : Tables) (w : WalkedState) (events : List WalkedEvent) (result : Result T Refused) (output : Stream) → tables' ≡ tables
     → ShowsAllOr result (ShowsBeginning tables' w events output) (ShowsRun tables' w events output) (IsRunText tables' w events) output
     → ShowsAllOr result (ShowsBeginning tables w events output) (ShowsRun tables w events output) (IsRunText tables w events) output
 shows_by tables tables' w events result output same =
@@ -237,12 +297,17 @@ lists_by plan plan' count result output same =
 
 -- ---- some termini
 
-pub idle_boxes : {B : Type 0} (tid : B → ℕ) (records : B → List Entry) (boxes : List B) (plan plan' : Plan) (cert cert' : Certificate) (count : ℕ) (planned : List TerminusState)
-    → length boxes ≡ count → count ≡ length planned → planned ≡ planned_termini plan' cert' → plan' ≡ plan → cert' ≡ cert
-    → AreIdle plan cert (map (resting tid records) boxes)
-idle_boxes tid records boxes plan plan' cert cert' count planned boxed all is same same_cert = record {
-  many = length-map boxes (resting tid records) ∙ (boxed ∙ (all ∙ (ap (λ ts. length ts) is
-      ∙ (ap (λ (p : Plan). length (planned_termini p cert')) same ∙ ap (λ (k : Certificate). length (planned_termini plan k)) same_cert))));
+-- as many boxes as were planned
+pub boxes_planned : {B : Type 0} (boxes : List B) (plan plan' : Plan) (cert cert' : Certificate) (count : ℕ) (planned : List TerminusState) → length boxes ≡ count
+    → count ≡ length planned → planned ≡ planned_termini plan' cert' → plan' ≡ plan → cert' ≡ cert → length boxes ≡ length (planned_termini plan cert)
+boxes_planned boxes plan plan' cert cert' count planned boxed all is same same_cert =
+    boxed ∙ (all ∙ (ap (λ ts. length ts) is
+    ∙ (ap (λ (p : Plan). length (planned_termini p cert')) same ∙ ap (λ (k : Certificate). length (planned_termini plan k)) same_cert)))
+
+pub idle_boxes : {B : Type 0} (tid : B → ℕ) (records : B → List Entry) (boxes : List B) (plan : Plan) (cert : Certificate)
+    → length boxes ≡ length (planned_termini plan cert) → AreIdle plan cert (map (resting tid records) boxes)
+idle_boxes tid records boxes plan cert all = record {
+  many = length-map boxes (resting tid records) ∙ all;
   none_waits = All-map (λ (t : TerminusState). t.waiting ≡ []) (resting tid records) boxes (λ k d within. refl);
 }
 

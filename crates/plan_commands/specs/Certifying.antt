@@ -1,5 +1,5 @@
 -- What the end of `certify` says of the plan that it read and of what it wrote.
-use Rattle.std.specs.Prelude.{◌≡◌, ℕ, List, Some, ◌⊎◌, ⊤}
+use Rattle.std.specs.Prelude.{◌≡◌, ◌≤◌, ℕ, List, length, Some, ◌⊎◌, ⊤}
 use Rattle.std.specs.Io.KnownBytes.{Appends}
 use Rattle.net_plan.specs.declared.plan.Plan.{Plan}
 use Rattle.net_plan.specs.declared.certificate.Certificate.{Certificate}
@@ -23,13 +23,14 @@ use Rattle.plan_commands.specs.Lines.{obstacle_text}
 use Rattle.plan_commands.specs.Statuses.{status_of}
 
 -- Every rule holds of the plan and the certificate; the certificate gives each level, place and rank as the plan has them; and
--- the text is the certificate's, and read for the plan it stands for the certificate.
+-- the text is the certificate's, read for the plan it stands for the certificate, and it has at most 2,097,152 bytes.
 pub record IsCertifiedBy (plan : Plan) (certificate : Certificate) (text : List ℕ) : Type 0 where
   pub accepted : Accepts plan certificate
   pub exact : IsExact plan certificate
   pub well_formed : IsWellFormed (plan_value plan) (certificate_value certificate)
   pub written : text ≡ certificate_text (node_names (plan_value plan).nodes) (certificate_value certificate)
   pub reads_back : StandsFor (IsCertificateOf (plan_value plan)) text (certificate_value certificate)
+  pub short : length text ≤ 2097152
 
 -- The text tells what comes first, in the order of the rules, of what rules certificates of the plan out, and there is none.
 pub record IsRuledOutBy (plan : Plan) (obstacle : CertifyError) (text : List ℕ) : Type 0 where

@@ -10,14 +10,15 @@ use Rattle.net_plan.specs.EventValues.{event_entry}
 use Rattle.net_plan.specs.PlanValues.{plan_value}
 use Rattle.net_plan.specs.Texts.{Gave, StandsFor}
 use Rattle.net_plan.specs.Unread.{GaveNoEvents}
-use Rattle.net_check.specs.Events.{EventValue, OutcomeValue}
 use Rattle.net_check.specs.Rules.{Accepts}
-use Rattle.net_check.specs.Runs.{Turn, RunFrom}
-use Rattle.net_check.specs.States.{NetworkState, at_start}
 use Rattle.net_check.specs.Termini.{TerminusState}
 use Rattle.net_check.specs.TwoPlans.{Tables, one_plan}
+use Rattle.net_check.specs.WalkedRuns.{WalkedTurn, WalkedRunFrom}
+use Rattle.net_check.specs.Walkers.{WalkedState, WalkedEvent, WalkedOutcome, walked_at_start}
 use Rattle.net_sim.specs.Dealing.{at_rest, planned_termini}
 use Rattle.net_sim.specs.Outcomes.{event_value}
+use Rattle.net_sim.specs.WalkedStanding.{without_walkers}
+use Rattle.net_sim.specs.Walks.{HaveWalked}
 use Rattle.plan_commands.specs.declared.refused.Input.{Input}
 use Rattle.plan_commands.specs.declared.refused.Input.TheVariants as input
 use Rattle.plan_commands.specs.declared.refused.Refused.{Refused}
@@ -29,23 +30,35 @@ use Rattle.plan_commands.specs.OutcomeLines.{outcome_lines}
 use Rattle.plan_commands.specs.Statuses.{status_of}
 
 -- The events are those of a run from the state, and the output was given the lines of what came of them.
-pub record ShowsRun (tables : Tables) (w : NetworkState) (events : List EventValue) (output : Stream) : Type 0 where
-  pub turns : List Turn
-  pub events_are : map (λ (t : Turn). t.event) turns ≡ events
-  pub runs : RunFrom tables w turns
-  pub shown : Appends output.before output.after (outcome_lines tables.plan (map (λ (t : Turn). t.outcome) turns))
+pub record ShowsRun (tables : Tables) (w : WalkedState) (events : List WalkedEvent) (output : Stream) : Type 0 where
+  pub turns : List WalkedTurn
+  pub events_are : map (λ (t : WalkedTurn). t.event) turns ≡ events
+  pub runs : WalkedRunFrom tables w turns
+  pub shown : Appends output.before output.after (outcome_lines tables.plan (map (λ (t : WalkedTurn). t.outcome) turns))
 
 -- so it is of a beginning of the events
-abbrev pub ShowsBeginning : Tables → NetworkState → List EventValue → Stream → Type 0
+abbrev pub ShowsBeginning : Tables → WalkedState → List WalkedEvent → Stream → Type 0
 ShowsBeginning tables w events output = (played : ℕ) × ShowsRun tables w (take played events) output
 
 -- The text is the lines of what comes of a beginning of the events, in a run from the state.
-pub record IsRunText (tables : Tables) (w : NetworkState) (events : List EventValue) (text : List ℕ) : Type 0 where
+pub record IsRunText (tables : Tables) (w : WalkedState) (events : List WalkedEvent) (text : List ℕ) : Type 0 where
   pub played : ℕ
-  pub turns : List Turn
-  pub events_are : map (λ (t : Turn). t.event) turns ≡ take played events
-  pub runs : RunFrom tables w turns
-  pub written : text ≡ outcome_lines tables.plan (map (λ (t : Turn). t.outcome) turns)
+  pub turns : List WalkedTurn
+  pub events_are : map (λ (t : WalkedTurn). t.event) turns ≡ take played events
+  pub runs : WalkedRunFrom tables w turns
+  pub written : text ≡ outcome_lines tables.plan (map (λ (t : WalkedTurn). t.outcome) turns)
+
+-- The run that is shown is one from the start, in which the walkers have walked.
+abbrev pub ShowsWalks : Tables → Certificate → List WalkedEvent → Stream → Type 0
+ShowsWalks tables cert events output = (shown : ShowsRun tables (walked_at_start tables.plan cert) events output) × HaveWalked tables cert shown.turns
+
+-- so it is of a beginning of the events
+abbrev pub ShowsBegunWalks : Tables → Certificate → List WalkedEvent → Stream → Type 0
+ShowsBegunWalks tables cert events output = (played : ℕ) × ShowsWalks tables cert (take played events) output
+
+-- The text is the lines of what comes of a beginning of the events, in such a run.
+abbrev pub IsWalksText : Tables → Certificate → List WalkedEvent → List ℕ → Type 0
+IsWalksText tables cert events text = (told : IsRunText tables (walked_at_start tables.plan cert) events text) × HaveWalked tables cert told.turns
 
 -- All is shown; or the output failed after a beginning of such a text; or memory ran out, and then a part is shown.
 abbrev pub ShowsAllOr : {T : Type 0} → Result T Refused → (part all : Type 0) → (List ℕ → Type 0) → Stream → Type 0
@@ -62,16 +75,17 @@ EndsShowing status.Unreadable part all IsText output = BreaksOff IsText output
 EndsShowing status.NoMemory part all IsText output = part
 
 -- what the end of a run says of the events, in runs by these tables from the state, and of what was written
-abbrev pub SimulatesFrom : Tables → NetworkState → List EventValue → Status → Stream → Type 0
+abbrev pub SimulatesFrom : Tables → WalkedState → List WalkedEvent → Status → Stream → Type 0
 SimulatesFrom tables w events ended output =
     EndsShowing ended (ShowsBeginning tables w events output) (ShowsRun tables w events output) (IsRunText tables w events) output
 
--- so it is from the start
-abbrev pub SimulatesBy : Tables → Certificate → List EventValue → Status → Stream → Type 0
-SimulatesBy tables cert events ended output = SimulatesFrom tables (at_start tables.plan cert) events ended output
+-- so it is from the start, in runs in which the walkers have walked
+abbrev pub SimulatesBy : Tables → Certificate → List WalkedEvent → Status → Stream → Type 0
+SimulatesBy tables cert events ended output =
+    EndsShowing ended (ShowsBegunWalks tables cert events output) (ShowsWalks tables cert events output) (IsWalksText tables cert events) output
 
 -- so it is at a checked plan
-abbrev pub Simulates : Plan → Certificate → List EventValue → Status → Stream → Type 0
+abbrev pub Simulates : Plan → Certificate → List WalkedEvent → Status → Stream → Type 0
 Simulates plan cert events ended output = SimulatesBy (one_plan plan) cert events ended output
 
 -- termini at which nothing waits, as many as are planned
@@ -80,25 +94,25 @@ pub record AreIdle (plan : Plan) (cert : Certificate) (termini : List TerminusSt
   pub none_waits : All (λ (t : TerminusState). t.waiting ≡ []) termini
 
 -- what the end of a run says of the events, in runs from rest over some such termini, and of what was written
-abbrev pub SimulatesAtRest : Tables → Certificate → List EventValue → Status → Stream → Type 0
+abbrev pub SimulatesAtRest : Tables → Certificate → List WalkedEvent → Status → Stream → Type 0
 SimulatesAtRest tables cert events ended output = (termini : List TerminusState) × AreIdle tables.plan cert termini
-    × SimulatesFrom tables (at_rest tables.plan termini) events ended output
+    × SimulatesFrom tables (without_walkers (at_rest tables.plan termini)) events ended output
 
 -- the output was given the lines of so many of the outcomes
-abbrev pub ShowsLines : Plan → List OutcomeValue → ℕ → Stream → Type 0
+abbrev pub ShowsLines : Plan → List WalkedOutcome → ℕ → Stream → Type 0
 ShowsLines plan outcomes count output = Appends output.before output.after (outcome_lines plan (take count outcomes))
 
 -- the text is the lines of some of the outcomes, from the first on
-abbrev pub AreFirstLines : Plan → List OutcomeValue → List ℕ → Type 0
+abbrev pub AreFirstLines : Plan → List WalkedOutcome → List ℕ → Type 0
 AreFirstLines plan outcomes text = (count : ℕ) × (text ≡ outcome_lines plan (take count outcomes))
 
 -- the text is the lines of some outcomes, so many at most
 abbrev pub AreLinesAtMost : Plan → ℕ → List ℕ → Type 0
-AreLinesAtMost plan count text = (outcomes : List OutcomeValue) × (length outcomes ≤ count) × (text ≡ outcome_lines plan outcomes)
+AreLinesAtMost plan count text = (outcomes : List WalkedOutcome) × (length outcomes ≤ count) × (text ≡ outcome_lines plan outcomes)
 
 -- the output was given the lines of some outcomes, so many
 abbrev pub ShowsOutcomes : Plan → ℕ → Stream → Type 0
-ShowsOutcomes plan count output = (outcomes : List OutcomeValue) × (length outcomes ≡ count) × Appends output.before output.after (outcome_lines plan outcomes)
+ShowsOutcomes plan count output = (outcomes : List WalkedOutcome) × (length outcomes ≡ count) × Appends output.before output.after (outcome_lines plan outcomes)
 
 -- so many at most
 abbrev pub ShowsAtMost : Plan → ℕ → Stream → Type 0

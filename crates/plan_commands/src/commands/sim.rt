@@ -1,15 +1,16 @@
 //! The command `sim`: what comes of events in the network of a checked plan.
 ghost use Rattle.std.specs.Prelude.{◌≡◌, ℕ, ◌<◌, ◌≤◌, ◌^◌, ◌-◌, List, length, map, take, false};
 ghost use Rattle.plan_commands.specs.declared.status.Status.TheVariants.{Yes};
-ghost use Rattle.net_check.specs.States.{NetworkState, at_start};
+ghost use Rattle.net_plan.specs.declared.certificate.Certificate.{Certificate};
 ghost use Rattle.net_check.specs.TwoPlans.{Tables, one_plan, moving};
-ghost use Rattle.net_check.specs.Events.{EventValue};
+ghost use Rattle.net_check.specs.Walkers.{WalkedState, WalkedEvent, walked_at_start};
 ghost use Rattle.net_sim.specs.Dealing.{resting, at_rest, planned_termini};
 ghost use Rattle.net_sim.specs.Outcomes.{event_value, outcome_value};
 ghost use Rattle.net_sim.specs.Played.{IsRunOf};
-ghost use Rattle.net_sim.specs.Standing.{NetworkValue};
+ghost use Rattle.net_sim.specs.WalkedStanding.{NetworkValue, without_walkers};
+ghost use Rattle.net_sim.specs.Walks.{HaveWalked};
 ghost use Rattle.plan_commands.specs.Answers.{stream};
-ghost use Rattle.plan_commands.specs.Simulating.{IsRunText, ShowsRun, ShowsBeginning, ShowsAllOr, EndsShowing, SimulatesFrom, SimulatesBy, Simulates, AreFirstLines, AreLinesAtMost, ShowsLines, ShowsOutcomes, ShowsAtMost};
+ghost use Rattle.plan_commands.specs.Simulating.{IsRunText, ShowsRun, ShowsBeginning, ShowsWalks, ShowsBegunWalks, IsWalksText, ShowsAllOr, EndsShowing, SimulatesFrom, SimulatesBy, Simulates, AreFirstLines, AreLinesAtMost, ShowsLines, ShowsOutcomes, ShowsAtMost};
 
 pub mod files;
 pub mod moves;
@@ -26,9 +27,9 @@ use pdr_repository::Terminus;
 use std::alloc::Global;
 
 /// Plays events in the network of a checked plan, and gives on `output` what comes of each. The termini are one for each node
-/// that has one, in the plan's order; the outcomes are those of a run from rest over them, and where they are as
-/// planned, of a run from the start. Where memory runs out, the lines of what was played before are out, and `errors`
-/// says so.
+/// that has one (`net_sim::planned_termini_count`), in the plan's order; the outcomes are those of a run from rest over them,
+/// and where they are as planned, of a run from the start, in which each walker to whose keys no other put comes collects
+/// the planned records. Where memory runs out, the lines of what was played before are out, and `errors` says so.
 pub fn run_sim<O: Sink, E: Sink>(
     alloc: Global,
     checked: Checked,
@@ -39,11 +40,12 @@ pub fn run_sim<O: Sink, E: Sink>(
 ) -> Status
     requires output { O.failures output.old < 2 ^ 64 - 1 }
     requires errors { E.failures errors.old < 2 ^ 64 - 1 }
+    requires termini { length termini.items ≡ length (planned_termini checked.0 checked.1) }
     ensures plays { let outputs = stream (O.contents output.old) (O.failures output.old) (O.contents output.new) (O.failures output.new) in
         map (resting (λ b. tid b) (λ b. records b)) termini.items ≡ planned_termini checked.entry.0 checked.entry.1
         → Simulates checked.entry.0 checked.entry.1 (map event_value events.now) result outputs }
     ensures rests { let outputs = stream (O.contents output.old) (O.failures output.old) (O.contents output.new) (O.failures output.new) in
-        SimulatesFrom (one_plan checked.entry.0) (at_rest checked.entry.0 (map (resting (λ b. tid b) (λ b. records b)) termini.items))
+        SimulatesFrom (one_plan checked.entry.0) (without_walkers (at_rest checked.entry.0 (map (resting (λ b. tid b) (λ b. records b)) termini.items)))
         (map event_value events.now) result outputs }
     ensures lists { let outputs = stream (O.contents output.old) (O.failures output.old) (O.contents output.new) (O.failures output.new) in
         EndsShowing result (ShowsAtMost checked.entry.0 (length events.now) outputs) (ShowsOutcomes checked.entry.0 (length events.now) outputs)
@@ -63,14 +65,15 @@ fn answer_sim<O: Sink>(
     events: &[Event],
     output: &mut O,
 ) -> Result<(), Refused>
-    requires { O.failures output.old < 2 ^ 64 - 1 }
+    requires output { O.failures output.old < 2 ^ 64 - 1 }
+    requires termini { length termini.items ≡ length (planned_termini checked.0 checked.1) }
     ensures plays { let outputs = stream (O.contents output.old) (O.failures output.old) (O.contents output.new) (O.failures output.new) in
         map (resting (λ b. tid b) (λ b. records b)) termini.items ≡ planned_termini checked.entry.0 checked.entry.1
-        → ShowsAllOr result (ShowsBeginning (one_plan checked.entry.0) (at_start checked.entry.0 checked.entry.1) (map event_value events.now) outputs)
-        (ShowsRun (one_plan checked.entry.0) (at_start checked.entry.0 checked.entry.1) (map event_value events.now) outputs)
-        (IsRunText (one_plan checked.entry.0) (at_start checked.entry.0 checked.entry.1) (map event_value events.now)) outputs }
+        → ShowsAllOr result (ShowsBegunWalks (one_plan checked.entry.0) checked.entry.1 (map event_value events.now) outputs)
+        (ShowsWalks (one_plan checked.entry.0) checked.entry.1 (map event_value events.now) outputs)
+        (IsWalksText (one_plan checked.entry.0) checked.entry.1 (map event_value events.now)) outputs }
     ensures rests { let outputs = stream (O.contents output.old) (O.failures output.old) (O.contents output.new) (O.failures output.new) in
-        let start = at_rest checked.entry.0 (map (resting (λ b. tid b) (λ b. records b)) termini.items) in
+        let start = without_walkers (at_rest checked.entry.0 (map (resting (λ b. tid b) (λ b. records b)) termini.items)) in
         ShowsAllOr result (ShowsBeginning (one_plan checked.entry.0) start (map event_value events.now) outputs)
         (ShowsRun (one_plan checked.entry.0) start (map event_value events.now) outputs)
         (IsRunText (one_plan checked.entry.0) start (map event_value events.now)) outputs }
@@ -86,8 +89,8 @@ fn answer_sim<O: Sink>(
 
 /// Plays events in the network of a checked move, and gives on `output` what comes of each. The termini are those of the plan
 /// before, one for each node that has one, in its order; the outcomes are those of a run from rest over them, and where
-/// they are as planned, of a run from the start. Where memory runs out, the lines of what was played before are out,
-/// and `errors` says so.
+/// they are as planned, of a run from the start, in which each walker to whose keys no other put comes collects the planned
+/// records. Where memory runs out, the lines of what was played before are out, and `errors` says so.
 pub fn run_simmove<O: Sink, E: Sink>(
     alloc: Global,
     checked: CheckedMove,
@@ -98,11 +101,12 @@ pub fn run_simmove<O: Sink, E: Sink>(
 ) -> Status
     requires output { O.failures output.old < 2 ^ 64 - 1 }
     requires errors { E.failures errors.old < 2 ^ 64 - 1 }
+    requires termini { length termini.items ≡ length (planned_termini checked.0 checked.2) }
     ensures plays { let outputs = stream (O.contents output.old) (O.failures output.old) (O.contents output.new) (O.failures output.new) in
         map (resting (λ b. tid b) (λ b. records b)) termini.items ≡ planned_termini checked.entry.0 checked.entry.2
         → SimulatesBy (moving checked.entry.0 checked.entry.1) checked.entry.2 (map event_value events.now) result outputs }
     ensures rests { let outputs = stream (O.contents output.old) (O.failures output.old) (O.contents output.new) (O.failures output.new) in
-        SimulatesFrom (moving checked.entry.0 checked.entry.1) (at_rest checked.entry.0 (map (resting (λ b. tid b) (λ b. records b)) termini.items))
+        SimulatesFrom (moving checked.entry.0 checked.entry.1) (without_walkers (at_rest checked.entry.0 (map (resting (λ b. tid b) (λ b. records b)) termini.items)))
         (map event_value events.now) result outputs }
     ensures lists { let outputs = stream (O.contents output.old) (O.failures output.old) (O.contents output.new) (O.failures output.new) in
         EndsShowing result (ShowsAtMost checked.entry.0 (length events.now) outputs) (ShowsOutcomes checked.entry.0 (length events.now) outputs)
@@ -122,14 +126,15 @@ fn answer_simmove<O: Sink>(
     events: &[Event],
     output: &mut O,
 ) -> Result<(), Refused>
-    requires { O.failures output.old < 2 ^ 64 - 1 }
+    requires output { O.failures output.old < 2 ^ 64 - 1 }
+    requires termini { length termini.items ≡ length (planned_termini checked.0 checked.2) }
     ensures plays { let outputs = stream (O.contents output.old) (O.failures output.old) (O.contents output.new) (O.failures output.new) in
         map (resting (λ b. tid b) (λ b. records b)) termini.items ≡ planned_termini checked.entry.0 checked.entry.2
-        → ShowsAllOr result (ShowsBeginning (moving checked.entry.0 checked.entry.1) (at_start checked.entry.0 checked.entry.2) (map event_value events.now) outputs)
-        (ShowsRun (moving checked.entry.0 checked.entry.1) (at_start checked.entry.0 checked.entry.2) (map event_value events.now) outputs)
-        (IsRunText (moving checked.entry.0 checked.entry.1) (at_start checked.entry.0 checked.entry.2) (map event_value events.now)) outputs }
+        → ShowsAllOr result (ShowsBegunWalks (moving checked.entry.0 checked.entry.1) checked.entry.2 (map event_value events.now) outputs)
+        (ShowsWalks (moving checked.entry.0 checked.entry.1) checked.entry.2 (map event_value events.now) outputs)
+        (IsWalksText (moving checked.entry.0 checked.entry.1) checked.entry.2 (map event_value events.now)) outputs }
     ensures rests { let outputs = stream (O.contents output.old) (O.failures output.old) (O.contents output.new) (O.failures output.new) in
-        let start = at_rest checked.entry.0 (map (resting (λ b. tid b) (λ b. records b)) termini.items) in
+        let start = without_walkers (at_rest checked.entry.0 (map (resting (λ b. tid b) (λ b. records b)) termini.items)) in
         ShowsAllOr result (ShowsBeginning (moving checked.entry.0 checked.entry.1) start (map event_value events.now) outputs)
         (ShowsRun (moving checked.entry.0 checked.entry.1) start (map event_value events.now) outputs)
         (IsRunText (moving checked.entry.0 checked.entry.1) start (map event_value events.now)) outputs }
@@ -152,10 +157,16 @@ fn tell_played<O: Sink>(
 ) -> Result<(), Refused>
     requires { O.failures output.old < 2 ^ 64 - 1 }
     ensures tells { let outputs = stream (O.contents output.old) (O.failures output.old) (O.contents output.new) (O.failures output.new) in
-        (tables : Tables) (w : NetworkState) (events : List EventValue) (new : NetworkValue) → plan.now ≡ tables.plan
+        (tables : Tables) (w : WalkedState) (events : List WalkedEvent) (new : NetworkValue) → plan.now ≡ tables.plan
         → (played.now.stopped ≡ false → length played.now.outcomes.items ≡ length events)
         → IsRunOf tables w (take (length played.now.outcomes.items) events) (map outcome_value played.now.outcomes.items) new
         → ShowsAllOr result (ShowsBeginning tables w events outputs) (ShowsRun tables w events outputs) (IsRunText tables w events) outputs }
+    ensures walks { let outputs = stream (O.contents output.old) (O.failures output.old) (O.contents output.new) (O.failures output.new) in
+        (tables : Tables) (cert : Certificate) (events : List WalkedEvent) (new : NetworkValue) → plan.now ≡ tables.plan
+        → (played.now.stopped ≡ false → length played.now.outcomes.items ≡ length events)
+        → (run : IsRunOf tables (walked_at_start tables.plan cert) (take (length played.now.outcomes.items) events) (map outcome_value played.now.outcomes.items) new)
+        → HaveWalked tables cert run.turns
+        → ShowsAllOr result (ShowsBegunWalks tables cert events outputs) (ShowsWalks tables cert events outputs) (IsWalksText tables cert events) outputs }
     ensures lists { let outputs = stream (O.contents output.old) (O.failures output.old) (O.contents output.new) (O.failures output.new) in
         (count : ℕ) → length played.now.outcomes.items ≤ count → (played.now.stopped ≡ false → length played.now.outcomes.items ≡ count)
         → ShowsAllOr result (ShowsAtMost plan.now count outputs) (ShowsOutcomes plan.now count outputs) (AreLinesAtMost plan.now count) outputs }

@@ -26,6 +26,7 @@ returns-in-Ok-clause-certifies g c =
         well_formed = made.well_formed;
         written = text.ensures.text;
         reads_back = text.ensures.reads_back made.well_formed;
+        short = text.ensures.short made.well_formed made.few;
       },
       search rules,
     )
@@ -58,6 +59,7 @@ returns-in_err-print-in-Ok-clause-untouched g c =
       well_formed = made.well_formed;
       written = text.ensures.text;
       reads_back = text.ensures.reads_back made.well_formed;
+      short = text.ensures.short made.well_formed made.few;
     } in
     rw ended (inl (
       failed.ensures.unwritten,

@@ -1,18 +1,17 @@
 use Rattle.std.proofs.Common.{rules, ◌≡◌, length, map, Err, refl, ap, sym, ◌∙◌}
 use Rattle.std.proofs.lemmas.List.{length-map}
-use Rattle.net_check.specs.States.{at_start}
 use Rattle.net_check.specs.TwoPlans.{moving}
 use Rattle.net_sim.specs.Networks.{checked_of}
 use Rattle.net_sim.specs.Outcomes.{event_value}
 use Rattle.plan_commands.specs.declared.refused.Refused.TheVariants as refused
 use Rattle.plan_commands.specs.Answers.{stream}
-use Rattle.plan_commands.proofs.Simulated.{shows_nothing, lists_nothing, few_outcomes, shows_by, lists_by}
+use Rattle.plan_commands.proofs.Simulated.{shows_nothing, shows_no_walks, walks_in, lists_nothing, few_outcomes, shows_by, lists_by}
 use Rattle.plan_commands.proofs.commands.sim.answer_simmove.Goals as goal
 
 pub returns-in_err-network-clause-plays : goal.returns-in_err-network-clause-plays
 returns-in_err-network-clause-plays g c =
     let ended : c.from_residual.result ≡ Err refused.NoMemory = search rules in
-    rw ended (λ planned. shows_nothing (moving c.args.checked.0 c.args.checked.1) _ _ _ refl)
+    rw ended (λ planned. shows_no_walks (moving c.args.checked.0 c.args.checked.1) c.args.checked.2 _ _ refl)
 
 pub returns-in_err-network-clause-lists : goal.returns-in_err-network-clause-lists
 returns-in_err-network-clause-lists g c =
@@ -23,7 +22,7 @@ returns-in_err-network-clause-lists g c =
 pub returns-in_err-played-clause-plays : goal.returns-in_err-played-clause-plays
 returns-in_err-played-clause-plays g c =
     let ended : c.from_residual-in_err-played.result ≡ Err refused.NoMemory = search rules in
-    rw ended (λ planned. shows_nothing (moving c.args.checked.0 c.args.checked.1) _ _ _ refl)
+    rw ended (λ planned. shows_no_walks (moving c.args.checked.0 c.args.checked.1) c.args.checked.2 _ _ refl)
 
 pub returns-in_err-played-clause-lists : goal.returns-in_err-played-clause-lists
 returns-in_err-played-clause-lists g c =
@@ -33,13 +32,11 @@ returns-in_err-played-clause-lists g c =
 
 pub returns-clause-plays : goal.returns-clause-plays
 returns-clause-plays g c = λ planned.
-    let tables = (checked_of c.in_ok-network.network).0 in
-    let events = map event_value c.args.events.now in
+    let tables = moving c.args.checked.0 c.args.checked.1 in
     let played = c.in_ok-played.ensures in
-    let output = stream (g.O.Sink.contents c.args.output.now) (g.O.Sink.failures c.args.output.now) (g.O.Sink.contents c.tell_played.new.output) (g.O.Sink.failures c.tell_played.new.output) in
-    shows_by (moving c.args.checked.0 c.args.checked.1) tables (at_start c.args.checked.0 c.args.checked.2) events c.tell_played.result output (ap (λ r. r.0) c.in_ok-network.ensures.checked)
-    (c.tell_played.ensures.tells tables _ events _ (c.before-before.ensures.plan ∙ sym (ap (λ r. r.0.plan) c.in_ok-network.ensures.checked))
-    (λ all. played.whole all ∙ sym (length-map c.args.events.now event_value)) (played.plays _ (c.in_ok-network.ensures.stands planned)))
+    let went = walks_in (tables, c.args.checked.2) (checked_of c.in_ok-network.network) _ _ _ _ c.in_ok-network.ensures.checked (c.in_ok-network.ensures.stands planned) played.walks in
+    c.tell_played.ensures.walks tables c.args.checked.2 (map event_value c.args.events.now) _ c.before-before.ensures.plan
+    (λ all. played.whole all ∙ sym (length-map c.args.events.now event_value)) went.0 went.1
 
 pub returns-clause-lists : goal.returns-clause-lists
 returns-clause-lists g c =
