@@ -8,6 +8,7 @@ use std::test::Fail;
 mod assign;
 mod bridges;
 mod moves;
+mod network_walks;
 mod riser;
 mod show;
 mod sim;

@@ -1,5 +1,6 @@
 //! Tests over the public calls of `net_plan`, `net_check` and `net_sim`.
 mod assigning;
+mod boxes;
 mod certificates;
 mod certifying;
 mod codes;
@@ -9,11 +10,13 @@ mod events;
 mod exact;
 mod json_texts;
 mod lines;
+mod losing;
 mod moves;
 mod name_bounds;
 mod names;
 mod networks;
 mod owners_and_pools;
+mod planned;
 mod plans;
 mod playing;
 mod records;
@@ -28,6 +31,9 @@ mod switches;
 mod switching;
 mod telling;
 mod termini;
+mod walk_events;
+mod walkers;
+mod walks;
 
 use networks::{fault, found};
 use playing::{Row, expect_told, plan_of};

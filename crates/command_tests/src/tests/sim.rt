@@ -4,6 +4,7 @@ use super::riser::{CERTIFICATE, PLAN, RECORD, replaced};
 use super::{CutOff, Narrow, expect_told, expect_written};
 use net_check::check;
 use net_plan::{Counted, certificate_of_text, events_of_text, plan_of_text};
+use net_sim::planned_termini_count;
 use pdr_repository::{ListTerminus, Terminus, is_lawful_list};
 use plan_commands::{Status, run_sim, simulate};
 use pldm_message::Tid;
@@ -264,6 +265,9 @@ fn plays_over_a_terminus_that_is_given(rt: HostRuntime) -> Result<(), Fail> {
         let mut termini: Vec<Box<dyn Terminus>> = Vec::new(alloc);
         termini.push(Box::new(alloc, terminus)?)?;
         let checked = check(alloc, &plan, &certificate).expect(&rt, "no rule is broken");
+        if termini.len() != planned_termini_count(checked.plan()) {
+            return Err(Fail::new("not one terminus for each node that has one"));
+        }
         let kept = Vec::new(alloc);
         let mut output = Counted::new(Narrow { kept, room });
         let mut errors = Counted::new(Vec::new(alloc));

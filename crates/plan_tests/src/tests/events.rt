@@ -175,14 +175,15 @@ const LISTS: &[(&str, Option<PlanError>)] = &[
     (r#"],"x":["#, Some(PlanError::UnknownKey)),
 ];
 
-/// The place of the first row whose list is something else.
-fn first_wrong(
+/// The place of the first row whose list, in this format, is something else.
+pub fn first_wrong(
     alloc: Global,
     plan: &Plan,
+    format: &str,
     rows: &[(&str, Option<PlanError>)],
 ) -> Result<Option<usize>, AllocError> {
     for (place, (event, wanted)) in rows.iter().enumerate() {
-        let text = format!(in alloc; r#"{{"format":1,"events":[{event}]}}"#)?;
+        let text = format!(in alloc; r#"{{"format":{format},"events":[{event}]}}"#)?;
         if events_of_text(alloc, plan, text.as_str().as_bytes()).err() != *wanted {
             return Ok(Some(place));
         }
@@ -193,7 +194,7 @@ fn first_wrong(
 #[test]
 fn tells_the_first_fault_of_an_event(rt: HostRuntime) -> Result<(), Fail> {
     let plan = plan_of_text(rt.alloc(), riser::PLAN.as_bytes())?;
-    assert_eq!(rt; first_wrong(rt.alloc(), &plan, LISTS)?, None);
+    assert_eq!(rt; first_wrong(rt.alloc(), &plan, "1", LISTS)?, None);
     Ok(())
 }
 

@@ -3,7 +3,7 @@ use super::playing::{Scenario, play_on};
 use super::riser::{HOST, SSD};
 use mctp_transport::{Eid, Key, MAX_MESSAGE, Packets, Seq, Tag, Why, Wire};
 use net_plan::Event;
-use net_sim::{Network, Outcome};
+use net_sim::{Effect, Network, Outcome};
 use std::alloc::{AllocError, Global};
 use std::process::Abort;
 use std::test::Fail;
@@ -81,12 +81,23 @@ fn puts(alloc: Global, packets: &[Vec<u8>]) -> Result<Vec<Event>, AllocError> {
     Ok(events)
 }
 
+/// Plays an event that is none of a walk, where no walker is.
+fn happened(network: &mut Network, event: &Event) -> Result<Effect, Fail> {
+    match network.step(event)? {
+        Outcome::Happened {
+            effect,
+            handed: None,
+        } => Ok(effect),
+        _ => Err(Fail::new("there is a walk")),
+    }
+}
+
 /// Puts packets in at host, and tells the numbers of their flights.
 fn put_in(alloc: Global, network: &mut Network, packets: &[Vec<u8>]) -> Result<Vec<u32>, Fail> {
     let mut numbers = Vec::new(alloc);
     for event in &puts(alloc, packets)? {
-        match network.step(event)? {
-            Outcome::PutIn { number, node: HOST } => numbers.push(number)?,
+        match happened(network, event)? {
+            Effect::PutIn { number, node: HOST } => numbers.push(number)?,
             _ => return Err(Fail::new("it is not put in")),
         }
     }
@@ -94,44 +105,44 @@ fn put_in(alloc: Global, network: &mut Network, packets: &[Vec<u8>]) -> Result<V
 }
 
 /// Moves a flight, or a copy of it, from host by way of riser into ssd, and tells what came of it there.
-fn deliver(network: &mut Network, flight: u32, goes: Goes) -> Result<Outcome, AllocError> {
+fn deliver(network: &mut Network, flight: u32, goes: Goes) -> Result<Effect, Fail> {
     let keep = goes == Goes::Copy;
-    let number = match network.step(&Event::Move { flight, keep })? {
-        Outcome::Moved { number, .. } => number,
+    let number = match happened(network, &Event::Move { flight, keep })? {
+        Effect::Moved { number, .. } => number,
         other => return Ok(other),
     };
     let on = Event::Move {
         flight: number,
         keep: false,
     };
-    match network.step(&on)? {
-        Outcome::Moved { .. } => network.step(&on),
+    match happened(network, &on)? {
+        Effect::Moved { .. } => happened(network, &on),
         other => Ok(other),
     }
 }
 
-/// Whether a message comes with an outcome.
+/// Whether a message comes with an effect.
 #[derive(Clone, Copy, Debug, PartialEq, Eq)]
 enum Comes {
     Whole,
     Not,
 }
 
-/// Whether the message comes with this outcome. It has to be the message that was sent, and other packets are held or
+/// Whether the message comes with this effect. It has to be the message that was sent, and other packets are held or
 /// dropped for their numbers: all else is none.
-fn how_it_comes(outcome: &Outcome, message: &[u8]) -> Option<Comes> {
-    match outcome {
-        Outcome::Whole {
+fn how_it_comes(effect: &Effect, message: &[u8]) -> Option<Comes> {
+    match effect {
+        Effect::Whole {
             node: SSD,
             key: told,
             bytes,
             ..
         } if *told == key() && bytes.as_slice() == message => Some(Comes::Whole),
-        Outcome::Dropped {
+        Effect::Dropped {
             why: Why::NotOpen | Why::Number,
             ..
         } => Some(Comes::Not),
-        Outcome::Held { .. } => Some(Comes::Not),
+        Effect::Held { .. } => Some(Comes::Not),
         _ => None,
     }
 }
@@ -166,8 +177,8 @@ fn lose_others(network: &mut Network, numbers: &[u32], places: &[usize]) -> Resu
         if places.contains(&place) {
             continue;
         }
-        match network.step(&Event::Lose { flight: *number })? {
-            Outcome::Lost { .. } => {}
+        match happened(network, &Event::Lose { flight: *number })? {
+            Effect::Lost { .. } => {}
             _ => return Err(Fail::new("it is not lost")),
         }
     }
@@ -280,7 +291,7 @@ pub fn expect_whole_or_nothing(
 ) -> Result<(), Fail> {
     let message = message_of(rt.alloc(), 320)?;
     let packets = written(rt.alloc(), &message)?;
-    let flags = flags(rt.alloc(), &packets)?;
+    expect_flags(rt, &packets, &[0x89, 0x19, 0x29, 0x39, 0x49])?;
     let mut orders: u32 = 0;
     let mut whole: u32 = 0;
     for order in ORDERS {
@@ -288,7 +299,6 @@ pub fn expect_whole_or_nothing(
         orders = orders.saturating_add(sent.orders);
         whole = whole.saturating_add(sent.whole);
     }
-    assert_eq!(rt; flags.as_slice(), [0x89, 0x19, 0x29, 0x39, 0x49].as_slice());
     // without a packet twice 1 + 5 + 20 + 60 + 120 + 120, with one twice 5 + 60 + 360 + 1200 + 1800
     assert_eq!(rt; (message.len(), orders, whole), (320, 3751, 11));
     Ok(())
@@ -305,13 +315,27 @@ fn come_as_a_message(outcomes: &[Outcome], ends: &[u8]) -> bool {
     outcomes.len() == 16
         && matches!(
             outcomes[12],
-            Outcome::Held {
-                number: 1,
-                node: SSD,
-                ..
+            Outcome::Happened {
+                effect: Effect::Held {
+                    number: 1,
+                    node: SSD,
+                    ..
+                },
+                handed: None,
             }
         )
-        && how_it_comes(&outcomes[15], ends) == Some(Comes::Whole)
+        && makes_whole(&outcomes[15], ends)
+}
+
+/// Whether the message comes whole with this outcome.
+fn makes_whole(outcome: &Outcome, message: &[u8]) -> bool {
+    match outcome {
+        Outcome::Happened {
+            effect,
+            handed: None,
+        } => how_it_comes(effect, message) == Some(Comes::Whole),
+        _ => false,
+    }
 }
 
 /// Wants the first and the last of six packets to come as a message that was not sent.
@@ -319,21 +343,53 @@ pub fn expect_two_of_six(
     rt: &(impl Abort + AllocGlobal),
     network: &mut Network,
 ) -> Result<(), Fail> {
-    let alloc = rt.alloc();
-    let message = message_of(alloc, 384)?;
-    let packets = written(alloc, &message)?;
-    let flags = flags(alloc, &packets)?;
-    let ends = ends(alloc, &message)?;
-    let played = network.run(&first_and_last(alloc, &packets, 6)?)?;
-    assert_eq!(rt;
-        flags.as_slice(),
-        [0x89, 0x19, 0x29, 0x39, 0x09, 0x59].as_slice()
-    );
-    assert_eq!(rt;
-        (message.len(), ends.len(), played.stopped),
-        (384, 128, false)
-    );
-    assert!(rt; come_as_a_message(&played.outcomes, &ends));
+    let message = message_of(rt.alloc(), 384)?;
+    let packets = written(rt.alloc(), &message)?;
+    expect_flags(rt, &packets, &[0x89, 0x19, 0x29, 0x39, 0x09, 0x59])?;
+    expect_ends_to_come(rt, network, &message, &packets)
+}
+
+/// Wants the first and the last packet, played in a row, to come as a message of the first and the last bytes.
+fn expect_ends_to_come(
+    rt: &(impl Abort + AllocGlobal),
+    network: &mut Network,
+    message: &[u8],
+    packets: &[Vec<u8>],
+) -> Result<(), Fail> {
+    let events = first_and_last(rt.alloc(), packets, 6)?;
+    let outcomes = outcomes_of(network, &events)?;
+    expect_ends(rt, message, &outcomes)
+}
+
+/// The outcomes of events, all of which are played.
+fn outcomes_of(network: &mut Network, events: &[Event]) -> Result<Vec<Outcome>, Fail> {
+    let played = network.run(events)?;
+    if played.stopped {
+        return Err(Fail::new("it stopped"));
+    }
+    Ok(played.outcomes)
+}
+
+/// Wants the packets to have these flag bytes.
+fn expect_flags(
+    rt: &(impl Abort + AllocGlobal),
+    packets: &[Vec<u8>],
+    wanted: &[u8],
+) -> Result<(), Fail> {
+    let flags = flags(rt.alloc(), packets)?;
+    assert_eq!(rt; flags.as_slice(), wanted);
+    Ok(())
+}
+
+/// Wants the first and the last bytes of a message of six packets to have come.
+fn expect_ends(
+    rt: &(impl Abort + AllocGlobal),
+    message: &[u8],
+    outcomes: &[Outcome],
+) -> Result<(), Fail> {
+    let ends = ends(rt.alloc(), message)?;
+    assert_eq!(rt; (message.len(), ends.len()), (384, 128));
+    assert!(rt; come_as_a_message(outcomes, &ends));
     Ok(())
 }
 

@@ -1,5 +1,6 @@
 //! Lines of bridges. The one at place i has the endpoint ID 8 + i, shares a bus with each of its neighbors alone, and has
 //! one row towards each neighbor, for all endpoint IDs on that side.
+use super::boxes::network_of;
 use super::{expect_told, plan_of};
 use net_check::{certify, check};
 use net_plan::{Event, Plan};
@@ -118,11 +119,7 @@ fn expect_outcomes(
 }
 
 /// The outcomes of the events, one by one.
-fn stepped(
-    alloc: Global,
-    network: &mut Network,
-    events: &[Event],
-) -> Result<Vec<Outcome>, AllocError> {
+fn stepped(alloc: Global, network: &mut Network, events: &[Event]) -> Result<Vec<Outcome>, Fail> {
     let mut outcomes = Vec::new(alloc);
     for event in events {
         outcomes.push(network.step(event)?)?;
@@ -148,17 +145,31 @@ enum Way {
 
 /// Plays the events on a line of so many bridges, and wants the request to come to the last.
 fn expect_line(rt: &(impl Abort + AllocGlobal), count: u8, way: Way) -> Result<(), Fail> {
-    let alloc = rt.alloc();
-    let plan = plan_of(alloc, &line_of(alloc, count)?)?;
-    let certificate = certify(alloc, &plan)?;
-    let checked = check(alloc, &plan, &certificate)?;
-    let mut network = Network::new(alloc, checked, Vec::new(alloc))?;
-    let events = events_on(alloc, count)?;
-    let outcomes = match way {
-        Way::OneByOne => stepped(alloc, &mut network, &events)?,
-        Way::AsOneList => ran(&mut network, &events)?,
-    };
+    let plan = plan_of(rt.alloc(), &line_of(rt.alloc(), count)?)?;
+    let events = events_on(rt.alloc(), count)?;
+    let outcomes = played_on(rt.alloc(), &plan, &events, way)?;
     expect_outcomes(rt, &plan, &outcomes, count)
+}
+
+/// The outcomes of the events in the network of a plan, with the certificate that it has.
+fn played_on(alloc: Global, plan: &Plan, events: &[Event], way: Way) -> Result<Vec<Outcome>, Fail> {
+    let certificate = certify(alloc, plan)?;
+    let checked = check(alloc, plan, &certificate)?;
+    let mut network = network_of(alloc, checked, Vec::new(alloc))?;
+    played_by(alloc, &mut network, events, way)
+}
+
+/// The outcomes of the events, played this way.
+fn played_by(
+    alloc: Global,
+    network: &mut Network,
+    events: &[Event],
+    way: Way,
+) -> Result<Vec<Outcome>, Fail> {
+    match way {
+        Way::OneByOne => stepped(alloc, network, events),
+        Way::AsOneList => ran(network, events),
+    }
 }
 
 #[test]
@@ -171,7 +182,15 @@ fn steps_along_short_lines(rt: HostRuntime) -> Result<(), Fail> {
 
 #[test]
 fn steps_along_long_lines(rt: HostRuntime) -> Result<(), Fail> {
-    for count in 45..=64u8 {
+    for count in 45..=55u8 {
+        expect_line(&rt, count, Way::OneByOne)?;
+    }
+    Ok(())
+}
+
+#[test]
+fn steps_along_the_longest_lines(rt: HostRuntime) -> Result<(), Fail> {
+    for count in 56..=64u8 {
         expect_line(&rt, count, Way::OneByOne)?;
     }
     Ok(())

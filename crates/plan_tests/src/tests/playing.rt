@@ -1,11 +1,12 @@
 //! Networks that are played from texts. A row is an event, as its text stands in a list of events, and what comes of it.
+use super::boxes::network_of;
 use super::exact::{expect_two_of_six, expect_whole_or_nothing};
 use super::riser::{CERTIFICATE, NIC, PLAN};
 use super::rows::expect_refusals;
 use super::telling::told;
 use net_check::check;
 use net_plan::{Certificate, Counted, Event, Plan, read_certificate, read_events, read_plan};
-use net_sim::{Network, Outcome};
+use net_sim::{Network, Outcome, Played};
 use pdr_repository::{BlockTerminus, ListTerminus, Terminus, is_lawful_list};
 use pldm_message::Tid;
 use std::alloc::{AllocError, Global};
@@ -22,14 +23,14 @@ pub fn certificate_of(alloc: Global, plan: &Plan, text: &str) -> Result<Certific
     Ok(read_certificate(alloc, plan, &mut Counted::new(text.as_bytes()))?)
 }
 
-/// The events of these rows.
+/// The events of these rows, in a list of format 3, which has all.
 pub fn events_of(alloc: Global, plan: &Plan, rows: &[Row]) -> Result<Vec<Event>, Fail> {
     let mut list = Vec::new(alloc);
     for (event, _) in rows {
         list.push(*event)?;
     }
     let list = list.as_slice().join(alloc, ",")?;
-    let text = format!(in alloc; r#"{{"format":1,"events":[{list}]}}"#)?;
+    let text = format!(in alloc; r#"{{"format":3,"events":[{list}]}}"#)?;
     Ok(read_events(alloc, plan, &mut Counted::new(text.as_str().as_bytes()))?)
 }
 
@@ -134,7 +135,7 @@ fn play_on_plan(
         }
     }
     let checked = check(alloc, plan, certificate)?;
-    let mut network = Network::new(alloc, checked, boxed)?;
+    let mut network = network_of(alloc, checked, boxed)?;
     play(rt, plan, &mut network, scenario)
 }
 
@@ -178,9 +179,31 @@ pub fn expect_run(
 ) -> Result<(), Fail> {
     let events = events_of(rt.alloc(), plan, rows)?;
     let played = network.run(&events)?;
-    assert!(rt; !played.stopped);
-    assert_eq!(rt; played.outcomes.len(), rows.len());
-    for (outcome, (text, wanted)) in played.outcomes.iter().zip(rows) {
+    expect_played(rt, plan, &played, rows)
+}
+
+/// Wants what the rows say to have come of their events.
+pub fn expect_played(
+    rt: &(impl Abort + AllocGlobal),
+    plan: &Plan,
+    played: &Played,
+    rows: &[Row],
+) -> Result<(), Fail> {
+    assert_eq!(rt;
+        (played.stopped, played.outcomes.len()),
+        (false, rows.len())
+    );
+    expect_outcomes(rt, plan, &played.outcomes, rows)
+}
+
+/// Wants what the rows say of the outcomes, one after another.
+fn expect_outcomes(
+    rt: &(impl Abort + AllocGlobal),
+    plan: &Plan,
+    outcomes: &[Outcome],
+    rows: &[Row],
+) -> Result<(), Fail> {
+    for (outcome, (text, wanted)) in outcomes.iter().zip(rows) {
         expect_told(rt, plan, outcome, text, wanted)?;
     }
     Ok(())

@@ -7,7 +7,7 @@ use super::riser_events::{
 };
 use mctp_transport::{Eid, Key, Tag};
 use net_plan::Event;
-use net_sim::{Network, Outcome, Refusal};
+use net_sim::{Effect, Network, Outcome, Refusal};
 use std::alloc::{AllocError, Global};
 use std::process::Abort;
 use std::test::Fail;
@@ -24,7 +24,7 @@ const TO_SSD: [Row; 4] = [
 ];
 
 /// A request goes to nic, and its answer comes back.
-const AND_BACK: [Row; 8] = [
+pub const AND_BACK: [Row; 8] = [
     (GET_TID_OF_NIC, "put 1 at host"),
     (MOVE_1, "moved 1 to riser hops 1"),
     (MOVE_1, "moved 1 to nic hops 2"),
@@ -151,7 +151,13 @@ fn runs_whole_lists(rt: HostRuntime) -> Result<(), Fail> {
 /// Whether an event is refused since there is no such node.
 fn is_refused(network: &mut Network, event: &Event) -> Result<bool, AllocError> {
     let outcome = network.step(event)?;
-    Ok(matches!(outcome, Outcome::Refused(Refusal::NoNode)))
+    Ok(matches!(
+        outcome,
+        Outcome::Happened {
+            effect: Effect::Refused(Refusal::NoNode),
+            handed: None,
+        }
+    ))
 }
 
 /// Events that name a node.

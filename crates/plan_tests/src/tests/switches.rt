@@ -27,7 +27,7 @@ fn reads_switches(rt: HostRuntime) -> Result<(), Fail> {
 fn tells_the_first_fault_of_a_switch(rt: HostRuntime) -> Result<(), Fail> {
     let alloc = rt.alloc();
     let plan = plan_of_text(alloc, riser::PLAN.as_bytes())?;
-    let cases: [(&str, &str, Option<PlanError>); 14] = [
+    let cases: [(&str, &str, Option<PlanError>); 16] = [
         ("2", "{\"do\":\"switch\",\"node\":\"nic\"}", None),
         (
             "1",
@@ -63,8 +63,14 @@ fn tells_the_first_fault_of_a_switch(rt: HostRuntime) -> Result<(), Fail> {
             Some(PlanError::OutOfRange),
         ),
         ("2", "{\"do\":\"lose\",\"flight\":1}", None),
+        ("3", "{\"do\":\"switch\",\"node\":\"nic\"}", None),
         (
             "3",
+            "{\"do\":\"switch\",\"node\":\"b0\"}",
+            Some(PlanError::UnknownName),
+        ),
+        (
+            "4",
             "{\"do\":\"switch\",\"node\":\"nic\"}",
             Some(PlanError::OutOfRange),
         ),

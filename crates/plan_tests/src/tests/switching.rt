@@ -1,10 +1,13 @@
 //! Networks whose nodes switch to new rows while packets are on their way.
+use super::boxes::{moving_network_of, network_of};
 use super::playing::{certificate_of, plan_of};
 use super::telling::told;
 use net_check::{check, check_move};
 use net_plan::{Certificate, Event, Plan};
-use net_sim::{Network, Outcome, Refusal};
+use net_sim::{Effect, Network, Outcome, Refusal};
 use std::alloc::{AllocError, Global};
+use std::ops::Range;
+use std::process::Abort;
 use std::test::Fail;
 
 /// From host to endpoint x there are two ways, through bridge left and through bridge right; host goes by left.
@@ -59,7 +62,7 @@ fn host_goes_by_its_new_row_once_it_has_switched(rt: HostRuntime) -> Result<(), 
     let after = plan_of(alloc, &text)?;
     let certificate = certificate_of(alloc, &before, RANKS_OF_TWO_WAYS)?;
     let checked = check_move(alloc, &before, &after, &certificate)?;
-    let mut network = Network::new_move(alloc, checked, Vec::new(alloc))?;
+    let mut network = moving_network_of(alloc, checked, Vec::new(alloc))?;
     let events = [
         request(alloc)?,
         move_of(1),
@@ -96,7 +99,7 @@ fn nobody_switches_in_a_network_of_one_plan(rt: HostRuntime) -> Result<(), Fail>
     let plan = plan_of(alloc, TWO_WAYS)?;
     let certificate = certificate_of(alloc, &plan, RANKS_OF_TWO_WAYS)?;
     let checked = check(alloc, &plan, &certificate)?;
-    let mut network = Network::new(alloc, checked, Vec::new(alloc))?;
+    let mut network = network_of(alloc, checked, Vec::new(alloc))?;
     let events = [
         Event::Switch { node: HOST },
         Event::Switch { node: NOWHERE },
@@ -181,10 +184,13 @@ fn events_in(alloc: Global, order: &[usize]) -> Result<Vec<Event>, AllocError> {
 /// Whether an outcome can be where each packet moves within its rank: at a place it has made at most as many hops as there
 /// are places before.
 fn is_lawful(outcome: &Outcome) -> bool {
-    match outcome {
-        Outcome::PutIn { .. } | Outcome::Whole { .. } | Outcome::Switched { .. } => true,
-        Outcome::Moved { node, hops, .. } => usize::from(*hops) <= *node,
-        Outcome::Refused(why) => *why == Refusal::NoFlight,
+    let Outcome::Happened { effect, .. } = outcome else {
+        return false;
+    };
+    match effect {
+        Effect::PutIn { .. } | Effect::Whole { .. } | Effect::Switched { .. } => true,
+        Effect::Moved { node, hops, .. } => usize::from(*hops) <= *node,
+        Effect::Refused(why) => *why == Refusal::NoFlight,
         _ => false,
     }
 }
@@ -198,33 +204,51 @@ fn all_come(
     order: &[usize],
 ) -> Result<bool, Fail> {
     let checked = check_move(alloc, before, after, certificate)?;
-    let mut network = Network::new_move(alloc, checked, Vec::new(alloc))?;
+    let mut network = moving_network_of(alloc, checked, Vec::new(alloc))?;
     let played = network.run(&events_in(alloc, order)?)?;
     let mut come = Vec::new(alloc);
     for outcome in &played.outcomes {
         if !is_lawful(outcome) {
             return Ok(false);
         }
-        if let Outcome::Whole { number, .. } = outcome {
+        if let Outcome::Happened {
+            effect: Effect::Whole { number, .. },
+            ..
+        } = outcome
+        {
             come.push(*number)?;
         }
     }
     Ok(come.len() == BRIDGES + 1)
 }
 
-#[test]
-fn packets_come_in_each_order_of_switches(rt: HostRuntime) -> Result<(), Fail> {
+/// Wants all packets to come where the bridges switch in the orders of these numbers.
+fn expect_all_come(rt: &(impl Abort + AllocGlobal), numbers: Range<usize>) -> Result<(), Fail> {
     let alloc = rt.alloc();
     let before = plan_of(alloc, &line_of(alloc, 1)?)?;
     let after = plan_of(alloc, &line_of(alloc, 2)?)?;
     let certificate = certificate_of(alloc, &before, &ranks_of_line(alloc)?)?;
-    let mut failed = Vec::new(alloc);
-    for number in 0..720usize {
+    for number in numbers {
         let order = order_of(alloc, number)?;
-        if !all_come(alloc, &before, &after, &certificate, &order)? {
-            failed.push(number)?;
-        }
+        assert!(rt;
+            all_come(alloc, &before, &after, &certificate, &order)?,
+            "{number}"
+        );
     }
-    assert!(rt; failed.is_empty());
     Ok(())
+}
+
+#[test]
+fn packets_come_in_the_first_orders_of_switches(rt: HostRuntime) -> Result<(), Fail> {
+    expect_all_come(&rt, 0..240)
+}
+
+#[test]
+fn packets_come_in_the_middle_orders_of_switches(rt: HostRuntime) -> Result<(), Fail> {
+    expect_all_come(&rt, 240..480)
+}
+
+#[test]
+fn packets_come_in_the_last_orders_of_switches(rt: HostRuntime) -> Result<(), Fail> {
+    expect_all_come(&rt, 480..720)
 }

@@ -1,7 +1,8 @@
 //! Outcomes as texts, each with all that it tells.
 use mctp_transport::Key;
 use net_plan::Plan;
-use net_sim::Outcome;
+use net_sim::{Effect, Handed, Outcome, Standing};
+use pdr_repository::{Step, WalkFault};
 use std::alloc::{AllocError, Global};
 use std::fmt;
 
@@ -39,65 +40,141 @@ impl fmt::Display for Parts {
     }
 }
 
-/// What an outcome says.
-pub fn told(alloc: Global, plan: &Plan, outcome: &Outcome) -> Result<String, AllocError> {
-    match outcome {
-        Outcome::PutIn { number, node } => {
+/// What a whole message says.
+fn whole_text(
+    alloc: Global,
+    number: u32,
+    node: &str,
+    key: Parts,
+    bytes: Hex<'_>,
+) -> Result<String, AllocError> {
+    format!(in alloc; "whole {number} at {node} {key} bytes {bytes}")
+}
+
+/// What a dropped packet says.
+fn dropped_text(
+    alloc: Global,
+    number: u32,
+    node: &str,
+    key: Parts,
+    code: &str,
+) -> Result<String, AllocError> {
+    format!(in alloc; "dropped {number} at {node} {key} {code}")
+}
+
+/// What an effect says.
+fn effect_told(alloc: Global, plan: &Plan, effect: &Effect) -> Result<String, AllocError> {
+    match effect {
+        Effect::PutIn { number, node } => {
             let node = name_of(plan, *node);
             format!(in alloc; "put {number} at {node}")
         }
-        Outcome::Moved { number, node, hops } => {
+        Effect::Moved { number, node, hops } => {
             let node = name_of(plan, *node);
             format!(in alloc; "moved {number} to {node} hops {hops}")
         }
-        Outcome::Held { number, node, key } => {
+        Effect::Held { number, node, key } => {
             let node = name_of(plan, *node);
             let key = Parts(*key);
             format!(in alloc; "held {number} at {node} {key}")
         }
-        Outcome::Whole {
+        Effect::Whole {
             number,
             node,
             key,
             bytes,
         } => {
             let node = name_of(plan, *node);
-            let key = Parts(*key);
-            let bytes = Hex(bytes.as_slice());
-            format!(in alloc; "whole {number} at {node} {key} bytes {bytes}")
+            whole_text(alloc, *number, node, Parts(*key), Hex(bytes.as_slice()))
         }
-        Outcome::Dropped {
+        Effect::Dropped {
             number,
             node,
             key,
             why,
         } => {
             let node = name_of(plan, *node);
-            let key = Parts(*key);
-            let code = why.code();
-            format!(in alloc; "dropped {number} at {node} {key} {code}")
+            dropped_text(alloc, *number, node, Parts(*key), why.code())
         }
-        Outcome::Stopped { number, why } => {
+        Effect::Stopped { number, why } => {
             let code = why.code();
             format!(in alloc; "dropped {number} {code}")
         }
-        Outcome::Lost { number } => format!(in alloc; "lost {number}"),
-        Outcome::Expired { node, was_open } => {
+        Effect::Lost { number } => format!(in alloc; "lost {number}"),
+        Effect::Expired { node, was_open } => {
             let node = name_of(plan, *node);
             let what = if *was_open { "open" } else { "none" };
             format!(in alloc; "expired {node} {what}")
         }
-        Outcome::Answered { node, first, last } => {
+        Effect::Answered { node, first, last } => {
             let node = name_of(plan, *node);
             format!(in alloc; "answered {node} flights {first} to {last}")
         }
-        Outcome::Silent { node } => {
+        Effect::Silent { node } => {
             let node = name_of(plan, *node);
             format!(in alloc; "silent {node}")
         }
-        Outcome::Switched { node } => {
+        Effect::Switched { node } => {
             let node = name_of(plan, *node);
             format!(in alloc; "switched {node}")
+        }
+        Effect::Refused(why) => {
+            let code = why.code();
+            format!(in alloc; "refused {code}")
+        }
+    }
+}
+
+/// The code of a fault, or that memory ran out.
+fn fault_told(fault: WalkFault) -> &'static str {
+    fault.code().unwrap_or("out of memory")
+}
+
+/// What a walker made of a message.
+fn handed_told(alloc: Global, handed: &Handed) -> Result<String, AllocError> {
+    let walker = handed.walker;
+    let result = match handed.result {
+        Ok(Step::More) => "more",
+        Ok(Step::Record) => "record",
+        Ok(Step::Done) => "done",
+        Err(fault) => fault_told(fault),
+    };
+    format!(in alloc; "walker {walker} {result}")
+}
+
+/// How a walk stands.
+fn standing_told(standing: Standing) -> &'static str {
+    match standing {
+        Standing::Open => "open",
+        Standing::Done => "done",
+        Standing::Ended(fault) => fault_told(fault),
+    }
+}
+
+/// What an outcome says.
+pub fn told(alloc: Global, plan: &Plan, outcome: &Outcome) -> Result<String, AllocError> {
+    match outcome {
+        Outcome::Happened {
+            effect,
+            handed: None,
+        } => effect_told(alloc, plan, effect),
+        Outcome::Happened {
+            effect,
+            handed: Some(handed),
+        } => {
+            let effect = effect_told(alloc, plan, effect)?;
+            let handed = handed_told(alloc, handed)?;
+            format!(in alloc; "{effect} {handed}")
+        }
+        Outcome::Begun { walker } => format!(in alloc; "walker {walker}"),
+        Outcome::Asked { walker, number } => format!(in alloc; "asked {walker} flight {number}"),
+        Outcome::Collected {
+            walker,
+            records,
+            standing,
+        } => {
+            let standing = standing_told(*standing);
+            format!(in alloc; "collected {walker} records {records} {standing}")
         }
         Outcome::Refused(why) => {
             let code = why.code();

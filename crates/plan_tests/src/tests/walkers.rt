@@ -1,0 +1,278 @@
+//! Walkers at length: the instance IDs of their requests, answers of several packets, counts, many walkers.
+use super::boxes::network_of;
+use super::losing::{deliver, has_collected, walk_of_host};
+use super::playing::{list_at, plan_of};
+use super::riser::{HOST, NIC, PLAN};
+use mctp_transport::{Eid, Tag};
+use net_check::{certify, check};
+use net_plan::{Event, Plan};
+use net_sim::{Effect, Network, Outcome, Refusal, WalkRefusal};
+use pdr_repository::{ListTerminus, Terminus, is_lawful_list};
+use pldm_message::Tid;
+use std::alloc::{AllocError, Global};
+use std::test::Fail;
+
+/// A record of another type than those that are known, with so many bytes of data.
+fn record_of(alloc: Global, handle: u32, data: u16) -> Result<Vec<u8>, AllocError> {
+    let mut bytes = handle.to_le_bytes().to_vec(alloc)?;
+    bytes.extend_from_slice(&[1, 200, 0, 0])?;
+    bytes.extend_from_slice(&data.to_le_bytes())?;
+    for at in 0..data {
+        bytes.push((at % 251) as u8)?;
+    }
+    Ok(bytes)
+}
+
+/// Records with handles from 1 on, and how much data each one has.
+fn records_of(alloc: Global, sizes: &[u16]) -> Result<Vec<(u32, Vec<u8>)>, AllocError> {
+    let mut records = Vec::new(alloc);
+    let mut handle: u32 = 0;
+    for data in sizes {
+        handle = handle.saturating_add(1);
+        records.push((handle, record_of(alloc, handle, *data)?))?;
+    }
+    Ok(records)
+}
+
+/// The terminus of nic, over a list of such records.
+fn terminus_with(alloc: Global, sizes: &[u16]) -> Result<Vec<Box<dyn Terminus>>, Fail> {
+    let records = records_of(alloc, sizes)?;
+    if !is_lawful_list(&records) {
+        return Err(Fail::new("no lawful list"));
+    }
+    let terminus = ListTerminus::new(alloc, Tid::new(1), records)?;
+    let mut termini: Vec<Box<dyn Terminus>> = Vec::new(alloc);
+    termini.push(Box::new(alloc, terminus)?)?;
+    Ok(termini)
+}
+
+/// The terminus of nic as it is planned.
+fn terminus_as_planned(alloc: Global, plan: &Plan) -> Result<Vec<Box<dyn Terminus>>, Fail> {
+    let mut termini: Vec<Box<dyn Terminus>> = Vec::new(alloc);
+    termini.push(Box::new(alloc, list_at(alloc, plan, NIC)?)?)?;
+    Ok(termini)
+}
+
+/// Lets the first walker ask, and tells the number of the flight.
+fn ask(network: &mut Network) -> Result<u32, Fail> {
+    match network.step(&Event::Ask { walker: 1 })? {
+        Outcome::Asked { walker: 1, number } => Ok(number),
+        _ => Err(Fail::new("it isn't asked")),
+    }
+}
+
+/// Moves a flight.
+fn move_on(network: &mut Network, flight: u32) -> Result<Outcome, AllocError> {
+    network.step(&Event::Move {
+        flight,
+        keep: false,
+    })
+}
+
+/// Lets nic answer, and tells the first and the last flight of the answer.
+fn answer(network: &mut Network) -> Result<(u32, u32), Fail> {
+    match network.step(&Event::Answer { node: NIC })? {
+        Outcome::Happened {
+            effect: Effect::Answered { first, last, .. },
+            ..
+        } => Ok((first, last)),
+        _ => Err(Fail::new("it isn't answered")),
+    }
+}
+
+/// The second byte of the message that comes whole, in which the instance ID stands.
+fn id_byte(outcome: &Outcome) -> Option<u8> {
+    match outcome {
+        Outcome::Happened {
+            effect: Effect::Whole { bytes, .. },
+            ..
+        } => bytes.get(1).copied(),
+        _ => None,
+    }
+}
+
+/// Carries a request and its answer, each of one packet. Tells the second byte of the request.
+fn exchange(network: &mut Network) -> Result<Option<u8>, Fail> {
+    let flight = ask(network)?;
+    move_on(network, flight)?;
+    move_on(network, flight)?;
+    let come = move_on(network, flight)?;
+    let (first, _) = answer(network)?;
+    deliver(network, first)?;
+    Ok(id_byte(&come))
+}
+
+#[test]
+fn instance_ids_go_round_after_32_requests(rt: HostRuntime) -> Result<(), Fail> {
+    let alloc = rt.alloc();
+    let plan = plan_of(alloc, PLAN)?;
+    let certificate = certify(alloc, &plan)?;
+    let checked = check(alloc, &plan, &certificate)?;
+    let mut network = network_of(alloc, checked, terminus_with(alloc, &[0; 40])?)?;
+    network.step(&walk_of_host(Tag::new(2)))?;
+    for number in 0..40u8 {
+        let wanted = if number < 32 {
+            number.saturating_add(0x80)
+        } else {
+            number.saturating_add(0x60)
+        };
+        assert_eq!(rt; exchange(&mut network)?, Some(wanted));
+    }
+    assert!(rt; has_collected(&network, 1, &records_of(alloc, &[0; 40])?));
+    Ok(())
+}
+
+/// A walk of host over nic with this count, under tag 1.
+fn walk_by(count: u16) -> Event {
+    Event::Walk {
+        node: HOST,
+        eid: Eid::new(17),
+        tag: Tag::new(1),
+        count,
+    }
+}
+
+/// Moves a flight from nic into host. Tells whether a message comes.
+fn brings_a_message(network: &mut Network, flight: u32) -> Result<bool, AllocError> {
+    move_on(network, flight)?;
+    move_on(network, flight)?;
+    Ok(id_byte(&move_on(network, flight)?).is_some())
+}
+
+/// Moves a copy of a flight from nic into host. Tells whether a message comes.
+fn copy_brings_a_message(network: &mut Network, flight: u32) -> Result<bool, Fail> {
+    match network.step(&Event::Move { flight, keep: true })? {
+        Outcome::Happened {
+            effect: Effect::Moved { number, .. },
+            ..
+        } => {
+            move_on(network, number)?;
+            Ok(id_byte(&move_on(network, number)?).is_some())
+        }
+        _ => Err(Fail::new("no copy moves")),
+    }
+}
+
+/// Carries a request and its answer, whose packet at one place comes twice. Tells how many packets the answer has and how
+/// often a message comes.
+fn exchange_with_copy(network: &mut Network, twice: Option<u32>) -> Result<(u32, u32), Fail> {
+    let flight = ask(network)?;
+    deliver(network, flight)?;
+    let (first, last) = answer(network)?;
+    let mut come: u32 = 0;
+    for flight in first..=last {
+        let place = flight.saturating_sub(first);
+        if twice == Some(place) && copy_brings_a_message(network, flight)? {
+            come = come.saturating_add(1);
+        }
+        if brings_a_message(network, flight)? {
+            come = come.saturating_add(1);
+        }
+    }
+    let packets = last.saturating_sub(first).saturating_add(1);
+    Ok((packets, come))
+}
+
+#[test]
+fn an_answer_of_five_packets_comes_whole_or_not(rt: HostRuntime) -> Result<(), Fail> {
+    let alloc = rt.alloc();
+    let plan = plan_of(alloc, PLAN)?;
+    let certificate = certify(alloc, &plan)?;
+    let checked = check(alloc, &plan, &certificate)?;
+    let mut network = network_of(alloc, checked, terminus_with(alloc, &[320])?)?;
+    network.step(&walk_by(303))?;
+    for twice in 1..4u32 {
+        assert_eq!(rt;
+            exchange_with_copy(&mut network, Some(twice))?,
+            (5, 0),
+            "{twice}"
+        );
+    }
+    assert_eq!(rt; exchange_with_copy(&mut network, Some(0))?, (5, 1));
+    assert_eq!(rt; exchange_with_copy(&mut network, None)?, (1, 1));
+    assert!(rt; has_collected(&network, 1, &records_of(alloc, &[320])?));
+    Ok(())
+}
+
+/// Whether a walk with this count is refused for it.
+fn is_refused_for_its_count(network: &mut Network, count: u16) -> Result<bool, AllocError> {
+    let outcome = network.step(&walk_by(count))?;
+    Ok(matches!(outcome, Outcome::Refused(WalkRefusal::WrongCount)))
+}
+
+#[test]
+fn counts_beyond_five_packets_are_refused(rt: HostRuntime) -> Result<(), Fail> {
+    let alloc = rt.alloc();
+    let plan = plan_of(alloc, PLAN)?;
+    let certificate = certify(alloc, &plan)?;
+    let checked = check(alloc, &plan, &certificate)?;
+    let mut network = network_of(alloc, checked, terminus_as_planned(alloc, &plan)?)?;
+    for count in [0, 7, 304, 305, 4079, 4080, u16::MAX] {
+        assert!(rt; is_refused_for_its_count(&mut network, count)?, "{count}");
+    }
+    assert!(rt; !is_refused_for_its_count(&mut network, 303)?);
+    Ok(())
+}
+
+/// A walk at a node under a tag, which asks this endpoint ID.
+fn walk_at(node: usize, eid: u8, tag: Tag) -> Event {
+    Event::Walk {
+        node,
+        eid: Eid::new(eid),
+        tag,
+        count: 8,
+    }
+}
+
+#[test]
+fn no_walk_begins_beyond_the_plan(rt: HostRuntime) -> Result<(), Fail> {
+    let alloc = rt.alloc();
+    let plan = plan_of(alloc, PLAN)?;
+    let certificate = certify(alloc, &plan)?;
+    let checked = check(alloc, &plan, &certificate)?;
+    let mut network = network_of(alloc, checked, terminus_as_planned(alloc, &plan)?)?;
+    for (node, eid) in [(4, 17u8), (4, 200), (usize::MAX, 17), (usize::MAX, 200)] {
+        let outcome = network.step(&walk_at(node, eid, Tag::new(0)))?;
+        let refused = matches!(
+            outcome,
+            Outcome::Refused(WalkRefusal::Shared(Refusal::NoNode))
+        );
+        assert!(rt; refused, "{node} {eid}");
+    }
+    Ok(())
+}
+
+/// How many walks begin under the 8 tags at the plan's four nodes, and how many are refused since their walkers are there.
+fn begun_and_there(network: &mut Network) -> Result<(u32, u32), AllocError> {
+    let mut begun: u32 = 0;
+    let mut there: u32 = 0;
+    for node in 0..4usize {
+        for tag in 0..8u8 {
+            match network.step(&walk_at(node, 17, Tag::new(tag)))? {
+                Outcome::Begun { .. } => begun = begun.saturating_add(1),
+                Outcome::Refused(WalkRefusal::WalkerThere) => there = there.saturating_add(1),
+                _ => {}
+            }
+        }
+    }
+    Ok((begun, there))
+}
+
+#[test]
+fn thirty_two_walkers_ask_one_terminus(rt: HostRuntime) -> Result<(), Fail> {
+    let alloc = rt.alloc();
+    let plan = plan_of(alloc, PLAN)?;
+    let certificate = certify(alloc, &plan)?;
+    let checked = check(alloc, &plan, &certificate)?;
+    let mut network = network_of(alloc, checked, terminus_as_planned(alloc, &plan)?)?;
+    assert_eq!(rt; begun_and_there(&mut network)?, (32, 0));
+    assert_eq!(rt; begun_and_there(&mut network)?, (0, 32));
+    for walker in 1..=32u32 {
+        let outcome = network.step(&Event::Ask { walker })?;
+        let asked = matches!(outcome, Outcome::Asked { number, .. } if number == walker);
+        assert!(rt; asked, "{walker}");
+    }
+    let outcome = network.step(&Event::Ask { walker: 33 })?;
+    assert!(rt; matches!(outcome, Outcome::Refused(WalkRefusal::NoWalker)));
+    Ok(())
+}
