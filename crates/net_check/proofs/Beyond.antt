@@ -13,6 +13,7 @@ use Rattle.pdr_repository.specs.Records.{IsRecordOf}
 use Rattle.net_check.specs.Routing.{Holds, rows_of, OfItem}
 use Rattle.net_check.specs.Owners.{IsOwnedBy, HasBridgeAsOwner, IsBelowItsOwner}
 use Rattle.net_check.specs.Pools.{pool_of, IsInItsPool, HasLawfulPool}
+use Rattle.net_check.specs.TwoPlans.{Tables, one_plan}
 use Rattle.net_check.specs.HeldEids.{IsLedOn}
 use Rattle.net_check.specs.Repositories.{terminus_of, records_of, places_of, HasRecords, HasNewHandle, IsChained}
 use Rattle.net_check.specs.Locators.{HasOneByteAsEid, LocatesTerminus}
@@ -111,9 +112,9 @@ pub needs_given : (plan : Plan) (cert : Certificate) (n : ℕ) → length plan.n
 unfolding NeedsWhatItIsGiven
 needs_given plan cert n past within = absurd (omega arith)
 
-needs_rank : (plan : Plan) (cert : Certificate) (n e : ℕ) → length plan.nodes.items ≤ n → NeedsItsRank plan cert n e
+pub needs_rank : (tables : Tables) (cert : Certificate) (n e : ℕ) → length tables.plan.nodes.items ≤ n → NeedsItsRank tables cert n e
 unfolding NeedsItsRank
-needs_rank plan cert n e past within = absurd (omega arith)
+needs_rank tables cert n e past within = absurd (omega arith)
 
 -- of the plan
 pub plan_beyond : (plan : Plan) (rule : Rule) (n : ℕ) (entry eid : Option ℕ) → length plan.nodes.items ≤ n → PlanDemands plan rule n entry eid
@@ -127,7 +128,7 @@ plan_beyond plan C07 n entry eid past = at_node (HasBridgeAsOwner plan n) entry 
 plan_beyond plan C08 n entry eid past = at_eid plan n (IsInItsPool plan n) entry eid past
 plan_beyond plan C09 n entry eid past = at_node (HasLawfulPool plan n) entry eid (lawful_pool plan n past)
 plan_beyond plan C10 n entry eid past = tt
-plan_beyond plan C11 n entry eid past = at_row_eid plan n (λ row e. IsLedOn plan n e row.next) entry eid past
+plan_beyond plan C11 n entry eid past = at_row_eid plan n (λ row e. IsLedOn (one_plan plan) n e row.next) entry eid past
 plan_beyond plan C12 n entry eid past = at_node_or_item (HasRecords plan n) (records_of plan n) (HasNewHandle (records_of plan n)) entry eid (has_records plan n past) (no_records plan n past)
 plan_beyond plan C13 n entry eid past = at_item (records_of plan n) (λ _ r. IsRecordOf r.handle r.bytes.items) entry eid (no_records plan n past)
 plan_beyond plan C14 n entry eid past = tt
@@ -151,7 +152,7 @@ certificate_beyond plan cert C12 n entry eid past = tt
 certificate_beyond plan cert C13 n entry eid past = tt
 certificate_beyond plan cert C14 n entry eid past = at_item (records_of plan n) (IsChained (records_of plan n) (places_of cert n)) entry eid (no_records plan n past)
 certificate_beyond plan cert C15 n entry eid past = tt
-certificate_beyond plan cert C16 n entry eid past = at_node_or_eid (NeedsWhatItIsGiven plan cert n) (NeedsItsRank plan cert n) entry eid (needs_given plan cert n past) (λ e. needs_rank plan cert n e past)
+certificate_beyond plan cert C16 n entry eid past = at_node_or_eid (NeedsWhatItIsGiven plan cert n) (NeedsItsRank (one_plan plan) cert n) entry eid (needs_given plan cert n past) (λ e. needs_rank (one_plan plan) cert n e past)
 
 pub beyond : (plan : Plan) (cert : Certificate) (rule : Rule) (n : ℕ) (entry eid : Option ℕ) → length plan.nodes.items ≤ n → Demands plan cert rule n entry eid
 beyond plan cert rule n entry eid past = (plan_beyond plan rule n entry eid past, certificate_beyond plan cert rule n entry eid past)

@@ -24,6 +24,7 @@ use Rattle.net_check.specs.Owners.{owner_of, IsOwnedBy, given_level, level, IsBe
 use Rattle.net_check.specs.OwnerLoops.{IsLevel}
 use Rattle.net_check.specs.Ranks.{rank}
 use Rattle.net_check.specs.Repositories.{terminus_of, records_of, places_given}
+use Rattle.net_check.specs.TwoPlans.{one_plan}
 use Rattle.net_check.specs.Superfluous.{NeedsItsLevel, NeedsItsPlaces, NeedsWhatItIsGiven, NeedsItsRank}
 use Rattle.net_check.specs.Rules.{CertificateDemands, Accepts}
 use Rattle.net_check.specs.PlanFaults.{PlanMeetsAll}
@@ -63,7 +64,7 @@ unfolding NeedsWhatItIsGiven NeedsItsLevel NeedsItsPlaces
 needs_given plan cert levels places n within =
     (λ none. unowned_level plan n (given_level cert n) none (levels.levels n), let long = (places.places n).0 in omega arith)
 
-needs_rank : (plan : Plan) (cert : Certificate) → AreExactRanks plan cert.ranks.items → (n e : ℕ) → NeedsItsRank plan cert n e
+needs_rank : (plan : Plan) (cert : Certificate) → AreExactRanks plan cert.ranks.items → (n e : ℕ) → NeedsItsRank (one_plan plan) cert n e
 unfolding NeedsItsRank
 needs_rank plan cert exact n e within low some = by (rank cert n e) refl (exact.ranks n e)
   where

@@ -11,9 +11,10 @@ use Rattle.net_plan.specs.declared.plan.Plan.{Plan}
 use Rattle.net_plan.specs.declared.certificate.Certificate.{Certificate}
 use Rattle.net_check.specs.Rules.{AtNode, AtRowEid, AtNodeOrEid}
 use Rattle.net_check.specs.Faults.{order_of_number, eid_number, LessByFirstDifference}
-use Rattle.net_check.specs.Superfluous.{NeedsWhatItIsGiven}
-use Rattle.net_check.specs.TwoPlans.{moving}
-use Rattle.net_check.specs.MoveRules.{Requirement, SameFrame, SameNode, Before, After, WayOnBefore, WayOnAfter, Given, HaveSameFrame, IsSameNode, but_rows, IsLedOnAlways, NeedsItsRankEver, DemandsBefore, DemandsAfter, MoveDemands, AcceptsMove}
+use Rattle.net_check.specs.HeldEids.{IsLedOn}
+use Rattle.net_check.specs.Superfluous.{NeedsWhatItIsGiven, NeedsItsRank}
+use Rattle.net_check.specs.TwoPlans.{Tables, moving}
+use Rattle.net_check.specs.MoveRules.{Requirement, SameFrame, SameNode, Before, After, WayOnBefore, WayOnAfter, Given, HaveSameFrame, IsSameNode, but_rows, DemandsBefore, DemandsAfter, MoveDemands, AcceptsMove}
 use Rattle.net_check.specs.MoveFaults.{MovePlace, order_of_requirement, order_of_its_rule, MoveComesBefore, IsMoveMet, IsFirstMoveFault, required_before, required_after, required_of_both, move_place, IsFirstFaultOf}
 use Rattle.net_check.specs.MoveSearch.{IsFirstUnlike, NodeComesBefore, IsFirstByRules, IsFirstByNode}
 use Rattle.net_check.proofs.Spots.{node_fails}
@@ -68,12 +69,12 @@ nothing_before m a b before = elim before [
 ]
 
 -- along each row of one of the plans
-abbrev pub LeadsOnAlways : Plan → Plan → Plan → ℕ → Option ℕ → Option ℕ → Type 0
-LeadsOnAlways before after whose n = AtRowEid whose n (λ row e. IsLedOnAlways (moving before after) n e row.next)
+abbrev pub LeadsOn : Tables → Plan → ℕ → Option ℕ → Option ℕ → Type 0
+LeadsOn tables whose n = AtRowEid whose n (λ row e. IsLedOn tables n e row.next)
 
 -- at each node, what the certificate gives it
-abbrev pub NeedsWhatIsGiven : Plan → Plan → Certificate → ℕ → Option ℕ → Option ℕ → Type 0
-NeedsWhatIsGiven before after cert n = AtNodeOrEid (NeedsWhatItIsGiven before cert n) (NeedsItsRankEver (moving before after) cert n)
+abbrev pub NeedsWhatIsGiven : Tables → Certificate → ℕ → Option ℕ → Option ℕ → Type 0
+NeedsWhatIsGiven tables cert n = AtNodeOrEid (NeedsWhatItIsGiven tables.plan cert n) (NeedsItsRank tables cert n)
 
 pub as_many_nodes : (before after : Plan) → HaveSameFrame before after → length before.nodes.items ≡ length after.nodes.items
 unfolding HaveSameFrame
@@ -202,28 +203,28 @@ module _ (before after : Plan) (cert : Certificate) where
       let P : Option Requirement → Type 0 = λ r. IsFirstFaultOf before after cert r fault in
       subst P (sym (ap required_after same ∙ asked)) first
 
-  pub old_way_breaks : (fault : MoveFault) → MeetsBelow 4 → IsFirstByNode M02 (LeadsOnAlways before after before) (Some fault) → IsFirstFaultOf before after cert (required_before fault.rule) fault
+  pub old_way_breaks : (fault : MoveFault) → MeetsBelow 4 → IsFirstByNode M02 (LeadsOn (moving before after) before) (Some fault) → IsFirstFaultOf before after cert (required_before fault.rule) fault
   old_way_breaks fault below (same, broken, first) =
       named_before fault M02 WayOnBefore same refl
       (first_alone 4 WayOnBefore fault.node fault.entry (eid_number fault.eid) (λ rule. refl) refl refl below (broken, first))
 
-  pub old_ways_hold : MeetsBelow 4 → IsFirstByNode M02 (LeadsOnAlways before after before) None → MeetsBelow 5
+  pub old_ways_hold : MeetsBelow 4 → IsFirstByNode M02 (LeadsOn (moving before after) before) None → MeetsBelow 5
   old_ways_hold below holds = more 4 below (λ rule n entry eid. holds n entry eid)
 
-  pub new_way_breaks : (fault : MoveFault) → MeetsBelow 5 → IsFirstByNode M02 (LeadsOnAlways before after after) (Some fault) → IsFirstFaultOf before after cert (required_after fault.rule) fault
+  pub new_way_breaks : (fault : MoveFault) → MeetsBelow 5 → IsFirstByNode M02 (LeadsOn (moving before after) after) (Some fault) → IsFirstFaultOf before after cert (required_after fault.rule) fault
   new_way_breaks fault below (same, broken, first) =
       named_after fault M02 WayOnAfter same refl
       (first_alone 5 WayOnAfter fault.node fault.entry (eid_number fault.eid) (λ rule. refl) refl refl below (broken, first))
 
-  pub new_ways_hold : MeetsBelow 5 → IsFirstByNode M02 (LeadsOnAlways before after after) None → MeetsBelow 6
+  pub new_ways_hold : MeetsBelow 5 → IsFirstByNode M02 (LeadsOn (moving before after) after) None → MeetsBelow 6
   new_ways_hold below holds = more 5 below (λ rule n entry eid. holds n entry eid)
 
   -- what the certificate gives
-  pub given_breaks : (fault : MoveFault) → MeetsBelow 6 → IsFirstByNode M03 (NeedsWhatIsGiven before after cert) (Some fault) → IsFirstFaultOf before after cert (required_of_both fault.rule) fault
+  pub given_breaks : (fault : MoveFault) → MeetsBelow 6 → IsFirstByNode M03 (NeedsWhatIsGiven (moving before after) cert) (Some fault) → IsFirstFaultOf before after cert (required_of_both fault.rule) fault
   given_breaks fault below (same, broken, first) =
       let P : Option Requirement → Type 0 = λ r. IsFirstFaultOf before after cert r fault in
       subst P (sym (ap required_of_both same))
       (first_alone 6 Given fault.node fault.entry (eid_number fault.eid) (λ rule. refl) refl refl below (broken, first))
 
-  pub all_hold : MeetsBelow 6 → IsFirstByNode M03 (NeedsWhatIsGiven before after cert) None → AcceptsMove before after cert
+  pub all_hold : MeetsBelow 6 → IsFirstByNode M03 (NeedsWhatIsGiven (moving before after) cert) None → AcceptsMove before after cert
   all_hold below holds r n entry eid = more 6 below (λ rule m entry' eid'. holds m entry' eid') r (all_below r) n entry eid

@@ -1,5 +1,5 @@
 -- What the searches for a fault of a move find.
-use Rattle.std.proofs.Common.{◌≡◌, ◌≢◌, ◌⊎◌, ℕ, ◌<◌, ◌≤◌, length, Option, Some, None, refl, sym, ap, subst, arith, inl, inr, Result, Ok, Err}
+use Rattle.std.proofs.Common.{◌≡◌, ◌≢◌, ◌⊎◌, ℕ, ◌<◌, ◌≤◌, length, Option, Some, None, refl, sym, ap, subst, inl, inr, Result, Ok, Err}
 use Rattle.std.specs.Prelude.{IfOk}
 use Rattle.net_check.specs.declared.rule.Rule.{Rule}
 use Rattle.net_check.specs.declared.rule.Rule.TheVariants.{C01, C02, C03, C04, C05, C06, C07, C08, C09, C10, C11, C12, C13, C14, C15, C16}
@@ -10,12 +10,12 @@ use Rattle.net_plan.specs.declared.plan.Plan.{Plan}
 use Rattle.net_plan.specs.declared.certificate.Certificate.{Certificate}
 use Rattle.net_check.specs.Rules.{AtNodeOrEid, Demands}
 use Rattle.net_check.specs.Faults.{order_of, eid_number}
-use Rattle.net_check.specs.Superfluous.{NeedsWhatItIsGiven}
-use Rattle.net_check.specs.TwoPlans.{moving}
-use Rattle.net_check.specs.MoveRules.{NeedsItsRankEver, DemandsBefore, DemandsAfter}
+use Rattle.net_check.specs.Superfluous.{NeedsWhatItIsGiven, NeedsItsRank}
+use Rattle.net_check.specs.TwoPlans.{Tables}
+use Rattle.net_check.specs.MoveRules.{DemandsBefore, DemandsAfter}
 use Rattle.net_check.specs.Search.{IsFirstSpot, IsFirstOfRule}
 use Rattle.net_check.specs.MoveSearch.{IsFirstByRule, IsFirstByNode, NodeComesBefore}
-use Rattle.net_check.proofs.Beyond.{at_node_or_eid, needs_given}
+use Rattle.net_check.proofs.Beyond.{at_node_or_eid, needs_given, needs_rank}
 
 -- a rule's first fault, where something else demands the same
 pub by_rule : (plan : Plan) (cert : Certificate) (D : Rule → ℕ → Option ℕ → Option ℕ → Type 0) (rule : Rule) (found : Option Fault)
@@ -126,14 +126,10 @@ first_by_node rule D node spot earlier found = (refl, found.0, λ n entry eid be
     ]
 
 -- a node beyond the plan is given nothing that it has to need
-needs_rank_ever : (before after : Plan) (cert : Certificate) (n e : ℕ) → length before.nodes.items ≤ n → NeedsItsRankEver (moving before after) cert n e
-unfolding NeedsItsRankEver
-needs_rank_ever before after cert n e past within = absurd (omega arith)
-
-pub given_beyond : (before after : Plan) (cert : Certificate) (n : ℕ) (entry eid : Option ℕ) → length before.nodes.items ≤ n
-    → AtNodeOrEid (NeedsWhatItIsGiven before cert n) (NeedsItsRankEver (moving before after) cert n) entry eid
-given_beyond before after cert n entry eid past =
-    at_node_or_eid (NeedsWhatItIsGiven before cert n) (NeedsItsRankEver (moving before after) cert n) entry eid (needs_given before cert n past) (λ e. needs_rank_ever before after cert n e past)
+pub given_beyond : (tables : Tables) (cert : Certificate) (n : ℕ) (entry eid : Option ℕ) → length tables.plan.nodes.items ≤ n
+    → AtNodeOrEid (NeedsWhatItIsGiven tables.plan cert n) (NeedsItsRank tables cert n) entry eid
+given_beyond tables cert n entry eid past =
+    at_node_or_eid (NeedsWhatItIsGiven tables.plan cert n) (NeedsItsRank tables cert n) entry eid (needs_given tables.plan cert n past) (λ e. needs_rank tables cert n e past)
 
 -- where a call succeeds, what it answers is so too
 pub if_ok : {A E : Type 0} (result : Result A E) (P Q : A → Type 0) → ((a : A) → P a → Q a) → IfOk result P → IfOk result Q

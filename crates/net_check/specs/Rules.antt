@@ -7,6 +7,7 @@ use Rattle.net_plan.specs.declared.plan.Plan.{Plan}
 use Rattle.net_plan.specs.declared.nodes.Row.{Row}
 use Rattle.net_plan.specs.declared.certificate.Certificate.{Certificate}
 use Rattle.net_check.specs.Routing.{rows_of, Holds, Covers, OfItem}
+use Rattle.net_check.specs.TwoPlans.{one_plan}
 use Rattle.net_check.specs.Names.{HasNewName}
 use Rattle.net_check.specs.Eids.{IsNewlyHeld}
 use Rattle.net_check.specs.Rows.{IsInRange, IsApartFromEarlier, NamesNeighbor}
@@ -88,7 +89,7 @@ PlanDemands plan C07 n entry eid = AtNode (HasBridgeAsOwner plan n) entry eid
 PlanDemands plan C08 n entry eid = AtItsEid plan n (IsInItsPool plan n) entry eid
 PlanDemands plan C09 n entry eid = AtNode (HasLawfulPool plan n) entry eid
 PlanDemands plan C10 n entry eid = ⊤
-PlanDemands plan C11 n entry eid = AtRowEid plan n (λ row e. IsLedOn plan n e row.next) entry eid
+PlanDemands plan C11 n entry eid = AtRowEid plan n (λ row e. IsLedOn (one_plan plan) n e row.next) entry eid
 PlanDemands plan C12 n entry eid = AtNodeOrItem (HasRecords plan n) (records_of plan n) (HasNewHandle (records_of plan n)) entry eid
 PlanDemands plan C13 n entry eid = AtItem (records_of plan n) (λ _ r. IsRecordOf r.handle r.bytes.items) entry eid
 PlanDemands plan C14 n entry eid = ⊤
@@ -112,7 +113,7 @@ CertificateDemands plan cert C12 n entry eid = ⊤
 CertificateDemands plan cert C13 n entry eid = ⊤
 CertificateDemands plan cert C14 n entry eid = AtItem (records_of plan n) (IsChained (records_of plan n) (places_of cert n)) entry eid
 CertificateDemands plan cert C15 n entry eid = ⊤
-CertificateDemands plan cert C16 n entry eid = AtNodeOrEid (NeedsWhatItIsGiven plan cert n) (NeedsItsRank plan cert n) entry eid
+CertificateDemands plan cert C16 n entry eid = AtNodeOrEid (NeedsWhatItIsGiven plan cert n) (NeedsItsRank (one_plan plan) cert n) entry eid
 
 -- All that a rule demands at a node, an entry and an EID.
 abbrev pub Demands : Plan → Certificate → Rule → ℕ → Option ℕ → Option ℕ → Type 0

@@ -2,7 +2,8 @@
 use Rattle.std.specs.Prelude.{◌≡◌, ◌≢◌, ℕ, ◌<◌, ◌≤◌, length, None}
 use Rattle.net_plan.specs.declared.plan.Plan.{Plan}
 use Rattle.net_plan.specs.declared.certificate.Certificate.{Certificate}
-use Rattle.net_check.specs.Routing.{Holds, HasRow}
+use Rattle.net_check.specs.Routing.{Holds}
+use Rattle.net_check.specs.TwoPlans.{Tables, HasRowEver}
 use Rattle.net_check.specs.Ranks.{rank}
 use Rattle.net_check.specs.Owners.{owner_of, given_level}
 use Rattle.net_check.specs.Repositories.{records_of, places_of}
@@ -19,6 +20,7 @@ NeedsItsPlaces plan cert n = length (places_of cert n) ≤ length (records_of pl
 unfoldable pub NeedsWhatItIsGiven : Plan → Certificate → ℕ → Type 0
 NeedsWhatItIsGiven plan cert n = n < length plan.nodes.items → NeedsItsLevel plan cert n × NeedsItsPlaces plan cert n
 
--- a node of the plan is given a rank for e only where it doesn't hold e and has a row for it
-unfoldable pub NeedsItsRank : Plan → Certificate → ℕ → ℕ → Type 0
-NeedsItsRank plan cert n e = n < length plan.nodes.items → e ≤ 255 → rank cert n e ≢ 0 → ¬ Holds plan n e × HasRow plan n e
+-- a node of the plan is given a rank for e only where it doesn't hold e and ever has a row for it
+unfoldable pub NeedsItsRank : Tables → Certificate → ℕ → ℕ → Type 0
+NeedsItsRank tables cert n e =
+    n < length tables.plan.nodes.items → e ≤ 255 → rank cert n e ≢ 0 → ¬ Holds tables.plan n e × HasRowEver tables n e

@@ -5,6 +5,7 @@ ghost use Rattle.net_check.specs.Search.{IsFirstSpot, IsFirstOfRule, IsFirstOfAl
 
 use crate::fault::Fault;
 use crate::plan_fault::first_of_plan_at;
+use crate::plans::Plans;
 use crate::rule::{RULES, Rule};
 use crate::rules::{chains, owners, ranks, superfluous};
 use crate::spot::Spot;
@@ -64,7 +65,11 @@ fn first_at(
         Rule::C07 => Ok(owners::unlawful_owner(plan, certificate, node)),
         Rule::C10 => Ok(ranks::row_without_fall(plan, certificate, node)),
         Rule::C14 => chains::unchained_record(alloc, plan, certificate, node),
-        Rule::C16 => Ok(superfluous::superfluous_entry(plan, certificate, node)),
+        Rule::C16 => Ok(superfluous::superfluous_entry(
+            &Plans { plan, after: None },
+            certificate,
+            node,
+        )),
         rule => first_of_plan_at(alloc, plan, rule, node),
     }
 }

@@ -1,9 +1,10 @@
 //! The search for the first fault of a move.
 ghost use Rattle.std.specs.Prelude.{◌≡◌, OnOk, IfOk, IfErr};
-ghost use Rattle.net_check.specs.TwoPlans.{moving};
+ghost use Rattle.net_check.specs.TwoPlans.{tables_of};
 ghost use Rattle.net_check.specs.Rules.{AtRowEid, AtNodeOrEid};
-ghost use Rattle.net_check.specs.Superfluous.{NeedsWhatItIsGiven};
-ghost use Rattle.net_check.specs.MoveRules.{AcceptsMove, DemandsBefore, DemandsAfter, IsLedOnAlways, NeedsItsRankEver};
+ghost use Rattle.net_check.specs.HeldEids.{IsLedOn};
+ghost use Rattle.net_check.specs.Superfluous.{NeedsWhatItIsGiven, NeedsItsRank};
+ghost use Rattle.net_check.specs.MoveRules.{AcceptsMove, DemandsBefore, DemandsAfter};
 ghost use Rattle.net_check.specs.MoveFaults.{NamesFirstMoveFault};
 ghost use Rattle.net_check.specs.MoveSearch.{IsFirstByRule, IsFirstByRules, IsFirstByNode};
 
@@ -11,10 +12,11 @@ use crate::fault::Fault;
 use crate::first_fault::first_of_rule;
 use crate::move_error::MoveError;
 use crate::move_fault::{MoveFault, MoveRule};
+use crate::plans::Plans;
 use crate::rule::{RULES, Rule};
 use crate::rules::frames::{first_unlike_node, have_same_frame};
-use crate::rules::needed_ranks::superfluous_entry_by_both;
-use crate::rules::ways_on::row_without_way_on_by_both;
+use crate::rules::held_eids::row_without_way_on;
+use crate::rules::superfluous::superfluous_entry;
 use net_plan::{Certificate, Plan};
 use std::alloc::{AllocError, Global};
 
@@ -40,13 +42,17 @@ pub fn meet_rules_of_move(
     if let Some(fault) = first_of_new(alloc, after, certificate)? {
         return Err(MoveError::New(fault_of_plan(fault)));
     }
-    if let Some(fault) = first_without_way_on(before, after, before) {
+    let plans = Plans {
+        plan: before,
+        after: Some(after),
+    };
+    if let Some(fault) = first_without_way_on(&plans, before) {
         return Err(MoveError::Old(fault));
     }
-    if let Some(fault) = first_without_way_on(before, after, after) {
+    if let Some(fault) = first_without_way_on(&plans, after) {
         return Err(MoveError::New(fault));
     }
-    if let Some(fault) = first_superfluous(before, after, certificate) {
+    if let Some(fault) = first_superfluous(&plans, certificate) {
         return Err(MoveError::Both(fault));
     }
     Ok(())
@@ -129,11 +135,11 @@ fn first_of_new_rule(
 }
 
 /// The first fault of M02 along the rows of one of the plans.
-fn first_without_way_on(before: &Plan, after: &Plan, whose: &Plan) -> Option<MoveFault>
-    ensures { IsFirstByNode MoveRule.M02 (λ n. AtRowEid whose.now n (λ row e. IsLedOnAlways (moving before.now after.now) n e row.next)) result }
+fn first_without_way_on(plans: &Plans<'_>, whose: &Plan) -> Option<MoveFault>
+    ensures { IsFirstByNode MoveRule.M02 (λ n. AtRowEid whose.now n (λ row e. IsLedOn (tables_of plans.now) n e row.next)) result }
 {
     for node in 0..whose.nodes.len() {
-        if let Some(spot) = row_without_way_on_by_both(before, after, whose, node) {
+        if let Some(spot) = row_without_way_on(plans, whose, node) {
             return Some(MoveFault {
                 rule: MoveRule::M02,
                 node,
@@ -146,11 +152,11 @@ fn first_without_way_on(before: &Plan, after: &Plan, whose: &Plan) -> Option<Mov
 }
 
 /// The first fault of M03.
-fn first_superfluous(before: &Plan, after: &Plan, certificate: &Certificate) -> Option<MoveFault>
-    ensures { IsFirstByNode MoveRule.M03 (λ n. AtNodeOrEid (NeedsWhatItIsGiven before.now certificate.now n) (NeedsItsRankEver (moving before.now after.now) certificate.now n)) result }
+fn first_superfluous(plans: &Plans<'_>, certificate: &Certificate) -> Option<MoveFault>
+    ensures { IsFirstByNode MoveRule.M03 (λ n. AtNodeOrEid (NeedsWhatItIsGiven plans.now.plan.now certificate.now n) (NeedsItsRank (tables_of plans.now) certificate.now n)) result }
 {
-    for node in 0..before.nodes.len() {
-        if let Some(spot) = superfluous_entry_by_both(before, after, certificate, node) {
+    for node in 0..plans.plan.nodes.len() {
+        if let Some(spot) = superfluous_entry(plans, certificate, node) {
             return Some(MoveFault {
                 rule: MoveRule::M03,
                 node,

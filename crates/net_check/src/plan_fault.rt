@@ -5,6 +5,7 @@ ghost use Rattle.net_check.specs.Search.{IsFirstSpot};
 ghost use Rattle.net_check.specs.PlanFaults.{IsFirstOfPlanRule};
 
 use crate::fault::Fault;
+use crate::plans::Plans;
 use crate::rule::Rule;
 use crate::rules::{eids, held_eids, locators, names, owners, pools, records, rows};
 use crate::spot::Spot;
@@ -52,7 +53,7 @@ pub fn first_of_plan_at(
         Rule::C07 => owners::owner_without_bridge(plan, node),
         Rule::C08 => pools::eid_out_of_its_pool(plan, node),
         Rule::C09 => pools::unlawful_pool(plan, node),
-        Rule::C11 => held_eids::row_without_way_on(plan, node),
+        Rule::C11 => held_eids::row_without_way_on(&Plans { plan, after: None }, plan, node),
         Rule::C12 => return records::unlawful_handle(alloc, plan, node),
         Rule::C13 => records::unreadable_record(plan, node),
         Rule::C15 => locators::misleading_locator(plan, node),

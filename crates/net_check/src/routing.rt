@@ -1,6 +1,6 @@
 //! What a plan says of its nodes and their rows.
 ghost use Rattle.std.specs.Prelude.{◌≡◌, ℕ, ◌+◌, ◌<◌, ◌↔◌, IsTrue, Any, option_map};
-ghost use Rattle.net_check.specs.Routing.{Holds, Covers, IsBridge, rows_of, ports_of};
+ghost use Rattle.net_check.specs.Routing.{Holds, Covers, HasRow, IsBridge, rows_of, ports_of};
 ghost use Rattle.net_check.specs.Repositories.{terminus_of};
 
 use mctp_transport::Eid;
@@ -45,6 +45,26 @@ pub fn holds(plan: &Plan, node: usize, eid: Eid) -> bool
     ensures { IsTrue result ↔ Holds plan.now node eid.value }
 {
     node < plan.nodes.len() && plan.nodes[node].eid == eid
+}
+
+/// Whether the node has a row for the endpoint ID.
+pub fn has_row(plan: &Plan, node: usize, eid: Eid) -> bool
+    ensures { IsTrue result ↔ HasRow plan.now node eid.value }
+{
+    let rows = rows_at(plan, node);
+    for row in rows {
+        if covers(row, eid) {
+            return true;
+        }
+    }
+    false
+}
+
+/// Whether the endpoint ID is one of the row's.
+fn covers(row: &Row, eid: Eid) -> bool
+    ensures { IsTrue result ↔ Covers row.now eid.value }
+{
+    row.first.value <= eid.value && u16::from(eid.value) < row_end(row)
 }
 
 /// The number after that of the row's last endpoint ID.

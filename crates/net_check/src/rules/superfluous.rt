@@ -1,16 +1,16 @@
-//! C16: the certificate gives nothing that the plan has no use for.
+//! C16 and M03: the certificate gives nothing that the plan has no use for, or of a move neither plan.
 ghost use Rattle.std.specs.Prelude.{◌≡◌, ℕ, ◌<◌, ◌↔◌, IsTrue, MatchOption, length};
 ghost use Rattle.net_check.specs.Repositories.{places_of};
 ghost use Rattle.net_check.specs.Superfluous.{NeedsItsLevel, NeedsItsPlaces, NeedsWhatItIsGiven, NeedsItsRank};
-ghost use Rattle.net_check.specs.Rules.{CertificateDemands};
+ghost use Rattle.net_check.specs.TwoPlans.{tables_of};
+ghost use Rattle.net_check.specs.Rules.{AtNodeOrEid};
 ghost use Rattle.net_check.specs.Search.{IsFirstSpot};
 
-use crate::borders::{held_border, rank_border, row_border};
+use crate::borders::{held_border, rank_border};
 use crate::given_ranks::{ranges_at, rank_in_ranges};
+use crate::plans::Plans;
 use crate::routing::holds;
-use crate::rule::Rule;
 use crate::rules::chains::places_at;
-use crate::rules::held_eids::has_row;
 use crate::rules::owners::{given_level_of, owner_at};
 use crate::rules::records::records_at;
 use crate::spot::Spot;
@@ -18,18 +18,19 @@ use crate::stretches::{Stretched, first_broken};
 use mctp_transport::Eid;
 use net_plan::{Certificate, Plan, RankRange};
 
-/// Where the certificate gives the node a level, places or a rank that it has no use for.
-pub fn superfluous_entry(plan: &Plan, certificate: &Certificate, node: usize) -> Option<Spot>
-    requires { node < length plan.now.nodes.items }
-    ensures { IsFirstSpot (CertificateDemands plan.now certificate.now Rule.C16 node) result }
+/// Where the certificate gives the node a level or places that the plan has no use for, or a rank that none of the plans
+/// has a use for.
+pub fn superfluous_entry(plans: &Plans<'_>, certificate: &Certificate, node: usize) -> Option<Spot>
+    requires { node < length plans.now.plan.now.nodes.items }
+    ensures { IsFirstSpot (AtNodeOrEid (NeedsWhatItIsGiven plans.now.plan.now certificate.now node) (NeedsItsRank (tables_of plans.now) certificate.now node)) result }
 {
-    if !needs_what_it_is_given(plan, certificate, node) {
+    if !needs_what_it_is_given(plans.plan, certificate, node) {
         return Some(Spot {
             entry: None,
             eid: None,
         });
     }
-    match superfluous_rank(plan, certificate, node) {
+    match superfluous_rank(plans, certificate, node) {
         Some(eid) => Some(Spot {
             entry: None,
             eid: Some(eid),
@@ -38,52 +39,55 @@ pub fn superfluous_entry(plan: &Plan, certificate: &Certificate, node: usize) ->
     }
 }
 
-/// The first endpoint ID for which the node is given a rank and needs none.
-fn superfluous_rank(plan: &Plan, certificate: &Certificate, node: usize) -> Option<Eid>
-    requires { node < length plan.now.nodes.items }
-    ensures { MatchOption result ((e : ℕ) → NeedsItsRank plan.now certificate.now node e)
-        (λ eid. ¬ NeedsItsRank plan.now certificate.now node eid.value
-        × ((d : ℕ) → d < eid.value → NeedsItsRank plan.now certificate.now node d)) }
+/// The first endpoint ID for which the node is given a rank and needs none by any of the plans.
+fn superfluous_rank(plans: &Plans<'_>, certificate: &Certificate, node: usize) -> Option<Eid>
+    requires { node < length plans.now.plan.now.nodes.items }
+    ensures { MatchOption result ((e : ℕ) → NeedsItsRank (tables_of plans.now) certificate.now node e)
+        (λ eid. ¬ NeedsItsRank (tables_of plans.now) certificate.now node eid.value
+        × ((d : ℕ) → d < eid.value → NeedsItsRank (tables_of plans.now) certificate.now node d)) }
 {
     let need = RankNeed {
-        plan,
+        plans,
         node,
         ranges: ranges_at(certificate, node),
     };
     first_broken(&need, 0, 256)
 }
 
-/// That a node needs the ranks that it is given.
+/// That a node needs the ranks that it is given, by one of the plans.
 #[derive(Clone, Copy)]
 struct RankNeed<'a> {
-    plan: &'a Plan,
+    plans: &'a Plans<'a>,
     node: usize,
     ranges: &'a [RankRange],
 }
 
 impl<'a> Stretched for RankNeed<'a> {
     ghost use Rattle.std.specs.Prelude.{◌≢◌, ℕ, ◌↔◌, IsTrue};
-    ghost use Rattle.net_check.specs.Routing.{Holds, HasRow};
+    ghost use Rattle.net_check.specs.Routing.{Holds};
+    ghost use Rattle.net_check.specs.TwoPlans.{tables_of, HasRowEver};
     ghost use Rattle.net_check.specs.Ranks.{rank_in};
 
-    ghost Demand = { λ need e. rank_in need.ranges.now e ≢ 0 → ¬ Holds need.plan.now need.node e × HasRow need.plan.now need.node e };
+    ghost Demand = { λ need e. rank_in need.ranges.now e ≢ 0 → ¬ Holds need.plans.now.plan.now need.node e × HasRowEver (tables_of need.plans.now) need.node e };
 
-    /// Whether the node is given no rank for the endpoint ID, or does not hold it and has a row for it.
+    /// Whether the node is given no rank for the endpoint ID, or does not hold it and has a row for it in one of the
+    /// plans.
     fn is_met_at(&self, eid: Eid) -> bool {
         rank_in_ranges(self.ranges, eid.value) == 0
-            || (!holds(self.plan, self.node, eid) && has_row(self.plan, self.node, eid))
+            || (!holds(self.plans.plan, self.node, eid)
+                && self.plans.has_row_in_one(self.node, eid))
     }
 
     fn stretch_end(&self, eid: Eid) -> u16 {
         rank_border(self.ranges, eid)
-            .min(row_border(self.plan, self.node, eid))
-            .min(held_border(self.plan, self.node, eid))
+            .min(self.plans.row_border(self.node, eid))
+            .min(held_border(self.plans.plan, self.node, eid))
     }
 }
 
 /// Whether the node is given no level and no places beyond its need.
 #[tactic(auto, unfolding(crate::specs::Superfluous::NeedsWhatItIsGiven))]
-pub fn needs_what_it_is_given(plan: &Plan, certificate: &Certificate, node: usize) -> bool
+fn needs_what_it_is_given(plan: &Plan, certificate: &Certificate, node: usize) -> bool
     requires { node < length plan.now.nodes.items }
     ensures { IsTrue result ↔ NeedsWhatItIsGiven plan.now certificate.now node }
 {
