@@ -1,5 +1,5 @@
 -- Members that are gathered one after another.
-use Rattle.std.proofs.Common.{◌≡◌, ℕ, ◌<◌, ◌≤◌, List, [], ◌∷◌, ◌++◌, length, map, subst, Bool, true, false, not, ◌&&◌, ◌||◌, cond, is_some, Option, Some, None, IfSome, option_map, Ok, refl, sym, ap, ◌∙◌, true≢false, append-nil, append_assoc}
+use Rattle.std.proofs.Common.{◌≡◌, ℕ, ◌<◌, ◌≤◌, List, [], ◌∷◌, ◌++◌, length, map, subst, Bool, true, false, not, ◌&&◌, ◌||◌, cond, is_some, Option, Some, None, IfSome, option_map, Ok, refl, sym, ap, ◌∙◌, true≢false, append-nil, append_assoc, codes}
 use Rattle.std.proofs.lemmas.List.{length-map}
 use Rattle.std.proofs.lemmas.Slice.Eq.{bytes_eq-Decides}
 use Rattle.std.specs.List.{list_any}
@@ -16,11 +16,14 @@ use Rattle.serde_json.specs.Find.{as_u64}
 use Rattle.serde_json.specs.Read.{number_of}
 use Rattle.net_plan.specs.Gathered.{with_last, IsPlain, ArePlain, IsGathered, IsNext, EachIs, IsArrayOf}
 use Rattle.net_plan.specs.Json.{is_among}
-use Rattle.net_plan.specs.JsonWords.{HasKeys, At, AreItems, IsShortListOf, IsNumber, IsHex}
+use Rattle.net_plan.specs.JsonWords.{HasKeys, At, AreItems, IsShortListOf, IsNumber, IsName, IsPlace, IsText, IsTruth, IsHex}
+use Rattle.net_plan.specs.NameText.{is_name}
 use Rattle.net_plan.specs.Names.{are_new, names_differ}
+use Rattle.net_plan.specs.Places.{ArePlaces}
 use Rattle.net_plan.specs.SingleKeys.{single, items_single, members_single}
 use Rattle.net_plan.specs.Trees.{data_of, items_of, members_of, or_other, num_of, fits, items_fit, members_fit}
 use Rattle.net_plan.proofs.KeysLaw.{among_Contains, any_false, not_false}
+use Rattle.net_plan.proofs.PlanLaw.{first_place}
 use Rattle.net_plan.proofs.Telling.{both}
 use Rattle.net_plan.proofs.Trees.{get_of}
 
@@ -141,8 +144,28 @@ module _ (known : List (List ℕ)) where
         ),
       )
 
+-- where nothing stands at the other keys, all keys are among these
+pub only_keys : (known own : List (List ℕ)) (ms : Members) → ArePlain known ms → list_any (λ key. not (is_among own key) && is_some (get_member key ms)) known ≡ false → ArePlain own ms
+only_keys known own ms h none = record {
+  fit = h.fit;
+  differ = h.differ;
+  single = h.single;
+  among = λ k there.
+      let one = any_false (λ key. not (is_among own key) && is_some (get_member key ms)) known none k (among_Contains known k (h.among k there)) in
+      not_false (is_among own k) (left_false (not (is_among own k)) (is_some (get_member k ms)) one there);
+}
+  where
+    left_false : (a b : Bool) → (a && b) ≡ false → b ≡ true → a ≡ false
+    left_false false b e there = refl
+    left_false true b e there = absurd (true≢false (sym there ∙ e))
+
 pub at_gathered : {A : Type 0} (key : List ℕ) (R : Data → A → Type 0) (x : A) (ms : Members) → IsGathered key R (Some x) ms → At key R (data_of (object ms)) x
 at_gathered key R x ms h = (data_of h.0, get_of key (object ms) ∙ ap (option_map data_of) h.1, h.2)
+
+-- the first of the nodes that has the name at `node`
+pub placed_at : (names : List (List ℕ)) (find : List ℕ → Option ℕ) → ArePlaces find names → (name : List ℕ) (place : ℕ) → find name ≡ Some place → (ms : Members) → IsGathered (codes "node") IsName (Some name) ms
+    → At (codes "node") (IsPlace names) (data_of (object ms)) place
+placed_at names find places name place found ms h = at_gathered (codes "node") (IsPlace names) place ms (h.0, h.1, (name, h.2, first_place names name place (sym (places name) ∙ found)))
 
 pub not_yet : {A : Type 0} (key : List ℕ) (R : Data → A → Type 0) (o : Option A) (ms : Members) → is_some o ≡ false → IsGathered key R o ms → get_member key ms ≡ None
 not_yet key R None ms e h = h
@@ -167,6 +190,15 @@ number_next old new s (Some n) is e =
 
 pub hex_next : (old new : List Token) (s bytes : List ℕ) → old ≡ Token.string s ∷ new → decode_of s ≡ Ok bytes → IsNext old new (λ j. IsHex (data_of j) bytes × IsPlain j)
 hex_next old new s bytes is e = next_is (Json.string s) (λ j. IsHex (data_of j) bytes × IsPlain j) (Token.string s) old new is (λ depth. value_is depth (Token.string s ∷ new)) ((s, refl, e), (refl, refl))
+
+pub name_next : (old new : List Token) (s : List ℕ) → old ≡ Token.string s ∷ new → is_name s ≡ true → IsNext old new (λ j. IsName (data_of j) s × IsPlain j)
+name_next old new s is e = next_is (Json.string s) (λ j. IsName (data_of j) s × IsPlain j) (Token.string s) old new is (λ depth. value_is depth (Token.string s ∷ new)) ((refl, e), (refl, refl))
+
+pub text_next : (old new : List Token) (s : List ℕ) → old ≡ Token.string s ∷ new → IsNext old new (λ j. IsText s (data_of j) × IsPlain j)
+text_next old new s is = next_is (Json.string s) (λ j. IsText s (data_of j) × IsPlain j) (Token.string s) old new is (λ depth. value_is depth (Token.string s ∷ new)) (refl, (refl, refl))
+
+pub truth_next : (old new : List Token) (b : Bool) → old ≡ Token.boolean b ∷ new → IsNext old new (λ j. IsTruth (data_of j) b × IsPlain j)
+truth_next old new b is = next_is (Json.boolean b) (λ j. IsTruth (data_of j) b × IsPlain j) (Token.boolean b) old new is (λ depth. value_is depth (Token.boolean b ∷ new)) (refl, (refl, refl))
 
 -- ---- items that are read one after another
 

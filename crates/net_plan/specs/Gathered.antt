@@ -35,6 +35,10 @@ IsGathered key R (Some x) ms = (j : Json) × (find.get_member key ms ≡ Some j)
 abbrev pub IsNext : List Token → List Token → (Json → Type 0) → Type 0
 IsNext old new P = (j : Json) × ((depth : ℕ) → value depth old ≡ Some (j, new)) × P j
 
+-- the tokens begin with a value, whatever it is nested in, that is one more member at a key
+abbrev pub IsOneMore : List ℕ → List Token → List Token → (Members → Type 0) → (Members → Type 0) → Type 0
+IsOneMore key old new Before After = IsNext old new (λ j. (ms : Members) → Before ms → After (with_last ms key j))
+
 -- the tokens begin with a value, at a depth, that is one more member at a key
 abbrev pub IsMore : ℕ → List ℕ → List Token → List Token → (Members → Type 0) → (Members → Type 0) → Type 0
 IsMore depth key old new Before After = (j : Json) × (value depth old ≡ Some (j, new)) × ((ms : Members) → Before ms → After (with_last ms key j))

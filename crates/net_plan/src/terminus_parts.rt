@@ -9,7 +9,8 @@ ghost use Rattle.net_plan.specs.TerminusParts.{AreTerminusParts};
 ghost use Rattle.net_plan.specs.Trees.{data_of};
 
 use crate::gather::{Gather, next_list, read_members};
-use crate::record_parts::{NextRecord, next_number};
+use crate::next_value::next_number;
+use crate::record_parts::NextRecord;
 use crate::terminus::{Record, Terminus};
 use json::{Reader, Token};
 use std::alloc::Global;
