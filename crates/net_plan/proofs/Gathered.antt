@@ -1,5 +1,5 @@
 -- Members that are gathered one after another.
-use Rattle.std.proofs.Common.{◌≡◌, ℕ, ◌<◌, ◌≤◌, List, [], ◌∷◌, ◌++◌, length, map, subst, Bool, true, false, not, ◌&&◌, ◌||◌, cond, is_some, Option, Some, None, IfSome, option_map, Ok, refl, sym, ap, ◌∙◌, true≢false, append-nil, append_assoc, codes}
+use Rattle.std.proofs.Common.{◌≡◌, ℕ, ◌<◌, ◌≤◌, List, [], ◌∷◌, ◌++◌, length, map, subst, Bool, true, false, not, ◌&&◌, ◌||◌, cond, is_some, Option, Some, None, IfSome, option_map, Ok, refl, sym, ap, ◌∙◌, true≢false, append-nil, append_assoc, codes, IsUtf8}
 use Rattle.std.proofs.lemmas.List.{length-map}
 use Rattle.std.proofs.lemmas.Slice.Eq.{bytes_eq-Decides}
 use Rattle.std.specs.List.{list_any}
@@ -14,18 +14,20 @@ use Rattle.serde_json.specs.Data as whole
 use Rattle.serde_json.specs.Data.{Data, Num, unsigned, negative, float, number}
 use Rattle.serde_json.specs.Find.{as_u64}
 use Rattle.serde_json.specs.Read.{number_of}
-use Rattle.net_plan.specs.Gathered.{with_last, IsPlain, ArePlain, IsGathered, IsNext, EachIs, IsArrayOf}
+use Rattle.net_plan.specs.Gathered.{with_last, IsPlain, ArePlain, IsGathered, IsNext, EachIs, IsArrayOf, IsPlainText}
 use Rattle.net_plan.specs.Json.{is_among}
 use Rattle.net_plan.specs.JsonWords.{HasKeys, At, AreItems, IsShortListOf, IsNumber, IsName, IsPlace, IsText, IsTruth, IsHex}
 use Rattle.net_plan.specs.NameText.{is_name}
 use Rattle.net_plan.specs.Names.{are_new, names_differ}
 use Rattle.net_plan.specs.Places.{ArePlaces}
 use Rattle.net_plan.specs.SingleKeys.{single, items_single, members_single}
+use Rattle.net_plan.specs.Texts.{StandsFor}
 use Rattle.net_plan.specs.Trees.{data_of, items_of, members_of, or_other, num_of, fits, items_fit, members_fit}
 use Rattle.net_plan.proofs.KeysLaw.{among_Contains, any_false, not_false}
 use Rattle.net_plan.proofs.PlanLaw.{first_place}
 use Rattle.net_plan.proofs.Telling.{both}
-use Rattle.net_plan.proofs.Trees.{get_of}
+use Rattle.net_plan.proofs.SingleKeys.{single_sound, whole_tree}
+use Rattle.net_plan.proofs.Trees.{get_of, read_whole}
 
 pub no_Some : {A : Type 0} {a : A} → Some a ≡ None → ⊥
 no_Some e = cc
@@ -250,3 +252,15 @@ list_of R see most j xs h few =
     let all = each_item R see h.0 xs h.2 in
     let plain = array_plain (λ j x. R (data_of j) (see x) × IsPlain j) h.0 xs (λ j x r. r.1) h.2 in
     ((((items_of h.0, ap data_of h.1, all)), subst (λ n. n ≤ most) (sym (length-map xs see)) few), (ap fits h.1 ∙ plain.0, ap single h.1 ∙ plain.1))
+
+-- ---- the whole text
+
+pub stands_for_plain : {A : Type 0} (R : Data → A → Type 0) (text : List ℕ) (x : A) → IsUtf8 text → IsPlainText R text x → StandsFor R text x
+stands_for_plain R text x utf8 h = (data_of h.0, (utf8, read_whole text h.0 h.1 h.2.0), (h.0, whole_tree text h.0 h.1, single_sound h.0 h.2.1), h.3)
+
+-- where two values stand in the same place, so do they in a longer list
+pub each_moved : {A : Type 0} (R S : Data → A → Type 0) (ds : whole.Items) (xs : List A) → ((d : Data) (x : A) → R d x → S d x) → AreItems R ds xs → AreItems S ds xs
+each_moved R S whole.no_items [] move h = tt
+each_moved R S whole.no_items (x ∷ xs) move h = absurd h
+each_moved R S (whole.item d ds) [] move h = absurd h
+each_moved R S (whole.item d ds) (x ∷ xs) move h = (move d x h.0, each_moved R S ds xs move h.1)

@@ -1,5 +1,5 @@
 //! Events straight from a text.
-ghost use Rattle.std.specs.Prelude.{◌≡◌, ◌≤◌, codes, IfSome, ℕ, List, Option};
+ghost use Rattle.std.specs.Prelude.{◌≡◌, ◌≤◌, codes, IfSome, ℕ, List, Option, ⊤};
 ghost use Rattle.json.specs.Json.{Members, no_members, object};
 ghost use Rattle.net_plan.specs.EventParts.{AreEventParts, IsEventBy, IsMadeOf, given, keys_given};
 ghost use Rattle.net_plan.specs.EventText.{IsBit};
@@ -316,6 +316,10 @@ impl<'t> EventParts<'t> {
 
 impl<'t> Gather<'t> for EventParts<'t> {
     ghost Holds = { AreEventParts };
+
+    ghost Given = { ⊤ };
+
+    ghost given = { λ _. tt };
 
     fn take(
         &mut self,

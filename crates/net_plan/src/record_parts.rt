@@ -1,5 +1,5 @@
 //! Records straight from a text.
-ghost use Rattle.std.specs.Prelude.{codes, IfSome};
+ghost use Rattle.std.specs.Prelude.{codes, IfSome, ⊤};
 ghost use Rattle.json.specs.Json.{Members, no_members, object};
 ghost use Rattle.net_plan.specs.Gathered.{IsNext, IsThere, IsPlain, with_last};
 ghost use Rattle.net_plan.specs.NodeValues.{record_value};
@@ -75,6 +75,10 @@ impl RecordParts {
 
 impl<'t> Gather<'t> for RecordParts {
     ghost Holds = { AreRecordParts };
+
+    ghost Given = { ⊤ };
+
+    ghost given = { λ _. tt };
 
     fn take(
         &mut self,

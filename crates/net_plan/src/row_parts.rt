@@ -1,5 +1,5 @@
 //! Rows straight from a text.
-ghost use Rattle.std.specs.Prelude.{codes, IfSome};
+ghost use Rattle.std.specs.Prelude.{codes, IfSome, ⊤};
 ghost use Rattle.json.specs.Json.{Members, no_members, object};
 ghost use Rattle.net_plan.specs.Gathered.{IsNext, IsThere, IsPlain, with_last};
 ghost use Rattle.net_plan.specs.JsonWords.{IsNumberWithin};
@@ -95,6 +95,10 @@ impl<'t> RowParts<'t> {
 
 impl<'t> Gather<'t> for RowParts<'t> {
     ghost Holds = { AreRowParts };
+
+    ghost Given = { ⊤ };
+
+    ghost given = { λ _. tt };
 
     fn take(
         &mut self,

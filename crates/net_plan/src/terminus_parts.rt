@@ -1,5 +1,5 @@
 //! Termini straight from a text.
-ghost use Rattle.std.specs.Prelude.{codes, option_map, IfSome};
+ghost use Rattle.std.specs.Prelude.{codes, option_map, IfSome, ⊤};
 ghost use Rattle.json.specs.Json.{Members, no_members, object};
 ghost use Rattle.net_plan.specs.Gathered.{IsMore, IsThere, IsPlain};
 ghost use Rattle.net_plan.specs.JsonWords.{IsOptional};
@@ -70,6 +70,10 @@ impl TerminusParts {
 
 impl<'t> Gather<'t> for TerminusParts {
     ghost Holds = { AreTerminusParts };
+
+    ghost Given = { ⊤ };
+
+    ghost given = { λ _. tt };
 
     fn take(
         &mut self,
