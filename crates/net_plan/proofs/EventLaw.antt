@@ -25,7 +25,7 @@ use Rattle.net_plan.proofs.Telling.{Tells, any, no_value, same_Ok, then_Ok, dema
 
 -- ---- the format
 
-format_found : (d : Data) (n : ℕ) → IsNumberWithin 1 3 d n → IsFormat d (format_of n)
+pub format_found : (d : Data) (n : ℕ) → IsNumberWithin 1 3 d n → IsFormat d (format_of n)
 format_found d zero h = let low : 1 ≤ 0 = h.1 in absurd (omega arith)
 format_found d (suc zero) h = h.0
 format_found d (suc (suc zero)) h = h.0

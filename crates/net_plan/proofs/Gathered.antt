@@ -1,5 +1,5 @@
 -- Members that are gathered one after another.
-use Rattle.std.proofs.Common.{◌≡◌, ℕ, ◌<◌, ◌≤◌, List, [], ◌∷◌, ◌++◌, length, map, subst, Bool, true, false, not, ◌&&◌, ◌||◌, cond, is_some, Option, Some, None, IfSome, option_map, Ok, refl, sym, ap, ◌∙◌, true≢false, append-nil, append_assoc}
+use Rattle.std.proofs.Common.{◌≡◌, ℕ, ◌<◌, ◌≤◌, List, [], ◌∷◌, ◌++◌, length, map, subst, Bool, true, false, not, ◌&&◌, ◌||◌, cond, is_some, Option, Some, None, IfSome, option_map, Ok, refl, sym, ap, ◌∙◌, true≢false, append-nil, append_assoc, codes, IsUtf8}
 use Rattle.std.proofs.lemmas.List.{length-map}
 use Rattle.std.proofs.lemmas.Slice.Eq.{bytes_eq-Decides}
 use Rattle.std.specs.List.{list_any}
@@ -14,15 +14,20 @@ use Rattle.serde_json.specs.Data as whole
 use Rattle.serde_json.specs.Data.{Data, Num, unsigned, negative, float, number}
 use Rattle.serde_json.specs.Find.{as_u64}
 use Rattle.serde_json.specs.Read.{number_of}
-use Rattle.net_plan.specs.Gathered.{with_last, IsPlain, ArePlain, IsGathered, IsNext, EachIs, IsArrayOf}
+use Rattle.net_plan.specs.Gathered.{with_last, IsPlain, ArePlain, IsGathered, IsNext, EachIs, IsArrayOf, IsPlainText}
 use Rattle.net_plan.specs.Json.{is_among}
-use Rattle.net_plan.specs.JsonWords.{HasKeys, At, AreItems, IsShortListOf, IsNumber, IsHex}
+use Rattle.net_plan.specs.JsonWords.{HasKeys, At, AreItems, IsShortListOf, IsNumber, IsName, IsPlace, IsText, IsTruth, IsHex}
+use Rattle.net_plan.specs.NameText.{is_name}
 use Rattle.net_plan.specs.Names.{are_new, names_differ}
+use Rattle.net_plan.specs.Places.{ArePlaces}
 use Rattle.net_plan.specs.SingleKeys.{single, items_single, members_single}
+use Rattle.net_plan.specs.Texts.{StandsFor}
 use Rattle.net_plan.specs.Trees.{data_of, items_of, members_of, or_other, num_of, fits, items_fit, members_fit}
 use Rattle.net_plan.proofs.KeysLaw.{among_Contains, any_false, not_false}
+use Rattle.net_plan.proofs.PlanLaw.{first_place}
 use Rattle.net_plan.proofs.Telling.{both}
-use Rattle.net_plan.proofs.Trees.{get_of}
+use Rattle.net_plan.proofs.SingleKeys.{single_sound, whole_tree}
+use Rattle.net_plan.proofs.Trees.{get_of, read_whole}
 
 pub no_Some : {A : Type 0} {a : A} → Some a ≡ None → ⊥
 no_Some e = cc
@@ -141,8 +146,28 @@ module _ (known : List (List ℕ)) where
         ),
       )
 
+-- where nothing stands at the other keys, all keys are among these
+pub only_keys : (known own : List (List ℕ)) (ms : Members) → ArePlain known ms → list_any (λ key. not (is_among own key) && is_some (get_member key ms)) known ≡ false → ArePlain own ms
+only_keys known own ms h none = record {
+  fit = h.fit;
+  differ = h.differ;
+  single = h.single;
+  among = λ k there.
+      let one = any_false (λ key. not (is_among own key) && is_some (get_member key ms)) known none k (among_Contains known k (h.among k there)) in
+      not_false (is_among own k) (left_false (not (is_among own k)) (is_some (get_member k ms)) one there);
+}
+  where
+    left_false : (a b : Bool) → (a && b) ≡ false → b ≡ true → a ≡ false
+    left_false false b e there = refl
+    left_false true b e there = absurd (true≢false (sym there ∙ e))
+
 pub at_gathered : {A : Type 0} (key : List ℕ) (R : Data → A → Type 0) (x : A) (ms : Members) → IsGathered key R (Some x) ms → At key R (data_of (object ms)) x
 at_gathered key R x ms h = (data_of h.0, get_of key (object ms) ∙ ap (option_map data_of) h.1, h.2)
+
+-- the first of the nodes that has the name at `node`
+pub placed_at : (names : List (List ℕ)) (find : List ℕ → Option ℕ) → ArePlaces find names → (name : List ℕ) (place : ℕ) → find name ≡ Some place → (ms : Members) → IsGathered (codes "node") IsName (Some name) ms
+    → At (codes "node") (IsPlace names) (data_of (object ms)) place
+placed_at names find places name place found ms h = at_gathered (codes "node") (IsPlace names) place ms (h.0, h.1, (name, h.2, first_place names name place (sym (places name) ∙ found)))
 
 pub not_yet : {A : Type 0} (key : List ℕ) (R : Data → A → Type 0) (o : Option A) (ms : Members) → is_some o ≡ false → IsGathered key R o ms → get_member key ms ≡ None
 not_yet key R None ms e h = h
@@ -167,6 +192,15 @@ number_next old new s (Some n) is e =
 
 pub hex_next : (old new : List Token) (s bytes : List ℕ) → old ≡ Token.string s ∷ new → decode_of s ≡ Ok bytes → IsNext old new (λ j. IsHex (data_of j) bytes × IsPlain j)
 hex_next old new s bytes is e = next_is (Json.string s) (λ j. IsHex (data_of j) bytes × IsPlain j) (Token.string s) old new is (λ depth. value_is depth (Token.string s ∷ new)) ((s, refl, e), (refl, refl))
+
+pub name_next : (old new : List Token) (s : List ℕ) → old ≡ Token.string s ∷ new → is_name s ≡ true → IsNext old new (λ j. IsName (data_of j) s × IsPlain j)
+name_next old new s is e = next_is (Json.string s) (λ j. IsName (data_of j) s × IsPlain j) (Token.string s) old new is (λ depth. value_is depth (Token.string s ∷ new)) ((refl, e), (refl, refl))
+
+pub text_next : (old new : List Token) (s : List ℕ) → old ≡ Token.string s ∷ new → IsNext old new (λ j. IsText s (data_of j) × IsPlain j)
+text_next old new s is = next_is (Json.string s) (λ j. IsText s (data_of j) × IsPlain j) (Token.string s) old new is (λ depth. value_is depth (Token.string s ∷ new)) (refl, (refl, refl))
+
+pub truth_next : (old new : List Token) (b : Bool) → old ≡ Token.boolean b ∷ new → IsNext old new (λ j. IsTruth (data_of j) b × IsPlain j)
+truth_next old new b is = next_is (Json.boolean b) (λ j. IsTruth (data_of j) b × IsPlain j) (Token.boolean b) old new is (λ depth. value_is depth (Token.boolean b ∷ new)) (refl, (refl, refl))
 
 -- ---- items that are read one after another
 
@@ -218,3 +252,15 @@ list_of R see most j xs h few =
     let all = each_item R see h.0 xs h.2 in
     let plain = array_plain (λ j x. R (data_of j) (see x) × IsPlain j) h.0 xs (λ j x r. r.1) h.2 in
     ((((items_of h.0, ap data_of h.1, all)), subst (λ n. n ≤ most) (sym (length-map xs see)) few), (ap fits h.1 ∙ plain.0, ap single h.1 ∙ plain.1))
+
+-- ---- the whole text
+
+pub stands_for_plain : {A : Type 0} (R : Data → A → Type 0) (text : List ℕ) (x : A) → IsUtf8 text → IsPlainText R text x → StandsFor R text x
+stands_for_plain R text x utf8 h = (data_of h.0, (utf8, read_whole text h.0 h.1 h.2.0), (h.0, whole_tree text h.0 h.1, single_sound h.0 h.2.1), h.3)
+
+-- where two values stand in the same place, so do they in a longer list
+pub each_moved : {A : Type 0} (R S : Data → A → Type 0) (ds : whole.Items) (xs : List A) → ((d : Data) (x : A) → R d x → S d x) → AreItems R ds xs → AreItems S ds xs
+each_moved R S whole.no_items [] move h = tt
+each_moved R S whole.no_items (x ∷ xs) move h = absurd h
+each_moved R S (whole.item d ds) [] move h = absurd h
+each_moved R S (whole.item d ds) (x ∷ xs) move h = (move d x h.0, each_moved R S ds xs move h.1)

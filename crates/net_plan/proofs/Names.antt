@@ -90,3 +90,16 @@ names_take f items i x within is = ap (map f) (take_more items i x within ∙ ap
 
 pub names_drop : {T : Type 0} (f : T → List ℕ) (items : List T) (i : ℕ) (x : T) → i < length items → x ≡ get_or items i x → map f (drop i items) ≡ f x ∷ map f (drop (i + 1) items)
 names_drop f items i x within is = ap (map f) (drop-cons items i x within ∙ ap (λ y. y ∷ drop (suc i) items) (sym is)) ∙ ap (λ j. f x ∷ map f (drop j items)) (sym (add-one i))
+
+-- a name that has a place has one within the list
+pub place_within : (ns : List (List ℕ)) (q : List ℕ) (n : ℕ) → place_of ns q ≡ Some n → n < length ns
+place_within [] q n e = cc
+place_within (m ∷ ns) q n e = by (bytes_eq q m) (place_of ns q) refl e (place_within ns q)
+  where
+    by : (b : Bool) (o : Option ℕ) → place_of ns q ≡ o → cond b (Some 0) (option_map suc o) ≡ Some n → ((k : ℕ) → place_of ns q ≡ Some k → k < length ns) → n < suc (length ns)
+    by true o is e below = let zero : 0 ≡ n = cc in omega arith
+    by false None is e below = cc
+    by false (Some k) is e below =
+        let within : k < length ns = below k is in
+        let next : suc k ≡ n = cc in
+        omega arith

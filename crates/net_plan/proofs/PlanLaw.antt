@@ -1,5 +1,5 @@
 -- What is read of a plan is what the relation tells.
-use Rattle.std.proofs.Common.{◌≡◌, ◌≢◌, ℕ, zero, suc, ◌<◌, ◌≤◌, List, [], ◌∷◌, length, Bool, true, false, nat_le, nat_lt, ◌&&◌, Some, None, Result, Ok, Err, refl, sym, ap, ◌∙◌, subst, cond, true≢false, codes, slice_get, arith}
+use Rattle.std.proofs.Common.{◌≡◌, ◌≢◌, ℕ, zero, suc, unwrap_or, ◌<◌, ◌≤◌, List, [], ◌∷◌, length, Bool, true, false, nat_le, nat_lt, ◌&&◌, Some, None, Result, Ok, Err, refl, sym, ap, ◌∙◌, subst, cond, true≢false, codes, slice_get, arith}
 use Rattle.std.proofs.lemmas.Bool.{leb-true, le-leb, ltb-true, lt-ltb}
 use Rattle.std.proofs.lemmas.List.{length-map}
 use Rattle.std.proofs.lemmas.Slice.Eq.{bytes_eq-Decides}
@@ -11,7 +11,7 @@ use Rattle.serde_json.specs.Data.{Data, null, boolean, number, string, array, ob
 use Rattle.net_plan.specs.Json.{each, items_count, keyed, at_key, list_within, optional, demand, name_text, reference, whole_number, hex_text, address_text, decoded}
 use Rattle.net_plan.specs.JsonWords.{At, IsShortListOf, IsOptional, IsNumber, IsNumberWithin, IsName, IsHex, IsAddress, IsPlace, IsFirstOf, AreItems}
 use Rattle.net_plan.specs.NameText.{is_name}
-use Rattle.net_plan.specs.Names.{place_among, names_differ, text_found, text_at, each_text_at, texts_at}
+use Rattle.net_plan.specs.Names.{place_of, place_among, names_differ, text_found, text_at, each_text_at, texts_at}
 use Rattle.net_plan.specs.Keys.{plan_keys, bus_keys, port_keys, row_keys, pool_keys, record_keys, terminus_keys, node_keys}
 use Rattle.net_plan.specs.Placed.{is_port_placed, is_row_placed, is_owner_placed, is_node_placed, are_placed}
 use Rattle.net_plan.specs.PlanReading.{byte, word, bus, port, row, pool, repository_record, terminus, kind_text, node, nodes_among, plan}
@@ -24,6 +24,7 @@ use Rattle.net_plan.specs.declared.nodes.Kind.{Kind}
 use Rattle.net_plan.specs.declared.nodes.Kind.TheVariants.{Bridge, Endpoint}
 use Rattle.net_plan.proofs.Differing.{differ_sound, differ_whole}
 use Rattle.net_plan.proofs.KeysLaw.{keys_sound, keys_whole}
+use Rattle.net_plan.proofs.Names.{place_among-of, place_within}
 use Rattle.net_plan.proofs.Telling.{Tells, any, no_value, same_Ok, then_Ok, demanded, both, at_key_tells, within_tells, within_any_tells, optional_tells, optional_any_tells, number_tells}
 
 -- ---- texts
@@ -111,6 +112,12 @@ first_within (n ∷ ns) s below = by (bytes_eq s n) refl below (first_within ns 
         passed : IsFirstOf ns s (place_among ns s) → (k : ℕ) → k < suc (place_among ns s) → slice_get (n ∷ ns) k ≢ Some s
         passed first zero under here = true≢false (sym ((bytes_eq-Decides s n).1 (sym (same_Some here))) ∙ is)
         passed first (suc k) under here = first.first k (omega arith) here
+
+pub first_place : (names : List (List ℕ)) (s : List ℕ) (k : ℕ) → place_of names s ≡ Some k → IsFirstOf names s k
+first_place names s k e =
+    let same : place_among names s ≡ k = sym (place_among-of names s) ∙ ap (λ o. unwrap_or o (length names)) e in
+    let below : k < length names = place_within names s k e in
+    subst (IsFirstOf names s) same (first_within names s (omega arith))
 
 pub first_only : (names : List (List ℕ)) (s : List ℕ) (p : ℕ) → IsFirstOf names s p → place_among names s ≡ p
 first_only [] s p h = absurd (no_Some h.stands)

@@ -1,17 +1,14 @@
 -- What is gathered of a row, with one more key.
-use Rattle.std.proofs.Common.{◌≡◌, ◌∷◌, ◌∙◌, ℕ, List, Bor, true, false, is_some, Some, None, codes, option_map, subst, refl}
+use Rattle.std.proofs.Common.{◌≡◌, ◌∙◌, ℕ, List, Bor, false, is_some, Some, None, codes, option_map, subst, refl}
 use Rattle.json.specs.Json.{Json, object, Members, no_members}
-use Rattle.json.specs.Token.{Token}
-use Rattle.json.proofs.Grammar.{value_is}
-use Rattle.net_plan.specs.Gathered.{with_last, IsPlain, IsGathered, IsNext}
+use Rattle.net_plan.specs.Gathered.{with_last, IsPlain, IsGathered}
 use Rattle.net_plan.specs.JsonWords.{IsName, IsNumberWithin}
 use Rattle.net_plan.specs.Keys.{row_keys}
-use Rattle.net_plan.specs.NameText.{is_name}
 use Rattle.net_plan.specs.PlanText.{IsByte}
 use Rattle.net_plan.specs.RowParts.{AreRowParts, IsNamedRowOf}
 use Rattle.net_plan.specs.Trees.{data_of}
 use Rattle.net_plan.specs.declared.row_parts.RowParts.{RowParts}
-use Rattle.net_plan.proofs.Gathered.{gathered_now, gathered_other, none_plain, plain_last, object_plain, all_keys, at_gathered, not_yet, is_some_map, next_is}
+use Rattle.net_plan.proofs.Gathered.{gathered_now, gathered_other, none_plain, plain_last, object_plain, all_keys, at_gathered, not_yet, is_some_map}
 
 module _ (p : RowParts) (ms : Members) (j : Json) (plain : IsPlain j) (h : AreRowParts p ms) where
   pub with_first : (n : ℕ) → is_some p.first ≡ false → IsByte (data_of j) n → AreRowParts (record { first = Some n; size = p.size; port = p.port; next = p.next }) (with_last ms (codes "first") j)
@@ -69,6 +66,3 @@ row_of p first size port next is_first is_size is_port is_next ms h =
       },
       object_plain row_keys ms h.plain,
     )
-
-pub name_next : (old new : List Token) (s : List ℕ) → old ≡ Token.string s ∷ new → is_name s ≡ true → IsNext old new (λ j. IsName (data_of j) s × IsPlain j)
-name_next old new s is e = next_is (Json.string s) (λ j. IsName (data_of j) s × IsPlain j) (Token.string s) old new is (λ depth. value_is depth (Token.string s ∷ new)) ((refl, e), (refl, refl))

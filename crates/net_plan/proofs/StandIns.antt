@@ -1,5 +1,5 @@
 -- Values that stand for others.
-use Rattle.std.proofs.Common.{◌≡◌, ◌&&◌, ◌≢◌, ◌≤◌, ℕ, List, [], ◌∷◌, ◌++◌, length, map, Bool, true, false, cond, is_some, Option, Some, None, option_map, codes, Vec, Global, Bor, inl, inr, refl, ap, ◌∙◌, sym, subst, true≢false, append_assoc, arith, rules, IsUtf8}
+use Rattle.std.proofs.Common.{◌≡◌, ◌&&◌, ◌≢◌, ◌≤◌, ℕ, List, [], ◌∷◌, ◌++◌, length, map, Bool, true, false, cond, is_some, Option, Some, None, option_map, codes, Vec, Global, Bor, inl, inr, refl, ap, ◌∙◌, sym, subst, true≢false, append_assoc, arith, rules}
 use Rattle.std.proofs.lemmas.Bool.{ltb-true}
 use Rattle.std.proofs.lemmas.List.{length-map}
 use Rattle.std.specs.List.{list_all}
@@ -23,11 +23,10 @@ use Rattle.net_plan.specs.Names.{names_differ, place_among}
 use Rattle.net_plan.specs.PlanText.{IsByte, IsBusOf, IsPortOf, IsRowOf, IsPoolOf, IsTerminusOf, IsKindOf, IsNodeOf, IsPlanOf}
 use Rattle.net_plan.specs.PlanValues.{PlanValue}
 use Rattle.net_plan.specs.SingleKeys.{single, items_single, members_single}
-use Rattle.net_plan.specs.Skeleton.{IsStandIn, AreStandIns, IsCutTerminus, IsCutRows, IsCutNodes, IsNodeSkeleton, CutValue, cut_value, placed_value, found_row, found_value, with_part, with_parts, IsPlainPlan}
+use Rattle.net_plan.specs.Skeleton.{IsStandIn, AreStandIns, IsCutTerminus, IsCutRows, IsCutNodes, IsNodeSkeleton, CutValue, cut_value, placed_value, found_row, found_value, with_part, with_parts}
 use Rattle.net_plan.specs.RowParts.{NamedRowValue, IsNamedRowOf, named_row}
 use Rattle.net_plan.specs.Placed.{is_owner_placed, is_port_placed, is_row_placed, is_node_placed, are_placed}
 use Rattle.net_plan.specs.Trees.{Tree, view, items_view, data_of, items_of, members_of, fits, items_fit, members_fit}
-use Rattle.net_plan.specs.Texts.{StandsFor}
 use Rattle.net_plan.specs.declared.nodes.Node.{Node}
 use Rattle.net_plan.specs.declared.row_parts.NamedRow.{NamedRow}
 use Rattle.net_plan.specs.declared.skeleton.CutParts.{CutParts}
@@ -36,9 +35,8 @@ use Rattle.net_plan.specs.declared.skeleton.PlacedParts.{PlacedParts}
 use Rattle.net_plan.specs.declared.terminus.Terminus.{Terminus}
 use Rattle.net_plan.proofs.PlanLaw.{first_within}
 use Rattle.net_plan.proofs.Gathered.{is_some_map, no_Some, same_Some, shown}
-use Rattle.net_plan.proofs.SingleKeys.{single_sound, whole_tree}
 use Rattle.net_plan.proofs.Telling.{both}
-use Rattle.net_plan.proofs.Trees.{get_of, read_whole}
+use Rattle.net_plan.proofs.Trees.{get_of}
 
 pub view_last : (ms : List (Bor (List ℕ) × Tree)) (k : Bor (List ℕ)) (v : Tree) → members_view (ms ++ (k, v) ∷ []) ≡ with_last (members_view ms) k.now (value_view v)
 view_last [] k v = refl
@@ -350,11 +348,6 @@ made_moved {B = B} f g all done made x rest e same = e ∙ moved done
 pub map_twice : {A B C : Type 0} (f : B → C) (g : A → B) (xs : List A) → map f (map g xs) ≡ map (λ x. f (g x)) xs
 map_twice f g [] = refl
 map_twice f g (x ∷ xs) = ap (λ ys. f (g x) ∷ ys) (map_twice f g xs)
-
--- ---- the whole text
-
-pub stands_for_plain : (text : List ℕ) (p : PlanValue) → IsUtf8 text → IsPlainPlan text p → StandsFor IsPlanOf text p
-stands_for_plain text p utf8 h = (data_of h.0, (utf8, read_whole text h.0 h.1 h.2.0), (h.0, whole_tree text h.0 h.1, single_sound h.0 h.2.1), h.3)
 
 pub none_left : {A : Type 0} (xs : List A) → length xs ≡ 0 → xs ≡ []
 none_left [] e = refl

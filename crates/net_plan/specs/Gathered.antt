@@ -2,9 +2,11 @@
 use Rattle.std.specs.Prelude.{ℕ, ◌≡◌, List, [], ◌∷◌, true, Option, Some, None, IsSome}
 use Rattle.json.specs.Find as find
 use Rattle.json.specs.Json.{Json, array, Items, no_items, item, Members, no_members, member, value}
+use Rattle.json.specs.Lex.{tokens}
 use Rattle.json.specs.Token.{Token}
 use Rattle.json.specs.Strict.{keys}
 use Rattle.serde_json.specs.Data.{Data}
+use Rattle.serde_json.specs.Read.{max_depth}
 use Rattle.net_plan.specs.Json.{is_among}
 use Rattle.net_plan.specs.Names.{names_differ}
 use Rattle.net_plan.specs.SingleKeys.{single, members_single}
@@ -35,6 +37,10 @@ IsGathered key R (Some x) ms = (j : Json) × (find.get_member key ms ≡ Some j)
 abbrev pub IsNext : List Token → List Token → (Json → Type 0) → Type 0
 IsNext old new P = (j : Json) × ((depth : ℕ) → value depth old ≡ Some (j, new)) × P j
 
+-- the tokens begin with a value, whatever it is nested in, that is one more member at a key
+abbrev pub IsOneMore : List ℕ → List Token → List Token → (Members → Type 0) → (Members → Type 0) → Type 0
+IsOneMore key old new Before After = IsNext old new (λ j. (ms : Members) → Before ms → After (with_last ms key j))
+
 -- the tokens begin with a value, at a depth, that is one more member at a key
 abbrev pub IsMore : ℕ → List ℕ → List Token → List Token → (Members → Type 0) → (Members → Type 0) → Type 0
 IsMore depth key old new Before After = (j : Json) × (value depth old ≡ Some (j, new)) × ((ms : Members) → Before ms → After (with_last ms key j))
@@ -52,3 +58,7 @@ EachIs R (item j js) [] = ⊥
 
 abbrev pub IsArrayOf : {A : Type 0} → (Json → A → Type 0) → Json → List A → Type 0
 IsArrayOf R j xs = (js : Items) × (j ≡ array js) × EachIs R js xs
+
+-- the text is JSON of a value that is R to x, and nothing in it is unusual
+abbrev pub IsPlainText : {A : Type 0} → (Data → A → Type 0) → List ℕ → A → Type 0
+IsPlainText R text x = (j : Json) × (value max_depth (tokens text) ≡ Some (j, [])) × IsPlain j × R (data_of j) x

@@ -7,8 +7,7 @@ use Rattle.serde_json.specs.Read.{max_depth}
 use Rattle.net_plan.specs.Gathered.{IsPlain, IsArrayOf}
 use Rattle.net_plan.specs.JsonWords.{IsShortListOf, IsOptional}
 use Rattle.net_plan.specs.NodeValues.{NodeValue, RowValue, TerminusValue, row_value, terminus_value}
-use Rattle.net_plan.specs.PlanText.{IsTerminusOf, IsPlanOf}
-use Rattle.net_plan.specs.PlanValues.{PlanValue}
+use Rattle.net_plan.specs.PlanText.{IsTerminusOf}
 use Rattle.net_plan.specs.RowParts.{NamedRowValue, IsNamedRowOf, named_row}
 use Rattle.net_plan.specs.Trees.{data_of, fits}
 use Rattle.net_plan.specs.declared.skeleton.CutParts.{CutParts}
@@ -68,10 +67,6 @@ ArePlanParts p ms = AreStandIns (codes "nodes") (IsCutNodes (option_map (λ v. m
 abbrev pub IsPlanSkeleton : List ℕ → PlanSkeleton → Type 0
 IsPlanSkeleton text s = (ms ls : Members) × (value max_depth (tokens text) ≡ Some (object ms, [])) × (value_view s.value ≡ object ls)
     × AreStandIns (codes "nodes") (IsCutNodes (Some (map cut_value s.parts.items))) ms ls × (fits (object ls) ≡ true)
-
--- the text is this plan, and nothing in it is unusual
-abbrev pub IsPlainPlan : List ℕ → PlanValue → Type 0
-IsPlainPlan text p = (j : Json) × (value max_depth (tokens text) ≡ Some (j, [])) × IsPlain j × IsPlanOf (data_of j) p
 
 -- a row whose next node stands at the place that was found
 abbrev pub found_row : (List ℕ → ℕ) → NamedRowValue → RowValue

@@ -11,6 +11,11 @@ pub trait Gather<'t> {
     // What was gathered is that of these members.
     ghost Holds: { Self → Members → Type 0 };
 
+    ghost Given: { Type 0 };
+
+    // What it needs to know, which stays as it is.
+    ghost given: { Self → Given };
+
     fn take(
         &mut self,
         alloc: Global,
@@ -18,7 +23,8 @@ pub trait Gather<'t> {
         reader: &mut Reader<'t>,
         depth: usize,
     ) -> Option<()>
-        ensures { IfSome result (λ _. IsMore depth key.now reader.old reader.new (Holds self.old) (Holds self.new)) };
+        ensures more { IfSome result (λ _. IsMore depth key.now reader.old reader.new (Holds self.old) (Holds self.new)) }
+        ensures kept { given self.new ≡ given self.old };
 }
 
 /// Reads an object, and gathers its members.
@@ -28,7 +34,8 @@ pub fn read_object<'t, G: Gather<'t>>(
     reader: &mut Reader<'t>,
     depth: usize,
 ) -> Option<()>
-    ensures { IfSome result (λ _. (ms : Members) × (value depth reader.old ≡ Some (object ms, reader.new)) × (G.Holds gathered.old no_members → G.Holds gathered.new ms)) }
+    ensures read { IfSome result (λ _. (ms : Members) × (value depth reader.old ≡ Some (object ms, reader.new)) × (G.Holds gathered.old no_members → G.Holds gathered.new ms)) }
+    ensures kept { G.given gathered.new ≡ G.given gathered.old }
 {
     let Some(Token::BeginObject) = reader.next() else {
         return None;
@@ -46,7 +53,8 @@ pub fn read_members<'t, G: Gather<'t>>(
     reader: &mut Reader<'t>,
     depth: usize,
 ) -> Option<()>
-    ensures { IfSome result (λ _. (ms : Members) × (members (value depth) (length reader.old) reader.old ≡ Some (ms, reader.new)) × (G.Holds gathered.old no_members → G.Holds gathered.new ms)) }
+    ensures read { IfSome result (λ _. (ms : Members) × (members (value depth) (length reader.old) reader.old ≡ Some (ms, reader.new)) × (G.Holds gathered.old no_members → G.Holds gathered.new ms)) }
+    ensures kept { G.given gathered.new ≡ G.given gathered.old }
 {
     'members: while let Some(key) = reader.next_key().ok()? {
         gathered.take(alloc, key, reader, depth)?;

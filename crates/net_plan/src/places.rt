@@ -27,7 +27,7 @@ impl<'a> Places<'a> {
     ghost use Rattle.std.specs.Prelude.{◌≡◌, ℕ, List, map, IfOk, OnOk, None, Some, is_some, if◌then◌else◌};
     ghost use Rattle.std.specs.Option.{option_or};
     ghost use Rattle.std.specs.Str.{bytes_eq};
-    ghost use Rattle.net_plan.specs.Names.{place_among};
+    ghost use Rattle.net_plan.specs.Names.{place_among, place_of};
     ghost use Rattle.net_plan.specs.Places.{noted, find_in};
 
     pub fn of<N: Naming>(
@@ -35,7 +35,8 @@ impl<'a> Places<'a> {
         naming: &N,
         items: &'a [N::Item],
     ) -> Result<Places<'a>, AllocError>
-        ensures { IfOk result (λ p. (q : List ℕ) → find_in p q ≡ place_among (map (N.name_of naming.now) items.now) q) }
+        ensures found { IfOk result (λ p. (q : List ℕ) → find_in p q ≡ place_among (map (N.name_of naming.now) items.now) q) }
+        ensures placed { IfOk result (λ p. (q : List ℕ) → noted p q ≡ place_of (map (N.name_of naming.now) items.now) q) }
     {
         let mut places = Places::none(alloc, items.len());
         for (place, item) in items.iter().enumerate() {
@@ -74,6 +75,16 @@ impl<'a> Places<'a> {
         ensures { result ≡ is_some (noted self.now name.now) }
     {
         self.by_name.contains_key(name)
+    }
+
+    /// The place of a name, if it has one.
+    pub fn place(&self, name: &str) -> Option<usize>
+        ensures { result ≡ noted self.now name.now }
+    {
+        match self.by_name.get(name) {
+            Some(place) => Some(*place),
+            None => None,
+        }
     }
 
     /// The place of a name; the count of the list for one that has none.

@@ -1,17 +1,16 @@
 //! Records straight from a text.
-ghost use Rattle.std.specs.Prelude.{codes, IfSome};
+ghost use Rattle.std.specs.Prelude.{codes, IfSome, ⊤};
 ghost use Rattle.json.specs.Json.{Members, no_members, object};
 ghost use Rattle.net_plan.specs.Gathered.{IsNext, IsThere, IsPlain, with_last};
-ghost use Rattle.net_plan.specs.JsonWords.{IsNumber, IsHex};
 ghost use Rattle.net_plan.specs.NodeValues.{record_value};
-ghost use Rattle.net_plan.specs.PlanText.{IsWord, IsRecordOf};
+ghost use Rattle.net_plan.specs.PlanText.{IsRecordOf};
 ghost use Rattle.net_plan.specs.RecordParts.{AreRecordParts};
 ghost use Rattle.net_plan.specs.Trees.{data_of};
 
 use crate::gather::{Gather, NextItem, read_object};
-use crate::json_number::whole;
+use crate::next_value::{next_hex, next_word};
 use crate::terminus::Record;
-use json::{Reader, Token};
+use json::Reader;
 use std::alloc::Global;
 
 /// What is known so far of a record.
@@ -77,6 +76,10 @@ impl RecordParts {
 impl<'t> Gather<'t> for RecordParts {
     ghost Holds = { AreRecordParts };
 
+    ghost Given = { ⊤ };
+
+    ghost given = { λ _. tt };
+
     fn take(
         &mut self,
         alloc: Global,
@@ -100,40 +103,6 @@ pub fn next_record(alloc: Global, reader: &mut Reader<'_>, depth: usize) -> Opti
     let mut parts = RecordParts::none();
     read_object(alloc, &mut parts, reader, depth)?;
     parts.record()
-}
-
-/// A number of 32 bits.
-fn next_word(reader: &mut Reader<'_>) -> Option<u32>
-    ensures { IfSome result (λ n. IsNext reader.old reader.new (λ j. IsWord (data_of j) n × IsPlain j)) }
-{
-    let number = next_number(reader)?;
-    if number > 4_294_967_295 {
-        return None;
-    }
-    Some(number as u32)
-}
-
-/// A whole number.
-pub fn next_number(reader: &mut Reader<'_>) -> Option<u64>
-    ensures { IfSome result (λ n. IsNext reader.old reader.new (λ j. IsNumber (data_of j) n × IsPlain j)) }
-{
-    let Some(Token::Number(text)) = reader.next() else {
-        return None;
-    };
-    whole(text)
-}
-
-/// Hex text.
-fn next_hex(alloc: Global, reader: &mut Reader<'_>) -> Option<Vec<u8>>
-    ensures { IfSome result (λ v. IsNext reader.old reader.new (λ j. IsHex (data_of j) v.items × IsPlain j)) }
-{
-    let Some(Token::String(text)) = reader.next() else {
-        return None;
-    };
-    let Ok(bytes) = hex::decode(alloc, text) else {
-        return None;
-    };
-    Some(bytes)
 }
 
 /// Reads records.

@@ -1,16 +1,14 @@
 //! Rows straight from a text.
-ghost use Rattle.std.specs.Prelude.{codes, IfSome};
+ghost use Rattle.std.specs.Prelude.{codes, IfSome, ⊤};
 ghost use Rattle.json.specs.Json.{Members, no_members, object};
 ghost use Rattle.net_plan.specs.Gathered.{IsNext, IsThere, IsPlain, with_last};
-ghost use Rattle.net_plan.specs.JsonWords.{IsName, IsNumberWithin};
-ghost use Rattle.net_plan.specs.PlanText.{IsByte};
+ghost use Rattle.net_plan.specs.JsonWords.{IsNumberWithin};
 ghost use Rattle.net_plan.specs.RowParts.{AreRowParts, IsNamedRowOf, named_row};
 ghost use Rattle.net_plan.specs.Trees.{data_of};
 
 use crate::gather::{Gather, NextItem, read_object};
-use crate::record_parts::next_number;
-use crate::words::is_name;
-use json::{Reader, Token};
+use crate::next_value::{next_byte, next_name, next_number_within};
+use json::Reader;
 use std::alloc::Global;
 
 /// A row whose next node is still a name.
@@ -98,6 +96,10 @@ impl<'t> RowParts<'t> {
 impl<'t> Gather<'t> for RowParts<'t> {
     ghost Holds = { AreRowParts };
 
+    ghost Given = { ⊤ };
+
+    ghost given = { λ _. tt };
+
     fn take(
         &mut self,
         _alloc: Global,
@@ -143,37 +145,9 @@ impl<'t> NextItem<'t> for NextRow {
     }
 }
 
-/// A byte.
-fn next_byte(reader: &mut Reader<'_>) -> Option<u8>
-    ensures { IfSome result (λ n. IsNext reader.old reader.new (λ j. IsByte (data_of j) n × IsPlain j)) }
-{
-    let number = next_number(reader)?;
-    if number > 255 {
-        return None;
-    }
-    Some(number as u8)
-}
-
 /// The place of a port.
 fn next_port(reader: &mut Reader<'_>) -> Option<u8>
     ensures { IfSome result (λ n. IsNext reader.old reader.new (λ j. IsNumberWithin 0 31 (data_of j) n × IsPlain j)) }
 {
-    let number = next_number(reader)?;
-    if number > 31 {
-        return None;
-    }
-    Some(number as u8)
-}
-
-/// The text of a name.
-fn next_name<'t>(reader: &mut Reader<'t>) -> Option<&'t str>
-    ensures { IfSome result (λ name. IsNext reader.old reader.new (λ j. IsName (data_of j) name.now × IsPlain j)) }
-{
-    let Some(Token::String(text)) = reader.next() else {
-        return None;
-    };
-    if !is_name(text) {
-        return None;
-    }
-    Some(text)
+    Some(next_number_within(reader, 0, 31)? as u8)
 }

@@ -1,14 +1,15 @@
 //! The value of a plan without its rows and its termini, which are read straight from the text.
-ghost use Rattle.std.specs.Prelude.{◌≡◌, codes, map, false, IfSome};
+ghost use Rattle.std.specs.Prelude.{◌≡◌, codes, map, false, IfSome, ⊤};
 ghost use Rattle.std.specs.Str.{bytes_eq};
 ghost use Rattle.json.specs.Json.{no_members};
 ghost use Rattle.json.specs.Value.{value_view, members_view};
-ghost use Rattle.net_plan.specs.Gathered.{IsMore, IsThere, with_last};
+ghost use Rattle.net_plan.specs.Gathered.{IsMore, IsThere, IsPlainText, with_last};
 ghost use Rattle.net_plan.specs.NodeValues.{node_value, row_value};
 ghost use Rattle.net_plan.specs.Places.{find_in};
+ghost use Rattle.net_plan.specs.PlanText.{IsPlanOf};
 ghost use Rattle.net_plan.specs.PlanValues.{plan_value};
 ghost use Rattle.net_plan.specs.RowParts.{named_row};
-ghost use Rattle.net_plan.specs.Skeleton.{AreNodeParts, IsNodeSkeleton, ArePlanParts, IsPlanSkeleton, IsPlainPlan, cut_value, placed_value, found_row, found_value, with_part, with_parts};
+ghost use Rattle.net_plan.specs.Skeleton.{AreNodeParts, IsNodeSkeleton, ArePlanParts, IsPlanSkeleton, cut_value, placed_value, found_row, found_value, with_part, with_parts};
 
 use crate::gather::{Gather, NextItem, next_list, read_object};
 use crate::json_keys::has_single_keys;
@@ -118,6 +119,10 @@ impl<'t> NodeParts<'t> {
 
 impl<'t> Gather<'t> for NodeParts<'t> {
     ghost Holds = { AreNodeParts };
+
+    ghost Given = { ⊤ };
+
+    ghost given = { λ _. tt };
 
     fn take(
         &mut self,
@@ -246,6 +251,10 @@ impl<'t> PlanParts<'t> {
 impl<'t> Gather<'t> for PlanParts<'t> {
     ghost Holds = { ArePlanParts };
 
+    ghost Given = { ⊤ };
+
+    ghost given = { λ _. tt };
+
     fn take(
         &mut self,
         alloc: Global,
@@ -295,7 +304,7 @@ fn skeleton_of<'t>(
 
 /// The plan of a text in which nothing is unusual. Of any other text it says nothing.
 pub fn plain_plan(alloc: Global, text: &str) -> Option<Plan>
-    ensures { IfSome result (λ plan. IsPlainPlan text.now (plan_value plan)) }
+    ensures { IfSome result (λ plan. IsPlainText IsPlanOf text.now (plan_value plan)) }
 {
     let mut scratch = Scratch::new(alloc);
     let skeleton = skeleton_of(alloc, text, &mut scratch)?;

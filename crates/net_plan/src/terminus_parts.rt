@@ -1,5 +1,5 @@
 //! Termini straight from a text.
-ghost use Rattle.std.specs.Prelude.{codes, option_map, IfSome};
+ghost use Rattle.std.specs.Prelude.{codes, option_map, IfSome, ⊤};
 ghost use Rattle.json.specs.Json.{Members, no_members, object};
 ghost use Rattle.net_plan.specs.Gathered.{IsMore, IsThere, IsPlain};
 ghost use Rattle.net_plan.specs.JsonWords.{IsOptional};
@@ -9,7 +9,8 @@ ghost use Rattle.net_plan.specs.TerminusParts.{AreTerminusParts};
 ghost use Rattle.net_plan.specs.Trees.{data_of};
 
 use crate::gather::{Gather, next_list, read_members};
-use crate::record_parts::{NextRecord, next_number};
+use crate::next_value::next_number;
+use crate::record_parts::NextRecord;
 use crate::terminus::{Record, Terminus};
 use json::{Reader, Token};
 use std::alloc::Global;
@@ -69,6 +70,10 @@ impl TerminusParts {
 
 impl<'t> Gather<'t> for TerminusParts {
     ghost Holds = { AreTerminusParts };
+
+    ghost Given = { ⊤ };
+
+    ghost given = { λ _. tt };
 
     fn take(
         &mut self,

@@ -10,6 +10,7 @@ invariant-members g l =
     × (members (value l.depth) (length l.initial.reader) l.initial.reader ≡ parse_map (joined before) (members (value l.depth) n l.reader))
     × (length l.reader ≤ length l.initial.reader)
     × (g.G.Gather.Holds l.initial.gathered no_members → g.G.Gather.Holds l.gathered before)
+    × (g.G.Gather.given l.gathered ≡ g.G.Gather.given l.initial.gathered)
 
 abbrev pub decreases-members : goal.decreases-members
 decreases-members g l = length l.reader

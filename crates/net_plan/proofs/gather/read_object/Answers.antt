@@ -5,8 +5,8 @@ use Rattle.json.proofs.Grammar.{value-begin_object}
 use Rattle.net_plan.proofs.Gathered.{if_some}
 use Rattle.net_plan.proofs.gather.read_object.Goals as goal
 
-pub returns : goal.returns
-returns g c =
+pub returns-clause-read : goal.returns-clause-read
+returns-clause-read g c =
     let first : c.args.reader.now ≡ Token.begin_object ∷ c.next.new.self = grind arith in
     let opened = ap (value c.args.depth) first ∙ value-begin_object c.args.depth c.next.new.self (omega arith) in
-    if_some c.read_members.result (λ u read. (read.0, opened ∙ ap (parse_map object) read.1, read.2)) c.read_members.ensures
+    if_some c.read_members.result (λ u read. (read.0, opened ∙ ap (parse_map object) read.1, read.2)) c.read_members.ensures.read

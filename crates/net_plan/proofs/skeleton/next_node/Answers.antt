@@ -10,7 +10,7 @@ use Rattle.net_plan.proofs.skeleton.next_node.Goals as goal
 pub returns : goal.returns
 returns c =
     let parts = c.read_object.new.gathered in
-    let read = c.in_ok-read_object.ensures in
+    let read = c.in_ok-read_object.ensures.read in
     let ls = members_view parts.found.items in
     let ended : parts.terminus ≡ Some c.in_ok-terminus.terminus = search rules in
     let listed : parts.rows ≡ Some c.in_ok-rows.rows = search rules in

@@ -30,7 +30,7 @@ returns c =
     let once : single (object ls) ≡ true = ap single (sym shape.3) ∙ sym c.has_single_keys.ensures ∙ c.if-not-has_single_keys.false in
     let plain = plan_plain cs ms ls shape.4 (shape.5, once) in
     let places = c.in-Ok-of.places in
-    let find : (q : List ℕ) → find_in places q ≡ place_among (node_names vs) q = λ q. c.in-Ok-of.ensures q ∙ ap (λ ns. place_among ns q) (ap (map (λ n. name_bytes n.name)) c.as_slice.ensures.value ∙ node_names_of lean.nodes.items) in
+    let find : (q : List ℕ) → find_in places q ≡ place_among (node_names vs) q = λ q. c.in-Ok-of.ensures.found q ∙ ap (λ ns. place_among ns q) (ap (map (λ n. name_bytes n.name)) c.as_slice.ensures.value ∙ node_names_of lean.nodes.items) in
     let same_find : find_in places ≡ place_among (node_names vs) = λ i q. find q i in
     let filled : map node_value c.in_ok-with_parts.field-0.items ≡ all_filled vs cs = c.in_ok-with_parts.ensures ∙ ap (with_parts vs) (c.in_ok-parts.ensures ∙ ap (λ f. map (found_value f) cs) same_find) in
     if_some c.of-2.result (λ p same.

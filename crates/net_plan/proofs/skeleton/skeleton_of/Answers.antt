@@ -11,7 +11,7 @@ use Rattle.net_plan.proofs.skeleton.skeleton_of.Goals as goal
 pub returns : goal.returns
 returns c =
     let parts = c.read_object.new.gathered in
-    let read = c.in_ok-read_object.ensures in
+    let read = c.in_ok-read_object.ensures.read in
     let ms = read.0 in
     let ls = members_view parts.found.items in
     let first : c.in-Ok.reader ≡ tokens c.args.text.now = search rules in

@@ -16,6 +16,6 @@ returns-in_ok-terminus-in-BeginObject c =
     let first : c.args.reader.now ≡ token_of c.in_ok-next.field-0 ∷ c.next.new.self = grind arith in
     let is : c.args.reader.now ≡ Token.begin_object ∷ c.next.new.self = grind (arith, first) in
     let opened = ap (value c.args.depth) is ∙ value-begin_object c.args.depth c.next.new.self (omega arith) in
-    let read = c.in_ok-read_members-in-BeginObject.ensures in
+    let read = c.in_ok-read_members-in-BeginObject.ensures.read in
     let told = c.in_ok-terminus-in-BeginObject.ensures read.0 (read.2 c.none-parts.ensures) in
     (object read.0, opened ∙ ap (parse_map object) read.1, (((λ e. cc), told.0), told.1))

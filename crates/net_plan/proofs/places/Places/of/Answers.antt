@@ -17,8 +17,13 @@ loop-place-preserved g c =
       c.in_ok-note.ensures.count ∙ c.loop-place.invariant.1,
     )
 
-pub returns : goal.returns
-returns g c = λ q.
+pub returns-clause-placed : goal.returns-clause-placed
+returns-clause-placed g c = λ q.
+    let all : take c.loop-place.place c.args.items.now ≡ c.args.items.now = take_all c.loop-place.place c.args.items.now (search rules) in
+    c.loop-place.invariant.0 q ∙ ap (λ items. place_of (map (g.N.Naming.name_of c.args.naming.now) items) q) all
+
+pub returns-clause-found : goal.returns-clause-found
+returns-clause-found g c = λ q.
     let names = map (g.N.Naming.name_of c.args.naming.now) c.args.items.now in
     let all : take c.loop-place.place c.args.items.now ≡ c.args.items.now = take_all c.loop-place.place c.args.items.now (search rules) in
     let few : c.loop-place.places.count ≡ length names = c.loop-place.invariant.1 ∙ sym (length-map c.args.items.now (g.N.Naming.name_of c.args.naming.now)) in

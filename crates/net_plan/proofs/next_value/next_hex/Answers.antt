@@ -1,7 +1,7 @@
 use Rattle.std.proofs.Common.{◌≡◌, ◌∷◌, arith}
 use Rattle.json.specs.Token.{Token}
 use Rattle.net_plan.proofs.Gathered.{hex_next}
-use Rattle.net_plan.proofs.record_parts.next_hex.Goals as goal
+use Rattle.net_plan.proofs.next_value.next_hex.Goals as goal
 
 pub returns : goal.returns
 returns c =

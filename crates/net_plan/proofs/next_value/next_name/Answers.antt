@@ -1,8 +1,8 @@
 use Rattle.std.proofs.Common.{◌≡◌, ◌∷◌, true, arith, rules}
 use Rattle.json.specs.Token.{Token}
 use Rattle.net_plan.specs.NameText.{is_name}
-use Rattle.net_plan.proofs.RowParts.{name_next}
-use Rattle.net_plan.proofs.row_parts.next_name.Goals as goal
+use Rattle.net_plan.proofs.Gathered.{name_next}
+use Rattle.net_plan.proofs.next_value.next_name.Goals as goal
 
 pub returns : goal.returns
 returns c =
