@@ -194,11 +194,13 @@ fn print_outcomes<O: Sink>(
 {
     let mut gathered = Gathered::new(alloc);
     for (index, outcome) in outcomes.iter().enumerate() {
-        let Ok(line) = outcome_line(alloc, plan, index + 1, outcome) else {
-            gathered.write(output)?;
-            return Err(Refused::NoMemory);
-        };
-        gathered.add(&line, output)?;
+        match outcome_line(alloc, plan, index + 1, outcome) {
+            Ok(line) => gathered.add(&line, output)?,
+            Err(error) => {
+                gathered.write(output)?;
+                return Err(Refused::from(error));
+            }
+        }
     }
     gathered.write(output)
 }
