@@ -3,6 +3,7 @@ pub mod Named
 pub mod Exchanging
 pub mod Walked
 pub mod Repositories
+pub mod Waiting
 pub mod Simulated
 pub mod Naming
 pub mod Moved

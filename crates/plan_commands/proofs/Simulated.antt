@@ -1,15 +1,16 @@
 -- Lines of outcomes, and runs of which they are.
-use Rattle.std.proofs.Common.{◌≡◌, ℕ, zero, suc, ◌+◌, ◌<◌, ◌≤◌, Bool, true, false, List, [], ◌∷◌, ◌++◌, length, map, take, drop, get_or, Option, Some, Result, Err, inl, inr, refl, sym, ◌∙◌, ap, subst, append_assoc, append-nil, length-append, arith}
-use Rattle.std.proofs.Math.Seq.{take-append-add}
-use Rattle.std.specs.Prelude.{slice_get, option_map, ◌⊎◌, IfErr}
+use Rattle.std.proofs.Common.{◌≡◌, ℕ, zero, suc, ◌+◌, ◌<◌, ◌≤◌, Bool, true, false, List, [], ◌∷◌, ◌++◌, length, map, take, drop, get_or, Option, Some, Result, Ok, Err, inl, inr, refl, sym, ◌∙◌, ap, subst, append_assoc, append-nil, arith}
+use Rattle.std.specs.Prelude.{slice_get, option_map, ◌⊎◌, IfErr, OnOk, OnErr}
 use Rattle.std.specs.Io.KnownBytes.{Appends}
-use Rattle.std.proofs.KnownBytes.{Appends-nil, Appends-trans}
+use Rattle.std.proofs.KnownBytes.{Appends-nil}
 use Rattle.std.proofs.lemmas.List.Elements.{All-map}
 use Rattle.std.proofs.lemmas.List.{take-append-drop, length-map, length-take, length-take-le, take_more, take_all, take-map}
 use Rattle.std.proofs.lemmas.Option.{slice_get-map, slice_get-get_or, slice_get_within, get_or_from_slice_get}
 use Rattle.net_plan.specs.declared.event.Event.{Event}
 use Rattle.net_plan.specs.declared.plan.Plan.{Plan}
 use Rattle.net_plan.specs.Stream.{AppendsBeginning}
+use Rattle.plan_commands.specs.Gathering.{AppendsAllBut}
+use Rattle.plan_commands.proofs.Waiting.{added_after, begins_after, begins_at_end, given_at_end}
 use Rattle.net_check.specs.WalkedRuns.{WalkedTurn, WalkedRunFrom}
 use Rattle.net_check.specs.Walkers.{WalkedState, WalkedEvent, WalkedOutcome, walked_at_start}
 use Rattle.net_check.specs.Termini.{TerminusState}
@@ -74,35 +75,48 @@ module _ (plan : Plan) (outcomes : List Outcome) (index : ℕ) (outcome : Outcom
       ap (λ z. outcome_lines plan before_it ++ z) (told ∙ ap (λ n. outcome_line plan n (outcome_value outcome)) (sym number))
       ∙ (sym (lines_more plan 1 before_it (outcome_value outcome)) ∙ ap (outcome_lines plan) (sym one_more))
 
-  pub shows_more : (line : List ℕ) (old mid new : Option (List ℕ)) → line ≡ outcome_line plan (index + 1) (outcome_value outcome)
-      → Appends old mid (outcome_lines plan (take index (map outcome_value outcomes))) → Appends mid new line
-      → Appends old new (outcome_lines plan (take (index + 1) (map outcome_value outcomes)))
-  shows_more line old mid new told before pushed =
-      let before_it = take index (map outcome_value outcomes) in
-      subst (Appends old new) (all_lines line told) (Appends-trans old mid new (outcome_lines plan before_it) line before pushed)
+  -- the output was given all lines so far but for the end of the last line, which waits
+  pub shows_more : (line waiting waiting' : List ℕ) (old mid new : Option (List ℕ)) → line ≡ outcome_line plan (index + 1) (outcome_value outcome)
+      → AppendsAllBut waiting old mid (outcome_lines plan (take index (map outcome_value outcomes))) → AppendsAllBut waiting' mid new (waiting ++ line)
+      → AppendsAllBut waiting' old new (outcome_lines plan (take (index + 1) (map outcome_value outcomes)))
+  shows_more line waiting waiting' old mid new told before added =
+      subst (AppendsAllBut waiting' old new) (all_lines line told) (added_after _ line waiting waiting' old mid new before added)
 
-  -- a beginning of the next line, where the output fails in it
-  pub breaks_in_line : (line : List ℕ) (output middle : Stream) → line ≡ outcome_line plan (index + 1) (outcome_value outcome)
-      → Appends output.before middle.before (outcome_lines plan (take index (map outcome_value outcomes)))
-      → AppendsBeginning middle.before output.after line → output.failures_after ≡ output.failures_before + 1
+  -- a beginning of the lines that waited and the next one, where the output fails in them
+  pub breaks_in_line : (line waiting : List ℕ) (output middle : Stream) → line ≡ outcome_line plan (index + 1) (outcome_value outcome)
+      → AppendsAllBut waiting output.before middle.before (outcome_lines plan (take index (map outcome_value outcomes)))
+      → AppendsBeginning middle.before output.after (waiting ++ line) → output.failures_after ≡ output.failures_before + 1
       → BreaksOff (AreFirstLines plan (map outcome_value outcomes)) output
-  breaks_in_line line output middle told before (k, few, pushed) fails =
-      let earlier = outcome_lines plan (take index (map outcome_value outcomes)) in
-      let whole = outcome_lines plan (take (index + 1) (map outcome_value outcomes)) in
-      let part = Appends-trans output.before middle.before output.after earlier (take k line) before pushed in
-      let at = length earlier + k in
-      let all : length earlier + length line ≡ length whole = sym (length-append earlier line) ∙ ap (λ z. length z) (all_lines line told) in
-      record {
-        text = whole;
-        answer = (index + 1, refl);
-        fails = fails;
-        beginning = (
-          at,
-          omega (arith, few, all),
-          subst (λ z. Appends output.before output.after (take at z)) (all_lines line told)
-              (subst (Appends output.before output.after) (sym (take-append-add earlier line k)) part),
-        );
-      }
+  breaks_in_line line waiting output middle told before part fails = record {
+    text = outcome_lines plan (take (index + 1) (map outcome_value outcomes));
+    answer = (index + 1, refl);
+    fails = fails;
+    beginning = subst (AppendsBeginning output.before output.after) (all_lines line told) (begins_after _ line waiting output.before middle.before output.after before part);
+  }
+
+-- a beginning of the lines that waited, where the output fails in them
+pub breaks_in_waiting : (plan : Plan) (outcomes : List WalkedOutcome) (count : ℕ) (waiting : List ℕ) (output middle : Stream)
+    → AppendsAllBut waiting output.before middle.before (outcome_lines plan (take count outcomes)) → AppendsBeginning middle.before output.after waiting
+    → output.failures_after ≡ output.failures_before + 1 → BreaksOff (AreFirstLines plan outcomes) output
+breaks_in_waiting plan outcomes count waiting output middle before part fails = record {
+  text = outcome_lines plan (take count outcomes);
+  answer = (count, refl);
+  fails = fails;
+  beginning = begins_at_end _ waiting output.before middle.before output.after before part;
+}
+
+-- all lines are out, where those that waited were written
+pub ends_written : (P : Type 0) (plan : Plan) (outcomes : List WalkedOutcome) (index count : ℕ) (waiting : List ℕ) (output middle : Stream) (result : Result (Unit {0}) Refused)
+    → index ≡ count → AppendsAllBut waiting output.before middle.before (outcome_lines plan (take index outcomes))
+    → OnOk result (Appends middle.before output.after waiting) → IfErr result (λ why. why ≡ refused.Unwritten)
+    → OnErr result (AppendsBeginning middle.before output.after waiting) → OnErr result (output.failures_after ≡ middle.failures_before + 1)
+    → middle.failures_before ≡ output.failures_before → ShowsAllOr result P (ShowsLines plan outcomes count output) (AreFirstLines plan outcomes) output
+ends_written P plan outcomes index count waiting output middle (Ok done) all before written unwritten part fails kept =
+    let A : ℕ → Type 0 = λ n. ShowsLines plan outcomes n output in
+    subst A all (given_at_end _ waiting output.before middle.before output.after before written)
+ends_written P plan outcomes index count waiting output middle (Err why) all before written unwritten part fails kept =
+    let A : Refused → Type 0 = λ w. ShowsAllOr {T = Unit {0}} (Err w) P (ShowsLines plan outcomes count output) (AreFirstLines plan outcomes) output in
+    subst A (sym unwritten) (breaks_in_waiting plan outcomes index waiting output middle before part (fails ∙ ap (λ n. n + 1) kept))
 
 -- ---- runs
 

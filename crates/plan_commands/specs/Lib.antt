@@ -7,6 +7,7 @@ pub mod Certifying
 pub mod Assigning
 pub mod Walking
 pub mod Collecting
+pub mod Gathering
 pub mod OutcomeLines
 pub mod Simulating
 pub mod Moving

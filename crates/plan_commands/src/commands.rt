@@ -10,6 +10,7 @@ ghost use Rattle.plan_commands.specs.Answers.{stream, PrintsFault, FailsToPrint,
 pub mod assign;
 pub mod certify;
 pub mod check;
+pub mod gathered;
 pub mod inputs;
 pub mod moving;
 pub mod repositories;

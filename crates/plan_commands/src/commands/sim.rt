@@ -16,7 +16,8 @@ pub mod files;
 pub mod moves;
 pub mod termini;
 
-use crate::commands::{print, refuse};
+use crate::commands::gathered::Gathered;
+use crate::commands::refuse;
 use crate::refused::Refused;
 use crate::status::Status;
 use crate::texts::outcomes::outcome_line;
@@ -178,7 +179,7 @@ fn tell_played<O: Sink>(
     Ok(())
 }
 
-/// Writes the line of each outcome, as soon as it is made.
+/// Writes the lines of the outcomes, many at once.
 fn print_outcomes<O: Sink>(
     alloc: Global,
     plan: &Plan,
@@ -191,9 +192,15 @@ fn print_outcomes<O: Sink>(
         (ShowsLines plan.now (map outcome_value outcomes.now) (length outcomes.now) outputs)
         (AreFirstLines plan.now (map outcome_value outcomes.now)) outputs }
 {
+    let mut gathered = Gathered::new(alloc);
     for (index, outcome) in outcomes.iter().enumerate() {
-        let line = outcome_line(alloc, plan, index + 1, outcome)?;
-        print(output, &line)?;
+        match outcome_line(alloc, plan, index + 1, outcome) {
+            Ok(line) => gathered.add(&line, output)?,
+            Err(error) => {
+                gathered.write(output)?;
+                return Err(Refused::from(error));
+            }
+        }
     }
-    Ok(())
+    gathered.write(output)
 }
