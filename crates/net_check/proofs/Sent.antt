@@ -12,7 +12,7 @@ use Rattle.std.proofs.lemmas.Option.{slice_get_within}
 use Rattle.net_plan.specs.declared.plan.Plan.{Plan}
 use Rattle.net_plan.specs.declared.certificate.Certificate.{Certificate}
 use Rattle.net_check.specs.Routing.{Holds}
-use Rattle.net_check.specs.States.{unit}
+use Rattle.net_check.specs.States.{unit, unit_of}
 use Rattle.net_check.specs.ExactMessages.{Epoch, FitsKey, IsTold, CanBeSent, SixAreTooMany}
 use Rattle.net_check.proofs.Sends.{IsSendable, sent_is_told}
 
@@ -122,8 +122,8 @@ module _ (plan : Plan) (n d : ℕ) (key : KeyValue) (message : List ℕ) (there 
       by (a ∷ b ∷ c ∷ e ∷ f ∷ [], are) = absurd (omega (arith, many_packets unit message d key 0 _ are))
       by (a ∷ b ∷ c ∷ e ∷ f ∷ g ∷ h ∷ ps, are) = absurd (omega (arith, few_packets unit 6 message d key 0 _ are most))
 
-pub can_be_sent : (plan : Plan) (cert : Certificate) → CanBeSent 64 64 plan cert
+pub can_be_sent : (plan : Plan) (cert : Certificate) → CanBeSent (unit_of plan) 64 plan cert
 can_be_sent plan cert n d key message there holds small fits some most = sent_so plan n d key message there holds small fits cert some most
 
-pub six_are_too_many : (plan : Plan) (cert : Certificate) → SixAreTooMany 64 plan cert
+pub six_are_too_many : (plan : Plan) (cert : Certificate) → SixAreTooMany (unit_of plan) plan cert
 six_are_too_many plan cert n d key message there holds small fits more most = six_so plan n d key message there holds small fits cert more most

@@ -8,7 +8,7 @@ use Rattle.pdr_repository.specs.Answers.{IsAsked, Answers}
 use Rattle.net_check.specs.Routing.{Holds}
 use Rattle.net_check.specs.Repositories.{terminus_of, records_by_place}
 use Rattle.net_check.specs.Termini.{TerminusState, AreBytes}
-use Rattle.net_check.specs.States.{with_terminus, with_packets, unit}
+use Rattle.net_check.specs.States.{with_terminus, with_packets, unit_of}
 use Rattle.net_check.specs.Events.{AnswerAt, Answered}
 use Rattle.net_check.specs.Networks.{answer_key}
 use Rattle.net_check.specs.Runs.{Turn, Run, reached}
@@ -30,7 +30,7 @@ pub record IsAnsweredRun (plan : Plan) (cert : Certificate) (n d : ℕ) (key : K
   pub answered : Answers terminus.tid terminus.records request (Some answer) tid
   pub packets : List Frame
   pub some : 0 < length packets
-  pub are : ArePacketsOf unit answer key.source (answer_key d key) 0 packets
+  pub are : ArePacketsOf (unit_of plan) answer key.source (answer_key d key) 0 packets
   pub tells : turn.outcome ≡ Answered n ((reached plan cert earlier).made + 1) ((reached plan cert earlier).made + length packets)
   pub put_in : turn.after ≡ with_packets (with_terminus (reached plan cert earlier) n (Some (record terminus { tid = tid; waiting = [] }))) n packets
 
@@ -38,4 +38,4 @@ pub record IsAnsweredRun (plan : Plan) (cert : Certificate) (n d : ℕ) (key : K
 abbrev pub RequestsCanBeAnswered : Plan → Certificate → Type 0
 RequestsCanBeAnswered plan cert = (n d : ℕ) (key : KeyValue) (request : List ℕ) → n < length plan.nodes.items → Holds plan n d → d < 256
     → FitsKey key → key.owner ≡ true → terminus_of plan n ≢ None → All (λ e. AreBytes e.bytes) (records_by_place plan cert n)
-    → AreBytes request → IsAsked request → length request ≤ unit → IsAnsweredRun plan cert n d key request
+    → AreBytes request → IsAsked request → length request ≤ unit_of plan → IsAnsweredRun plan cert n d key request

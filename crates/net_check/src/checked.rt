@@ -4,7 +4,7 @@ ghost use Rattle.net_check.specs.Rules.{Accepts};
 ghost use Rattle.net_check.specs.Errors.{NamesFirstFault};
 ghost use Rattle.net_check.specs.Promises.{EndsWithinRank};
 ghost use Rattle.mctp_transport.specs.Frames.{KeyValue};
-ghost use Rattle.net_check.specs.States.{NetworkState};
+ghost use Rattle.net_check.specs.States.{NetworkState, unit_of};
 ghost use Rattle.net_check.specs.Headline.{Headline};
 ghost use Rattle.net_check.specs.Deliveries.{Delivers};
 ghost use Rattle.net_check.specs.ExactMessages.{RunsAsSent};
@@ -77,7 +77,7 @@ pub fn check<'a>(
 
     // Where one message at a time is sent under a key to a destination, of five packets at most, what comes of it is
     // that message.
-    ensures exact { OnOk result ((key : KeyValue) (d : ℕ) (w : NetworkState) → RunsAsSent 64 plan.now key d w) }
+    ensures exact { OnOk result ((key : KeyValue) (d : ℕ) (w : NetworkState) → RunsAsSent (unit_of plan.now) plan.now key d w) }
 {
     if let Some(fault) = first_of_all(alloc, plan, certificate)? {
         return Err(CheckError::Fault(fault));

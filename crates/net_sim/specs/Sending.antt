@@ -5,7 +5,7 @@ use Rattle.mctp_transport.specs.Cutting.{ArePacketsOf}
 use Rattle.net_plan.specs.declared.plan.Plan.{Plan}
 use Rattle.net_check.specs.Routing.{Holds}
 use Rattle.net_check.specs.TwoPlans.{Tables}
-use Rattle.net_check.specs.States.{Flight, unit}
+use Rattle.net_check.specs.States.{Flight, unit_of}
 use Rattle.net_check.specs.Networks.{answer_key}
 use Rattle.net_check.specs.Events.{Put, OutcomeValue, Answered, PutIn}
 use Rattle.net_sim.specs.Flights.{begun}
@@ -19,7 +19,7 @@ pub record Sends (plan : Plan) (node : ℕ) (asked : KeyValue) (answer : List �
   pub first : ℕ
   pub last : ℕ
   pub holds : Holds plan node eid
-  pub are : ArePacketsOf 64 answer asked.source (answer_key eid asked) 0 packets
+  pub are : ArePacketsOf (unit_of plan) answer asked.source (answer_key eid asked) 0 packets
   pub tells : outcome ≡ Answered node first last
   pub begins : first ≡ length old
   pub ends : last + 1 ≡ length old + length packets
@@ -29,6 +29,6 @@ pub record Sends (plan : Plan) (node : ℕ) (asked : KeyValue) (answer : List �
 pub record PutsOne (tables : Tables) (old : TrafficValue) (node : ℕ) (message : List ℕ) (destination : ℕ) (key : KeyValue) (number : ℕ) (new : TrafficValue) : Type 0 where
   pub packet : Frame
   pub bytes : List ℕ
-  pub cut : ArePacketsOf unit message destination key 0 (packet ∷ [])
-  pub spelled : Spelled unit packet bytes
+  pub cut : ArePacketsOf (unit_of tables.plan) message destination key 0 (packet ∷ [])
+  pub spelled : Spelled (unit_of tables.plan) packet bytes
   pub plays : Plays tables old (Put node bytes) (PutIn number node) new

@@ -1,3 +1,4 @@
+use Rattle.net_check.specs.States.{unit_of}
 use Rattle.net_check.specs.TwoPlans.{moving}
 use Rattle.net_check.proofs.Exact.{sent_by}
 use Rattle.net_check.proofs.Whole.{move_headline}
@@ -8,4 +9,4 @@ returns-clause-headline c =
     move_headline c.args.before.now c.args.after.now c.args.certificate.now c.in_ok-meet_rules_of_move.ensures.accepted
 
 pub returns-clause-exact : goal.returns-clause-exact
-returns-clause-exact c key d w = sent_by 64 (moving c.args.before.now c.args.after.now) key d w
+returns-clause-exact c key d w = sent_by (unit_of c.args.before.now) (moving c.args.before.now c.args.after.now) key d w
