@@ -1,10 +1,9 @@
 -- What is gathered of a level, with one more key.
-use Rattle.std.proofs.Common.{◌≡◌, ◌≤◌, ◌+◌, ◌∙◌, ℕ, List, Bor, Vec, Global, map, true, false, is_some, Option, Some, None, codes, option_map, ap, subst, sym, refl}
+use Rattle.std.proofs.Common.{◌≡◌, ◌∙◌, ℕ, List, Bor, false, is_some, Option, Some, None, codes, option_map, ap, subst, refl}
 use Rattle.json.specs.Json.{Json, object, Members, no_members}
 use Rattle.net_plan.specs.Gathered.{with_last, IsPlain, IsGathered}
 use Rattle.net_plan.specs.Trees.{data_of}
 use Rattle.net_plan.proofs.Gathered.{gathered_now, gathered_other, none_plain, plain_last, object_plain, all_keys, at_gathered, placed_at, not_yet, is_some_map}
-use Rattle.net_plan.specs.CertificateText.{IsLevelOf}
 use Rattle.net_plan.specs.JsonWords.{IsName, IsNumberWithin}
 use Rattle.net_plan.specs.Keys.{level_keys}
 use Rattle.net_plan.specs.LevelParts.{AreLevelParts, IsLevelBy}

@@ -1,5 +1,5 @@
 -- What is gathered of a certificate, with one more key.
-use Rattle.std.proofs.Common.{◌≡◌, ◌≢◌, ◌<◌, ◌≤◌, ◌∙◌, ◌||◌, ◌==◌, ℕ, zero, suc, List, [], ◌∷◌, length, map, take, get_or, Vec, Global, Bor, Bool, true, false, is_some, Option, Some, None, codes, option_map, AllPairs, subst, sym, ap, refl, true≢false, arith}
+use Rattle.std.proofs.Common.{◌≡◌, ◌≢◌, ◌<◌, ◌+◌, ◌∙◌, ◌||◌, ◌==◌, ℕ, zero, suc, List, [], ◌∷◌, length, map, take, get_or, Vec, Global, Bor, Bool, true, false, is_some, Some, None, codes, option_map, AllPairs, subst, sym, ap, refl, true≢false, arith}
 use Rattle.std.proofs.lemmas.Bool.Decides.{Decides-eqb}
 use Rattle.std.proofs.lemmas.List.{length-map, get_or-map}
 use Rattle.std.specs.List.{list_any}
@@ -71,7 +71,7 @@ no_parts nodes = record { plain = none_plain certificate_keys; format = refl; le
 -- ---- entries of other nodes
 
 -- no element before a place passes the test
-pub none_before : {A : Type 0} (p : A → Bool) (xs : List A) (n i : ℕ) (d : A) → i < n → i < length xs → list_any p (take n xs) ≡ false → p (get_or xs i d) ≡ false
+none_before : {A : Type 0} (p : A → Bool) (xs : List A) (n i : ℕ) (d : A) → i < n → i < length xs → list_any p (take n xs) ≡ false → p (get_or xs i d) ≡ false
 none_before p [] n i d below within none = absurd (omega arith)
 none_before p (x ∷ xs) zero i d below within none = absurd (omega arith)
 none_before p (x ∷ xs) (suc n) zero d below within none = by (p x) none
@@ -85,8 +85,27 @@ none_before p (x ∷ xs) (suc n) (suc i) d below within none = none_before p xs 
     by false e = e
     by true e = absurd (true≢false e)
 
-pub not_equal : (a b : ℕ) → (a == b) ≡ false → a ≢ b
+not_equal : (a b : ℕ) → (a == b) ≡ false → a ≢ b
 not_equal a b e same = true≢false (sym ((Decides-eqb a b).1 same) ∙ e)
+
+same_default : {A : Type 0} (xs : List A) (n : ℕ) (d e : A) → n < length xs → get_or xs n d ≡ get_or xs n e
+same_default [] n d e within = absurd (omega arith)
+same_default (x ∷ xs) zero d e within = refl
+same_default (x ∷ xs) (suc n) d e within = same_default xs n d e (omega arith)
+
+-- one more entry, of another node than those before it
+pub apart_more : {A : Type 0} (f : A → ℕ) (xs : List A) (n : ℕ) (x : A) → n < length xs → x ≡ get_or xs n x → list_any (λ y. f y == f x) (take n xs) ≡ false
+    → ((i j : ℕ) (d : A) → i < j → j < n → f (get_or xs i d) ≢ f (get_or xs j d)) → (i j : ℕ) (d : A) → i < j → j < n + 1 → f (get_or xs i d) ≢ f (get_or xs j d)
+apart_more f xs n x within is none before i j d below most same = by (j == n) refl
+  where
+    by : (b : Bool) → (j == n) ≡ b → ⊥
+    by true e =
+        let last : j ≡ n = (Decides-eqb j n).0 e in
+        let here : get_or xs j d ≡ x = ap (λ k. get_or xs k d) last ∙ same_default xs n d x within ∙ sym is in
+        not_equal (f (get_or xs i d)) (f x) (none_before (λ y. f y == f x) xs n i d (omega arith) (omega arith) none) (same ∙ ap f here)
+    by false e =
+        let other : j ≢ n = not_equal j n e in
+        before i j d below (omega arith) same
 
 pairs_seen : {A B : Type 0} (see : A → B) (R : B → B → Type 0) (xs : List A) → AllPairs (λ a b. R (see a) (see b)) xs → AllPairs R (map see xs)
 pairs_seen see R [] h i j d below within = absurd (omega arith)

@@ -1,11 +1,11 @@
 -- What is gathered of ranks, with one more key.
-use Rattle.std.proofs.Common.{◌≡◌, ◌≤◌, ◌+◌, ◌∙◌, ℕ, List, Bor, Vec, Global, map, true, false, is_some, Option, Some, None, codes, option_map, ap, subst, sym, refl}
+use Rattle.std.proofs.Common.{◌≡◌, ◌≤◌, ◌+◌, ◌∙◌, ℕ, List, Bor, Vec, Global, map, true, false, is_some, Option, Some, None, codes, option_map, ap, subst, refl}
 use Rattle.json.specs.Json.{Json, object, Members, no_members}
 use Rattle.net_plan.specs.Gathered.{with_last, IsPlain, IsGathered}
 use Rattle.net_plan.specs.Trees.{data_of}
 use Rattle.net_plan.proofs.Gathered.{gathered_now, gathered_other, none_plain, plain_last, object_plain, all_keys, at_gathered, placed_at, not_yet, is_some_map}
 use Rattle.net_plan.specs.CertificateReading.{ascends}
-use Rattle.net_plan.specs.CertificateText.{IsRangeOf, AreRanksOf}
+use Rattle.net_plan.specs.CertificateText.{IsRangeOf}
 use Rattle.net_plan.specs.CertificateValues.{range_value}
 use Rattle.net_plan.specs.JsonWords.{IsName, IsNumberWithin, IsListOf}
 use Rattle.net_plan.specs.Keys.{range_keys, ranks_keys}

@@ -53,10 +53,5 @@ pub fn nodes_differ<E: Entry>(entries: &[E]) -> bool
 fn has_entry<E: Entry>(entries: &[E], node: usize) -> bool
     ensures { result ≡ list_any (λ e. E.node_of e == node) entries.now }
 {
-    for entry in entries {
-        if entry.node() == node {
-            return true;
-        }
-    }
-    false
+    entries.iter().any(|entry| entry.node() == node)
 }

@@ -1,4 +1,4 @@
-use Rattle.std.proofs.Common.{◌≡◌, ◌≤◌, ◌+◌, Some, true, map, rules, arith}
+use Rattle.std.proofs.Common.{◌≡◌, Some, rules}
 use Rattle.net_plan.specs.Places.{noted}
 use Rattle.net_plan.proofs.LevelParts.{level_of}
 use Rattle.net_plan.proofs.level_parts.LevelParts.level.Goals as goal

@@ -1,4 +1,4 @@
-use Rattle.std.proofs.Common.{◌≡◌, ◌≤◌, ◌+◌, Some, true, map, rules, arith}
+use Rattle.std.proofs.Common.{◌≡◌, Some, true, map, rules}
 use Rattle.net_plan.specs.CertificateReading.{ascends}
 use Rattle.net_plan.specs.CertificateValues.{range_value}
 use Rattle.net_plan.specs.Places.{noted}
