@@ -51,7 +51,7 @@ later : (a b : ℕ) (rs : List RangeValue) → a ≤ b → AllByRecursion (λ r.
 later a b [] h all = tt
 later a b (r ∷ rs) h all = (let first : b ≤ r.first = all.0 in omega arith, later a b rs h all.1)
 
-ascends_sound : (end : ℕ) (rs : List RangeValue) → ascends end rs ≡ true → AllByRecursion (λ r. end ≤ r.first) rs × IsAscending rs
+pub ascends_sound : (end : ℕ) (rs : List RangeValue) → ascends end rs ≡ true → AllByRecursion (λ r. end ≤ r.first) rs × IsAscending rs
 ascends_sound end [] e = (tt, λ i j d below within. absurd (omega arith))
 ascends_sound end (r ∷ rs) e = by (nat_le end r.first) refl e (ascends_sound (r.first + r.size) rs)
   where

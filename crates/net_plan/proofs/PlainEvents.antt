@@ -1,19 +1,19 @@
 -- What is gathered of a list of events, with one more key.
-use Rattle.std.proofs.Common.{◌≡◌, ◌≢◌, ◌≤◌, ◌∙◌, ◌&&◌, ◌∷◌, ℕ, List, [], map, Vec, Global, Bor, true, false, is_some, Option, Some, None, codes, option_map, subst, sym, ap, refl, true≢false}
+use Rattle.std.proofs.Common.{◌≡◌, ◌≢◌, ◌∙◌, ◌∷◌, ℕ, List, [], map, Vec, Global, Bor, true, false, is_some, Option, Some, None, codes, option_map, subst, sym, refl, true≢false}
 use Rattle.std.specs.List.{list_all}
 use Rattle.json.specs.Json.{Json, object, Members, no_members}
 use Rattle.serde_json.specs.Data as whole
 use Rattle.serde_json.specs.Data.{Data}
 use Rattle.net_plan.specs.EventParts.{IsEventBy}
 use Rattle.net_plan.specs.EventReading.{has_switches, has_walks}
-use Rattle.net_plan.specs.EventText.{IsFormat, IsEventOf, AreEventsOf}
+use Rattle.net_plan.specs.EventText.{IsFormat, IsEventOf}
 use Rattle.net_plan.specs.EventValues.{EventEntry, put, move, lose, expire, answer, switch, walk, ask, collected, event_entry}
 use Rattle.net_plan.specs.Gathered.{with_last, IsPlain, IsGathered}
 use Rattle.net_plan.specs.JsonWords.{AreItems, IsShortListOf}
 use Rattle.net_plan.specs.Keys.{events_keys}
 use Rattle.net_plan.specs.PlainEvents.{AreEventsParts, AreEventsBy, is_event_in}
 use Rattle.net_plan.specs.Places.{noted, ArePlaces}
-use Rattle.net_plan.specs.PlanValues.{PlanValue, node_names}
+use Rattle.net_plan.specs.PlanValues.{node_names}
 use Rattle.net_plan.specs.Trees.{data_of}
 use Rattle.net_plan.specs.declared.event.Event.{Event}
 use Rattle.net_plan.specs.declared.event_text.Format.{Format}

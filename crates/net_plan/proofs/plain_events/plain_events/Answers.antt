@@ -1,4 +1,4 @@
-use Rattle.std.proofs.Common.{◌≡◌, ℕ, List, [], Some, map, ap, sym, ◌∙◌, subst, rules}
+use Rattle.std.proofs.Common.{◌≡◌, ℕ, List, [], Some, map, ap, sym, ◌∙◌, rules}
 use Rattle.json.specs.Json.{object, value}
 use Rattle.json.specs.Lex.{tokens}
 use Rattle.serde_json.specs.Read.{max_depth}

@@ -1,4 +1,4 @@
-use Rattle.std.proofs.Common.{◌≤◌, length, subst, arith}
+use Rattle.std.proofs.Common.{◌≤◌, length, subst}
 use Rattle.net_plan.specs.Gathered.{IsPlainText}
 use Rattle.net_plan.specs.PlanText.{IsPlanOf}
 use Rattle.net_plan.specs.PlanValues.{plan_value}

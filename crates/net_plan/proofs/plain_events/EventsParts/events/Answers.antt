@@ -1,4 +1,4 @@
-use Rattle.std.proofs.Common.{◌≡◌, ◌∙◌, Some, true, map, ap, sym, rules}
+use Rattle.std.proofs.Common.{◌≡◌, ◌∙◌, Some, true, rules}
 use Rattle.std.specs.List.{list_all}
 use Rattle.net_plan.specs.EventValues.{event_entry}
 use Rattle.net_plan.specs.PlainEvents.{is_event_in}

@@ -1,0 +1,20 @@
+-- What is gathered of a level, a key after another.
+use Rattle.std.specs.Prelude.{ℕ, codes, List, Option, option_map}
+use Rattle.json.specs.Json.{Members}
+use Rattle.serde_json.specs.Data.{Data}
+use Rattle.net_plan.specs.CertificateText.{IsLevelOf}
+use Rattle.net_plan.specs.CertificateValues.{LevelValue}
+use Rattle.net_plan.specs.Gathered.{ArePlain, IsGathered}
+use Rattle.net_plan.specs.JsonWords.{IsName, IsNumberWithin}
+use Rattle.net_plan.specs.Keys.{level_keys}
+use Rattle.net_plan.specs.Places.{ArePlaces}
+use Rattle.net_plan.specs.declared.level_parts.LevelParts.{LevelParts}
+
+pub record AreLevelParts (p : LevelParts) (ms : Members) : Type 0 where
+  pub plain : ArePlain level_keys ms
+  pub level : IsGathered (codes "level") (IsNumberWithin 1 63) p.level ms
+  pub node : IsGathered (codes "node") IsName (option_map (λ name. name.now) p.node) ms
+
+-- the level of a node whose place is found
+abbrev pub IsLevelBy : (List ℕ → Option ℕ) → Data → LevelValue → Type 0
+IsLevelBy find d l = (names : List (List ℕ)) → ArePlaces find names → IsLevelOf names d l
