@@ -1,3 +1,4 @@
+pub mod Causes
 pub mod Telling
 pub mod Named
 pub mod Exchanging

@@ -11,30 +11,31 @@ use Rattle.net_plan.specs.declared.error.PlanError.{PlanError}
 use Rattle.net_plan.specs.PlanValues.{plan_value}
 use Rattle.net_plan.specs.TextFaults.{error_count}
 use Rattle.net_plan.specs.Unread.{GaveNoEvents}
+use Rattle.plan_commands.specs.declared.refused.Input.{Input}
 use Rattle.plan_commands.specs.declared.refused.Input.TheVariants as input
 use Rattle.plan_commands.specs.declared.refused.Refused.{Refused}
 use Rattle.plan_commands.specs.declared.refused.Refused.TheVariants as refused
 use Rattle.plan_commands.specs.declared.status.Status.{Status}
 use Rattle.plan_commands.specs.declared.status.Status.TheVariants as status
-use Rattle.plan_commands.specs.Answers.{Stream, BreaksOff, FailsToPrint}
-use Rattle.plan_commands.specs.Moving.{IsMoveGiven, IsMoveErrorText, PrintsMoveError, IsMoveUnread}
-use Rattle.plan_commands.specs.MoveSimulating.{IsPlayGiven, TellsMovedInPart, IsPlayAnswer, IsPlayUnread, IsUnplayedFor, SimulatesMoveFiles}
+use Rattle.plan_commands.specs.Answers.{Stream, Fails, BreaksOff, FailsToPrint}
+use Rattle.plan_commands.specs.Moving.{IsMoveGiven, IsMoveErrorText, PrintsMoveError, IsUnreadInMove, IsMoveUnread}
+use Rattle.plan_commands.specs.MoveSimulating.{IsPlayGiven, TellsMovedInPart, IsPlayAnswer, IsUnreadInPlay, IsPlayUnread, IsUnplayedFor, SimulatesMoveFiles}
 use Rattle.plan_commands.specs.Simulating.{EndsShowing, AreLinesAtMost, ShowsOutcomes, ShowsAtMost}
 use Rattle.plan_commands.specs.Statuses.{refused_at}
+use Rattle.plan_commands.proofs.Causes.{unread_also, unread_among, unwritten_among}
 use Rattle.plan_commands.proofs.Telling.{refusal_at, breaks_off_also, untouched_also}
 
 -- the plans or the certificate were not read
 pub inputs_unread : (why : Refused) (befores afters certificates happenings : Stream) → IsMoveUnread why befores afters certificates
     → IsPlayUnread why befores afters certificates happenings
-inputs_unread refused.Usage befores afters certificates happenings h = h
-inputs_unread (refused.Unreadable input.Plan cause) befores afters certificates happenings h = h
-inputs_unread (refused.Unreadable input.Certificate cause) befores afters certificates happenings h = h
-inputs_unread (refused.Unreadable input.Events cause) befores afters certificates happenings h = absurd h
-inputs_unread refused.UnknownNode befores afters certificates happenings h = h
-inputs_unread refused.UnreadableHex befores afters certificates happenings h = h
-inputs_unread refused.TooMuch befores afters certificates happenings h = h
-inputs_unread refused.Unwritten befores afters certificates happenings h = h
-inputs_unread refused.NoMemory befores afters certificates happenings h = h
+inputs_unread why befores afters certificates happenings h =
+    unread_also (λ unread cause. IsUnreadInMove unread cause befores afters certificates) (λ unread cause. IsUnreadInPlay unread cause befores afters certificates happenings)
+    why also h
+  where
+    also : (unread : Input) (cause : PlanError) → IsUnreadInMove unread cause befores afters certificates → IsUnreadInPlay unread cause befores afters certificates happenings
+    also input.Plan cause h = h
+    also input.Certificate cause h = h
+    also input.Events cause h = absurd h
 
 -- the events were not read
 pub move_events_unread : (e : PlanError) (before after : Plan) (certificate : Certificate) (befores afters certificates happenings : Stream)
@@ -47,24 +48,14 @@ move_events_unread e before after certificate befores afters certificates happen
 -- where the inputs were not read, nothing is played
 pub play_unread : (why : Refused) (befores afters certificates happenings output : Stream) → IsPlayUnread why befores afters certificates happenings
     → IsUnplayedFor why befores afters certificates happenings output
-play_unread refused.Usage befores afters certificates happenings output h = h
-play_unread (refused.Unreadable unread cause) befores afters certificates happenings output h = h
-play_unread refused.UnknownNode befores afters certificates happenings output h = h
-play_unread refused.UnreadableHex befores afters certificates happenings output h = h
-play_unread refused.TooMuch befores afters certificates happenings output h = h
-play_unread refused.Unwritten befores afters certificates happenings output h = absurd h
-play_unread refused.NoMemory befores afters certificates happenings output h = h
+play_unread why befores afters certificates happenings output h =
+    unread_among (λ unread cause. IsUnreadInPlay unread cause befores afters certificates happenings) ⊥ ⊥ ⊥ (Fails output) why h
 
 -- nor where the line of an error is not written
 pub move_error_unplayed : (why : Refused) (befores afters certificates happenings output : Stream) → FailsToPrint why output
     → IsUnplayedFor why befores afters certificates happenings output
-move_error_unplayed refused.Usage befores afters certificates happenings output h = h
-move_error_unplayed (refused.Unreadable unread cause) befores afters certificates happenings output h = absurd h
-move_error_unplayed refused.UnknownNode befores afters certificates happenings output h = h
-move_error_unplayed refused.UnreadableHex befores afters certificates happenings output h = h
-move_error_unplayed refused.TooMuch befores afters certificates happenings output h = h
-move_error_unplayed refused.Unwritten befores afters certificates happenings output h = h
-move_error_unplayed refused.NoMemory befores afters certificates happenings output h = h
+move_error_unplayed why befores afters certificates happenings output h =
+    unwritten_among (λ unread cause. IsUnreadInPlay unread cause befores afters certificates happenings) ⊥ ⊥ ⊥ (Fails output) why h
 
 module _ (before after : Plan) (certificate : Certificate) (befores afters certificates happenings output : Stream) (events : List Event)
     (given : IsPlayGiven befores afters certificates happenings before after certificate events) where

@@ -9,39 +9,37 @@ use Rattle.net_plan.specs.declared.error.PlanError.{PlanError}
 use Rattle.net_plan.specs.PlanValues.{plan_value}
 use Rattle.net_plan.specs.TextFaults.{error_count}
 use Rattle.net_plan.specs.Unread.{GaveNoCertificate}
+use Rattle.plan_commands.specs.declared.refused.Input.{Input}
 use Rattle.plan_commands.specs.declared.refused.Input.TheVariants as input
 use Rattle.plan_commands.specs.declared.refused.Refused.{Refused}
 use Rattle.plan_commands.specs.declared.refused.Refused.TheVariants as refused
-use Rattle.plan_commands.specs.Answers.{Stream, BreaksOff, GavePlan, IsPlanUnread, FailsToPrint}
-use Rattle.plan_commands.specs.Moving.{IsMoveGiven, IsMoveAnswer, IsMoveErrorText, PrintsMoveError, IsMoveUnread, IsMoveRefusedFor, EndsMove}
+use Rattle.plan_commands.specs.Answers.{Stream, Fails, BreaksOff, GavePlan, IsUnreadPlan, IsPlanUnread, FailsToPrint}
+use Rattle.plan_commands.specs.Moving.{IsMoveGiven, IsMoveAnswer, IsMoveErrorText, PrintsMoveError, IsUnreadInMove, IsMoveUnread, IsMoveRefusedFor, EndsMove}
 use Rattle.plan_commands.specs.Statuses.{refused_at}
 use Rattle.plan_commands.specs.declared.status.Status.{Status}
+use Rattle.plan_commands.proofs.Causes.{unread_also, unread_among, unwritten_among}
 use Rattle.plan_commands.proofs.Telling.{refusal_at, untouched_also}
 
 -- the plan before was not read
 pub before_unread : (why : Refused) (befores afters certificates : Stream) → IsPlanUnread why befores → IsMoveUnread why befores afters certificates
-before_unread refused.Usage befores afters certificates h = h
-before_unread (refused.Unreadable input.Plan cause) befores afters certificates h = inl h
-before_unread (refused.Unreadable input.Certificate cause) befores afters certificates h = absurd h
-before_unread (refused.Unreadable input.Events cause) befores afters certificates h = h
-before_unread refused.UnknownNode befores afters certificates h = h
-before_unread refused.UnreadableHex befores afters certificates h = h
-before_unread refused.TooMuch befores afters certificates h = h
-before_unread refused.Unwritten befores afters certificates h = h
-before_unread refused.NoMemory befores afters certificates h = h
+before_unread why befores afters certificates h =
+    unread_also (λ unread cause. IsUnreadPlan unread cause befores) (λ unread cause. IsUnreadInMove unread cause befores afters certificates) why also h
+  where
+    also : (unread : Input) (cause : PlanError) → IsUnreadPlan unread cause befores → IsUnreadInMove unread cause befores afters certificates
+    also input.Plan cause h = inl h
+    also input.Certificate cause h = absurd h
+    also input.Events cause h = h
 
 -- the plan after was not read
 pub after_unread : (before : Plan) (why : Refused) (befores afters certificates : Stream) → GavePlan befores before → IsPlanUnread why afters
     → IsMoveUnread why befores afters certificates
-after_unread before refused.Usage befores afters certificates gave h = h
-after_unread before (refused.Unreadable input.Plan cause) befores afters certificates gave h = inr (before, gave, h)
-after_unread before (refused.Unreadable input.Certificate cause) befores afters certificates gave h = absurd h
-after_unread before (refused.Unreadable input.Events cause) befores afters certificates gave h = h
-after_unread before refused.UnknownNode befores afters certificates gave h = h
-after_unread before refused.UnreadableHex befores afters certificates gave h = h
-after_unread before refused.TooMuch befores afters certificates gave h = h
-after_unread before refused.Unwritten befores afters certificates gave h = h
-after_unread before refused.NoMemory befores afters certificates gave h = h
+after_unread before why befores afters certificates gave h =
+    unread_also (λ unread cause. IsUnreadPlan unread cause afters) (λ unread cause. IsUnreadInMove unread cause befores afters certificates) why also h
+  where
+    also : (unread : Input) (cause : PlanError) → IsUnreadPlan unread cause afters → IsUnreadInMove unread cause befores afters certificates
+    also input.Plan cause h = inr (before, gave, h)
+    also input.Certificate cause h = absurd h
+    also input.Events cause h = h
 
 -- the certificate was not read
 pub move_certificate_unread : (e : PlanError) (before after : Plan) (befores afters certificates : Stream) → GavePlan befores before → GavePlan afters after
@@ -54,23 +52,13 @@ move_certificate_unread e before after befores afters certificates first second 
 -- where the inputs were not read, there is no answer
 pub move_unread : (why : Refused) (befores afters certificates output : Stream) → IsMoveUnread why befores afters certificates
     → IsMoveRefusedFor why befores afters certificates output
-move_unread refused.Usage befores afters certificates output h = h
-move_unread (refused.Unreadable unread cause) befores afters certificates output h = h
-move_unread refused.UnknownNode befores afters certificates output h = h
-move_unread refused.UnreadableHex befores afters certificates output h = h
-move_unread refused.TooMuch befores afters certificates output h = h
-move_unread refused.Unwritten befores afters certificates output h = absurd h
-move_unread refused.NoMemory befores afters certificates output h = h
+move_unread why befores afters certificates output h =
+    unread_among (λ unread cause. IsUnreadInMove unread cause befores afters certificates) ⊥ ⊥ ⊥ (Fails output) why h
 
 -- nor where the line of an error is not written
 pub move_unwritten : (why : Refused) (befores afters certificates output : Stream) → FailsToPrint why output → IsMoveRefusedFor why befores afters certificates output
-move_unwritten refused.Usage befores afters certificates output h = h
-move_unwritten (refused.Unreadable unread cause) befores afters certificates output h = absurd h
-move_unwritten refused.UnknownNode befores afters certificates output h = h
-move_unwritten refused.UnreadableHex befores afters certificates output h = h
-move_unwritten refused.TooMuch befores afters certificates output h = h
-move_unwritten refused.Unwritten befores afters certificates output h = h
-move_unwritten refused.NoMemory befores afters certificates output h = h
+move_unwritten why befores afters certificates output h =
+    unwritten_among (λ unread cause. IsUnreadInMove unread cause befores afters certificates) ⊥ ⊥ ⊥ (Fails output) why h
 
 -- the printed error is what the run tells
 pub tells_move_fault : (before after : Plan) (certificate : Certificate) (befores afters certificates output : Stream) (error : MoveError) (ended : Status)

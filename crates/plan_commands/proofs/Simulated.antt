@@ -27,8 +27,9 @@ use Rattle.plan_commands.specs.declared.refused.Refused.TheVariants as refused
 use Rattle.plan_commands.specs.declared.refused.Input.TheVariants as input
 use Rattle.plan_commands.specs.declared.status.Status.{Status}
 use Rattle.plan_commands.specs.declared.status.Status.TheVariants as status
-use Rattle.plan_commands.specs.Answers.{Stream, BreaksOff, AreGiven, IsErrorText, PrintsFault, FailsToPrint}
+use Rattle.plan_commands.specs.Answers.{Stream, Fails, BreaksOff, AreGiven, IsErrorText, PrintsFault, FailsToPrint}
 use Rattle.plan_commands.specs.Statuses.{refused_at}
+use Rattle.plan_commands.proofs.Causes.{unread_among, unwritten_among}
 use Rattle.plan_commands.proofs.Telling.{refusal_at, breaks_off_also, untouched_also}
 use Rattle.net_check.specs.declared.check_error.CheckError.{CheckError}
 use Rattle.net_check.specs.declared.check_error.CheckError.TheVariants as check_error
@@ -40,7 +41,7 @@ use Rattle.net_plan.specs.PlanValues.{plan_value}
 use Rattle.net_plan.specs.TextFaults.{error_count}
 use Rattle.net_plan.specs.Unread.{GaveNoEvents}
 use Rattle.plan_commands.specs.OutcomeLines.{outcome_line, lines_from, outcome_lines}
-use Rattle.plan_commands.specs.Simulating.{IsRunText, ShowsRun, ShowsBeginning, ShowsWalks, ShowsBegunWalks, IsWalksText, ShowsAllOr, EndsShowing, AreFirstLines, AreIdle, SimulatesAtRest, AreLinesAtMost, ShowsLines, ShowsOutcomes, ShowsAtMost, GaveEvents, TellsBeginning, IsSimAnswer, AreUnreadAmong, IsUnsimulatedFor, SimulatesFiles}
+use Rattle.plan_commands.specs.Simulating.{IsRunText, ShowsRun, ShowsBeginning, ShowsWalks, ShowsBegunWalks, IsWalksText, ShowsAllOr, EndsShowing, AreFirstLines, AreIdle, SimulatesAtRest, AreLinesAtMost, ShowsLines, ShowsOutcomes, ShowsAtMost, GaveEvents, TellsBeginning, IsSimAnswer, IsUnreadAmong, AreUnreadAmong, IsUnsimulatedFor, SimulatesFiles}
 
 -- ---- lines
 
@@ -346,23 +347,13 @@ events_unread e plan cert plans certificates happenings given gave counted =
 -- where the inputs were not read, nothing is simulated
 pub files_unread : (why : Refused) (plans certificates happenings output : Stream) → AreUnreadAmong why plans certificates happenings
     → IsUnsimulatedFor why plans certificates happenings output
-files_unread refused.Usage plans certificates happenings output h = h
-files_unread (refused.Unreadable unread cause) plans certificates happenings output h = h
-files_unread refused.UnknownNode plans certificates happenings output h = h
-files_unread refused.UnreadableHex plans certificates happenings output h = h
-files_unread refused.TooMuch plans certificates happenings output h = h
-files_unread refused.Unwritten plans certificates happenings output h = absurd h
-files_unread refused.NoMemory plans certificates happenings output h = h
+files_unread why plans certificates happenings output h =
+    unread_among (λ unread cause. IsUnreadAmong unread cause plans certificates happenings) ⊥ ⊥ ⊥ (Fails output) why h
 
 -- nor where the fault is not written
 pub files_unwritten : (why : Refused) (plans certificates happenings output : Stream) → FailsToPrint why output → IsUnsimulatedFor why plans certificates happenings output
-files_unwritten refused.Usage plans certificates happenings output h = h
-files_unwritten (refused.Unreadable unread cause) plans certificates happenings output h = absurd h
-files_unwritten refused.UnknownNode plans certificates happenings output h = h
-files_unwritten refused.UnreadableHex plans certificates happenings output h = h
-files_unwritten refused.TooMuch plans certificates happenings output h = h
-files_unwritten refused.Unwritten plans certificates happenings output h = h
-files_unwritten refused.NoMemory plans certificates happenings output h = h
+files_unwritten why plans certificates happenings output h =
+    unwritten_among (λ unread cause. IsUnreadAmong unread cause plans certificates happenings) ⊥ ⊥ ⊥ (Fails output) why h
 
 pub files_fault : (plan : Plan) (cert : Certificate) (plans certificates happenings output : Stream) (fault : CheckError) (ended : Status)
     → AreGiven plans certificates plan cert → NamesFirstFault plan cert fault → PrintsFault plan fault ended output

@@ -24,7 +24,7 @@ use Rattle.plan_commands.specs.declared.refused.Refused.TheVariants as refused
 use Rattle.plan_commands.specs.declared.status.Status.{Status}
 use Rattle.plan_commands.specs.declared.status.Status.TheVariants as status
 use Rattle.plan_commands.specs.Lines.{fault_text}
-use Rattle.plan_commands.specs.Statuses.{status_of, yes_line}
+use Rattle.plan_commands.specs.Statuses.{status_of, HasCause, yes_line}
 
 -- a stream before a call and after it: the bytes that a source has yet to give or a sink was given, and how often it failed
 pub record Stream : Type 0 where
@@ -106,21 +106,17 @@ PrintsFault plan check_error.OutOfMemory ended output = ⊥
 
 -- a line was not written: the output failed, or memory ran out
 abbrev pub FailsToPrint : Refused → Stream → Type 0
-FailsToPrint refused.Unwritten output = Fails output
-FailsToPrint refused.NoMemory output = ⊤
-FailsToPrint _ output = ⊥
+FailsToPrint why output = HasCause (λ unread cause. ⊥) ⊥ ⊥ ⊥ (Fails output) why
+
+-- why an input, which is the plan, can't be read
+abbrev pub IsUnreadPlan : Input → PlanError → Stream → Type 0
+IsUnreadPlan input.Plan cause plans = GaveNothing GaveNoPlan plans cause
+IsUnreadPlan input.Certificate cause plans = ⊥
+IsUnreadPlan input.Events cause plans = ⊥
 
 -- why the plan was not read
 abbrev pub IsPlanUnread : Refused → Stream → Type 0
-IsPlanUnread refused.Usage plans = ⊥
-IsPlanUnread (refused.Unreadable input.Plan cause) plans = GaveNothing GaveNoPlan plans cause
-IsPlanUnread (refused.Unreadable input.Certificate cause) plans = ⊥
-IsPlanUnread (refused.Unreadable input.Events cause) plans = ⊥
-IsPlanUnread refused.UnknownNode plans = ⊥
-IsPlanUnread refused.UnreadableHex plans = ⊥
-IsPlanUnread refused.TooMuch plans = ⊥
-IsPlanUnread refused.Unwritten plans = ⊥
-IsPlanUnread refused.NoMemory plans = ⊤
+IsPlanUnread why plans = HasCause (λ unread cause. IsUnreadPlan unread cause plans) ⊥ ⊥ ⊥ ⊥ why
 
 -- why an input can't be read; a certificate is read only where the plan was given
 abbrev pub IsUnread : Input → PlanError → Stream → Stream → Type 0
@@ -131,23 +127,11 @@ IsUnread input.Events cause plans certificates = ⊥
 
 -- why the inputs were not read
 abbrev pub AreUnread : Refused → Stream → Stream → Type 0
-AreUnread refused.Usage plans certificates = ⊥
-AreUnread (refused.Unreadable unread cause) plans certificates = IsUnread unread cause plans certificates
-AreUnread refused.UnknownNode plans certificates = ⊥
-AreUnread refused.UnreadableHex plans certificates = ⊥
-AreUnread refused.TooMuch plans certificates = ⊥
-AreUnread refused.Unwritten plans certificates = ⊥
-AreUnread refused.NoMemory plans certificates = ⊤
+AreUnread why plans certificates = HasCause (λ unread cause. IsUnread unread cause plans certificates) ⊥ ⊥ ⊥ ⊥ why
 
 -- why there is no answer: the inputs were not read, or the output failed
 abbrev pub IsRefusedFor : Refused → Stream → Stream → Stream → Type 0
-IsRefusedFor refused.Usage plans certificates output = ⊥
-IsRefusedFor (refused.Unreadable unread cause) plans certificates output = IsUnread unread cause plans certificates
-IsRefusedFor refused.UnknownNode plans certificates output = ⊥
-IsRefusedFor refused.UnreadableHex plans certificates output = ⊥
-IsRefusedFor refused.TooMuch plans certificates output = ⊥
-IsRefusedFor refused.Unwritten plans certificates output = Fails output
-IsRefusedFor refused.NoMemory plans certificates output = ⊤
+IsRefusedFor why plans certificates output = HasCause (λ unread cause. IsUnread unread cause plans certificates) ⊥ ⊥ ⊥ (Fails output) why
 
 -- what the end of a run says of what the sources gave and what was written, where such a text is told of an accepted plan
 abbrev pub Tells : (Plan → Certificate → List ℕ → Type 0) → Status → Stream → Stream → Stream → Type 0

@@ -18,9 +18,9 @@ use Rattle.plan_commands.specs.declared.refused.Refused.{Refused}
 use Rattle.plan_commands.specs.declared.refused.Refused.TheVariants as refused
 use Rattle.plan_commands.specs.declared.status.Status.{Status}
 use Rattle.plan_commands.specs.declared.status.Status.TheVariants as status
-use Rattle.plan_commands.specs.Answers.{Stream, GavePlan, GaveNothing, Fails}
+use Rattle.plan_commands.specs.Answers.{Stream, GavePlan, IsUnreadPlan, Fails}
 use Rattle.plan_commands.specs.Lines.{obstacle_text}
-use Rattle.plan_commands.specs.Statuses.{status_of}
+use Rattle.plan_commands.specs.Statuses.{status_of, HasCause}
 
 -- Every rule holds of the plan and the certificate; the certificate gives each level, place and rank as the plan has them; and
 -- the text is the certificate's, read for the plan it stands for the certificate, and it has at most 2,097,152 bytes.
@@ -55,15 +55,7 @@ IsCertifyAnswer plans text = (plan : Plan) × GavePlan plans plan
 
 -- why there is no answer: the plan was not read, or the output failed
 abbrev pub IsUncertifiedFor : Refused → Stream → Stream → Type 0
-IsUncertifiedFor refused.Usage plans output = ⊥
-IsUncertifiedFor (refused.Unreadable input.Plan cause) plans output = GaveNothing GaveNoPlan plans cause
-IsUncertifiedFor (refused.Unreadable input.Certificate cause) plans output = ⊥
-IsUncertifiedFor (refused.Unreadable input.Events cause) plans output = ⊥
-IsUncertifiedFor refused.UnknownNode plans output = ⊥
-IsUncertifiedFor refused.UnreadableHex plans output = ⊥
-IsUncertifiedFor refused.TooMuch plans output = ⊥
-IsUncertifiedFor refused.Unwritten plans output = Fails output
-IsUncertifiedFor refused.NoMemory plans output = ⊤
+IsUncertifiedFor why plans output = HasCause (λ unread cause. IsUnreadPlan unread cause plans) ⊥ ⊥ ⊥ (Fails output) why
 
 -- what the end of a run says of what the source gave and what was written
 abbrev pub Certifies : Status → Stream → Stream → Type 0

@@ -18,7 +18,7 @@ use Rattle.plan_commands.specs.declared.status.Status.TheVariants as status
 use Rattle.plan_commands.specs.Answers.{Stream, Fails, GaveNothing}
 use Rattle.plan_commands.specs.Moving.{IsMoveGiven, IsMoveFaultText, IsUnreadInMove, TellsMoveFault}
 use Rattle.plan_commands.specs.Simulating.{SimulatesAtRest, AreLinesAtMost, ShowsOutcomes, ShowsAtMost, GaveEvents}
-use Rattle.plan_commands.specs.Statuses.{status_of}
+use Rattle.plan_commands.specs.Statuses.{status_of, HasCause}
 
 -- the sources gave the plans, the certificate, and the events at the nodes of the plan before
 pub record IsPlayGiven (befores afters certificates happenings : Stream) (before after : Plan) (certificate : Certificate) (events : List Event) : Type 0 where
@@ -61,23 +61,13 @@ IsUnreadInPlay input.Events cause befores afters certificates happenings = (befo
 
 -- why the inputs were not read
 abbrev pub IsPlayUnread : Refused → Stream → Stream → Stream → Stream → Type 0
-IsPlayUnread refused.Usage befores afters certificates happenings = ⊥
-IsPlayUnread (refused.Unreadable unread cause) befores afters certificates happenings = IsUnreadInPlay unread cause befores afters certificates happenings
-IsPlayUnread refused.UnknownNode befores afters certificates happenings = ⊥
-IsPlayUnread refused.UnreadableHex befores afters certificates happenings = ⊥
-IsPlayUnread refused.TooMuch befores afters certificates happenings = ⊥
-IsPlayUnread refused.Unwritten befores afters certificates happenings = ⊥
-IsPlayUnread refused.NoMemory befores afters certificates happenings = ⊤
+IsPlayUnread why befores afters certificates happenings =
+    HasCause (λ unread cause. IsUnreadInPlay unread cause befores afters certificates happenings) ⊥ ⊥ ⊥ ⊥ why
 
 -- why there is no answer: the inputs were not read, or the output failed
 abbrev pub IsUnplayedFor : Refused → Stream → Stream → Stream → Stream → Stream → Type 0
-IsUnplayedFor refused.Usage befores afters certificates happenings output = ⊥
-IsUnplayedFor (refused.Unreadable unread cause) befores afters certificates happenings output = IsUnreadInPlay unread cause befores afters certificates happenings
-IsUnplayedFor refused.UnknownNode befores afters certificates happenings output = ⊥
-IsUnplayedFor refused.UnreadableHex befores afters certificates happenings output = ⊥
-IsUnplayedFor refused.TooMuch befores afters certificates happenings output = ⊥
-IsUnplayedFor refused.Unwritten befores afters certificates happenings output = Fails output
-IsUnplayedFor refused.NoMemory befores afters certificates happenings output = ⊤
+IsUnplayedFor why befores afters certificates happenings output =
+    HasCause (λ unread cause. IsUnreadInPlay unread cause befores afters certificates happenings) ⊥ ⊥ ⊥ (Fails output) why
 
 -- what the end of a run says of what the sources gave and what was written
 abbrev pub SimulatesMoveFiles : Status → Stream → Stream → Stream → Stream → Stream → Type 0

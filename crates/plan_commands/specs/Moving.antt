@@ -20,7 +20,7 @@ use Rattle.plan_commands.specs.declared.status.Status.{Status}
 use Rattle.plan_commands.specs.declared.status.Status.TheVariants as status
 use Rattle.plan_commands.specs.Answers.{Stream, Fails, GavePlan, GaveCertificate, GaveNothing}
 use Rattle.plan_commands.specs.Lines.{name_or_dash, number_or_dash}
-use Rattle.plan_commands.specs.Statuses.{status_of, yes_line}
+use Rattle.plan_commands.specs.Statuses.{status_of, HasCause, yes_line}
 
 -- one source gave the plan before, one the plan after, and one the certificate, which is read for the plan before
 pub record IsMoveGiven (befores afters certificates : Stream) (before after : Plan) (certificate : Certificate) : Type 0 where
@@ -91,23 +91,12 @@ IsUnreadInMove input.Events cause befores afters certificates = ⊥
 
 -- why the inputs were not read
 abbrev pub IsMoveUnread : Refused → Stream → Stream → Stream → Type 0
-IsMoveUnread refused.Usage befores afters certificates = ⊥
-IsMoveUnread (refused.Unreadable unread cause) befores afters certificates = IsUnreadInMove unread cause befores afters certificates
-IsMoveUnread refused.UnknownNode befores afters certificates = ⊥
-IsMoveUnread refused.UnreadableHex befores afters certificates = ⊥
-IsMoveUnread refused.TooMuch befores afters certificates = ⊥
-IsMoveUnread refused.Unwritten befores afters certificates = ⊥
-IsMoveUnread refused.NoMemory befores afters certificates = ⊤
+IsMoveUnread why befores afters certificates = HasCause (λ unread cause. IsUnreadInMove unread cause befores afters certificates) ⊥ ⊥ ⊥ ⊥ why
 
 -- why there is no answer: the inputs were not read, or the output failed
 abbrev pub IsMoveRefusedFor : Refused → Stream → Stream → Stream → Stream → Type 0
-IsMoveRefusedFor refused.Usage befores afters certificates output = ⊥
-IsMoveRefusedFor (refused.Unreadable unread cause) befores afters certificates output = IsUnreadInMove unread cause befores afters certificates
-IsMoveRefusedFor refused.UnknownNode befores afters certificates output = ⊥
-IsMoveRefusedFor refused.UnreadableHex befores afters certificates output = ⊥
-IsMoveRefusedFor refused.TooMuch befores afters certificates output = ⊥
-IsMoveRefusedFor refused.Unwritten befores afters certificates output = Fails output
-IsMoveRefusedFor refused.NoMemory befores afters certificates output = ⊤
+IsMoveRefusedFor why befores afters certificates output =
+    HasCause (λ unread cause. IsUnreadInMove unread cause befores afters certificates) ⊥ ⊥ ⊥ (Fails output) why
 
 -- what the end of a run says of what the sources gave and what was written
 abbrev pub EndsMove : Status → Stream → Stream → Stream → Stream → Type 0

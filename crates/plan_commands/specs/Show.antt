@@ -11,13 +11,14 @@ use Rattle.pdr_record.specs.declared.record_error.RecordError.{RecordError}
 use Rattle.pdr_record.specs.Codes as records
 use Rattle.pdr_record.specs.Faults.{IsFault}
 use Rattle.pdr_record.specs.Records as record_of
-use Rattle.plan_commands.specs.declared.show.Kind.{Kind}
-use Rattle.plan_commands.specs.declared.show.Kind.TheVariants as kind
+use Rattle.plan_commands.specs.declared.commands.show.Kind.{Kind}
+use Rattle.plan_commands.specs.declared.commands.show.Kind.TheVariants as kind
 use Rattle.plan_commands.specs.declared.refused.Refused.{Refused}
 use Rattle.plan_commands.specs.declared.refused.Refused.TheVariants as refused
 use Rattle.plan_commands.specs.declared.status.Status.{Status}
 use Rattle.plan_commands.specs.declared.status.Status.TheVariants as status
 use Rattle.plan_commands.specs.Answers.{Stream, Fails}
+use Rattle.plan_commands.specs.Statuses.{HasCause}
 use Rattle.plan_commands.specs.Shown.{refused_bytes, packet_bytes, record_text_bytes}
 
 -- the hex text, in digits of either case, is that of the bytes
@@ -61,10 +62,4 @@ Shows status.NoMemory asked hex output = ⊤
 
 -- why nothing is shown
 abbrev pub IsNotShown : Refused → List ℕ → Stream → Type 0
-IsNotShown refused.Usage hex output = ⊥
-IsNotShown (refused.Unreadable input cause) hex output = ⊥
-IsNotShown refused.UnknownNode hex output = ⊥
-IsNotShown refused.UnreadableHex hex output = IsNoHex hex
-IsNotShown refused.TooMuch hex output = ⊥
-IsNotShown refused.Unwritten hex output = Fails output
-IsNotShown refused.NoMemory hex output = ⊤
+IsNotShown why hex output = HasCause (λ unread cause. ⊥) ⊥ (IsNoHex hex) ⊥ (Fails output) why

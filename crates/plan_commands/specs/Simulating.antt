@@ -27,7 +27,7 @@ use Rattle.plan_commands.specs.declared.status.Status.{Status}
 use Rattle.plan_commands.specs.declared.status.Status.TheVariants as status
 use Rattle.plan_commands.specs.Answers.{Stream, Fails, BreaksOff, AreGiven, GaveNothing, IsUnread, IsFaultText, TellsFault}
 use Rattle.plan_commands.specs.OutcomeLines.{outcome_lines}
-use Rattle.plan_commands.specs.Statuses.{status_of}
+use Rattle.plan_commands.specs.Statuses.{status_of, HasCause}
 
 -- The events are those of a run from the state, and the output was given the lines of what came of them.
 pub record ShowsRun (tables : Tables) (w : WalkedState) (events : List WalkedEvent) (output : Stream) : Type 0 where
@@ -159,23 +159,12 @@ IsUnreadAmong input.Events cause plans certificates happenings = (plan : Plan) �
 
 -- why the inputs were not read
 abbrev pub AreUnreadAmong : Refused → Stream → Stream → Stream → Type 0
-AreUnreadAmong refused.Usage plans certificates happenings = ⊥
-AreUnreadAmong (refused.Unreadable unread cause) plans certificates happenings = IsUnreadAmong unread cause plans certificates happenings
-AreUnreadAmong refused.UnknownNode plans certificates happenings = ⊥
-AreUnreadAmong refused.UnreadableHex plans certificates happenings = ⊥
-AreUnreadAmong refused.TooMuch plans certificates happenings = ⊥
-AreUnreadAmong refused.Unwritten plans certificates happenings = ⊥
-AreUnreadAmong refused.NoMemory plans certificates happenings = ⊤
+AreUnreadAmong why plans certificates happenings = HasCause (λ unread cause. IsUnreadAmong unread cause plans certificates happenings) ⊥ ⊥ ⊥ ⊥ why
 
 -- why there is no answer: the inputs were not read, or the output failed
 abbrev pub IsUnsimulatedFor : Refused → Stream → Stream → Stream → Stream → Type 0
-IsUnsimulatedFor refused.Usage plans certificates happenings output = ⊥
-IsUnsimulatedFor (refused.Unreadable unread cause) plans certificates happenings output = IsUnreadAmong unread cause plans certificates happenings
-IsUnsimulatedFor refused.UnknownNode plans certificates happenings output = ⊥
-IsUnsimulatedFor refused.UnreadableHex plans certificates happenings output = ⊥
-IsUnsimulatedFor refused.TooMuch plans certificates happenings output = ⊥
-IsUnsimulatedFor refused.Unwritten plans certificates happenings output = Fails output
-IsUnsimulatedFor refused.NoMemory plans certificates happenings output = ⊤
+IsUnsimulatedFor why plans certificates happenings output =
+    HasCause (λ unread cause. IsUnreadAmong unread cause plans certificates happenings) ⊥ ⊥ ⊥ (Fails output) why
 
 -- what the end of a run says of what the sources gave and what was written
 abbrev pub SimulatesFiles : Status → Stream → Stream → Stream → Stream → Type 0

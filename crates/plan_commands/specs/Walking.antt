@@ -18,7 +18,7 @@ use Rattle.plan_commands.specs.declared.status.Status.{Status}
 use Rattle.plan_commands.specs.declared.status.Status.TheVariants as status
 use Rattle.plan_commands.specs.Answers.{Stream, AreGiven, IsUnread, TellsOf, Fails}
 use Rattle.plan_commands.specs.Lines.{fault_text}
-use Rattle.plan_commands.specs.Statuses.{status_of}
+use Rattle.plan_commands.specs.Statuses.{status_of, HasCause}
 
 -- n is the first node of the name
 pub record IsFirstNamed (plan : Plan) (name : List ℕ) (n : ℕ) : Type 0 where
@@ -71,13 +71,8 @@ HasTooManyBytes name plans certificates = (plan : Plan) × (certificate : Certif
 
 -- why there is no answer: the inputs were not read, there is no such terminus, its records have too many bytes, or the output failed
 abbrev pub IsNotWalkedFor : Refused → List ℕ → Stream → Stream → Stream → Type 0
-IsNotWalkedFor refused.Usage name plans certificates output = ⊥
-IsNotWalkedFor (refused.Unreadable unread cause) name plans certificates output = IsUnread unread cause plans certificates
-IsNotWalkedFor refused.UnknownNode name plans certificates output = NamesNoTerminus name plans certificates
-IsNotWalkedFor refused.UnreadableHex name plans certificates output = ⊥
-IsNotWalkedFor refused.TooMuch name plans certificates output = HasTooManyBytes name plans certificates
-IsNotWalkedFor refused.Unwritten name plans certificates output = Fails output
-IsNotWalkedFor refused.NoMemory name plans certificates output = ⊤
+IsNotWalkedFor why name plans certificates output = HasCause (λ unread cause. IsUnread unread cause plans certificates)
+    (NamesNoTerminus name plans certificates) ⊥ (HasTooManyBytes name plans certificates) (Fails output) why
 
 -- what the end of a run says of what the sources gave and what was written, for a node's name and the bytes of a part
 abbrev pub Walks : Status → List ℕ → ℕ → Stream → Stream → Stream → Type 0

@@ -1,7 +1,7 @@
 //! The program's command line.
+use crate::commands::show::Kind;
 use crate::commands::walk::PartSize;
 use crate::refused::Refused;
-use crate::show::Kind;
 use clap::{Arg, ArgAction, ArgMatches};
 use std::alloc::{AllocError, Global};
 

@@ -14,6 +14,7 @@ pub mod gathered;
 pub mod inputs;
 pub mod moving;
 pub mod repositories;
+pub mod show;
 pub mod sim;
 pub mod walk;
 

@@ -14,8 +14,12 @@ returns-in-Ok-clause-walks g c =
 
 pub returns-in-Ok-clause-refused : goal.returns-in-Ok-clause-refused
 returns-in-Ok-clause-refused g c =
-    not_walked_in c.args.node.now c.in-Some.place c.in_ok-plan.plan c.in_ok-plan.certificate _ _ _ c.print_walk.result
-    c.in_ok-plan.ensures.given c.in-Ok.ensures.accepted c.in-Some.ensures.0 c.print_walk.ensures.unwritten
+    let read = c.in_ok-plan in
+    let plans = stream (g.P.Source.remaining c.args.plan.now) (g.P.Source.failures c.args.plan.now) (g.P.Source.remaining c.read_inputs.new.plan) (g.P.Source.failures c.read_inputs.new.plan) in
+    let certificates = stream (g.C.Source.remaining c.args.certificate.now) (g.C.Source.failures c.args.certificate.now) (g.C.Source.remaining c.read_inputs.new.certificate) (g.C.Source.failures c.read_inputs.new.certificate) in
+    let output = stream (g.O.Sink.contents c.args.output.now) (g.O.Sink.failures c.args.output.now) (g.O.Sink.contents c.print_walk.new.output) (g.O.Sink.failures c.print_walk.new.output) in
+    not_walked_in c.args.node.now c.in-Some.place read.plan read.certificate plans certificates output c.print_walk.result
+    read.ensures.given c.in-Ok.ensures.accepted c.in-Some.ensures.0 c.print_walk.ensures.unwritten
 
 pub returns-in-Ok-clause-untouched : goal.returns-in-Ok-clause-untouched
 returns-in-Ok-clause-untouched g c =

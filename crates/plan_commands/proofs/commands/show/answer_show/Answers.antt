@@ -1,5 +1,5 @@
 use Rattle.std.proofs.Common.{rules, ◌≡◌, Err, inl, string_bytes}
-use Rattle.plan_commands.proofs.show.answer_show.Goals as goal
+use Rattle.plan_commands.proofs.commands.show.answer_show.Goals as goal
 
 pub returns-in_err-print-clause-untouched : goal.returns-in_err-print-clause-untouched
 returns-in_err-print-clause-untouched g c =
