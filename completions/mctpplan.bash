@@ -1,0 +1,35 @@
+# Completions of mctpplan for bash: commands, files, names of the plan's nodes, and what `show` shows.
+# Source it, or put it into /usr/share/bash-completion/completions/mctpplan.
+
+_mctpplan() {
+    local current=${COMP_WORDS[COMP_CWORD]} place=$COMP_CWORD command=${COMP_WORDS[1]-}
+    local files=0
+    COMPREPLY=()
+    if [ "$place" -eq 1 ]; then
+        mapfile -t COMPREPLY < <(compgen -W 'check certify move assign sim simmove walk show' -- "$current")
+        return
+    fi
+    case $command in
+        certify) files=1 ;;
+        check | assign | walk) files=2 ;;
+        move | sim) files=3 ;;
+        simmove) files=4 ;;
+        show)
+            if [ "$place" -eq 2 ]; then
+                mapfile -t COMPREPLY < <(compgen -W 'packet record' -- "$current")
+            fi
+            return
+            ;;
+    esac
+    if [ "$((place - 1))" -le "$files" ]; then
+        compopt -o filenames 2>/dev/null
+        mapfile -t COMPREPLY < <(compgen -d -- "$current"; compgen -f -X '!*.json' -- "$current")
+    elif [ "$command" = walk ] && [ "$place" -eq 4 ] && [ -f "${COMP_WORDS[2]}" ]; then
+        # (the names of buses are among them: in the text they look the same)
+        local names
+        names=$(grep -o '"name": *"[^"]*"' "${COMP_WORDS[2]}" | cut -d '"' -f 4)
+        mapfile -t COMPREPLY < <(compgen -W "$names" -- "$current")
+    fi
+}
+
+complete -F _mctpplan mctpplan
