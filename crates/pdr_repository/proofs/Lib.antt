@@ -3,7 +3,7 @@ pub mod Collecting
 pub mod Headers
 pub mod Dues
 pub mod Walks
-pub mod Commands
+pub mod CommandLaws
 pub mod Places
 pub mod Indexing
 pub mod Blocks

@@ -1,11 +1,11 @@
 -- The place of the record that a handle means.
-use Rattle.std.proofs.Common.{◌≡◌, ◌≢◌, ℕ, ◌+◌, ◌<◌, List, length, slice_get, Option, Some, None, Err, option_map, sym, ap, ◌∙◌, subst, inl, inr}
-use Rattle.std.specs.Prelude.{MatchOption, Vec}
+use Rattle.std.proofs.Common.{◌≡◌, ◌≢◌, ℕ, ◌+◌, ◌<◌, List, length, slice_get, Some, option_map, sym, ap, ◌∙◌, subst, inr}
+use Rattle.std.specs.Prelude.{Vec}
 use Rattle.std.proofs.lemmas.Option.{slice_get-map, slice_get_within, same_Some}
 use Rattle.pdr_repository.specs.Records.{Entry, entries, entry_of, bytes_by_place, Places, handle_at}
 use Rattle.pldm_message.specs.Pdrs.{PartRequest}
 use Rattle.pdr_repository.specs.Parts.{PartAnswer, AnswersPart, AnswersFrom}
-use Rattle.pdr_repository.specs.Found.{Finds, IsFound, AnswersFound}
+use Rattle.pdr_repository.specs.Found.{IsFound}
 
 -- what stands at a place is the entry there
 pub entry_there : {Z : Type 0} (records : List (ℕ × Vec ℕ Z)) (k : ℕ) (x : ℕ × Vec ℕ Z) → slice_get records k ≡ Some x → slice_get (entries records) k ≡ Some (entry_of x)
@@ -25,16 +25,10 @@ pub found_there : (records : List Entry) (handle place next : ℕ) (bytes : List
 found_there records handle place next bytes here (e, means) follows =
     (place, e, means, follows, same_Some bytes e.bytes (sym here ∙ bytes_there records place e means.stands))
 
-by_found : (records : List Entry) (r : PartRequest) (a : PartAnswer) (found : Option (ℕ × List ℕ)) → ¬ (1 < r.operation) → r.count ≢ 0 → Finds records r.handle found
-    → MatchOption found (a ≡ Err 0x82) (λ f. AnswersFrom f.0 f.1 r a) → AnswersPart records r a
-by_found records r a None known some unmeant is = inr (known, inr (some, inl (unmeant, is)))
-by_found records r a (Some f) known some (place, e, means, next, bytes) from =
-    let P : ℕ → Type 0 = λ n. AnswersFrom n f.1 r a in
-    let Q : List ℕ → Type 0 = λ bs. AnswersFrom (handle_at records (place + 1)) bs r a in
-    inr (known, inr (some, inr ((λ none. none (place, e, means)), (place, e, means, subst Q bytes (subst P next from)))))
-
 -- the answer from what was found is that of the terminus
-pub found_answers : (records : List Entry) (r : PartRequest) (a : PartAnswer) (found : Option (ℕ × List ℕ)) → Finds records r.handle found → AnswersFound found r a → AnswersPart records r a
-found_answers records r a found finds (inl unknown) = inl unknown
-found_answers records r a found finds (inr (known, inl none)) = inr (known, inl none)
-found_answers records r a found finds (inr (known, inr (some, from))) = by_found records r a found known some finds from
+pub given_from : (records : List Entry) (r : PartRequest) (a : PartAnswer) (next : ℕ) (bytes : List ℕ) → ¬ (1 < r.operation) → r.count ≢ 0 → IsFound records r.handle next bytes
+    → AnswersFrom next bytes r a → AnswersPart records r a
+given_from records r a next bytes known some (place, e, means, follows, is) from =
+    let P : ℕ → Type 0 = λ n. AnswersFrom n bytes r a in
+    let Q : List ℕ → Type 0 = λ bs. AnswersFrom (handle_at records (place + 1)) bs r a in
+    inr (known, inr (some, inr ((λ none. none (place, e, means)), (place, e, means, subst Q is (subst P follows from)))))

@@ -1,27 +1,30 @@
--- An answer as it is made, piece by piece.
-use Rattle.std.specs.Prelude.{◌≡◌, ◌≢◌, ℕ, ◌+◌, List, ◌++◌, length, Result, Ok, Err}
+-- An answer as it is made: the command of a request, what is answered to it, and the whole message.
+use Rattle.std.specs.Prelude.{◌≡◌, ◌≢◌, ℕ, List, ◌++◌, length, drop, false, Result, Ok, Err}
 use Rattle.mctp_transport.specs.First.{First}
 use Rattle.pldm_message.specs.declared.kind.MessageKind.TheVariants.{Request}
 use Rattle.pldm_message.specs.declared.command.Command.{Command}
-use Rattle.pldm_message.specs.Headers.{HeaderValue, BeginsWith}
+use Rattle.pldm_message.specs.Headers.{HeaderValue, BeginsWith, header_bytes}
+use Rattle.pldm_message.specs.Messages.{answer_header}
 use Rattle.pdr_repository.specs.Records.{Entry}
-use Rattle.pdr_repository.specs.Answers.{AnswersCommand, AnswersData, IsOf, request_length}
+use Rattle.pdr_repository.specs.Answers.{AnswersCode, AnswersData, IsOf, request_length}
 
--- the command of a request with this header and so many data bytes, or the code that is answered before the command is looked at
-abbrev pub Checks : HeaderValue → List ℕ → Result Command ℕ → Type 0
-Checks h asked outcome =
-    First ((h.pldm_type ≢ 0) × (h.pldm_type ≢ 2)) (outcome ≡ Err 0x20)
-    (First ((c : Command) → ¬ IsOf c h) (outcome ≡ Err 0x05)
-    ((c : Command) × IsOf c h × First (length asked ≢ request_length c) (outcome ≡ Err 0x03) (outcome ≡ Ok c)))
+-- the command that a request with this header has, or the code that is answered where none is known
+abbrev pub NamesCommand : HeaderValue → Result Command ℕ → Type 0
+NamesCommand h command =
+    First ((h.pldm_type ≢ 0) × (h.pldm_type ≢ 2)) (command ≡ Err 0x20)
+    (First ((c : Command) → ¬ IsOf c h) (command ≡ Err 0x05)
+    ((c : Command) × IsOf c h × (command ≡ Ok c)))
 
--- a request with this command that is to be answered, of the right length
+-- the bytes begin with the header of a request with this command that is to be answered
 abbrev pub IsAskedFor : Command → List ℕ → Type 0
-IsAskedFor c request = (h : HeaderValue) × BeginsWith h request × (h.kind ≡ Request) × IsOf c h × (length request ≡ 4 + request_length c)
+IsAskedFor c request = (h : HeaderValue) × BeginsWith h request × (h.kind ≡ Request) × IsOf c h
 
--- to what stands there already, what follows the header of the answer is appended
-abbrev pub Replies : HeaderValue → ℕ → List Entry → List ℕ → List ℕ → List ℕ → ℕ → Type 0
-Replies h tid records asked before after next_tid = (reply : List ℕ) × (after ≡ before ++ reply) × AnswersCommand h tid records asked reply next_tid
+-- what follows the header of the answer to such a request, and the TID afterwards: a wrong length, else by the command
+abbrev pub CarriesOut : Command → ℕ → List Entry → List ℕ → List ℕ → ℕ → Type 0
+CarriesOut c tid records request reply next_tid =
+    First (length (drop 4 request) ≢ request_length c) (AnswersCode 0x03 tid reply next_tid) (AnswersData c tid records (drop 4 request) reply next_tid)
 
--- the same where the command is known and the length is right
-abbrev pub RepliesData : Command → ℕ → List Entry → List ℕ → List ℕ → List ℕ → ℕ → Type 0
-RepliesData c tid records asked before after next_tid = (reply : List ℕ) × (after ≡ before ++ reply) × AnswersData c tid records asked reply next_tid
+-- the whole answer to such a request of this instance ID, and the TID afterwards
+abbrev pub Replies : Command → ℕ → ℕ → List Entry → List ℕ → List ℕ → ℕ → Type 0
+Replies c instance tid records request answer next_tid =
+    (reply : List ℕ) × (answer ≡ header_bytes (answer_header c (record { reserved = false; instance = instance })) ++ reply) × CarriesOut c tid records request reply next_tid

@@ -1,28 +1,28 @@
-//! What all termini do with a request: reading its header, and writing an answer.
-ghost use Rattle.std.specs.Prelude.{◌≡◌, ◌≤◌, ◌+◌, ◌++◌, ◌∷◌, [], length, MatchOption, IfOk};
-ghost use Rattle.arrayvec.specs.ArrayVec.{array_vec_len};
+//! What all termini do with a request.
+ghost use Rattle.std.specs.Prelude.{◌≡◌, ◌≤◌, [], length, false, MatchOption};
 ghost use Rattle.pldm_message.specs.declared.command.Command.{Command};
-ghost use Rattle.pldm_message.specs.Headers.{BeginsWith, header_bytes};
+ghost use Rattle.pldm_message.specs.declared.kind.MessageKind.TheVariants as kind;
+ghost use Rattle.pldm_message.specs.Headers.{BeginsWith};
 ghost use Rattle.pldm_message.specs.HeaderValues.{header_value};
-ghost use Rattle.pldm_message.specs.Messages.{outcome_bytes};
 ghost use Rattle.pldm_message.specs.Heads.{outcome_value};
-ghost use Rattle.pldm_message.specs.Pdrs.{part_bytes};
-ghost use Rattle.pldm_message.specs.PdrValues.{part};
-ghost use Rattle.pdr_repository.specs.Answers.{IsAsked, IsOf, reply_header, request_length};
-ghost use Rattle.pdr_repository.specs.Replying.{Checks};
+ghost use Rattle.pdr_repository.specs.Answers.{Answers, IsAsked, IsOf, answer_of};
+ghost use Rattle.pdr_repository.specs.Replying.{IsAskedFor, NamesCommand, Replies};
 
+use crate::commands::{get_pdr, get_pldm_types, get_tid, set_tid};
+use crate::repository::Repository;
 use crate::terminus::MAX_ANSWER;
 use arrayvec::ArrayVec;
 use mctp_transport::Wire;
-use pldm_message::{Command, ErrorCode, MessageKind, PdrPart, PldmHeader};
+use pldm_message::{
+    AnswerHead, Command, ErrorAnswer, ErrorCode, GetPdrAnswer, GetPldmTypesAnswer, GetTidAnswer,
+    InstanceId, MessageKind, PldmHeader, PldmType, SetTidAnswer, Tid,
+};
 
 /// The header of a request that is to be answered.
-pub(crate) fn asked(request: &[u8]) -> Option<PldmHeader>
-    ensures { MatchOption result (¬ IsAsked request.now) (λ h. BeginsWith (header_value h) request.now × (h.kind ≡ MessageKind.Request)) }
+fn asked(request: &[u8]) -> Option<PldmHeader>
+    ensures { MatchOption result (¬ IsAsked request.now) (λ h. BeginsWith (header_value h) request.now × (h.kind ≡ kind.Request)) }
 {
-    let Ok(header) = PldmHeader::front(request) else {
-        return None;
-    };
+    let header = PldmHeader::front(request).ok()?;
     if header.kind == MessageKind::Request {
         Some(header)
     } else {
@@ -31,7 +31,7 @@ pub(crate) fn asked(request: &[u8]) -> Option<PldmHeader>
 }
 
 /// The command of a header, if it is known.
-#[tactic(auto, using(crate::proofs::Commands::none_of))]
+#[tactic(auto, using(crate::proofs::CommandLaws::none_of))]
 fn command_of(header: &PldmHeader) -> Option<Command>
     ensures { MatchOption result ((c : Command) → ¬ IsOf c (header_value header.now)) (λ c. IsOf c (header_value header.now)) }
 {
@@ -50,66 +50,82 @@ fn command_of(header: &PldmHeader) -> Option<Command>
     None
 }
 
-/// How many data bytes a request with this command has.
-fn data_length(command: Command) -> usize
-    ensures { result ≡ request_length command }
+/// The command of a header, or the code that is answered where its PLDM type or its command is unknown.
+fn known_command(header: &PldmHeader) -> Result<Command, ErrorCode>
+    ensures { NamesCommand (header_value header.now) (outcome_value (λ c. c) result) }
 {
-    match command {
-        Command::SetTid => 1,
-        Command::GetTid | Command::GetPldmTypes => 0,
-        Command::GetPdr => 13,
-    }
-}
-
-/// The command of a request, or the code that is answered before the command is looked at.
-pub(crate) fn check(header: &PldmHeader, tail: &[u8]) -> Result<Command, ErrorCode>
-    ensures { Checks (header_value header.now) tail.now (outcome_value (λ c. c) result) }
-{
-    let pldm_type = header.pldm_type.value;
-    if pldm_type != 0 && pldm_type != 2 {
+    let pldm_type = header.pldm_type;
+    if pldm_type != PldmType::MESSAGING_CONTROL && pldm_type != PldmType::PLATFORM_MONITORING {
         return Err(ErrorCode::INVALID_PLDM_TYPE);
     }
-    let Some(command) = command_of(header) else {
-        return Err(ErrorCode::UNSUPPORTED_COMMAND);
-    };
-    if tail.len() != data_length(command) {
-        return Err(ErrorCode::INVALID_LENGTH);
-    }
-    Ok(command)
+    command_of(header).ok_or(ErrorCode::UNSUPPORTED_COMMAND)
 }
 
-/// Appends a value's bytes.
-fn append<'a, W: Wire<'a>>(value: &W, out: &mut ArrayVec<u8, MAX_ANSWER>)
-    requires { array_vec_len out.old + length (W.spelling (W.meaning value.now)) ≤ 4096 }
-    ensures { out.new.items ≡ out.old.items ++ W.spelling (W.meaning value.now) }
-{
-    let mut bytes = [0; MAX_ANSWER];
-    let len = value.put(&mut bytes);
-    let _ = out.try_extend_from_slice(&bytes[..len]);
-}
-
-/// Begins an answer with its header: that of the request, as a response.
-pub(crate) fn begin_answer(header: &PldmHeader, out: &mut ArrayVec<u8, MAX_ANSWER>)
-    ensures { out.new.items ≡ header_bytes (reply_header (header_value header.now)) }
+/// Writes an answer, in place of what stands there.
+fn write<'a, W: Wire<'a>>(answer: &W, out: &mut ArrayVec<u8, MAX_ANSWER>)
+    requires { length (W.spelling (W.meaning answer.now)) ≤ 4096 }
+    ensures { out.new.items ≡ W.spelling (W.meaning answer.now) }
 {
     out.clear();
-    append(&header.answer(), out);
+    for _byte in 0..answer.len() {
+        out.push(0);
+    }
+    let _ = answer.put(out.as_mut_slice());
 }
 
-/// Appends the completion code 0 and a part, or another completion code.
-pub(crate) fn append_outcome(
-    outcome: Result<PdrPart, ErrorCode>,
+/// Carries out a request with this command, and writes its answer.
+fn reply<R: Repository>(
+    tid: &mut Tid,
+    records: &R,
+    command: Command,
+    instance: InstanceId,
+    request: &[u8],
     out: &mut ArrayVec<u8, MAX_ANSWER>,
 )
-    requires room { array_vec_len out.old ≡ 4 }
-    requires most { IfOk outcome (λ p. length p.bytes.now ≤ 4079) }
-    ensures { out.new.items ≡ out.old.items ++ outcome_bytes part_bytes (outcome_value part outcome.entry) }
+    requires { IsAskedFor command request.now }
+    ensures { Replies command instance.value tid.old.value (R.records records.now) request.now out.new.items tid.new.value }
 {
-    match outcome {
-        Err(code) => out.push(code.value),
-        Ok(part) => {
-            out.push(0);
-            append(&part, out);
+    let head = AnswerHead::new(instance);
+    match command {
+        Command::SetTid => {
+            let outcome = set_tid(tid, request);
+            write(&SetTidAnswer { head, outcome }, out);
+        }
+        Command::GetTid => {
+            let outcome = get_tid(*tid, request);
+            write(&GetTidAnswer { head, outcome }, out);
+        }
+        Command::GetPldmTypes => {
+            let outcome = get_pldm_types(request);
+            write(&GetPldmTypesAnswer { head, outcome }, out);
+        }
+        Command::GetPdr => {
+            let outcome = get_pdr(records, request);
+            write(&GetPdrAnswer { head, outcome }, out);
         }
     }
+}
+
+/// Writes the answer to a request of a terminus with this TID and these records, as `Terminus::answer` says.
+pub(crate) fn answer_request<R: Repository>(
+    tid: &mut Tid,
+    records: &R,
+    request: &[u8],
+    out: &mut ArrayVec<u8, MAX_ANSWER>,
+) -> bool
+    ensures answered { Answers tid.old.value (R.records records.now) request.now (answer_of result out.new.items) tid.new.value }
+    ensures silent { result ≡ false → out.new.items ≡ [] }
+{
+    let Some(header) = asked(request) else {
+        out.clear();
+        return false;
+    };
+    match known_command(&header) {
+        Ok(command) => reply(tid, records, command, header.instance, request, out),
+        Err(code) => {
+            let header = header.answer();
+            write(&ErrorAnswer { header, code }, out);
+        }
+    }
+    true
 }

@@ -1,11 +1,12 @@
 //! A terminus over one block of records.
-ghost use Rattle.std.specs.Prelude.{◌≡◌, ◌≤◌, length, IfOk, MatchOption, None, option_map};
+ghost use Rattle.std.specs.Prelude.{◌≡◌, ◌≤◌, length, IfOk, None, option_map};
 ghost use Rattle.pdr_repository.specs.Records.{entries, IsLawful};
-ghost use Rattle.pdr_repository.specs.LentParts.{IsPartFrom, LendsPart};
+ghost use Rattle.pdr_repository.specs.LentParts.{LendsPart};
 
+use crate::answering::answer_request;
 use crate::lawful_list::MAX_RECORDS;
+use crate::parts::cut;
 use crate::record_block::RecordBlock;
-use crate::replying::answer_request;
 use crate::terminus::{MAX_ANSWER, Terminus};
 use arrayvec::ArrayVec;
 use pldm_message::Tid;
@@ -16,22 +17,10 @@ use std::alloc::{AllocError, Global};
 ///
 /// A record is found by halving in an index of the handles, as in a [`ListTerminus`](crate::ListTerminus), which keeps
 /// the list that it is given and copies nothing. Both give the same answers.
-#[derive(Drop)]
+#[derive(Debug, Drop)]
 pub struct BlockTerminus {
     tid: Tid,
     records: RecordBlock,
-}
-
-/// The part of a record from an offset on.
-fn part_from(bytes: &[u8], offset: usize, count: usize) -> Option<&[u8]>
-    ensures { MatchOption result (length bytes.now ≤ offset) (λ part. IsPartFrom bytes.now offset count part.now) }
-{
-    if offset >= bytes.len() {
-        return None;
-    }
-    let rest = &bytes[offset..];
-    let (part, _) = rest.split_at(count.min(rest.len()));
-    Some(part)
 }
 
 impl BlockTerminus {
@@ -57,7 +46,10 @@ impl BlockTerminus {
         ensures zero { handle ≡ 0 → result ≡ None }
     {
         let bytes = self.records.bytes_of(handle)?;
-        part_from(bytes, offset, count)
+        if offset >= bytes.len() {
+            return None;
+        }
+        Some(cut(bytes, offset, count))
     }
 }
 

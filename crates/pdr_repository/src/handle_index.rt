@@ -13,7 +13,7 @@ pub(crate) struct IndexRow {
 }
 
 /// The handles of records in ascending order, each with the place of its record.
-#[derive(Drop)]
+#[derive(Debug, Drop)]
 pub(crate) struct HandleIndex {
     pub(crate) rows: Vec<IndexRow>,
 }
@@ -54,7 +54,7 @@ impl HandleIndex {
     }
 
     /// The place of the record that a handle means: 0 means the first. It takes no memory.
-    pub(crate) fn meant(&self, handle: u32) -> Option<usize>
+    pub(crate) fn place_meant_by(&self, handle: u32) -> Option<usize>
         ensures { (records : List Entry) → IsIndexOf records self.now.rows.items → Places records handle result }
     {
         if handle != 0 {

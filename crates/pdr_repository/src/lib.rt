@@ -4,6 +4,7 @@
 
 mod answering;
 mod block_terminus;
+mod commands;
 mod crc;
 mod handle_index;
 mod lawful_list;
@@ -12,7 +13,6 @@ mod list_terminus;
 mod parts;
 mod record_block;
 mod record_list;
-mod replying;
 mod repository;
 mod terminus;
 mod walk_fault;

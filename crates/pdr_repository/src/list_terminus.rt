@@ -2,9 +2,9 @@
 ghost use Rattle.std.specs.Prelude.{◌≡◌, ◌≤◌, length, IfOk};
 ghost use Rattle.pdr_repository.specs.Records.{entries, IsLawful};
 
+use crate::answering::answer_request;
 use crate::lawful_list::MAX_RECORDS;
 use crate::record_list::RecordList;
-use crate::replying::answer_request;
 use crate::terminus::{MAX_ANSWER, Terminus};
 use arrayvec::ArrayVec;
 use pldm_message::Tid;
@@ -15,7 +15,7 @@ use std::alloc::{AllocError, Global};
 ///
 /// It is the kind for records that stand in a list already. A [`BlockTerminus`](crate::BlockTerminus) copies them into
 /// one block, and lends parts of them. Both give the same answers.
-#[derive(Drop)]
+#[derive(Debug, Drop)]
 pub struct ListTerminus {
     tid: Tid,
     records: RecordList,

@@ -1,10 +1,10 @@
 //! Parts of a record, as a terminus gives them (DSP0248, section 26.2).
-ghost use Rattle.std.specs.Prelude.{◌≡◌, ◌+◌, ◌-◌, ◌*◌, ◌<◌, ◌≤◌, ◌^◌, min, length, option_map, IfOk};
+ghost use Rattle.std.specs.Prelude.{◌≡◌, ◌+◌, ◌-◌, ◌*◌, ◌<◌, ◌≤◌, ◌^◌, min, length, take, drop, IfOk};
 ghost use Rattle.pldm_message.specs.PdrValues.{part, part_request};
 ghost use Rattle.pldm_message.specs.Heads.{outcome_value};
 ghost use Rattle.pdr_repository.specs.Records.{change_in};
-ghost use Rattle.pdr_repository.specs.Parts.{IsPartOf, IsWithin};
-ghost use Rattle.pdr_repository.specs.Found.{AnswersFound, RefusesPart};
+ghost use Rattle.pdr_repository.specs.Parts.{AnswersFrom, IsPartOf, IsWithin, offset_of};
+ghost use Rattle.pdr_repository.specs.Found.{BeginsAt};
 ghost use Rattle.pdr_repository.specs.FivePackets.{FitFive, PassFive};
 
 use crate::crc::crc8;
@@ -28,6 +28,16 @@ pub fn five_packets(unit: u16) -> u16
     (5 * unit - AROUND_PART).min(MAX_PART)
 }
 
+/// The bytes from an offset on: so many, or all that are left if they are fewer.
+pub(crate) fn cut(bytes: &[u8], offset: usize, count: usize) -> &[u8]
+    requires { offset ≤ length bytes.now }
+    ensures { result.now ≡ take (min count (length bytes.now - offset)) (drop offset bytes.now) }
+{
+    let rest = &bytes[offset..];
+    let (taken, _) = rest.split_at(count.min(rest.len()));
+    taken
+}
+
 /// A record that a request means.
 #[derive(Clone, Copy, Debug)]
 pub(crate) struct Found<'a> {
@@ -37,91 +47,59 @@ pub(crate) struct Found<'a> {
     pub(crate) ghost short: { length bytes.now < 2 ^ 32 },
 }
 
-/// The answer to a request for a part of a record, where that record is known.
-pub(crate) fn answer_part<'a>(
-    found: Option<Found<'a>>,
-    request: &GetPdrRequest,
-) -> Result<PdrPart<'a>, ErrorCode>
-    ensures most { IfOk result (λ p. length p.bytes.now ≤ 4079) }
-    ensures answers { AnswersFound (option_map (λ f. (f.next, f.bytes.now)) found.entry) (part_request request.now) (outcome_value part result) }
-{
-    if request.operation.value > 1 {
-        return Err(ErrorCode::INVALID_TRANSFER_OPERATION);
+impl<'a> Found<'a> {
+    /// Where the part begins that is asked for, or why it is not given.
+    fn offset(self, request: &GetPdrRequest) -> Result<usize, ErrorCode>
+        requires { request.now.operation.value ≤ 1 }
+        ensures { BeginsAt (part_request request.now) self.entry.bytes.now (outcome_value (λ offset. offset) result) }
+    {
+        if request.operation == TransferOperation::FIRST_PART {
+            return Ok(0);
+        }
+        if request.change_number != change_of(self.bytes) {
+            return Err(ErrorCode::INVALID_CHANGE_NUMBER);
+        }
+        let offset = request.transfer_handle as usize;
+        if offset == 0 || offset >= self.bytes.len() {
+            return Err(ErrorCode::INVALID_TRANSFER_HANDLE);
+        }
+        Ok(offset)
     }
-    if request.count == 0 {
-        return Err(ErrorCode::INVALID_DATA);
-    }
-    let Some(found) = found else {
-        return Err(ErrorCode::INVALID_RECORD_HANDLE);
-    };
-    match refusal(found.bytes, request) {
-        Some(code) => Err(code),
-        None => Ok(part_of(found.bytes, found.next, request)),
-    }
-}
 
-/// Why no part of the record is given.
-fn refusal(bytes: &[u8], request: &GetPdrRequest) -> Option<ErrorCode>
-    ensures { RefusesPart (part_request request.now) bytes.now (option_map (λ code. code.value) result) }
-{
-    if request.operation.value != 0 {
-        return None;
-    }
-    if request.change_number != change_of(bytes) {
-        return Some(ErrorCode::INVALID_CHANGE_NUMBER);
-    }
-    if request.transfer_handle == 0 || request.transfer_handle as usize >= bytes.len() {
-        return Some(ErrorCode::INVALID_TRANSFER_HANDLE);
-    }
-    None
-}
-
-/// The part of a record that is asked for, where it has one.
-fn part_of<'a>(bytes: &'a [u8], next: u32, request: &GetPdrRequest) -> PdrPart<'a>
-    requires short { length bytes.now < 2 ^ 32 }
-    requires within { IsWithin (part_request request.now) bytes.now }
-    requires known { request.now.operation.value ≤ 1 }
-    ensures { IsPartOf next bytes.now (part_request request.now) (part result) }
-{
-    let first = request.operation.value == 1;
-    let offset = if first {
-        0
-    } else {
-        request.transfer_handle as usize
-    };
-    let rest = &bytes[offset..];
-    let limit = usize::from(request.count.min(MAX_PART));
-    let (taken, _) = rest.split_at(limit.min(rest.len()));
-    let end = offset + taken.len();
-    if end < bytes.len() {
-        return PdrPart {
-            next_record: next,
-            next_transfer: end as u32,
-            flag: if first {
-                TransferFlag::START
-            } else {
-                TransferFlag::MIDDLE
-            },
-            bytes: taken,
-            check: None,
+    /// The part that begins at this offset.
+    fn part(self, offset: usize, request: &GetPdrRequest) -> PdrPart<'a>
+        requires known { request.now.operation.value ≤ 1 }
+        requires offset { offset ≡ offset_of (part_request request.now) }
+        requires within { IsWithin (part_request request.now) self.bytes.now }
+        ensures { IsPartOf self.entry.next self.entry.bytes.now (part_request request.now) (part result) }
+    {
+        let limit = usize::from(request.count.min(MAX_PART));
+        let bytes = cut(self.bytes, offset, limit);
+        let end = offset + bytes.len();
+        let is_first = request.operation == TransferOperation::FIRST_PART;
+        let (flag, next_transfer, check) = match (is_first, end < self.bytes.len()) {
+            (true, true) => (TransferFlag::START, end as u32, None),
+            (false, true) => (TransferFlag::MIDDLE, end as u32, None),
+            (false, false) => (TransferFlag::END, 0, Some(crc8(self.bytes))),
+            (true, false) => (TransferFlag::START_AND_END, 0, None),
         };
+        PdrPart {
+            next_record: self.next,
+            next_transfer,
+            flag,
+            bytes,
+            check,
+        }
     }
-    if first {
-        PdrPart {
-            next_record: next,
-            next_transfer: 0,
-            flag: TransferFlag::START_AND_END,
-            bytes: taken,
-            check: None,
-        }
-    } else {
-        PdrPart {
-            next_record: next,
-            next_transfer: 0,
-            flag: TransferFlag::END,
-            bytes: taken,
-            check: Some(crc8(bytes)),
-        }
+
+    /// Gives the part that is asked for, as a first or as a next one.
+    pub(crate) fn give(self, request: &GetPdrRequest) -> Result<PdrPart<'a>, ErrorCode>
+        requires { request.now.operation.value ≤ 1 }
+        ensures most { IfOk result (λ p. length p.bytes.now ≤ 4079) }
+        ensures answers { AnswersFrom self.entry.next self.entry.bytes.now (part_request request.now) (outcome_value part result) }
+    {
+        let offset = self.offset(request)?;
+        Ok(self.part(offset, request))
     }
 }
 

@@ -1,7 +1,7 @@
 //! Records in one block of bytes, with an index.
 ghost use Rattle.std.specs.Prelude.{◌≡◌, ◌≤◌, ◌<◌, ◌+◌, ◌^◌, ◌++◌, All, IfOk, length, option_map, sum_by, vec_capacity, vec_len};
 ghost use Rattle.pdr_repository.specs.Records.{entries, IsLawful};
-ghost use Rattle.pdr_repository.specs.Indexes.{IsIndexOf, Locates};
+ghost use Rattle.pdr_repository.specs.Indexes.{IsIndexOf};
 ghost use Rattle.pdr_repository.specs.RecordBlocks.{HaveHandles, IsSpanIn, entries_in};
 ghost use Rattle.pdr_repository.specs.LentParts.{HoldsRecord};
 
@@ -19,7 +19,7 @@ pub(crate) struct Span {
 }
 
 /// The bytes of all records in one block, the span of each by place, and the index of the handles.
-#[derive(Drop)]
+#[derive(Debug, Drop)]
 pub(crate) struct RecordBlock {
     pub(crate) block: Vec<u8>,
     pub(crate) spans: Vec<Span>,
@@ -78,18 +78,11 @@ impl RecordBlock {
         })
     }
 
-    /// The place of the record that has a handle.
-    fn place_named(&self, handle: u32) -> Option<usize>
-        ensures { Locates (entries_in self.now.block.items self.now.spans.items) handle result }
-    {
-        self.index.place_of(handle)
-    }
-
     /// The bytes of the record that has a handle.
     pub(crate) fn bytes_of(&self, handle: u32) -> Option<&[u8]>
         ensures { HoldsRecord (entries_in self.now.block.items self.now.spans.items) handle (option_map (λ bytes. bytes.now) result) }
     {
-        let place = self.place_named(handle)?;
+        let place = self.index.place_of(handle)?;
         Some(self.bytes_at(place))
     }
 }
@@ -97,8 +90,8 @@ impl RecordBlock {
 impl Repository for RecordBlock {
     ghost records = { λ kept. entries_in kept.block.items kept.spans.items };
 
-    fn place_of(&self, handle: u32) -> Option<usize> {
-        self.index.meant(handle)
+    fn place_meant_by(&self, handle: u32) -> Option<usize> {
+        self.index.place_meant_by(handle)
     }
 
     fn next_handle(&self, place: usize) -> u32 {

@@ -8,7 +8,7 @@ use crate::repository::Repository;
 use std::alloc::{AllocError, Global};
 
 /// Handles and record bytes by place, with the index of the handles.
-#[derive(Drop)]
+#[derive(Debug, Drop)]
 pub(crate) struct RecordList {
     pub(crate) by_place: Vec<(u32, Vec<u8>)>,
     index: HandleIndex,
@@ -33,8 +33,8 @@ impl RecordList {
 impl Repository for RecordList {
     ghost records = { λ list. entries list.by_place.items };
 
-    fn place_of(&self, handle: u32) -> Option<usize> {
-        self.index.meant(handle)
+    fn place_meant_by(&self, handle: u32) -> Option<usize> {
+        self.index.place_meant_by(handle)
     }
 
     fn next_handle(&self, place: usize) -> u32 {

@@ -8,7 +8,7 @@ pub(crate) trait Repository: Drop {
     ghost records: { Self → List Entry };
 
     /// The place of the record that a handle means: 0 means the first.
-    fn place_of(&self, handle: u32) -> Option<usize>
+    fn place_meant_by(&self, handle: u32) -> Option<usize>
         ensures { Places (records self.now) handle result };
 
     /// The handle at the following place, 0 at the last.

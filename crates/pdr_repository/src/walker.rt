@@ -11,7 +11,10 @@ use crate::walk_fault::{Step, WalkFault};
 use due::Due;
 use judging::{Limits, is_last, judge};
 use mctp_transport::Wire;
-use pldm_message::{ErrorCode, GetPdrAnswer, InstanceId, PdrPart, PldmHeader, TransferOperation};
+use pldm_message::{
+    ErrorCode, GetPdrAnswer, GetPdrRequest, InstanceId, PdrPart, PldmHeader, TransferFlag,
+    TransferOperation,
+};
 use std::alloc::{AllocError, Global};
 use std::mem;
 
@@ -19,7 +22,7 @@ use std::mem;
 ///
 /// The contracts speak of lists of exchanges, the requests and answers so far: `StandsFor` says which of them fit what
 /// a walker holds.
-#[derive(Drop)]
+#[derive(Debug, Drop)]
 pub struct Walker {
     alloc: Global,
     count: u16,
@@ -97,16 +100,9 @@ impl Walker {
     /// The next request, under an instance ID. None once the walk is done or has failed. Asked again before an answer
     /// was taken it gives the same request under the new ID. It takes no memory.
     #[tactic(auto, using(crate::proofs::Telling::asks_what_is_due))]
-    pub fn next_request(&mut self, id: InstanceId) -> Option<[u8; 17]>
+    pub fn next_request(&mut self, id: InstanceId) -> Option<[u8; GetPdrRequest::LENGTH]>
         ensures asks { Asks (state_of self.old) id.value result (state_of self.new) }
         ensures due { AsksWhatIsDue (state_of self.old) id.value result (state_of self.new) }
-    {
-        self.ask(id)
-    }
-
-    /// The request that is due, which is outstanding then.
-    fn ask(&mut self, id: InstanceId) -> Option<[u8; 17]>
-        ensures { Asks (state_of self.old) id.value result (state_of self.new) }
     {
         if self.failed {
             return None;
@@ -132,7 +128,7 @@ impl Walker {
         self.bytes += given.bytes.len();
         self.waiting = None;
         self.taken += 1;
-        let change_number = if given.flag.value == 0 {
+        let change_number = if given.flag == TransferFlag::START {
             change_of(given.bytes)
         } else {
             due.change_number
@@ -242,7 +238,7 @@ impl Walker {
         ensures wants { result ≡ Err WalkFault.OutOfMemory → (p : Part) × (outcome_value part outcome.now ≡ Ok p) × LacksRoom self.old p }
     {
         match outcome {
-            Err(code) => self.fail(if code.value == 0x83 {
+            Err(code) => self.fail(if *code == ErrorCode::INVALID_CHANGE_NUMBER {
                 WalkFault::RecordChanged
             } else {
                 WalkFault::OtherCode
@@ -289,7 +285,7 @@ impl Walker {
         self.take_bytes(answer)
     }
 
-    /// Takes bytes, by the tests in their order.
+    /// Takes bytes, by the tests in their order. What `take` promises beside is drawn from this for all tests at once.
     fn take_bytes(&mut self, answer: &[u8]) -> Result<Step, WalkFault>
         ensures takes { Takes (state_of self.old) answer.now result (state_of self.new) }
         ensures wants { result ≡ Err WalkFault.OutOfMemory → BringsTooMuch self.old answer.now }

@@ -24,8 +24,10 @@ impl Command {
         ensures { result.value ≡ type_of self }
     {
         match self {
-            Command::SetTid | Command::GetTid | Command::GetPldmTypes => PldmType::new(0),
-            Command::GetPdr => PldmType::new(2),
+            Command::SetTid | Command::GetTid | Command::GetPldmTypes => {
+                PldmType::MESSAGING_CONTROL
+            }
+            Command::GetPdr => PldmType::PLATFORM_MONITORING,
         }
     }
 

@@ -31,6 +31,11 @@ pub struct GetPdrRequest {
     pub ghost change_in_range: { change_number < 2 ^ 16 },
 }
 
+impl GetPdrRequest {
+    /// How many bytes a request has.
+    pub const LENGTH: usize = HEADER_LENGTH + 13;
+}
+
 impl<'a> Wire<'a> for GetPdrRequest {
     ghost use Rattle.std.specs.Prelude.{◌≡◌, ◌++◌, ℕ, List, length, drop, IfOk, IsOkAnd};
     ghost use Rattle.std.specs.Result.{result_err};
@@ -81,7 +86,7 @@ impl<'a> Wire<'a> for GetPdrRequest {
     }
 
     fn len(&self) -> usize {
-        HEADER_LENGTH + 13
+        GetPdrRequest::LENGTH
     }
 
     fn put(&self, out: &mut [u8]) -> usize {
@@ -91,7 +96,7 @@ impl<'a> Wire<'a> for GetPdrRequest {
         out[12] = self.operation.value;
         LittleEndian::write_u16(&mut out[13..], self.count);
         LittleEndian::write_u16(&mut out[15..], self.change_number);
-        HEADER_LENGTH + 13
+        GetPdrRequest::LENGTH
     }
 
     ghost one_value = { one_get_pdr_request };

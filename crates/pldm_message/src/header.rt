@@ -18,6 +18,11 @@ pub struct PldmType {
 }
 
 impl PldmType {
+    /// 0: messaging control and discovery (DSP0240).
+    pub const MESSAGING_CONTROL: PldmType = PldmType { value: 0 };
+    /// 2: platform monitoring and control (DSP0248).
+    pub const PLATFORM_MONITORING: PldmType = PldmType { value: 2 };
+
     pub fn new(value: u8) -> Self
         requires { value < 64 }
         ensures { result.value ≡ value }

@@ -3,6 +3,7 @@
 #![tactic(auto)]
 
 mod command;
+mod error_answer;
 mod error_code;
 mod fields;
 mod get_pdr_answer;
@@ -23,6 +24,7 @@ mod tid;
 mod transfer;
 
 pub use command::Command;
+pub use error_answer::ErrorAnswer;
 pub use error_code::ErrorCode;
 pub use get_pdr_answer::GetPdrAnswer;
 pub use get_pdr_request::GetPdrRequest;

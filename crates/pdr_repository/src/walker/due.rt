@@ -3,9 +3,6 @@
 use mctp_transport::Wire;
 use pldm_message::{GetPdrRequest, InstanceId, RequestHead, TransferOperation};
 
-/// The bytes of a request for a part.
-const REQUEST_LENGTH: usize = 17;
-
 /// The part that is asked for next.
 #[derive(Clone, Copy, Debug)]
 pub(crate) struct Due {
@@ -22,7 +19,7 @@ impl Due {
     ghost use Rattle.pdr_repository.specs.Walkers.{asked_under};
 
     /// The bytes of its request for at most `count` bytes, under an instance ID.
-    pub(super) fn request(self, id: InstanceId, count: u16) -> [u8; REQUEST_LENGTH]
+    pub(super) fn request(self, id: InstanceId, count: u16) -> [u8; GetPdrRequest::LENGTH]
         ensures lawful { IsPartRequest (request_of count self) }
         ensures bytes { result ≡ get_pdr_request_bytes (asked_under id.value (request_of count self)) }
     {
@@ -34,7 +31,7 @@ impl Due {
             count,
             change_number: self.change_number,
         };
-        let mut bytes = [0; REQUEST_LENGTH];
+        let mut bytes = [0; GetPdrRequest::LENGTH];
         let _ = request.put(&mut bytes);
         bytes
     }

@@ -10,7 +10,11 @@ use super::due::Due;
 use super::pieces::{data_length_of, handle_of};
 use crate::crc::{crc8, crc8_after};
 use crate::walk_fault::WalkFault;
-use pldm_message::PdrPart;
+use pdr_record::HEADER_LENGTH;
+use pldm_message::{PdrPart, TransferFlag, TransferOperation};
+
+/// Where in a record the change number of its header ends.
+const CHANGE_NUMBER_END: usize = 8;
 
 /// How much may be collected, and how much is.
 #[derive(Clone, Copy, Debug)]
@@ -25,18 +29,19 @@ pub(super) struct Limits {
 pub(super) fn is_last(given: &PdrPart) -> bool
     ensures { IsTrue result ↔ IsLast (part given.now) }
 {
-    given.flag.value == 4 || given.flag.value == 5
+    given.flag == TransferFlag::END || given.flag == TransferFlag::START_AND_END
 }
 
 /// Whether the flag is not one for this request, or more is to come and the next transfer handle is 0.
 fn has_wrong_flag(due: &Due, given: &PdrPart) -> bool
     ensures { IsTrue result ↔ HasWrongFlag (request_of 0 due.now) (part given.now) }
 {
-    let flag = given.flag.value;
-    let fits = match due.operation.value {
-        0 => flag == 1 || flag == 4,
-        1 => flag == 0 || flag == 5,
-        _ => false,
+    let flag = given.flag;
+    let fits = if due.operation == TransferOperation::FIRST_PART {
+        flag == TransferFlag::START || flag == TransferFlag::START_AND_END
+    } else {
+        due.operation == TransferOperation::NEXT_PART
+            && (flag == TransferFlag::MIDDLE || flag == TransferFlag::END)
     };
     !fits || !is_last(given) && given.next_transfer == 0
 }
@@ -46,10 +51,12 @@ fn has_wrong_size(count: u16, before: &[u8], due: &Due, given: &PdrPart) -> bool
     ensures { IsTrue result ↔ HasWrongSize before.now (request_of count due.now) (part given.now) }
 {
     let len = given.bytes.len();
-    if len == 0 || len > usize::from(count) || given.flag.value == 0 && len < 8 {
+    let is_start = given.flag == TransferFlag::START;
+    if len == 0 || len > usize::from(count) || is_start && len < CHANGE_NUMBER_END {
         return true;
     }
-    is_last(given) && 10 + usize::from(data_length_of(before, given.bytes)) != before.len() + len
+    let data_length = usize::from(data_length_of(before, given.bytes));
+    is_last(given) && HEADER_LENGTH + data_length != before.len() + len
 }
 
 /// Whether the check byte is not the record's.

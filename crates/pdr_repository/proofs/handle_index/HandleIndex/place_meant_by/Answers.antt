@@ -1,7 +1,7 @@
 use Rattle.std.proofs.Common.{arith}
 use Rattle.std.proofs.lemmas.Bool.Decides.{nat_tests}
 use Rattle.pdr_repository.proofs.Indexing.{meant_first, meant_named, meant_none}
-use Rattle.pdr_repository.proofs.handle_index.HandleIndex.meant.Goals as goal
+use Rattle.pdr_repository.proofs.handle_index.HandleIndex.place_meant_by.Goals as goal
 
 pub returns-then-handle-ne0 : goal.returns-then-handle-ne0
 returns-then-handle-ne0 c = λ records index. meant_named records c.args.handle c.place_of.result c.if-handle-ne0.true (c.place_of.ensures records index)

@@ -1,0 +1,12 @@
+-- No two answers with a completion code alone have the same bytes.
+use Rattle.std.specs.Prelude.{◌≡◌, ℕ}
+use Rattle.pldm_message.specs.Headers.{HeaderValue, header_bytes}
+use Rattle.pldm_message.specs.HeaderLaws.{one_header}
+use Rattle.pldm_message.specs.MessageLaws.{IsOneValue}
+use Rattle.pldm_message.specs.ErrorAnswers.{ErrorMessage, IsErrorAnswer, error_answer_bytes}
+
+same_message : (m n : ErrorMessage) → m.header ≡ n.header → m.code ≡ n.code → m ≡ n
+same_message m n h c = λ j. record { header = h j; code = c j }
+
+pub one_error_answer : IsOneValue IsErrorAnswer error_answer_bytes
+one_error_answer m n hm hn e = same_message m n (one_header m.header n.header hm.header hn.header (cc)) (cc)
