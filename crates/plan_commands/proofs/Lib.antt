@@ -2,7 +2,7 @@ pub mod Causes
 pub mod Telling
 pub mod Named
 pub mod Exchanging
-pub mod Walked
+pub mod Told
 pub mod Repositories
 pub mod Waiting
 pub mod Simulated

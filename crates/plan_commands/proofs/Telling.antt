@@ -1,24 +1,24 @@
 -- Why an input is not read, by the reader's error, and what a printed fault tells.
-use Rattle.std.proofs.Common.{◌≡◌, ◌+◌, ◌⊎◌, ℕ, List, Option, Result, Ok, Err, subst, sym, inl, inr}
+use Rattle.std.proofs.Common.{◌≡◌, ◌+◌, ◌⊎◌, ℕ, List, Option, Result, Ok, Err, subst, inl, inr}
 use Rattle.std.specs.Prelude.{IfErr}
 use Rattle.net_check.specs.declared.check_error.CheckError.{CheckError}
 use Rattle.net_check.specs.declared.check_error.CheckError.TheVariants as check_error
-use Rattle.net_check.specs.Errors.{NamesFirstFault}
-use Rattle.net_check.specs.Rules.{Accepts}
-use Rattle.net_plan.specs.declared.certificate.Certificate.{Certificate}
 use Rattle.net_plan.specs.declared.plan.Plan.{Plan}
 use Rattle.net_plan.specs.declared.error.PlanError.{PlanError}
 use Rattle.net_plan.specs.declared.error.PlanError.TheVariants as error
 use Rattle.net_plan.specs.PlanValues.{plan_value}
-use Rattle.net_plan.specs.Stream.{AppendsBeginning}
 use Rattle.net_plan.specs.TextFaults.{error_count}
 use Rattle.net_plan.specs.Unread.{GaveNoCertificate}
 use Rattle.plan_commands.specs.declared.refused.Input.{Input}
 use Rattle.plan_commands.specs.declared.refused.Input.TheVariants as input
 use Rattle.plan_commands.specs.declared.refused.Refused.{Refused}
 use Rattle.plan_commands.specs.declared.refused.Refused.TheVariants as refused
+use Rattle.plan_commands.specs.declared.commands.answer.Answer.{Answer}
 use Rattle.plan_commands.specs.declared.status.Status.{Status}
-use Rattle.plan_commands.specs.Answers.{Stream, Fails, BreaksOff, GavePlan, GaveNothing, AreUnread, AreGiven, IsAnswerOf, IsErrorText, PrintsFault, Tells}
+use Rattle.plan_commands.specs.declared.status.Status.TheVariants as status
+use Rattle.std.specs.Cow.{cow_str_bytes}
+use Rattle.std.specs.Io.KnownBytes.{Appends}
+use Rattle.plan_commands.specs.Answers.{Stream, BreaksOff, GavePlan, GaveNothing, AreUnread, IsErrorText, PrintsFault}
 use Rattle.plan_commands.specs.Statuses.{refused_at}
 
 -- of a refusal that an error leads to, what holds of no memory and of each cause of an unreadable input
@@ -55,33 +55,8 @@ untouched_also P Q output Same (Ok ended) also left = tt
 untouched_also P Q output Same (Err why) also (inl (is, broken)) = inl (is, breaks_off_also P Q output also broken)
 untouched_also P Q output Same (Err why) also (inr same) = inr same
 
--- the line of an error of `check` answers, where the error names the first fault
-pub error_answers : (IsTold : Plan → Certificate → List ℕ → Type 0) (plan : Plan) (certificate : Certificate) (plans certificates : Stream) (error : CheckError)
-    → AreGiven plans certificates plan certificate → NamesFirstFault plan certificate error
-    → (text : List ℕ) → IsErrorText plan error text → IsAnswerOf IsTold plans certificates text
-error_answers IsTold plan certificate plans certificates (check_error.Fault fault) given first text is = (plan, certificate, given, inr (fault, first, is))
-error_answers IsTold plan certificate plans certificates check_error.OutOfMemory given first text is = absurd is
-
--- so an output that failed in the line of an error failed in an answer
-pub fault_broken : (IsTold : Plan → Certificate → List ℕ → Type 0) (plan : Plan) (certificate : Certificate) (plans certificates output : Stream) (error : CheckError)
-    (Same : Type 0) (result : Result Status Refused) → AreGiven plans certificates plan certificate → NamesFirstFault plan certificate error
-    → IfErr result (λ why. ((why ≡ refused.Unwritten) × BreaksOff (IsErrorText plan error) output) ⊎ Same)
-    → IfErr result (λ why. ((why ≡ refused.Unwritten) × BreaksOff (IsAnswerOf IsTold plans certificates) output) ⊎ Same)
-fault_broken IsTold plan certificate plans certificates output error Same result given first left =
-    untouched_also (IsErrorText plan error) (IsAnswerOf IsTold plans certificates) output Same result
-    (error_answers IsTold plan certificate plans certificates error given first) left
-
--- an output that failed in what is told of an accepted plan failed in an answer
-pub told_broken : (IsTold : Plan → Certificate → List ℕ → Type 0) (plan : Plan) (certificate : Certificate) (plans certificates output : Stream) (text : List ℕ)
-    → AreGiven plans certificates plan certificate → Accepts plan certificate → IsTold plan certificate text → Fails output
-    → AppendsBeginning output.before output.after text → BreaksOff (IsAnswerOf IsTold plans certificates) output
-told_broken IsTold plan certificate plans certificates output text given accepted told fails beginning =
-    record { text = text; answer = (plan, certificate, given, inl (accepted, told)); fails = fails; beginning = beginning }
-
--- the printed fault is what the run tells, whatever would be told of an accepted plan
-pub tells_fault : (IsTold : Plan → Certificate → List ℕ → Type 0) (plan : Plan) (certificate : Certificate) (plans certificates output : Stream)
-    (error : CheckError) (ended : Status) → AreGiven plans certificates plan certificate → NamesFirstFault plan certificate error
-    → PrintsFault plan error ended output → Tells IsTold ended plans certificates output
-tells_fault IsTold plan certificate plans certificates output (check_error.Fault fault) ended given first (is, written) =
-    subst (λ s. Tells IsTold s plans certificates output) (sym is) (plan, certificate, fault, given, first, written)
-tells_fault IsTold plan certificate plans certificates output check_error.OutOfMemory ended given first printed = absurd printed
+-- the line of an error that was written
+pub prints_fault : (plan : Plan) (error : CheckError) (a : Answer) (output : Stream) → (a.status ≡ status.Fault) × IsErrorText plan error (cow_str_bytes a.text)
+    → Appends output.before output.after (cow_str_bytes a.text) → PrintsFault plan error a.status output
+prints_fault plan (check_error.Fault fault) a output (is, told) written = (is, subst (Appends output.before output.after) told written)
+prints_fault plan check_error.OutOfMemory a output (is, told) written = absurd told

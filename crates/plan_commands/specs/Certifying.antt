@@ -8,14 +8,11 @@ use Rattle.net_plan.specs.CertificateText.{IsCertificateOf}
 use Rattle.net_plan.specs.CertificateValues.{certificate_value}
 use Rattle.net_plan.specs.PlanValues.{node_names, plan_value}
 use Rattle.net_plan.specs.Texts.{StandsFor}
-use Rattle.net_plan.specs.Unread.{GaveNoPlan}
 use Rattle.net_plan.specs.WellFormed.{IsWellFormed}
 use Rattle.net_check.specs.declared.certify_error.CertifyError.{CertifyError}
 use Rattle.net_check.specs.Certificates.{IsExact, NamesObstacle, HasNoCertificate}
 use Rattle.net_check.specs.Rules.{Accepts}
-use Rattle.plan_commands.specs.declared.refused.Input.TheVariants as input
 use Rattle.plan_commands.specs.declared.refused.Refused.{Refused}
-use Rattle.plan_commands.specs.declared.refused.Refused.TheVariants as refused
 use Rattle.plan_commands.specs.declared.status.Status.{Status}
 use Rattle.plan_commands.specs.declared.status.Status.TheVariants as status
 use Rattle.plan_commands.specs.Answers.{Stream, GavePlan, IsUnreadPlan, Fails}
@@ -52,6 +49,13 @@ TellsObstacle plans output = (plan : Plan) × (obstacle : CertifyError) × (text
 abbrev pub IsCertifyAnswer : Stream → List ℕ → Type 0
 IsCertifyAnswer plans text = (plan : Plan) × GavePlan plans plan
     × (((certificate : Certificate) × IsCertifiedBy plan certificate text) ⊎ ((obstacle : CertifyError) × IsRuledOutBy plan obstacle text))
+
+-- so it does, in a run that ends so
+abbrev pub CertifiesSo : Stream → Status → List ℕ → Type 0
+CertifiesSo plans status.Yes text = (plan : Plan) × (certificate : Certificate) × GavePlan plans plan × IsCertifiedBy plan certificate text
+CertifiesSo plans status.Fault text = (plan : Plan) × (obstacle : CertifyError) × GavePlan plans plan × IsRuledOutBy plan obstacle text
+CertifiesSo plans status.Unreadable text = ⊥
+CertifiesSo plans status.NoMemory text = ⊥
 
 -- why there is no answer: the plan was not read, or the output failed
 abbrev pub IsUncertifiedFor : Refused → Stream → Stream → Type 0

@@ -1,17 +1,13 @@
 -- A walk of the program over a terminus, one exchange after another.
 use Rattle.std.specs.Prelude.{◌≡◌, ◌≢◌, ◌⊎◌, ◌+◌, ◌<◌, ℕ, List, length, Result, MatchResult}
-use Rattle.std.specs.Io.KnownBytes.{Appends}
 use Rattle.pdr_repository.specs.declared.walk_fault.Step.{Step}
 use Rattle.pdr_repository.specs.declared.walk_fault.Step.TheVariants.{Done}
 use Rattle.pdr_repository.specs.Records.{Entry, bytes_by_place}
 use Rattle.pdr_repository.specs.Walks.{Exchange, Walk, IsFinished, exchanges}
 use Rattle.pdr_repository.specs.Walkers.{WalkState, StandsFor}
 use Rattle.plan_commands.specs.declared.refused.Refused.{Refused}
-use Rattle.plan_commands.specs.declared.refused.Refused.TheVariants.{TooMuch, Unwritten, NoMemory}
-use Rattle.plan_commands.specs.declared.status.Status.{Status}
-use Rattle.plan_commands.specs.declared.status.Status.TheVariants.{Yes}
-use Rattle.plan_commands.specs.Answers.{Stream, Fails}
-use Rattle.plan_commands.specs.Walking.{bytes_of, walk_text}
+use Rattle.plan_commands.specs.declared.refused.Refused.TheVariants.{TooMuch, NoMemory}
+use Rattle.plan_commands.specs.Walking.{bytes_of}
 
 -- The walker stands for these exchanges, which are a walk. It has taken an answer for each, and it has the program's limits.
 pub record IsUnderWay (records : List Entry) (count : ℕ) (w : WalkState) (xs : List Exchange) : Type 0 where
@@ -32,18 +28,6 @@ pub record IsFurther (records : List Entry) (count : ℕ) (xs : List Exchange) (
 -- why a walk ends before its last record: memory ran out, or the records have more bytes than a walk collects
 abbrev pub EndsEarlyFor : List Entry → Refused → Type 0
 EndsEarlyFor records refused = (refused ≡ NoMemory) ⊎ ((refused ≡ TooMuch) × (16777216 < bytes_of records))
-
--- the text is that of these records
-abbrev pub IsTextOfWalk : ℕ → List Entry → List ℕ → Type 0
-IsTextOfWalk count records text = text ≡ walk_text count records
-
--- the output was given the text of these records
-abbrev pub PrintsWalk : ℕ → List Entry → Status → Stream → Type 0
-PrintsWalk count records ended output = (ended ≡ Yes) × Appends output.before output.after (walk_text count records)
-
--- the text was not written: the walk ended early, or the output failed
-abbrev pub FailsToWalk : List Entry → Refused → Stream → Type 0
-FailsToWalk records refused output = EndsEarlyFor records refused ⊎ ((refused ≡ Unwritten) × Fails output)
 
 -- what an exchange leads to, of each walk that is under way
 abbrev pub Goes : List Entry → WalkState → Result Step Refused → WalkState → Type 0

@@ -1,6 +1,7 @@
 pub mod Statuses
 pub mod Lines
 pub mod Answers
+pub mod Told
 pub mod Shown
 pub mod Show
 pub mod Certifying

@@ -15,7 +15,6 @@ use Rattle.net_plan.specs.Unread.{GaveNoPlan, GaveNoCertificate}
 use Rattle.plan_commands.specs.declared.refused.Input.{Input}
 use Rattle.plan_commands.specs.declared.refused.Input.TheVariants as input
 use Rattle.plan_commands.specs.declared.refused.Refused.{Refused}
-use Rattle.plan_commands.specs.declared.refused.Refused.TheVariants as refused
 use Rattle.plan_commands.specs.declared.status.Status.{Status}
 use Rattle.plan_commands.specs.declared.status.Status.TheVariants as status
 use Rattle.plan_commands.specs.Answers.{Stream, Fails, GavePlan, GaveCertificate, GaveNothing}
@@ -68,6 +67,15 @@ abbrev pub IsMoveAnswer : Stream → Stream → Stream → List ℕ → Type 0
 IsMoveAnswer befores afters certificates text = (before : Plan) × (after : Plan) × (certificate : Certificate)
     × IsMoveGiven befores afters certificates before after certificate
     × ((AcceptsMove before after certificate × (text ≡ yes_line)) ⊎ IsMoveFaultText before after certificate text)
+
+-- so it does, in a run that ends so
+abbrev pub AnswersMoveSo : Stream → Stream → Stream → Status → List ℕ → Type 0
+AnswersMoveSo befores afters certificates status.Yes text = (before : Plan) × (after : Plan) × (certificate : Certificate)
+    × IsMoveGiven befores afters certificates before after certificate × AcceptsMove before after certificate × (text ≡ yes_line)
+AnswersMoveSo befores afters certificates status.Fault text = (before : Plan) × (after : Plan) × (certificate : Certificate)
+    × IsMoveGiven befores afters certificates before after certificate × IsMoveFaultText before after certificate text
+AnswersMoveSo befores afters certificates status.Unreadable text = ⊥
+AnswersMoveSo befores afters certificates status.NoMemory text = ⊥
 
 -- every rule of a move holds of the plans and the certificate that were given, and the output was given `yes`
 abbrev pub TellsMove : Stream → Stream → Stream → Stream → Type 0

@@ -14,7 +14,6 @@ use Rattle.pdr_record.specs.Records as record_of
 use Rattle.plan_commands.specs.declared.commands.show.Kind.{Kind}
 use Rattle.plan_commands.specs.declared.commands.show.Kind.TheVariants as kind
 use Rattle.plan_commands.specs.declared.refused.Refused.{Refused}
-use Rattle.plan_commands.specs.declared.refused.Refused.TheVariants as refused
 use Rattle.plan_commands.specs.declared.status.Status.{Status}
 use Rattle.plan_commands.specs.declared.status.Status.TheVariants as status
 use Rattle.plan_commands.specs.Answers.{Stream, Fails}
@@ -48,6 +47,10 @@ IsShown status.NoMemory asked bytes text = ⊥
 -- the text tells what the bytes of the hex text are of the kind, or why they are none
 abbrev pub IsShowAnswer : Kind → List ℕ → List ℕ → Type 0
 IsShowAnswer asked hex text = (bytes : List ℕ) × (ended : Status) × IsDecoded hex bytes × IsShown ended asked bytes text
+
+-- so it does, in a run that ends so
+abbrev pub ShowsSo : Kind → List ℕ → Status → List ℕ → Type 0
+ShowsSo asked hex ended text = (bytes : List ℕ) × IsDecoded hex bytes × IsShown ended asked bytes text
 
 -- the output was given the text of the bytes that the hex text is
 abbrev pub TellsOf : Status → Kind → List ℕ → Stream → Type 0

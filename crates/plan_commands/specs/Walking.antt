@@ -13,10 +13,9 @@ use Rattle.net_plan.specs.declared.certificate.Certificate.{Certificate}
 use Rattle.pdr_repository.specs.Records.{Entry, handle_in, bytes_by_place}
 use Rattle.pdr_repository.specs.Walks.{exchanges}
 use Rattle.plan_commands.specs.declared.refused.Refused.{Refused}
-use Rattle.plan_commands.specs.declared.refused.Refused.TheVariants as refused
 use Rattle.plan_commands.specs.declared.status.Status.{Status}
 use Rattle.plan_commands.specs.declared.status.Status.TheVariants as status
-use Rattle.plan_commands.specs.Answers.{Stream, AreGiven, IsUnread, TellsOf, Fails}
+use Rattle.plan_commands.specs.Answers.{Stream, AreGiven, IsUnread, IsFaultText, TellsOf, Fails}
 use Rattle.plan_commands.specs.Lines.{fault_text}
 use Rattle.plan_commands.specs.Statuses.{status_of, HasCause}
 
@@ -58,6 +57,16 @@ TellsWalkFault name plans certificates output = (plan : Plan) × (certificate : 
     × AreGiven plans certificates plan certificate × HasTerminusNamed plan name × IsFirstFault plan certificate (place_of fault)
     × Appends output.before output.after (fault_text plan fault)
 
+-- The text answers so: it is that of the records of the terminus of the name, and every rule holds; or there is such a terminus, and
+-- it is the line of the first fault.
+abbrev pub WalksSo : List ℕ → ℕ → Stream → Stream → Status → List ℕ → Type 0
+WalksSo name count plans certificates status.Yes text = (plan : Plan) × (certificate : Certificate)
+    × AreGiven plans certificates plan certificate × Accepts plan certificate × IsWalkText name count plan certificate text
+WalksSo name count plans certificates status.Fault text = (plan : Plan) × (certificate : Certificate)
+    × AreGiven plans certificates plan certificate × HasTerminusNamed plan name × IsFaultText plan certificate text
+WalksSo name count plans certificates status.Unreadable text = ⊥
+WalksSo name count plans certificates status.NoMemory text = ⊥
+
 -- the plan that was given has no terminus of the name
 abbrev pub NamesNoTerminus : List ℕ → Stream → Stream → Type 0
 NamesNoTerminus name plans certificates = (plan : Plan) × (certificate : Certificate)
@@ -68,6 +77,11 @@ abbrev pub HasTooManyBytes : List ℕ → Stream → Stream → Type 0
 HasTooManyBytes name plans certificates = (plan : Plan) × (certificate : Certificate) × (n : ℕ)
     × AreGiven plans certificates plan certificate × Accepts plan certificate × IsTerminusNamed plan name n
     × (16777216 < bytes_of (records_by_place plan certificate n))
+
+-- why there is no text: the inputs were not read, there is no such terminus, or its records have too many bytes
+abbrev pub IsUnwalkedFor : Refused → List ℕ → Stream → Stream → Type 0
+IsUnwalkedFor why name plans certificates = HasCause (λ unread cause. IsUnread unread cause plans certificates)
+    (NamesNoTerminus name plans certificates) ⊥ (HasTooManyBytes name plans certificates) ⊥ why
 
 -- why there is no answer: the inputs were not read, there is no such terminus, its records have too many bytes, or the output failed
 abbrev pub IsNotWalkedFor : Refused → List ℕ → Stream → Stream → Stream → Type 0

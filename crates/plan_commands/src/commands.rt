@@ -1,12 +1,14 @@
 //! The program's commands, over the files that they read and the streams that they write.
 ghost use Rattle.std.specs.Prelude.{◌+◌, OnErr, ◌≡◌, ◌⊎◌, ◌<◌, ◌^◌, ◌-◌, OnOk, IfOk, IfErr};
 ghost use Rattle.std.specs.Io.KnownBytes.{Appends};
+ghost use Rattle.std.specs.Cow.{cow_str_bytes};
 ghost use Rattle.plan_commands.specs.declared.refused.Refused.TheVariants.{Unwritten};
-ghost use Rattle.plan_commands.specs.declared.status.Status.TheVariants.{Unreadable, NoMemory};
+ghost use Rattle.plan_commands.specs.declared.status.Status.TheVariants.{Fault, Unreadable, NoMemory};
 ghost use Rattle.plan_commands.specs.Statuses.{status_of};
 ghost use Rattle.net_plan.specs.Stream.{AppendsBeginning};
 ghost use Rattle.plan_commands.specs.Answers.{stream, PrintsFault, FailsToPrint, IsErrorText, BreaksOff};
 
+pub mod answer;
 pub mod assign;
 pub mod certify;
 pub mod check;
@@ -18,6 +20,7 @@ pub mod show;
 pub mod sim;
 pub mod walk;
 
+use crate::commands::answer::Answer;
 use crate::refused::Refused;
 use crate::status::Status;
 use crate::texts::{self, NO_MEMORY};
@@ -53,7 +56,19 @@ pub fn print<O: Sink>(output: &mut O, line: &str) -> Result<(), Refused>
     write_whole(output, line.as_bytes()).map_err(|_| Refused::Unwritten)
 }
 
+/// The answer where a plan and its certificate are not accepted.
+pub fn fault_answer(alloc: Global, plan: &Plan, error: &CheckError) -> Result<Answer, Refused>
+    ensures answers { IfOk result (λ answer. (answer.status ≡ Fault) × IsErrorText plan.now error.now (cow_str_bytes answer.text)) }
+    ensures refused { IfErr result (λ refused. refused ≡ Refused.NoMemory) }
+{
+    match error {
+        CheckError::Fault(fault) => Ok(Answer::fault(texts::fault_line(alloc, plan, fault)?)),
+        CheckError::OutOfMemory => Err(Refused::NoMemory),
+    }
+}
+
 /// Writes the fault for which a plan and its certificate are not accepted.
+#[tactic(auto, using(crate::proofs::Telling::prints_fault))]
 pub fn print_fault<O: Sink>(
     alloc: Global,
     plan: &Plan,
@@ -68,11 +83,7 @@ pub fn print_fault<O: Sink>(
     ensures untouched { let outputs = stream (O.contents output.old) (O.failures output.old) (O.contents output.new) (O.failures output.new) in
         IfErr result (λ refused. ((refused ≡ Unwritten) × BreaksOff (IsErrorText plan.now error.now) outputs) ⊎ (output.new ≡ output.old)) }
 {
-    match error {
-        CheckError::Fault(fault) => {
-            print(output, &texts::fault_line(alloc, plan, fault)?)?;
-            Ok(Status::Fault)
-        }
-        CheckError::OutOfMemory => Err(Refused::NoMemory),
-    }
+    let answer = fault_answer(alloc, plan, error)?;
+    print(output, &answer.text)?;
+    Ok(answer.status)
 }

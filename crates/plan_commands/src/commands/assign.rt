@@ -1,12 +1,14 @@
 //! The command `assign`: the requests that give the nodes of a checked plan their endpoint IDs and pools.
 ghost use Rattle.std.specs.Prelude.{◌≡◌, ◌⊎◌, ◌<◌, ◌^◌, ◌-◌, IfOk, IfErr, string_bytes};
-ghost use Rattle.plan_commands.specs.declared.refused.Refused.TheVariants.{Unwritten};
 ghost use Rattle.plan_commands.specs.declared.status.Status.TheVariants.{Yes, Fault, Unreadable, NoMemory};
-ghost use Rattle.plan_commands.specs.Answers.{stream, BreaksOff, IsAnswerOf, IsRefusedFor, Tells};
+ghost use Rattle.std.specs.Cow.{cow_str_bytes};
+ghost use Rattle.plan_commands.specs.Told.{AnswersSo};
+ghost use Rattle.plan_commands.specs.Answers.{stream, AreUnread, BreaksOff, IsAnswerOf, Tells};
 ghost use Rattle.plan_commands.specs.Assigning.{IsAssignmentText};
 
+use crate::commands::answer::{Answer, tell};
+use crate::commands::fault_answer;
 use crate::commands::inputs::read_inputs;
-use crate::commands::{print, print_fault, refuse};
 use crate::refused::Refused;
 use crate::status::Status;
 use crate::texts::assignments::assignment_lines;
@@ -41,46 +43,30 @@ pub fn run_assign<P: Source, C: Source, O: Sink, E: Sink>(
         result ≡ Unreadable → (output.new ≡ output.old) ⊎ BreaksOff (IsAnswerOf IsAssignmentText plans certificates) outputs }
     ensures no_memory { result ≡ NoMemory → output.new ≡ output.old }
 {
-    match answer_assign(alloc, plan, certificate, output) {
-        Ok(status) => status,
-        Err(refused) => refuse(alloc, refused, errors),
-    }
+    let answered = answer_assign(alloc, plan, certificate);
+    tell(alloc, answered, output, errors)
 }
 
-#[tactic(auto, using(crate::proofs::Telling::tells_fault))]
-fn answer_assign<P: Source, C: Source, O: Sink>(
+fn answer_assign<P: Source, C: Source>(
     alloc: Global,
     plan: &mut P,
     certificate: &mut C,
-    output: &mut O,
-) -> Result<Status, Refused>
+) -> Result<Answer, Refused>
     requires plan { P.failures plan.old < 2 ^ 64 - 1 }
     requires certificate { C.failures certificate.old < 2 ^ 64 - 1 }
-    requires output { O.failures output.old < 2 ^ 64 - 1 }
-    ensures answers { IfOk result (λ status. (status ≡ Yes) ⊎ (status ≡ Fault)) }
-    ensures untouched { let plans = stream (P.remaining plan.old) (P.failures plan.old) (P.remaining plan.new) (P.failures plan.new) in
+    ensures answers { let plans = stream (P.remaining plan.old) (P.failures plan.old) (P.remaining plan.new) (P.failures plan.new) in
         let certificates = stream (C.remaining certificate.old) (C.failures certificate.old)
         (C.remaining certificate.new) (C.failures certificate.new) in
-        let outputs = stream (O.contents output.old) (O.failures output.old) (O.contents output.new) (O.failures output.new) in
-        IfErr result (λ refused. ((refused ≡ Unwritten) × BreaksOff (IsAnswerOf IsAssignmentText plans certificates) outputs) ⊎ (output.new ≡ output.old)) }
-    ensures tells { let plans = stream (P.remaining plan.old) (P.failures plan.old) (P.remaining plan.new) (P.failures plan.new) in
+        IfOk result (λ answer. AnswersSo IsAssignmentText plans certificates answer.status (cow_str_bytes answer.text)) }
+    ensures unread { let plans = stream (P.remaining plan.old) (P.failures plan.old) (P.remaining plan.new) (P.failures plan.new) in
         let certificates = stream (C.remaining certificate.old) (C.failures certificate.old)
         (C.remaining certificate.new) (C.failures certificate.new) in
-        let outputs = stream (O.contents output.old) (O.failures output.old) (O.contents output.new) (O.failures output.new) in
-        IfOk result (λ status. Tells IsAssignmentText status plans certificates outputs) }
-    ensures refused { let plans = stream (P.remaining plan.old) (P.failures plan.old) (P.remaining plan.new) (P.failures plan.new) in
-        let certificates = stream (C.remaining certificate.old) (C.failures certificate.old)
-        (C.remaining certificate.new) (C.failures certificate.new) in
-        let outputs = stream (O.contents output.old) (O.failures output.old) (O.contents output.new) (O.failures output.new) in
-        IfErr result (λ refused. IsRefusedFor refused plans certificates outputs) }
+        IfErr result (λ why. AreUnread why plans certificates) }
 {
     let (plan, certificate) = read_inputs(alloc, plan, certificate)?;
     match check(alloc, &plan, &certificate) {
-        Ok(checked) => {
-            print(output, &requests_text(alloc, &checked)?)?;
-            Ok(Status::Yes)
-        }
-        Err(error) => print_fault(alloc, &plan, &error, output),
+        Ok(checked) => Ok(Answer::found(requests_text(alloc, &checked)?)),
+        Err(error) => fault_answer(alloc, &plan, &error),
     }
 }
 

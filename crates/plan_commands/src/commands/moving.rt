@@ -1,15 +1,16 @@
 //! The command `move`: whether the nodes of a running network may go from the rows of one plan to those of another.
 ghost use Rattle.std.specs.Prelude.{◌≡◌, ◌⊎◌, ◌<◌, ◌^◌, ◌-◌, IfOk, IfErr};
 ghost use Rattle.plan_commands.specs.declared.refused.Refused.TheVariants.{Unwritten};
+ghost use Rattle.std.specs.Cow.{cow_str_bytes};
 ghost use Rattle.plan_commands.specs.declared.status.Status.TheVariants.{Yes, Fault, Unreadable, NoMemory};
 ghost use Rattle.plan_commands.specs.Answers.{stream, BreaksOff, FailsToPrint};
-ghost use Rattle.plan_commands.specs.Moving.{IsMoveAnswer, IsMoveErrorText, PrintsMoveError, IsMoveRefusedFor, EndsMove};
+ghost use Rattle.plan_commands.specs.Moving.{AnswersMoveSo, IsMoveAnswer, IsMoveErrorText, PrintsMoveError, IsMoveUnread, EndsMove};
 
+use crate::commands::answer::{Answer, tell};
 use crate::commands::inputs::read_move;
-use crate::commands::{print, refuse};
+use crate::commands::print;
 use crate::refused::Refused;
 use crate::status::Status;
-use crate::texts::YES;
 use crate::texts::moves::move_error_line;
 use net_check::{MoveError, check_move};
 use net_plan::{Plan, Sink, Source};
@@ -46,51 +47,34 @@ pub fn run_move<P: Source, Q: Source, C: Source, O: Sink, E: Sink>(
         result ≡ Unreadable → (output.new ≡ output.old) ⊎ BreaksOff (IsMoveAnswer befores afters certificates) outputs }
     ensures no_memory { result ≡ NoMemory → output.new ≡ output.old }
 {
-    match answer_move(alloc, before, after, certificate, output) {
-        Ok(status) => status,
-        Err(refused) => refuse(alloc, refused, errors),
-    }
+    let answered = answer_move(alloc, before, after, certificate);
+    tell(alloc, answered, output, errors)
 }
 
-#[tactic(auto, using(crate::proofs::Moved::move_unread, crate::proofs::Moved::tells_move_fault, crate::proofs::Moved::move_unwritten))]
-fn answer_move<P: Source, Q: Source, C: Source, O: Sink>(
+fn answer_move<P: Source, Q: Source, C: Source>(
     alloc: Global,
     before: &mut P,
     after: &mut Q,
     certificate: &mut C,
-    output: &mut O,
-) -> Result<Status, Refused>
+) -> Result<Answer, Refused>
     requires before { P.failures before.old < 2 ^ 64 - 1 }
     requires after { Q.failures after.old < 2 ^ 64 - 1 }
     requires certificate { C.failures certificate.old < 2 ^ 64 - 1 }
-    requires output { O.failures output.old < 2 ^ 64 - 1 }
-    ensures answers { IfOk result (λ status. (status ≡ Yes) ⊎ (status ≡ Fault)) }
-    ensures untouched { let befores = stream (P.remaining before.old) (P.failures before.old) (P.remaining before.new) (P.failures before.new) in
+    ensures answers { let befores = stream (P.remaining before.old) (P.failures before.old) (P.remaining before.new) (P.failures before.new) in
         let afters = stream (Q.remaining after.old) (Q.failures after.old) (Q.remaining after.new) (Q.failures after.new) in
         let certificates = stream (C.remaining certificate.old) (C.failures certificate.old)
         (C.remaining certificate.new) (C.failures certificate.new) in
-        let outputs = stream (O.contents output.old) (O.failures output.old) (O.contents output.new) (O.failures output.new) in
-        IfErr result (λ refused. ((refused ≡ Unwritten) × BreaksOff (IsMoveAnswer befores afters certificates) outputs) ⊎ (output.new ≡ output.old)) }
-    ensures tells { let befores = stream (P.remaining before.old) (P.failures before.old) (P.remaining before.new) (P.failures before.new) in
+        IfOk result (λ answer. AnswersMoveSo befores afters certificates answer.status (cow_str_bytes answer.text)) }
+    ensures unread { let befores = stream (P.remaining before.old) (P.failures before.old) (P.remaining before.new) (P.failures before.new) in
         let afters = stream (Q.remaining after.old) (Q.failures after.old) (Q.remaining after.new) (Q.failures after.new) in
         let certificates = stream (C.remaining certificate.old) (C.failures certificate.old)
         (C.remaining certificate.new) (C.failures certificate.new) in
-        let outputs = stream (O.contents output.old) (O.failures output.old) (O.contents output.new) (O.failures output.new) in
-        IfOk result (λ status. EndsMove status befores afters certificates outputs) }
-    ensures refused { let befores = stream (P.remaining before.old) (P.failures before.old) (P.remaining before.new) (P.failures before.new) in
-        let afters = stream (Q.remaining after.old) (Q.failures after.old) (Q.remaining after.new) (Q.failures after.new) in
-        let certificates = stream (C.remaining certificate.old) (C.failures certificate.old)
-        (C.remaining certificate.new) (C.failures certificate.new) in
-        let outputs = stream (O.contents output.old) (O.failures output.old) (O.contents output.new) (O.failures output.new) in
-        IfErr result (λ refused. IsMoveRefusedFor refused befores afters certificates outputs) }
+        IfErr result (λ why. IsMoveUnread why befores afters certificates) }
 {
     let (before, after, certificate) = read_move(alloc, before, after, certificate)?;
     match check_move(alloc, &before, &after, &certificate) {
-        Ok(_) => {
-            print(output, YES)?;
-            Ok(Status::Yes)
-        }
-        Err(error) => print_move_error(alloc, &before, &error, output),
+        Ok(_) => Ok(Answer::yes()),
+        Err(error) => Ok(Answer::fault(move_error_line(alloc, &before, &error)?)),
     }
 }
 

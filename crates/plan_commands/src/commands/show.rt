@@ -1,13 +1,13 @@
 //! The command `show`: what bytes are, or why they are nothing.
 ghost use Rattle.std.specs.Prelude.{◌≡◌, ◌⊎◌, ◌<◌, ◌^◌, ◌-◌, IfOk, IfErr, string_bytes};
-ghost use Rattle.plan_commands.specs.declared.refused.Refused.TheVariants.{Unwritten};
+ghost use Rattle.std.specs.Cow.{cow_str_bytes};
 ghost use Rattle.plan_commands.specs.declared.status.Status.TheVariants.{Yes, Fault, Unreadable, NoMemory};
 ghost use Rattle.plan_commands.specs.Answers.{stream, BreaksOff};
-ghost use Rattle.plan_commands.specs.Show.{IsDecoded, IsNoHex, IsShown, IsShowAnswer, IsNotShown, Shows};
+ghost use Rattle.plan_commands.specs.Show.{IsDecoded, IsNoHex, IsShown, ShowsSo, IsShowAnswer, Shows};
 
 mod texts;
 
-use crate::commands::{print, refuse};
+use crate::commands::answer::{Answer, tell};
 use crate::refused::Refused;
 use crate::status::Status;
 use hex::FromHexError;
@@ -41,31 +41,16 @@ pub fn run_show<O: Sink, E: Sink>(
         result ≡ Unreadable → (output.new ≡ output.old) ⊎ BreaksOff (IsShowAnswer kind hex.now) outputs }
     ensures no_memory { result ≡ NoMemory → output.new ≡ output.old }
 {
-    match answer_show(alloc, kind, hex, output) {
-        Ok(status) => status,
-        Err(refused) => refuse(alloc, refused, errors),
-    }
+    let answered = answer_show(alloc, kind, hex);
+    tell(alloc, answered, output, errors)
 }
 
-fn answer_show<O: Sink>(
-    alloc: Global,
-    kind: Kind,
-    hex: &str,
-    output: &mut O,
-) -> Result<Status, Refused>
-    requires { O.failures output.old < 2 ^ 64 - 1 }
-    ensures answers { IfOk result (λ status. (status ≡ Yes) ⊎ (status ≡ Fault)) }
-    ensures untouched { let outputs = stream (O.contents output.old) (O.failures output.old) (O.contents output.new) (O.failures output.new) in
-        IfErr result (λ refused. ((refused ≡ Unwritten) × BreaksOff (IsShowAnswer kind hex.now) outputs) ⊎ (output.new ≡ output.old)) }
-    ensures shows { let outputs = stream (O.contents output.old) (O.failures output.old) (O.contents output.new) (O.failures output.new) in
-        IfOk result (λ status. Shows status kind hex.now outputs) }
-    ensures refused { let outputs = stream (O.contents output.old) (O.failures output.old) (O.contents output.new) (O.failures output.new) in
-        IfErr result (λ refused. IsNotShown refused hex.now outputs) }
+fn answer_show(alloc: Global, kind: Kind, hex: &str) -> Result<Answer, Refused>
+    ensures answers { IfOk result (λ answer. ShowsSo kind hex.now answer.status (cow_str_bytes answer.text)) }
+    ensures no_hex { IfErr result (λ why. (why ≡ Refused.NoMemory) ⊎ ((why ≡ Refused.UnreadableHex) × IsNoHex hex.now)) }
 {
     let bytes = decode(alloc, hex)?;
-    let (status, text) = shown(alloc, kind, &bytes)?;
-    print(output, &text)?;
-    Ok(status)
+    Ok(shown(alloc, kind, &bytes)?)
 }
 
 /// The bytes of a hex text.
@@ -80,9 +65,9 @@ fn decode(alloc: Global, text: &str) -> Result<Vec<u8>, Refused>
     }
 }
 
-/// What bytes are, and how the run ends that tells it.
-fn shown(alloc: Global, kind: Kind, bytes: &[u8]) -> Result<(Status, String), AllocError>
-    ensures { IfOk result (λ shown. IsShown shown.0 kind bytes.now (string_bytes shown.1)) }
+/// What bytes are.
+fn shown(alloc: Global, kind: Kind, bytes: &[u8]) -> Result<Answer, AllocError>
+    ensures { IfOk result (λ shown. IsShown shown.status kind bytes.now (cow_str_bytes shown.text)) }
 {
     match kind {
         Kind::Packet => shown_packet(alloc, bytes),
@@ -91,21 +76,21 @@ fn shown(alloc: Global, kind: Kind, bytes: &[u8]) -> Result<(Status, String), Al
 }
 
 /// What bytes are as a packet.
-fn shown_packet(alloc: Global, bytes: &[u8]) -> Result<(Status, String), AllocError>
-    ensures { IfOk result (λ shown. IsShown shown.0 Kind.Packet bytes.now (string_bytes shown.1)) }
+fn shown_packet(alloc: Global, bytes: &[u8]) -> Result<Answer, AllocError>
+    ensures { IfOk result (λ shown. IsShown shown.status Kind.Packet bytes.now (cow_str_bytes shown.text)) }
 {
     match PacketView::read(bytes) {
-        Ok(packet) => Ok((Status::Yes, texts::packet_text(alloc, &packet)?)),
-        Err(error) => Ok((Status::Fault, texts::refused_text(alloc, error.code())?)),
+        Ok(packet) => Ok(Answer::found(texts::packet_text(alloc, &packet)?)),
+        Err(error) => Ok(Answer::fault(texts::refused_text(alloc, error.code())?)),
     }
 }
 
 /// What bytes are as a record.
-fn shown_record(alloc: Global, bytes: &[u8]) -> Result<(Status, String), AllocError>
-    ensures { IfOk result (λ shown. IsShown shown.0 Kind.Record bytes.now (string_bytes shown.1)) }
+fn shown_record(alloc: Global, bytes: &[u8]) -> Result<Answer, AllocError>
+    ensures { IfOk result (λ shown. IsShown shown.status Kind.Record bytes.now (cow_str_bytes shown.text)) }
 {
     match Record::read(bytes) {
-        Ok(record) => Ok((Status::Yes, texts::record_text(alloc, &record)?)),
-        Err(error) => Ok((Status::Fault, texts::refused_text(alloc, error.code())?)),
+        Ok(record) => Ok(Answer::found(texts::record_text(alloc, &record)?)),
+        Err(error) => Ok(Answer::fault(texts::refused_text(alloc, error.code())?)),
     }
 }

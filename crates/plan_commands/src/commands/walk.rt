@@ -2,19 +2,20 @@
 ghost use Rattle.std.specs.Prelude.{◌≡◌, ◌↔◌, ◌⊎◌, ◌<◌, ◌≤◌, ◌^◌, ◌-◌, Some, IsSome, IfSome, IfOk, IfErr, string_bytes};
 ghost use Rattle.net_check.specs.Repositories.{terminus_of, records_by_place};
 ghost use Rattle.net_check.specs.Rules.{Accepts};
-ghost use Rattle.plan_commands.specs.declared.refused.Refused.TheVariants.{Unwritten};
+ghost use Rattle.std.specs.Cow.{cow_str_bytes};
 ghost use Rattle.plan_commands.specs.declared.status.Status.TheVariants.{Yes, Fault, Unreadable, NoMemory};
 ghost use Rattle.plan_commands.specs.Answers.{stream, BreaksOff, IsAnswerOf};
-ghost use Rattle.plan_commands.specs.Collecting.{EndsEarlyFor, IsTextOfWalk, PrintsWalk, FailsToWalk};
-ghost use Rattle.plan_commands.specs.Walking.{walk_text, IsWalkText, IsNotWalkedFor, Walks};
+ghost use Rattle.plan_commands.specs.Collecting.{EndsEarlyFor};
+ghost use Rattle.plan_commands.specs.Walking.{walk_text, WalksSo, IsWalkText, IsUnwalkedFor, Walks};
 
 mod collecting;
 mod naming;
 mod ordering;
 mod texts;
 
+use crate::commands::answer::{Answer, tell};
+use crate::commands::fault_answer;
 use crate::commands::inputs::read_inputs;
-use crate::commands::{print, print_fault, refuse};
 use crate::refused::Refused;
 use crate::status::Status;
 use collecting::collect;
@@ -74,74 +75,39 @@ pub fn run_walk<P: Source, C: Source, O: Sink, E: Sink>(
         result ≡ Unreadable → (output.new ≡ output.old) ⊎ BreaksOff (IsAnswerOf (IsWalkText node.now part.bytes) plans certificates) outputs }
     ensures no_memory { result ≡ NoMemory → output.new ≡ output.old }
 {
-    match answer_walk(alloc, plan, certificate, node, part, output) {
-        Ok(status) => status,
-        Err(refused) => refuse(alloc, refused, errors),
-    }
+    let answered = answer_walk(alloc, plan, certificate, node, part);
+    tell(alloc, answered, output, errors)
 }
 
-#[tactic(auto, using(crate::proofs::Walked::tells_walk_fault))]
-fn answer_walk<P: Source, C: Source, O: Sink>(
+fn answer_walk<P: Source, C: Source>(
     alloc: Global,
     plan: &mut P,
     certificate: &mut C,
     node: &str,
     part: PartSize,
-    output: &mut O,
-) -> Result<Status, Refused>
+) -> Result<Answer, Refused>
     requires plan { P.failures plan.old < 2 ^ 64 - 1 }
     requires certificate { C.failures certificate.old < 2 ^ 64 - 1 }
-    requires output { O.failures output.old < 2 ^ 64 - 1 }
-    ensures answers { IfOk result (λ status. (status ≡ Yes) ⊎ (status ≡ Fault)) }
-    ensures untouched { let plans = stream (P.remaining plan.old) (P.failures plan.old) (P.remaining plan.new) (P.failures plan.new) in
+    ensures answers { let plans = stream (P.remaining plan.old) (P.failures plan.old) (P.remaining plan.new) (P.failures plan.new) in
         let certificates = stream (C.remaining certificate.old) (C.failures certificate.old)
         (C.remaining certificate.new) (C.failures certificate.new) in
-        let outputs = stream (O.contents output.old) (O.failures output.old) (O.contents output.new) (O.failures output.new) in
-        IfErr result (λ refused. ((refused ≡ Unwritten) × BreaksOff (IsAnswerOf (IsWalkText node.now part.bytes) plans certificates) outputs) ⊎ (output.new ≡ output.old)) }
-    ensures walks { let plans = stream (P.remaining plan.old) (P.failures plan.old) (P.remaining plan.new) (P.failures plan.new) in
+        IfOk result (λ answer. WalksSo node.now part.bytes plans certificates answer.status (cow_str_bytes answer.text)) }
+    ensures unwalked { let plans = stream (P.remaining plan.old) (P.failures plan.old) (P.remaining plan.new) (P.failures plan.new) in
         let certificates = stream (C.remaining certificate.old) (C.failures certificate.old)
         (C.remaining certificate.new) (C.failures certificate.new) in
-        let outputs = stream (O.contents output.old) (O.failures output.old) (O.contents output.new) (O.failures output.new) in
-        IfOk result (λ status. Walks status node.now part.bytes plans certificates outputs) }
-    ensures refused { let plans = stream (P.remaining plan.old) (P.failures plan.old) (P.remaining plan.new) (P.failures plan.new) in
-        let certificates = stream (C.remaining certificate.old) (C.failures certificate.old)
-        (C.remaining certificate.new) (C.failures certificate.new) in
-        let outputs = stream (O.contents output.old) (O.failures output.old) (O.contents output.new) (O.failures output.new) in
-        IfErr result (λ refused. IsNotWalkedFor refused node.now plans certificates outputs) }
+        IfErr result (λ why. IsUnwalkedFor why node.now plans certificates) }
 {
     let (plan, certificate) = read_inputs(alloc, plan, certificate)?;
     let Some((place, terminus)) = named_terminus(&plan, node) else {
         return Err(Refused::UnknownNode);
     };
     match check(alloc, &plan, &certificate) {
-        Ok(_) => print_walk(alloc, &plan, &certificate, (place, terminus), part, output),
-        Err(error) => print_fault(alloc, &plan, &error, output),
+        Ok(_) => {
+            let text = walked_text(alloc, &plan, &certificate, place, terminus, part)?;
+            Ok(Answer::found(text))
+        }
+        Err(error) => fault_answer(alloc, &plan, &error),
     }
-}
-
-/// Writes which records a walk over the terminus of a node of an accepted plan collects.
-fn print_walk<O: Sink>(
-    alloc: Global,
-    plan: &Plan,
-    certificate: &Certificate,
-    found: (usize, &Terminus),
-    part: PartSize,
-    output: &mut O,
-) -> Result<Status, Refused>
-    requires accepted { Accepts plan.now certificate.now }
-    requires there { terminus_of plan.now found.0 ≡ Some found.1.now }
-    requires output { O.failures output.old < 2 ^ 64 - 1 }
-    ensures written { let outputs = stream (O.contents output.old) (O.failures output.old) (O.contents output.new) (O.failures output.new) in
-        IfOk result (λ status. PrintsWalk part.bytes (records_by_place plan.now certificate.now found.entry.0) status outputs) }
-    ensures unwritten { let outputs = stream (O.contents output.old) (O.failures output.old) (O.contents output.new) (O.failures output.new) in
-        IfErr result (λ refused. FailsToWalk (records_by_place plan.now certificate.now found.entry.0) refused outputs) }
-    ensures untouched { let outputs = stream (O.contents output.old) (O.failures output.old) (O.contents output.new) (O.failures output.new) in
-        IfErr result (λ refused. ((refused ≡ Unwritten) × BreaksOff (IsTextOfWalk part.bytes (records_by_place plan.now certificate.now found.entry.0)) outputs) ⊎ (output.new ≡ output.old)) }
-{
-    let (node, terminus) = found;
-    let text = walked_text(alloc, plan, certificate, node, terminus, part)?;
-    print(output, &text)?;
-    Ok(Status::Yes)
 }
 
 /// What is told of a walk over the terminus of a node of an accepted plan.

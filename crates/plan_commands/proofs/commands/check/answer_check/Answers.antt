@@ -1,28 +1,24 @@
-use Rattle.std.proofs.Common.{rules, ◌≡◌, Err, inl, refl}
-use Rattle.plan_commands.specs.Answers.{stream, IsYes}
-use Rattle.plan_commands.specs.Statuses.{yes_line}
-use Rattle.plan_commands.proofs.Telling.{fault_broken, told_broken}
+use Rattle.plan_commands.specs.Answers.{stream, IsUnread, IsYes}
+use Rattle.plan_commands.proofs.Told.{told_so, fault_so, memory_lacks}
 use Rattle.plan_commands.proofs.commands.check.answer_check.Goals as goal
 
-pub returns-in_err-print-in-Ok-clause-untouched : goal.returns-in_err-print-in-Ok-clause-untouched
-returns-in_err-print-in-Ok-clause-untouched g c =
+pub returns-in-Ok-clause-answers : goal.returns-in-Ok-clause-answers
+returns-in-Ok-clause-answers g c =
     let read = c.in_ok-plan in
-    let failed = c.in_err-print-in-Ok in
     let plans = stream (g.P.Source.remaining c.args.plan.now) (g.P.Source.failures c.args.plan.now) (g.P.Source.remaining c.read_inputs.new.plan) (g.P.Source.failures c.read_inputs.new.plan) in
     let certificates = stream (g.C.Source.remaining c.args.certificate.now) (g.C.Source.failures c.args.certificate.now) (g.C.Source.remaining c.read_inputs.new.certificate) (g.C.Source.failures c.read_inputs.new.certificate) in
-    let output = stream (g.O.Sink.contents c.args.output.now) (g.O.Sink.failures c.args.output.now) (g.O.Sink.contents c.print.new.output) (g.O.Sink.failures c.print.new.output) in
-    let ended : c.from_residual-in_err-print-in-Ok.result ≡ Err failed.field-0.0 = search rules in
-    rw ended (inl (
-      failed.ensures.unwritten,
-      told_broken IsYes read.plan read.certificate plans certificates output yes_line read.ensures.given
-          c.in-Ok.ensures.accepted refl failed.ensures.fails failed.ensures.beginning,
-    ))
+    told_so IsYes plans certificates read.plan read.certificate read.ensures.given c.yes.result c.yes.ensures.status c.in-Ok.ensures.accepted c.yes.ensures.text
 
-pub returns-clause-untouched : goal.returns-clause-untouched
-returns-clause-untouched g c =
+pub returns-clause-answers : goal.returns-clause-answers
+returns-clause-answers g c =
     let read = c.in_ok-plan in
     let plans = stream (g.P.Source.remaining c.args.plan.now) (g.P.Source.failures c.args.plan.now) (g.P.Source.remaining c.read_inputs.new.plan) (g.P.Source.failures c.read_inputs.new.plan) in
     let certificates = stream (g.C.Source.remaining c.args.certificate.now) (g.C.Source.failures c.args.certificate.now) (g.C.Source.remaining c.read_inputs.new.certificate) (g.C.Source.failures c.read_inputs.new.certificate) in
-    let output = stream (g.O.Sink.contents c.args.output.now) (g.O.Sink.failures c.args.output.now) (g.O.Sink.contents c.print_fault.new.output) (g.O.Sink.failures c.print_fault.new.output) in
-    fault_broken IsYes read.plan read.certificate plans certificates output c.in-Err.error _ c.print_fault.result read.ensures.given
-    c.in-Err.ensures.first_fault c.print_fault.ensures.untouched
+    fault_so IsYes plans certificates read.plan read.certificate read.ensures.given c.in-Err.error c.fault_answer.result c.in-Err.ensures.first_fault
+    c.fault_answer.ensures.answers
+
+pub returns-clause-unread : goal.returns-clause-unread
+returns-clause-unread g c =
+    let plans = stream (g.P.Source.remaining c.args.plan.now) (g.P.Source.failures c.args.plan.now) (g.P.Source.remaining c.read_inputs.new.plan) (g.P.Source.failures c.read_inputs.new.plan) in
+    let certificates = stream (g.C.Source.remaining c.args.certificate.now) (g.C.Source.failures c.args.certificate.now) (g.C.Source.remaining c.read_inputs.new.certificate) (g.C.Source.failures c.read_inputs.new.certificate) in
+    memory_lacks (λ unread cause. IsUnread unread cause plans certificates) ⊥ ⊥ ⊥ ⊥ c.fault_answer.result c.fault_answer.ensures.refused

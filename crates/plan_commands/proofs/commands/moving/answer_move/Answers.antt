@@ -1,30 +1,31 @@
-use Rattle.std.proofs.Common.{rules, ◌≡◌, Err, inl, refl}
+use Rattle.std.proofs.Common.{◌∙◌, Some, ap, subst, sym}
+use Rattle.std.specs.Cow.{cow_str_bytes}
+use Rattle.plan_commands.specs.declared.status.Status.{Status}
 use Rattle.plan_commands.specs.Answers.{stream}
-use Rattle.plan_commands.specs.Statuses.{yes_line}
-use Rattle.plan_commands.proofs.Moved.{move_fault_broken}
+use Rattle.plan_commands.specs.Moving.{AnswersMoveSo}
 use Rattle.plan_commands.proofs.commands.moving.answer_move.Goals as goal
 
-pub returns-in_err-print-in-Ok-clause-untouched : goal.returns-in_err-print-in-Ok-clause-untouched
-returns-in_err-print-in-Ok-clause-untouched g c =
-    let read = c.in_ok-before in
-    let failed = c.in_err-print-in-Ok in
-    let ended : c.from_residual-in_err-print-in-Ok.result ≡ Err failed.field-0.0 = search rules in
-    rw ended (inl (
-      failed.ensures.unwritten,
-      record {
-        text = yes_line;
-        answer = (read.before, read.after, read.certificate, read.ensures.given, inl (c.in-Ok.ensures.accepted, refl));
-        fails = failed.ensures.fails;
-        beginning = failed.ensures.beginning;
-      },
-    ))
-
-pub returns-clause-untouched : goal.returns-clause-untouched
-returns-clause-untouched g c =
+pub returns-in-Ok-clause-answers : goal.returns-in-Ok-clause-answers
+returns-in-Ok-clause-answers g c =
     let read = c.in_ok-before in
     let befores = stream (g.P.Source.remaining c.args.before.now) (g.P.Source.failures c.args.before.now) (g.P.Source.remaining c.read_move.new.before) (g.P.Source.failures c.read_move.new.before) in
     let afters = stream (g.Q.Source.remaining c.args.after.now) (g.Q.Source.failures c.args.after.now) (g.Q.Source.remaining c.read_move.new.after) (g.Q.Source.failures c.read_move.new.after) in
     let certificates = stream (g.C.Source.remaining c.args.certificate.now) (g.C.Source.failures c.args.certificate.now) (g.C.Source.remaining c.read_move.new.certificate) (g.C.Source.failures c.read_move.new.certificate) in
-    let output = stream (g.O.Sink.contents c.args.output.now) (g.O.Sink.failures c.args.output.now) (g.O.Sink.contents c.print_move_error.new.output) (g.O.Sink.failures c.print_move_error.new.output) in
-    move_fault_broken read.before read.after read.certificate befores afters certificates output c.in-Err.error _ c.print_move_error.result read.ensures.given
-    c.in-Err.ensures.first_fault c.print_move_error.ensures.untouched
+    let S : Status → Type 0 = λ s. AnswersMoveSo befores afters certificates s (cow_str_bytes c.yes.result.text) in
+    subst S (sym c.yes.ensures.status) (read.before, read.after, read.certificate, read.ensures.given, c.in-Ok.ensures.accepted, c.yes.ensures.text)
+
+pub returns-clause-answers : goal.returns-clause-answers
+returns-clause-answers g c =
+    let read = c.in_ok-before in
+    let line = c.in_ok-move_error_line-in-Err in
+    let befores = stream (g.P.Source.remaining c.args.before.now) (g.P.Source.failures c.args.before.now) (g.P.Source.remaining c.read_move.new.before) (g.P.Source.failures c.read_move.new.before) in
+    let afters = stream (g.Q.Source.remaining c.args.after.now) (g.Q.Source.failures c.args.after.now) (g.Q.Source.remaining c.read_move.new.after) (g.Q.Source.failures c.read_move.new.after) in
+    let certificates = stream (g.C.Source.remaining c.args.certificate.now) (g.C.Source.failures c.args.certificate.now) (g.C.Source.remaining c.read_move.new.certificate) (g.C.Source.failures c.read_move.new.certificate) in
+    let S : Status → Type 0 = λ s. AnswersMoveSo befores afters certificates s (cow_str_bytes c.fault.result.text) in
+    subst S (sym c.fault.ensures.status) (
+      read.before,
+      read.after,
+      read.certificate,
+      read.ensures.given,
+      (c.in-Err.error, c.in-Err.ensures.first_fault, line.ensures ∙ ap Some (sym c.fault.ensures.text)),
+    )
