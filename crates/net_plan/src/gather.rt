@@ -1,9 +1,12 @@
 //! Objects straight from a text, key by key.
-ghost use Rattle.std.specs.Prelude.{◌≡◌, ◌≤◌, Some, IfSome, length, vec_len};
+ghost use Rattle.std.specs.Prelude.{◌≡◌, ◌≤◌, Some, IfSome, [], length, vec_len};
 ghost use Rattle.json.specs.Json.{Json, Members, no_members, object, members, value};
+ghost use Rattle.json.specs.Lex.{tokens};
+ghost use Rattle.serde_json.specs.Read.{max_depth};
 ghost use Rattle.net_plan.specs.Gathered.{IsMore, IsThere, IsArrayOf};
 
-use json::{Reader, Token};
+use crate::json_text::MOST_DEPTH;
+use json::{Reader, Scratch, Token};
 use std::alloc::Global;
 
 /// Gathers the members of an object, one after another. It gives up at anything unusual.
@@ -44,6 +47,26 @@ pub fn read_object<'t, G: Gather<'t>>(
         return None;
     }
     read_members(alloc, gathered, reader, depth - 1)
+}
+
+/// Reads a text that is one object, and gathers its members.
+pub fn read_text<'t, G: Gather<'t>>(
+    alloc: Global,
+    gathered: &mut G,
+    text: &'t str,
+    scratch: &'t mut Scratch,
+) -> Option<()>
+    ensures read { IfSome result (λ _. (ms : Members) × (value max_depth (tokens text.now) ≡ Some (object ms, [])) × (G.Holds gathered.old no_members → G.Holds gathered.new ms)) }
+    ensures kept { G.given gathered.new ≡ G.given gathered.old }
+{
+    let Ok(mut reader) = Reader::new(text, scratch) else {
+        return None;
+    };
+    read_object(alloc, gathered, &mut reader, MOST_DEPTH)?;
+    if reader.next().is_some() {
+        return None;
+    }
+    Some(())
 }
 
 /// Gathers the members of an object that was begun.

@@ -11,8 +11,7 @@ ghost use Rattle.net_plan.specs.Trees.{data_of};
 ghost use Rattle.net_plan.specs.declared.places.Places.{Places};
 
 use crate::certificate::{Certificate, NodeLevel, NodePlaces, NodeRanks};
-use crate::gather::{Gather, next_list, read_object};
-use crate::json_text::MOST_DEPTH;
+use crate::gather::{Gather, next_list, read_text};
 use crate::level_parts::NextLevel;
 use crate::naming::NodeName;
 use crate::next_value::next_number_within;
@@ -151,13 +150,7 @@ pub fn plain_certificate(alloc: Global, plan: &Plan, text: &str) -> Option<Certi
         return None;
     };
     let mut scratch = Scratch::new(alloc);
-    let Ok(mut reader) = Reader::new(text, &mut scratch) else {
-        return None;
-    };
     let mut parts = CertificateParts::none(&places);
-    read_object(alloc, &mut parts, &mut reader, MOST_DEPTH)?;
-    if reader.next().is_some() {
-        return None;
-    }
+    read_text(alloc, &mut parts, text, &mut scratch)?;
     parts.certificate()
 }

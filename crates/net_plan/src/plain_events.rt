@@ -15,8 +15,7 @@ ghost use Rattle.net_plan.specs.declared.places.Places.{Places};
 use crate::event::Event;
 use crate::event_parts::NextEvent;
 use crate::event_text::{Format, MOST_EVENTS, Verb, format_of, is_in};
-use crate::gather::{Gather, next_list, read_object};
-use crate::json_text::MOST_DEPTH;
+use crate::gather::{Gather, next_list, read_text};
 use crate::naming::NodeName;
 use crate::next_value::next_number_within;
 use crate::places::Places;
@@ -140,13 +139,7 @@ pub fn plain_events(alloc: Global, plan: &Plan, text: &str) -> Option<Vec<Event>
         return None;
     };
     let mut scratch = Scratch::new(alloc);
-    let Ok(mut reader) = Reader::new(text, &mut scratch) else {
-        return None;
-    };
     let mut parts = EventsParts::none(&places);
-    read_object(alloc, &mut parts, &mut reader, MOST_DEPTH)?;
-    if reader.next().is_some() {
-        return None;
-    }
+    read_text(alloc, &mut parts, text, &mut scratch)?;
     parts.events()
 }

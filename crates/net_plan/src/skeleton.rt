@@ -11,9 +11,9 @@ ghost use Rattle.net_plan.specs.PlanValues.{plan_value};
 ghost use Rattle.net_plan.specs.RowParts.{named_row};
 ghost use Rattle.net_plan.specs.Skeleton.{AreNodeParts, IsNodeSkeleton, ArePlanParts, IsPlanSkeleton, cut_value, placed_value, found_row, found_value, with_part, with_parts};
 
-use crate::gather::{Gather, NextItem, next_list, read_object};
+use crate::gather::{Gather, NextItem, next_list, read_object, read_text};
 use crate::json_keys::has_single_keys;
-use crate::json_text::{MOST_DEPTH, fits};
+use crate::json_text::fits;
 use crate::naming::NodeName;
 use crate::nodes::{Node, Row};
 use crate::places::Places;
@@ -285,14 +285,8 @@ fn skeleton_of<'t>(
 ) -> Option<PlanSkeleton<'t>>
     ensures { IfSome result (λ s. IsPlanSkeleton text.now s) }
 {
-    let Ok(mut reader) = Reader::new(text, scratch) else {
-        return None;
-    };
     let mut parts = PlanParts::none(alloc);
-    read_object(alloc, &mut parts, &mut reader, MOST_DEPTH)?;
-    if reader.next().is_some() {
-        return None;
-    }
+    read_text(alloc, &mut parts, text, scratch)?;
     let PlanParts { found, parts } = parts;
     let parts = parts?;
     let value = Value::Object(found);

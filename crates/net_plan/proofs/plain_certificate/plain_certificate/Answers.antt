@@ -1,7 +1,5 @@
-use Rattle.std.proofs.Common.{◌≡◌, ℕ, List, [], Some, map, ap, sym, ◌∙◌, rules}
-use Rattle.json.specs.Json.{object, value}
-use Rattle.json.specs.Lex.{tokens}
-use Rattle.serde_json.specs.Read.{max_depth}
+use Rattle.std.proofs.Common.{◌≡◌, ℕ, List, map, ap, ◌∙◌}
+use Rattle.json.specs.Json.{object}
 use Rattle.net_plan.specs.Names.{place_of}
 use Rattle.net_plan.specs.NodeValues.{node_value, node_names, name_bytes}
 use Rattle.net_plan.specs.Places.{noted}
@@ -13,13 +11,10 @@ use Rattle.net_plan.proofs.plain_certificate.plain_certificate.Goals as goal
 
 pub returns : goal.returns
 returns c =
-    let read = c.in_ok-read_object.ensures.read in
+    let read = c.in_ok-read_text.ensures.read in
     let ms = read.0 in
     let nodes = c.args.plan.now.nodes.items in
-    let first : c.in-Ok-new.reader ≡ tokens c.args.text.now = search rules in
-    let end : c.read_object.new.reader ≡ [] = search rules in
-    let whole : value max_depth (tokens c.args.text.now) ≡ Some (object ms, []) = ap (value max_depth) (sym first) ∙ read.1 ∙ ap (λ ts. Some (object ms, ts)) end in
-    let kept : c.read_object.new.gathered.nodes.now ≡ c.in-Ok.places = c.read_object.ensures.kept ∙ c.none-parts.ensures.nodes in
+    let kept : c.read_text.new.gathered.nodes.now ≡ c.in-Ok.places = c.read_text.ensures.kept ∙ c.none-parts.ensures.nodes in
     let named : map (λ n. name_bytes n.name) c.as_slice.result.now ≡ node_names (map node_value nodes) = ap (map (λ n. name_bytes n.name)) c.as_slice.ensures.value ∙ node_names_of nodes in
-    let placed : (q : List ℕ) → noted c.read_object.new.gathered.nodes.now q ≡ place_of (node_names (map node_value nodes)) q = λ q. ap (λ (p : Places). noted p q) kept ∙ c.in-Ok.ensures.placed q ∙ ap (λ ns. place_of ns q) named in
-    if_some c.certificate.result (λ d told. let is = told ms (read.2 c.none-parts.ensures.none) in (object ms, whole, is.1, is.0 (plan_value c.args.plan.now) placed)) c.certificate.ensures
+    let placed : (q : List ℕ) → noted c.read_text.new.gathered.nodes.now q ≡ place_of (node_names (map node_value nodes)) q = λ q. ap (λ (p : Places). noted p q) kept ∙ c.in-Ok.ensures.placed q ∙ ap (λ ns. place_of ns q) named in
+    if_some c.certificate.result (λ x told. let is = told ms (read.2 c.none-parts.ensures.none) in (object ms, read.1, is.1, is.0 (plan_value c.args.plan.now) placed)) c.certificate.ensures

@@ -10,14 +10,11 @@ use Rattle.net_plan.proofs.skeleton.skeleton_of.Goals as goal
 
 pub returns : goal.returns
 returns c =
-    let parts = c.read_object.new.gathered in
-    let read = c.in_ok-read_object.ensures.read in
+    let parts = c.read_text.new.gathered in
+    let read = c.in_ok-read_text.ensures.read in
     let ms = read.0 in
     let ls = members_view parts.found.items in
-    let first : c.in-Ok.reader ≡ tokens c.args.text.now = search rules in
-    let end : c.read_object.new.reader ≡ [] = search rules in
     let is : parts.parts ≡ Some c.in_ok-parts.parts = search rules in
-    let whole : value max_depth (tokens c.args.text.now) ≡ Some (object ms, []) = ap (value max_depth) (sym first) ∙ read.1 ∙ ap (λ ts. Some (object ms, ts)) end in
     let h = subst (λ o. AreStandIns (codes "nodes") (IsCutNodes (option_map (λ v. map cut_value v.items) o)) ms ls) is (read.2 c.none-parts.ensures) in
     let fit : fits (object ls) ≡ true = ap fits (sym (view-Object parts.found)) ∙ sym c.fits.ensures ∙ c.if-not-fits.false in
-    (ms, ls, whole, view-Object parts.found, h, fit)
+    (ms, ls, read.1, view-Object parts.found, h, fit)
