@@ -1,5 +1,6 @@
 -- What is made of a certificate on the way, and what rules certificates out.
-use Rattle.std.proofs.Common.{◌≡◌, ◌≢◌, ℕ, ◌+◌, ◌<◌, Some, None, refl, sym, ◌∙◌, ap, subst, arith, inl, inr}
+use Rattle.std.proofs.Common.{◌≡◌, ◌≢◌, ℕ, ◌+◌, ◌<◌, Some, None, refl, sym, ◌∙◌, ap, subst, arith, inl, inr, Result, Ok, Err}
+use Rattle.std.specs.Prelude.{IfErr}
 use Rattle.std.proofs.lemmas.Bool.{cases_lt}
 use Rattle.net_check.specs.declared.certify_error.CertifyError.{CertifyError}
 use Rattle.net_check.specs.declared.certify_error.CertifyError.TheVariants as error
@@ -141,3 +142,8 @@ ruled_out plan (error.OwnerLoop nodes) named = λ some cert accepted. first_loop
 ruled_out plan (error.Loop eid nodes) named = λ some. looped_has_none plan eid.value nodes.items named.1
 ruled_out plan (error.BadChain node fault) named = λ some cert accepted.
     bad_chain_breaks_places (records_of plan node) fault (λ j r is. (accepted C12 node (Some j) None).0 r is) named.1 (places_of cert node) (λ j r is. (accepted C14 node (Some j) None).1 r is)
+
+-- what follows of an error
+pub if_err : {A E : Type 0} (result : Result A E) (P Q : E → Type 0) → ((e : E) → P e → Q e) → IfErr result P → IfErr result Q
+if_err (Ok a) P Q follows holds = tt
+if_err (Err e) P Q follows holds = follows e holds

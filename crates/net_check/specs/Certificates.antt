@@ -2,8 +2,6 @@
 use Rattle.std.specs.Prelude.{◌≡◌, ◌≢◌, ℕ, ◌<◌, List, length, slice_get, Some, Bool, nat_lt}
 use Rattle.net_check.specs.declared.certify_error.CertifyError.{CertifyError}
 use Rattle.net_check.specs.declared.certify_error.CertifyError.TheVariants as error
-use Rattle.net_check.specs.declared.certifying.routes.Routed.{Routed}
-use Rattle.net_check.specs.declared.certifying.routes.Routed.TheVariants.{Ranked, Looped}
 use Rattle.net_plan.specs.declared.plan.Plan.{Plan}
 use Rattle.net_plan.specs.declared.certificate.Certificate.{Certificate}
 use Rattle.net_plan.specs.declared.certificate.NodeRanks.{NodeRanks}
@@ -133,11 +131,7 @@ pub record AreLevelsBefore (counts : List ℕ) (n : ℕ) (given : List NodeLevel
 abbrev pub RulesOutCertificates : Plan → CertifyError → Type 0
 RulesOutCertificates plan e = e ≢ error.OutOfMemory → HasNoCertificate plan
 
--- what the search for ranks answers
-abbrev pub IsRouted : Plan → Routed → Type 0
-IsRouted plan (Ranked given) = AreExactRanks plan given.items
-IsRouted plan (Looped eid nodes) = IsFirstRoutingLoop plan eid.value nodes.items
-
+-- the node has some
 abbrev pub has_ranges : NodeRanks → Bool
 has_ranges one = nat_lt 0 (length one.ranges.items)
 

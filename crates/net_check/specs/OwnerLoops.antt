@@ -1,8 +1,6 @@
 -- How many owners stand above each node, and loops of owners.
 use Rattle.std.specs.Prelude.{◌≡◌, ℕ, ◌≤◌, List, length, slice_get, Some}
 use Rattle.net_plan.specs.declared.plan.Plan.{Plan}
-use Rattle.net_check.specs.declared.certifying.levels.Levelled.{Levelled}
-use Rattle.net_check.specs.declared.certifying.levels.Levelled.TheVariants.{Levels, Looped}
 use Rattle.net_check.specs.Owners.{IsOwnedBy}
 use Rattle.net_check.specs.Circles.{EndsAfter, HasNoCircle, IsLoop, IsLeastLoop}
 
@@ -24,8 +22,3 @@ pub record AreLevels (plan : Plan) (levels : List ℕ) : Type 0 where
   pub long : length levels ≡ length plan.nodes.items
   pub exact : (n count : ℕ) → slice_get levels n ≡ Some count → IsLevel plan n count
   pub few : (n count : ℕ) → slice_get levels n ≡ Some count → count ≤ 63
-
--- the levels of the nodes, or the first owner loop
-abbrev pub IsLevelled : Plan → Levelled → Type 0
-IsLevelled plan (Levels levels) = AreLevels plan levels.items
-IsLevelled plan (Looped nodes) = IsFirstOwnerLoop plan nodes.items

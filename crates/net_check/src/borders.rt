@@ -1,10 +1,9 @@
 //! Where stretches of endpoint IDs end, since a rank range, a row or a held endpoint ID begins or ends there.
 ghost use Rattle.std.specs.Prelude.{◌≡◌, ℕ, ◌<◌, ◌≤◌, ◌↔◌};
-ghost use Rattle.net_check.specs.Routing.{Holds, HasRow, eid_of};
-ghost use Rattle.net_check.specs.Faults.{eid_number};
+ghost use Rattle.net_check.specs.Routing.{Holds, HasRow};
 ghost use Rattle.net_check.specs.Stretches.{IsStretch, HasOneRank};
 
-use crate::routing::{row_end, rows_at};
+use crate::lookup::{eid_at, row_end, rows_at};
 use mctp_transport::Eid;
 use net_plan::{Plan, RankRange};
 
@@ -40,13 +39,6 @@ pub fn held_border(plan: &Plan, node: usize, eid: Eid) -> u16
         Some(held) => cut(256, eid, u16::from(held.value), u16::from(held.value) + 1),
         None => 256,
     }
-}
-
-/// The endpoint ID of a node, none where there is no such node.
-fn eid_at(plan: &Plan, node: usize) -> Option<Eid>
-    ensures { eid_number result ≡ eid_of plan.now node }
-{
-    plan.nodes.get(node).map(|node| node.eid)
 }
 
 /// The end of a stretch from the endpoint ID on that one node holds, or none.

@@ -18,7 +18,6 @@ mod handle_index;
 mod levels;
 mod next_nodes;
 mod rank_ranges;
-mod routes;
 mod stretches;
 mod tables;
 mod walks;
@@ -52,9 +51,7 @@ pub fn certify(alloc: Global, plan: &Plan) -> Result<Certificate, CertifyError>
         ranks: Vec::new(alloc),
     };
     for rule in RULES {
-        if let Err(error) = meet_rule(alloc, plan, rule, &mut made) {
-            return Err(error);
-        }
+        meet_rule(alloc, plan, rule, &mut made)?;
     }
     Ok(made)
 }
@@ -105,13 +102,8 @@ fn add_levels(alloc: Global, plan: &Plan, made: &mut Certificate) -> Result<(), 
     ensures more { OnOk result (IsMadeBefore plan.now (order_of C07 + 1) made.new) }
     ensures obstacle { IfErr result (λ error. NamesObstacle plan.now error) }
 {
-    match exact_levels(alloc, plan) {
-        Ok(levels) => {
-            made.levels = levels;
-            Ok(())
-        }
-        Err(error) => Err(error),
-    }
+    made.levels = exact_levels(alloc, plan)?;
+    Ok(())
 }
 
 /// Adds the ranks.
@@ -122,13 +114,8 @@ fn add_ranks(alloc: Global, plan: &Plan, made: &mut Certificate) -> Result<(), C
     ensures more { OnOk result (IsMadeBefore plan.now (order_of C10 + 1) made.new) }
     ensures obstacle { IfErr result (λ error. NamesObstacle plan.now error) }
 {
-    match exact_ranks(alloc, plan) {
-        Ok(ranks) => {
-            made.ranks = ranks;
-            Ok(())
-        }
-        Err(error) => Err(error),
-    }
+    made.ranks = exact_ranks(alloc, plan)?;
+    Ok(())
 }
 
 /// Adds the places.
@@ -139,11 +126,6 @@ fn add_places(alloc: Global, plan: &Plan, made: &mut Certificate) -> Result<(), 
     ensures more { OnOk result (IsMadeBefore plan.now (order_of C14 + 1) made.new) }
     ensures obstacle { IfErr result (λ error. NamesObstacle plan.now error) }
 {
-    match exact_places(alloc, plan) {
-        Ok(places) => {
-            made.places = places;
-            Ok(())
-        }
-        Err(error) => Err(error),
-    }
+    made.places = exact_places(alloc, plan)?;
+    Ok(())
 }

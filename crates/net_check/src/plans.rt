@@ -4,7 +4,7 @@ ghost use Rattle.net_check.specs.TwoPlans.{tables_of, HasRowAlways, HasRowEver};
 ghost use Rattle.net_check.specs.Stretches.{IsStretch};
 
 use crate::borders::row_border;
-use crate::routing::has_row;
+use crate::lookup::has_row;
 use mctp_transport::Eid;
 use net_plan::Plan;
 

@@ -3,7 +3,7 @@ ghost use Rattle.std.specs.Prelude.{◌≡◌, ◌≤◌, ◌+◌, ℕ, List, If
 ghost use Rattle.net_check.specs.Certificates.{AreExactLevels, AreLevelsBefore, NamesOwnerLoop};
 
 use crate::certify_error::CertifyError;
-use crate::certifying::levels::{Levelled, levels_of};
+use crate::certifying::levels::levels_of;
 use net_plan::{NodeLevel, Plan};
 use std::alloc::{AllocError, Global};
 
@@ -13,10 +13,8 @@ pub fn exact_levels(alloc: Global, plan: &Plan) -> Result<Vec<NodeLevel>, Certif
     ensures exact { IfOk result (λ given. AreExactLevels plan.now given.items) }
     ensures obstacle { IfErr result (λ error. NamesOwnerLoop plan.now error) }
 {
-    match levels_of(alloc, plan)? {
-        Levelled::Levels(levels) => Ok(given_levels(alloc, &levels)?),
-        Levelled::Looped(nodes) => Err(CertifyError::OwnerLoop(nodes)),
-    }
+    let levels = levels_of(alloc, plan)?;
+    Ok(given_levels(alloc, &levels)?)
 }
 
 /// The levels above 0.

@@ -1,16 +1,14 @@
 //! The places of a plan's certificate.
-ghost use Rattle.std.specs.Prelude.{◌≡◌, ◌<◌, ◌+◌, ℕ, List, [], ◌∷◌, ◌++◌, IfOk, OnOk, IfErr, length};
-ghost use Rattle.net_plan.specs.declared.certificate.NodePlaces.{NodePlaces};
+ghost use Rattle.std.specs.Prelude.{◌≡◌, ◌<◌, ◌+◌, ℕ, [], ◌∷◌, ◌++◌, IfOk, OnOk, IfErr, length};
 ghost use Rattle.net_check.specs.RecordChains.{HaveNewHandles};
 ghost use Rattle.net_check.specs.Repositories.{records_of, HasRecords};
 ghost use Rattle.net_check.specs.Certificates.{AreExactPlaces, ArePlacesBefore, NamesBadChain};
-ghost use Rattle.net_check.specs.declared.certify_error.CertifyError.TheVariants.{OutOfMemory};
 
 use crate::certify_error::CertifyError;
 use crate::certifying::chains::{Chained, chain_of};
-use crate::rules::records::records_at;
+use crate::lookup::records_at;
 use net_plan::{NodePlaces, Plan};
-use std::alloc::Global;
+use std::alloc::{AllocError, Global};
 
 /// The places of each terminus's records, in plan order, or the first bad chain.
 #[tactic(auto, using(crate::proofs::Listed::no_places, crate::proofs::Listed::places_all))]
@@ -22,9 +20,7 @@ pub fn exact_places(alloc: Global, plan: &Plan) -> Result<Vec<NodePlaces>, Certi
 {
     let mut given = Vec::new(alloc);
     for node in 0..plan.nodes.len() {
-        if let Err(error) = add_places(alloc, plan, node, &mut given) {
-            return Err(error);
-        }
+        add_places(alloc, plan, node, &mut given)?;
     }
     Ok(given)
 }
@@ -49,18 +45,15 @@ fn add_places(
         return Ok(());
     }
     match chain_of(alloc, records)? {
-        Chained::Places(places) => push_places(given, NodePlaces { node, places }),
+        Chained::Places(places) => Ok(push_places(given, NodePlaces { node, places })?),
         Chained::Bad(fault) => Err(CertifyError::BadChain(node, fault)),
     }
 }
 
 /// Adds the places of a node's records.
-fn push_places(given: &mut Vec<NodePlaces>, one: NodePlaces) -> Result<(), CertifyError>
-    ensures pushed { OnOk result (given.new.items ≡ given.old.items ++ one ∷ []) }
-    ensures no_memory { IfErr result (λ error. error ≡ OutOfMemory) }
+fn push_places(given: &mut Vec<NodePlaces>, one: NodePlaces) -> Result<(), AllocError>
+    ensures { OnOk result (given.new.items ≡ given.old.items ++ one ∷ []) }
 {
-    if given.push(one).is_err() {
-        return Err(CertifyError::OutOfMemory);
-    }
+    given.push(one)?;
     Ok(())
 }

@@ -1,30 +1,24 @@
 //! How many owners stand above each node, or a loop of owners.
-ghost use Rattle.std.specs.Prelude.{◌≡◌, ◌<◌, All, IfOk, length, map};
+ghost use Rattle.std.specs.Prelude.{◌≡◌, ◌<◌, All, IfOk, IfErr, length, map};
 ghost use Rattle.net_check.specs.Owners.{IsOwnedBy};
 ghost use Rattle.net_check.specs.Circles.{IsWalked};
-ghost use Rattle.net_check.specs.OwnerLoops.{IsLevelled};
+ghost use Rattle.net_check.specs.OwnerLoops.{AreLevels};
+ghost use Rattle.net_check.specs.Certificates.{NamesOwnerLoop};
 
+use crate::certify_error::CertifyError;
 use crate::certifying::walks::{Walked, walk};
 use net_plan::Plan;
 use std::alloc::{AllocError, Global};
 
-/// The levels of a plan's nodes, or why they have none.
-#[derive(Debug, Drop)]
-pub enum Levelled {
-    /// For each node, in the plan's order, the number of owners above it, at most 63; 0 where it has no owner.
-    Levels(Vec<u8>),
-    /// A loop of owners: the first node in the plan's order that is on one, then its owners back to itself, so that the
-    /// first stands there twice.
-    Looped(Vec<usize>),
-}
-
-/// The number of owners above each node, or the loop of the first node that stands above itself.
-pub fn levels_of(alloc: Global, plan: &Plan) -> Result<Levelled, AllocError>
-    ensures { IfOk result (IsLevelled plan.now) }
+/// For each node, in the plan's order, the number of owners above it, at most 63; or the loop of the first node that
+/// stands above itself.
+pub fn levels_of(alloc: Global, plan: &Plan) -> Result<Vec<u8>, CertifyError>
+    ensures levels { IfOk result (λ levels. AreLevels plan.now levels.items) }
+    ensures obstacle { IfErr result (λ error. NamesOwnerLoop plan.now error) }
 {
     match walk_owners(alloc, plan)? {
-        Walked::Ended(counts) => Ok(Levelled::Levels(levels_from(alloc, &counts)?)),
-        Walked::Circled(nodes) => Ok(Levelled::Looped(nodes)),
+        Walked::Ended(counts) => Ok(levels_from(alloc, &counts)?),
+        Walked::Circled(nodes) => Err(CertifyError::OwnerLoop(nodes)),
     }
 }
 

@@ -6,7 +6,7 @@ ghost use Rattle.net_check.specs.Tables.{SendsAs, AreTables};
 ghost use Rattle.net_check.specs.Circles.{IsWalked};
 
 use crate::certifying::walks::{Walked, walk};
-use crate::routing::holds;
+use crate::lookup::holds;
 use mctp_bridge::RangeTable;
 use mctp_transport::Eid;
 use net_plan::Plan;

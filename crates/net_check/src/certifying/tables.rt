@@ -3,7 +3,7 @@ ghost use Rattle.std.specs.Prelude.{◌≡◌, IfOk, length, map};
 ghost use Rattle.net_check.specs.RoutingLoops.{RowsAreApart, RowsAreInRange};
 ghost use Rattle.net_check.specs.Tables.{AreRows, AreTables, SendsAs, table_row};
 
-use crate::routing::rows_at;
+use crate::lookup::rows_at;
 use mctp_bridge::{Hop, RangeTable, TableFault};
 use net_plan::{Plan, Row};
 use std::alloc::{AllocError, Global};

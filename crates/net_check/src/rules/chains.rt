@@ -2,12 +2,12 @@
 ghost use Rattle.std.specs.Prelude.{◌≡◌, ℕ, ◌+◌, ◌<◌, ◌↔◌, ◌⊎◌, IsTrue, IfOk, length, map};
 ghost use Rattle.std.specs.BTreeSet.{IsFromIterResult, contains};
 ghost use Rattle.net_check.specs.Handles.{by_place_and_handle, pairs};
-ghost use Rattle.net_check.specs.Repositories.{places_of, IsChained};
+ghost use Rattle.net_check.specs.Repositories.{IsChained};
 ghost use Rattle.net_check.specs.Rules.{CertificateDemands};
 ghost use Rattle.net_check.specs.Search.{IsFirstItem, IsFirstSpot};
 
+use crate::lookup::{places_at, records_at};
 use crate::rule::Rule;
-use crate::rules::records::{at_record, records_at};
 use crate::spot::Spot;
 use net_plan::{Certificate, Plan, Record, RecordPlace};
 use std::alloc::{AllocError, Global};
@@ -24,17 +24,7 @@ pub fn unchained_record(
 {
     let places = places_at(certificate, node);
     let found = first_unchained(alloc, records_at(plan, node), places)?;
-    Ok(at_record(found))
-}
-
-/// The places that the certificate gives a node's records, none where it has none for the node.
-pub fn places_at(certificate: &Certificate, node: usize) -> &[RecordPlace]
-    ensures { map (λ p. p.value) result.now ≡ places_of certificate.now node }
-{
-    match certificate.places.iter().find(|given| given.node == node) {
-        Some(given) => &given.places,
-        None => &[],
-    }
+    Ok(Spot::at_found(found))
 }
 
 /// The first record that has no place of its own, or whose next handle is not that of a record at the following place.

@@ -4,7 +4,7 @@ ghost use Rattle.net_check.specs.Eids.{IsNewlyHeld};
 ghost use Rattle.net_check.specs.Rules.{PlanDemands};
 ghost use Rattle.net_check.specs.Search.{IsFirstSpot};
 
-use crate::routing::holds;
+use crate::lookup::holds;
 use crate::rule::Rule;
 use crate::spot::Spot;
 use mctp_transport::Eid;
@@ -19,7 +19,7 @@ pub fn unassignable_eid(plan: &Plan, node: usize) -> Option<Spot>
     if eid.is_assignable() {
         return None;
     }
-    Some(at_eid(eid))
+    Some(Spot::at_eid(eid))
 }
 
 /// Where an earlier node holds the node's endpoint ID.
@@ -31,17 +31,7 @@ pub fn repeated_eid(plan: &Plan, node: usize) -> Option<Spot>
     if is_newly_held(plan, node, eid) {
         return None;
     }
-    Some(at_eid(eid))
-}
-
-/// The spot of an endpoint ID alone.
-fn at_eid(eid: Eid) -> Spot
-    ensures { result ≡ record { entry = None; eid = Some eid } }
-{
-    Spot {
-        entry: None,
-        eid: Some(eid),
-    }
+    Some(Spot::at_eid(eid))
 }
 
 /// Whether no earlier node holds the endpoint ID.

@@ -1,14 +1,13 @@
 //! C15: terminus locators name a node that holds the endpoint ID, and whose terminus has the terminus ID.
 ghost use Rattle.std.specs.Prelude.{◌≡◌, ℕ, List, [], ◌∷◌, length, ◌↔◌, IsTrue, IfSome, IsSomeAnd, Some, option_map};
 ghost use Rattle.net_check.specs.Routing.{Holds};
-ghost use Rattle.net_check.specs.Repositories.{terminus_of, records_of};
+ghost use Rattle.net_check.specs.Repositories.{terminus_of};
 ghost use Rattle.net_check.specs.Locators.{IsEidLocator, HasOneByteAsEid, IsHeldByTerminus, LocatesTerminus};
 ghost use Rattle.net_check.specs.Rules.{PlanDemands, AtNodeOrEid};
 ghost use Rattle.net_check.specs.Search.{IsFirstSpot};
 
-use crate::routing::{holds, terminus_at};
+use crate::lookup::{holds, records_at, terminus_at};
 use crate::rule::Rule;
-use crate::rules::records::records_at;
 use crate::spot::Spot;
 use mctp_transport::{Eid, Wire};
 use net_plan::{Plan, Record};
@@ -21,10 +20,7 @@ pub fn misleading_locator(plan: &Plan, node: usize) -> Option<Spot>
     let records = records_at(plan, node);
     for (j, listed) in records.iter().enumerate() {
         if let Some(spot) = misleading_at(plan, listed) {
-            return Some(Spot {
-                entry: Some(j),
-                eid: spot.eid,
-            });
+            return Some(spot.in_entry(j));
         }
     }
     None
@@ -46,19 +42,13 @@ fn misleading_value(plan: &Plan, tid: u8, value: &[u8]) -> Option<Spot>
     ensures { IsFirstSpot (AtNodeOrEid (length value.now ≡ 1) (λ e. value.now ≡ e ∷ [] → IsHeldByTerminus plan.now tid e)) result }
 {
     let [number] = value else {
-        return Some(Spot {
-            entry: None,
-            eid: None,
-        });
+        return Some(Spot::at_node());
     };
     let eid = Eid::new(*number);
     if is_held_by_terminus(plan, tid, eid) {
         return None;
     }
-    Some(Spot {
-        entry: None,
-        eid: Some(eid),
-    })
+    Some(Spot::at_eid(eid))
 }
 
 /// The locator that the bytes are, if they are those of a terminus locator that is valid and names an MCTP endpoint ID.

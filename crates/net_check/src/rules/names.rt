@@ -16,10 +16,7 @@ pub fn repeated_name(plan: &Plan, node: usize) -> Option<Spot>
     if has_new_name(plan, node) {
         return None;
     }
-    Some(Spot {
-        entry: None,
-        eid: None,
-    })
+    Some(Spot::at_node())
 }
 
 /// Whether no earlier node has the node's name.

@@ -2,11 +2,11 @@
 ghost use Rattle.std.specs.Prelude.{◌≡◌, ◌<◌, ◌↔◌, ◌==◌, IsTrue, length};
 ghost use Rattle.std.specs.List.{list_any};
 ghost use Rattle.net_check.specs.Routing.{ports_of};
-ghost use Rattle.net_check.specs.Owners.{owner_of, ShareBus, HasBridgeAsOwner, given_level, level, IsBelowItsOwner};
+ghost use Rattle.net_check.specs.Owners.{ShareBus, HasBridgeAsOwner, IsBelowItsOwner};
 ghost use Rattle.net_check.specs.Rules.{PlanDemands, Demands};
 ghost use Rattle.net_check.specs.Search.{IsFirstSpot};
 
-use crate::routing::{is_bridge, ports_at};
+use crate::lookup::{is_bridge, is_on_bus, level_of, owner_at, ports_at};
 use crate::rule::Rule;
 use crate::spot::Spot;
 use net_plan::{Certificate, Plan, Port};
@@ -19,10 +19,7 @@ pub fn owner_without_bridge(plan: &Plan, node: usize) -> Option<Spot>
     if has_bridge_as_owner(plan, node) {
         return None;
     }
-    Some(Spot {
-        entry: None,
-        eid: None,
-    })
+    Some(Spot::at_node())
 }
 
 /// Where the node's owner is no bridge that shares a bus with it, or not of a lower level.
@@ -33,40 +30,7 @@ pub fn unlawful_owner(plan: &Plan, certificate: &Certificate, node: usize) -> Op
     if has_bridge_as_owner(plan, node) && is_below_its_owner(plan, certificate, node) {
         return None;
     }
-    Some(Spot {
-        entry: None,
-        eid: None,
-    })
-}
-
-/// The owner of a node; none where nobody owns it, and where there is no such node.
-pub fn owner_at(plan: &Plan, node: usize) -> Option<usize>
-    ensures { result ≡ owner_of plan.now node }
-{
-    match plan.nodes.get(node) {
-        Some(node) => node.owner,
-        None => None,
-    }
-}
-
-/// The level of a node: 0 where it has no owner, whatever the certificate gives.
-pub fn level_of(plan: &Plan, certificate: &Certificate, node: usize) -> u8
-    ensures { result ≡ level plan.now certificate.now node }
-{
-    match owner_at(plan, node) {
-        Some(_) => given_level_of(certificate, node),
-        None => 0,
-    }
-}
-
-/// The level that the certificate gives a node; 0 where it gives none.
-pub fn given_level_of(certificate: &Certificate, node: usize) -> u8
-    ensures { result ≡ given_level certificate.now node }
-{
-    match certificate.levels.iter().find(|given| given.node == node) {
-        Some(given) => given.level,
-        None => 0,
-    }
+    Some(Spot::at_node())
 }
 
 /// Whether the node's owner, if it has one, is a bridge that shares a bus with it.
@@ -92,13 +56,6 @@ fn are_some_on_bus_of(plan: &Plan, ports: &[Port], node: usize) -> bool
     ensures { result ≡ list_any (λ port. list_any (λ other. other.bus == port.bus) (ports_of plan.now node)) ports.now }
 {
     ports.iter().any(|port| is_on_bus(plan, node, port.bus))
-}
-
-/// Whether one of the node's ports is on the bus.
-fn is_on_bus(plan: &Plan, node: usize, bus: usize) -> bool
-    ensures { result ≡ list_any (λ port. port.bus == bus) (ports_of plan.now node) }
-{
-    ports_at(plan, node).iter().any(|port| port.bus == bus)
 }
 
 /// Whether the node's owner, if it has one, is of a lower level.

@@ -1,13 +1,12 @@
 //! C08 and C09: the endpoint IDs of owned nodes come from their owners' pools, and pools lie within their owners' and
 //! apart.
 ghost use Rattle.std.specs.Prelude.{◌≡◌, ℕ, ◌+◌, ◌<◌, ◌↔◌, IsTrue, length};
-ghost use Rattle.net_check.specs.Pools.{pool_of, IsInPool, IsInPoolOf, IsInOwnersPool, IsInNoPeersPool, IsInItsPool, IsPoolInRange, LiesInOwnersPool, LiesApartFromEarlierPools, IsLawfulPool, HasLawfulPool};
+ghost use Rattle.net_check.specs.Pools.{IsInPool, IsInPoolOf, IsInOwnersPool, IsInNoPeersPool, IsInItsPool, IsPoolInRange, LiesInOwnersPool, LiesApartFromEarlierPools, IsLawfulPool, HasLawfulPool};
 ghost use Rattle.net_check.specs.Rules.{PlanDemands};
 ghost use Rattle.net_check.specs.Search.{IsFirstSpot};
 
-use crate::routing::is_bridge;
+use crate::lookup::{is_bridge, owner_at, pool_at};
 use crate::rule::Rule;
-use crate::rules::owners::owner_at;
 use crate::spot::Spot;
 use mctp_transport::Eid;
 use net_plan::{Plan, Pool};
@@ -21,10 +20,7 @@ pub fn eid_out_of_its_pool(plan: &Plan, node: usize) -> Option<Spot>
     if is_in_its_pool(plan, node, eid) {
         return None;
     }
-    Some(Spot {
-        entry: None,
-        eid: Some(eid),
-    })
+    Some(Spot::at_eid(eid))
 }
 
 /// Where the node may not have its pool.
@@ -35,20 +31,7 @@ pub fn unlawful_pool(plan: &Plan, node: usize) -> Option<Spot>
     if has_lawful_pool(plan, node) {
         return None;
     }
-    Some(Spot {
-        entry: None,
-        eid: None,
-    })
-}
-
-/// The pool of a node; none where it has none, and where there is no such node.
-fn pool_at(plan: &Plan, node: usize) -> Option<Pool>
-    ensures { result ≡ pool_of plan.now node }
-{
-    match plan.nodes.get(node) {
-        Some(node) => node.pool,
-        None => None,
-    }
+    Some(Spot::at_node())
 }
 
 /// The number after that of the pool's last endpoint ID.

@@ -6,8 +6,7 @@ ghost use Rattle.net_check.specs.Faults.{eid_number};
 ghost use Rattle.net_check.specs.Search.{IsFirstSpot, IsFirstEid};
 
 use crate::borders::{held_border, rank_border};
-use crate::given_ranks::{ranges_at, rank_in_ranges};
-use crate::routing::{holds, row_end, rows_at};
+use crate::lookup::{holds, ranges_at, rank_in_ranges, row_end, rows_at};
 use crate::rule::Rule;
 use crate::spot::Spot;
 use crate::stretches::{Stretched, first_broken};
@@ -21,10 +20,7 @@ pub fn row_without_fall(plan: &Plan, certificate: &Certificate, node: usize) -> 
     let rows = rows_at(plan, node);
     for (r, row) in rows.iter().enumerate() {
         if let Some(eid) = first_without_fall(plan, certificate, node, row) {
-            return Some(Spot {
-                entry: Some(r),
-                eid: Some(eid),
-            });
+            return Some(Spot::at_entry_eid(r, eid));
         }
     }
     None

@@ -1,13 +1,13 @@
 //! C12 and C13: the records of a terminus have handles of their own, and bytes that are those of a record.
-ghost use Rattle.std.specs.Prelude.{◌≡◌, ◌≢◌, ℕ, ◌<◌, ◌↔◌, true, false, IsTrue, IfOk, OnOk, length, option_map};
+ghost use Rattle.std.specs.Prelude.{◌≡◌, ◌≢◌, ℕ, ◌<◌, ◌↔◌, true, false, IsTrue, IfOk, OnOk};
 ghost use Rattle.std.specs.BTreeSet.{contains, Updates};
 ghost use Rattle.std.specs.Ordering.{nat_cmp};
 ghost use Rattle.pdr_repository.specs.Records.{IsRecordOf};
-ghost use Rattle.net_check.specs.Repositories.{records_of, HasRecords, HasNewHandle};
+ghost use Rattle.net_check.specs.Repositories.{HasRecords, HasNewHandle};
 ghost use Rattle.net_check.specs.Rules.{PlanDemands};
 ghost use Rattle.net_check.specs.Search.{IsFirstItem, IsFirstSpot};
 
-use crate::routing::terminus_at;
+use crate::lookup::{records_at, terminus_at};
 use crate::rule::Rule;
 use crate::spot::Spot;
 use mctp_transport::Wire;
@@ -20,40 +20,17 @@ pub fn unlawful_handle(alloc: Global, plan: &Plan, node: usize) -> Result<Option
     ensures { IfOk result (IsFirstSpot (PlanDemands plan.now Rule.C12 node)) }
 {
     if !has_records(plan, node) {
-        return Ok(Some(Spot {
-            entry: None,
-            eid: None,
-        }));
+        return Ok(Some(Spot::at_node()));
     }
     let found = first_without_new_handle(alloc, records_at(plan, node))?;
-    Ok(at_record(found))
+    Ok(Spot::at_found(found))
 }
 
 /// Where the bytes of a record are not those of a record of its handle.
 pub fn unreadable_record(plan: &Plan, node: usize) -> Option<Spot>
     ensures { IsFirstSpot (PlanDemands plan.now Rule.C13 node) result }
 {
-    at_record(first_unreadable(records_at(plan, node)))
-}
-
-/// The spot of the record alone that was found, if any.
-pub fn at_record(found: Option<usize>) -> Option<Spot>
-    ensures { result ≡ option_map (λ i. record { entry = Some i; eid = None }) found }
-{
-    found.map(|i| Spot {
-        entry: Some(i),
-        eid: None,
-    })
-}
-
-/// The records of a node's terminus, none where it has no terminus.
-pub fn records_at(plan: &Plan, node: usize) -> &[Record]
-    ensures { result.now ≡ records_of plan.now node }
-{
-    match terminus_at(plan, node) {
-        Some(terminus) => &terminus.records,
-        None => &[],
-    }
+    Spot::at_found(first_unreadable(records_at(plan, node)))
 }
 
 /// Whether the node's terminus has records, if there is one.

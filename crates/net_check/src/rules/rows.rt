@@ -1,44 +1,33 @@
 //! C04 to C06: a node's rows are lawful, lie apart, and lead to neighbors.
-ghost use Rattle.std.specs.Prelude.{◌≡◌, ℕ, ◌<◌, ◌↔◌, ◌==◌, IsTrue, All, length, option_map};
-ghost use Rattle.std.specs.List.{list_any};
-ghost use Rattle.net_check.specs.Rows.{IsInRange, AreApart, IsApartFromEarlier, IsJoined, NamesNeighbor, bus_of};
+ghost use Rattle.std.specs.Prelude.{◌≡◌, ℕ, ◌<◌, ◌↔◌, IsTrue, All, length};
+ghost use Rattle.net_check.specs.Rows.{IsInRange, AreApart, IsApartFromEarlier, IsJoined, NamesNeighbor};
 ghost use Rattle.net_check.specs.Rules.{PlanDemands};
 ghost use Rattle.net_check.specs.Search.{IsFirstItem, IsFirstSpot};
 
-use crate::routing::{is_bridge, ports_at, row_end, rows_at};
+use crate::lookup::{bus_at, is_bridge, is_on_bus, row_end, rows_at};
 use crate::rule::Rule;
 use crate::spot::Spot;
-use net_plan::{Plan, Port, Row};
+use net_plan::{Plan, Row};
 
 /// Where a row is empty or reaches beyond the endpoint IDs that can be held.
 pub fn row_out_of_range(plan: &Plan, node: usize) -> Option<Spot>
     ensures { IsFirstSpot (PlanDemands plan.now Rule.C04 node) result }
 {
-    at_row(first_out_of_range(rows_at(plan, node)))
+    Spot::at_found(first_out_of_range(rows_at(plan, node)))
 }
 
 /// Where a row overlaps an earlier one.
 pub fn overlapping_row(plan: &Plan, node: usize) -> Option<Spot>
     ensures { IsFirstSpot (PlanDemands plan.now Rule.C05 node) result }
 {
-    at_row(first_overlapping(rows_at(plan, node)))
+    Spot::at_found(first_overlapping(rows_at(plan, node)))
 }
 
 /// Where a row names no neighbor.
 pub fn row_without_neighbor(plan: &Plan, node: usize) -> Option<Spot>
     ensures { IsFirstSpot (PlanDemands plan.now Rule.C06 node) result }
 {
-    at_row(first_without_neighbor(plan, node, rows_at(plan, node)))
-}
-
-/// The spot of a row alone.
-fn at_row(row: Option<usize>) -> Option<Spot>
-    ensures { result ≡ option_map (λ r. record { entry = Some r; eid = None }) row }
-{
-    row.map(|row| Spot {
-        entry: Some(row),
-        eid: None,
-    })
+    Spot::at_found(first_without_neighbor(plan, node, rows_at(plan, node)))
 }
 
 /// The first row that is empty or reaches beyond the endpoint IDs that can be held.
@@ -121,23 +110,7 @@ fn is_joined(plan: &Plan, node: usize, port: u8, other: usize) -> bool
     ensures { IsTrue result ↔ IsJoined plan.now node port other }
 {
     match bus_at(plan, node, port) {
-        Some(bus) => is_on_bus(ports_at(plan, other), bus),
+        Some(bus) => is_on_bus(plan, other, bus),
         None => false,
     }
-}
-
-/// The bus of a node's port, where it has the port.
-fn bus_at(plan: &Plan, node: usize, port: u8) -> Option<usize>
-    ensures { result ≡ bus_of plan.now node port }
-{
-    ports_at(plan, node)
-        .get(usize::from(port))
-        .map(|port| port.bus)
-}
-
-/// Whether one of the ports is on the bus.
-fn is_on_bus(ports: &[Port], bus: usize) -> bool
-    ensures { result ≡ list_any (λ port. port.bus == bus) ports.now }
-{
-    ports.iter().any(|port| port.bus == bus)
 }

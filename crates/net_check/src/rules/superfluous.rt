@@ -7,12 +7,10 @@ ghost use Rattle.net_check.specs.Rules.{AtNodeOrEid};
 ghost use Rattle.net_check.specs.Search.{IsFirstSpot};
 
 use crate::borders::{held_border, rank_border};
-use crate::given_ranks::{ranges_at, rank_in_ranges};
+use crate::lookup::{
+    given_level_of, holds, owner_at, places_at, ranges_at, rank_in_ranges, records_at,
+};
 use crate::plans::Plans;
-use crate::routing::holds;
-use crate::rules::chains::places_at;
-use crate::rules::owners::{given_level_of, owner_at};
-use crate::rules::records::records_at;
 use crate::spot::Spot;
 use crate::stretches::{Stretched, first_broken};
 use mctp_transport::Eid;
@@ -25,16 +23,10 @@ pub fn superfluous_entry(plans: &Plans<'_>, certificate: &Certificate, node: usi
     ensures { IsFirstSpot (AtNodeOrEid (NeedsWhatItIsGiven plans.now.plan.now certificate.now node) (NeedsItsRank (tables_of plans.now) certificate.now node)) result }
 {
     if !needs_what_it_is_given(plans.plan, certificate, node) {
-        return Some(Spot {
-            entry: None,
-            eid: None,
-        });
+        return Some(Spot::at_node());
     }
     match superfluous_rank(plans, certificate, node) {
-        Some(eid) => Some(Spot {
-            entry: None,
-            eid: Some(eid),
-        }),
+        Some(eid) => Some(Spot::at_eid(eid)),
         None => None,
     }
 }

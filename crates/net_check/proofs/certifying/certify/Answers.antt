@@ -1,7 +1,7 @@
-use Rattle.std.proofs.Common.{◌≡◌, ℕ, ◌+◌, subst, arith}
-use Rattle.net_check.specs.Certificates.{IsMadeBefore}
+use Rattle.std.proofs.Common.{◌≡◌, ℕ, ◌+◌, subst, arith, rules}
+use Rattle.net_check.specs.Certificates.{IsMadeBefore, NamesObstacle, RulesOutCertificates}
 use Rattle.net_check.proofs.RuleOrder.{order_at}
-use Rattle.net_check.proofs.Obstacles.{ruled_out}
+use Rattle.net_check.proofs.Obstacles.{ruled_out, if_err}
 use Rattle.net_check.proofs.ExactCertificates.{made_exact, made_meets, exact_well_formed}
 use Rattle.net_check.proofs.certifying.certify.Goals as goal
 
@@ -17,7 +17,9 @@ returns-clause-well_formed c =
 pub loop-rule-preserved : goal.loop-rule-preserved
 loop-rule-preserved c =
     let P : ℕ → Type 0 = λ k. IsMadeBefore c.args.plan.now (k + 1) c.meet_rule.new.made in
-    subst P (order_at c.loop-rule.rule-index _ c.loop-rule-test.true) c.in_default.ensures.more
+    subst P (order_at c.loop-rule.rule-index _ c.loop-rule-test.true) c.in_ok-meet_rule.ensures.more
 
-pub returns-in-Err-clause-none : goal.returns-in-Err-clause-none
-returns-in-Err-clause-none c = ruled_out c.args.plan.now c.in-Err.error c.in-Err.ensures.obstacle
+pub returns-in_err-meet_rule-clause-none : goal.returns-in_err-meet_rule-clause-none
+returns-in_err-meet_rule-clause-none c =
+    let plan = c.args.plan.now in
+    if_err c.from_residual.result (NamesObstacle plan) (RulesOutCertificates plan) (ruled_out plan) (search rules)

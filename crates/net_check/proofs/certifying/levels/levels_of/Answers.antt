@@ -13,8 +13,8 @@ levels_from-requires c =
     let walked : Q (Ended c.in-Ended.counts) = subst Q c.in-Ended.is c.in_ok-counts.ensures in
     subst P (sym c.deref.ensures.value) (counts_small c.args.plan.now c.in-Ended.counts.items walked.1)
 
-pub returns-in_ok-levels_from-in-Ended : goal.returns-in_ok-levels_from-in-Ended
-returns-in_ok-levels_from-in-Ended c =
+pub returns-in_ok-levels_from-in-Ended-clause-levels : goal.returns-in_ok-levels_from-in-Ended-clause-levels
+returns-in_ok-levels_from-in-Ended-clause-levels c =
     let Q : Walked → Type 0 = λ walked. IsWalked (IsOwnedBy c.args.plan.now) (length c.args.plan.now.nodes.items) walked in
     let walked : Q (Ended c.in-Ended.counts) = subst Q c.in-Ended.is c.in_ok-counts.ensures in
     let levels = c.in_ok-levels_from-in-Ended.field-0.items in

@@ -9,5 +9,5 @@ returns c =
     let records = records_of c.args.plan.now c.args.node in
     let searched = c.records_at.result.now in
     let F : List ℕ → Type 0 = λ places. IsFirstItem searched (IsChained searched places) c.in_ok-found.found in
-    record_spot records searched (λ rs. IsChained rs (places_of c.args.certificate.now c.args.node)) c.in_ok-found.found c.at_record.result c.records_at.ensures
-    (subst F c.places_at-places.ensures c.in_ok-found.ensures) c.at_record.ensures
+    record_spot records searched (λ rs. IsChained rs (places_of c.args.certificate.now c.args.node)) c.in_ok-found.found c.at_found.result c.records_at.ensures
+    (subst F c.places_at-places.ensures c.in_ok-found.ensures) c.at_found.ensures

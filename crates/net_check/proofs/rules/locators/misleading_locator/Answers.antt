@@ -9,8 +9,9 @@ use Rattle.net_check.proofs.rules.locators.misleading_locator.Goals as goal
 pub returns-in-Some : goal.returns-in-Some
 returns-in-Some c =
     let net = c.args.plan.now in
-    found_item (records_of net c.args.node) c.records_at-records.result.now c.loop-j.j c.index-records-j.result c.in-Some.spot HasOneByteAsEid (LocatesTerminus net)
-    c.records_at-records.ensures (omega arith) c.index-records-j.is c.loop-j.invariant c.in-Some.ensures
+    rw c.in_entry.ensures
+    (found_item (records_of net c.args.node) c.records_at-records.result.now c.loop-j.j c.index-records-j.result c.in-Some.spot HasOneByteAsEid (LocatesTerminus net)
+    c.records_at-records.ensures (omega arith) c.index-records-j.is c.loop-j.invariant c.in-Some.ensures)
 
 pub loop-j-preserved : goal.loop-j-preserved
 loop-j-preserved c =

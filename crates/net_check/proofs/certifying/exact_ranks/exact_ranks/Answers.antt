@@ -8,8 +8,8 @@ use Rattle.net_check.specs.Circles.{IsWalked}
 use Rattle.net_check.specs.RankRuns.{AreNone, AreGrown}
 use Rattle.net_check.specs.Certificates.{AreRoutedBelow}
 use Rattle.net_check.proofs.RankLaws.{routed_start, routed_step, routed_all, counts_small}
-use Rattle.net_check.proofs.certifying.routes.route.Goals.{After-stretch_from-stretch, In-Ended}
-use Rattle.net_check.proofs.certifying.routes.route.Goals as goal
+use Rattle.net_check.proofs.certifying.exact_ranks.exact_ranks.Goals.{After-stretch_from-stretch, In-Ended}
+use Rattle.net_check.proofs.certifying.exact_ranks.exact_ranks.Goals as goal
 
 -- a list written over as a whole
 written_whole : {X : Type 0} (n : ℕ) (new items : List X) → length new ≡ length items → n ≡ length items → take n (new ++ drop (length new) items) ≡ new
@@ -40,12 +40,12 @@ add_ranks-requires-clause-small c =
     let few : length plan.nodes.items ≤ 64 = omega (arith, plan.few_nodes, plan.nodes.ok.0) in
     rw c.deref-in-Ended.ensures.value (counts_small plan c.stretch_from-stretch.result.first.value c.in-Ended.moves.items few walked.0 walked.1)
 
-pub returns-in-Circled : goal.returns-in-Circled
-returns-in-Circled c =
+pub returns-in-Circled-clause-obstacle : goal.returns-in-Circled-clause-obstacle
+returns-in-Circled-clause-obstacle c =
     let plan = c.args.plan.now in
     let P : Walked → Type 0 = IsWalked (MovesTo plan c.stretch_from-stretch.result.first.value) (length plan.nodes.items) in
     record {
-      least = (routed_before ((goal.at.returns-in-Circled c).After-stretch_from-stretch)).circles;
+      least = (routed_before ((goal.at.returns-in-Circled-clause-obstacle c).After-stretch_from-stretch)).circles;
       picked = subst P c.in-Circled.is c.in_ok-moves.ensures;
     }
 
@@ -70,8 +70,8 @@ loop-first-preserved c =
       routed = subst R (sym (written_whole c.loop-first.given.len new given grown.0 c.loop-first.given.ok.0)) more;
     }
 
-pub returns : goal.returns
-returns c =
+pub returns-clause-exact : goal.returns-clause-exact
+returns-clause-exact c =
     let at : c.loop-first.first ≡ 255 = omega (arith, c.loop-first.invariant.within, c.loop-first-test.false) in
     let R : ℕ → Type 0 = λ e. AreRoutedBelow c.args.plan.now e c.loop-first.given.items in
     routed_all c.args.plan.now c.loop-first.given.items _ c.requires.apart c.requires.in_range (subst R at c.loop-first.invariant.routed) c.keep_ranked.ensures

@@ -1,6 +1,6 @@
 use Rattle.std.proofs.Common.{◌-◌, ◌≤◌}
 use Rattle.net_check.specs.Certificates.{AreRoutedBelow}
-use Rattle.net_check.proofs.certifying.routes.route.Given as goal
+use Rattle.net_check.proofs.certifying.exact_ranks.exact_ranks.Given as goal
 
 abbrev pub invariant-loop-first : goal.invariant-loop-first
 invariant-loop-first l = record {

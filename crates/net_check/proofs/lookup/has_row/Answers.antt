@@ -2,7 +2,7 @@ use Rattle.std.proofs.Common.{refl, arith}
 use Rattle.net_plan.specs.declared.nodes.Row.{Row}
 use Rattle.net_check.specs.Routing.{Covers}
 use Rattle.net_check.proofs.OtherSearches.{of_one_more, of_all_items, row_for, no_row_for}
-use Rattle.net_check.proofs.routing.has_row.Goals as goal
+use Rattle.net_check.proofs.lookup.has_row.Goals as goal
 
 pub returns-then-covers : goal.returns-then-covers
 returns-then-covers c =
