@@ -9,7 +9,7 @@ use pdr_repository::{ListTerminus, Terminus, is_lawful_list};
 use plan_commands::{Status, run_sim, simulate};
 use pldm_message::Tid;
 use std::alloc::{AllocError, Global};
-use std::io::Read;
+use std::io::{self, Read, Write};
 use std::process::Abort;
 use std::test::Fail;
 
@@ -273,6 +273,90 @@ fn plays_over_a_terminus_that_is_given(rt: HostRuntime) -> Result<(), Fail> {
         let mut errors = Counted::new(Vec::new(alloc));
         let ended = run_sim(alloc, checked, termini, &played, &mut output, &mut errors);
         expect_written(&rt, (ended, &output, &errors), (status, written, said));
+    }
+    Ok(())
+}
+
+/// A writer that counts its writes.
+#[derive(Drop)]
+struct Tallied {
+    kept: Vec<u8>,
+    writes: usize,
+}
+
+impl Write for Tallied {
+    fn write(&mut self, buf: &[u8]) -> io::Result<usize> {
+        self.writes = self.writes.saturating_add(1);
+        self.kept.extend_from_slice(buf)?;
+        Ok(buf.len())
+    }
+
+    fn flush(&mut self) -> io::Result<()> {
+        Ok(())
+    }
+}
+
+/// So many moves of a flight that does not exist, and the lines of what comes of them.
+fn moves_of_nothing(alloc: Global, count: usize) -> Result<(String, String), AllocError> {
+    let mut events = Vec::new(alloc);
+    let mut lines = String::new(alloc);
+    for index in 0..count {
+        events.push(MOVE_1)?;
+        let number = index + 1;
+        lines.push_str(&format!(in alloc; "{number} refused N03\n")?)?;
+    }
+    Ok((events_text(alloc, &events)?, lines))
+}
+
+#[test]
+fn writes_many_lines_at_once(rt: HostRuntime) -> Result<(), Fail> {
+    let alloc = rt.alloc();
+    let (events, lines) = moves_of_nothing(alloc, 1000)?;
+    let kept = Vec::new(alloc);
+    let mut output = Counted::new(Tallied { kept, writes: 0 });
+    let mut errors = Counted::new(Vec::new(alloc));
+    let ended = simulate(
+        alloc,
+        &mut Counted::new(PLAN.as_bytes()),
+        &mut Counted::new(CERTIFICATE.as_bytes()),
+        &mut Counted::new(events.as_bytes()),
+        &mut output,
+        &mut errors,
+    );
+    let told = output.inner();
+    expect_told(
+        &rt,
+        (ended, &told.kept, errors.inner()),
+        Status::Yes,
+        &lines,
+    );
+    assert!(rt; told.writes <= 4);
+    Ok(())
+}
+
+#[test]
+fn keeps_what_an_output_took_of_many_lines(rt: HostRuntime) -> Result<(), Fail> {
+    let alloc = rt.alloc();
+    let (events, lines) = moves_of_nothing(alloc, 1000)?;
+    for room in [8000, 8192, 9000, 15000] {
+        let kept = Vec::new(alloc);
+        let mut output = Counted::new(Narrow { kept, room });
+        let mut errors = Counted::new(Vec::new(alloc));
+        let ended = simulate(
+            alloc,
+            &mut Counted::new(PLAN.as_bytes()),
+            &mut Counted::new(CERTIFICATE.as_bytes()),
+            &mut Counted::new(events.as_bytes()),
+            &mut output,
+            &mut errors,
+        );
+        assert_eq!(rt; output.inner().kept.len(), room);
+        assert!(rt; lines.as_bytes().starts_with(&output.inner().kept));
+        assert_eq!(rt; ended, Status::Unreadable);
+        assert_eq!(rt;
+            errors.inner().as_slice(),
+            b"unreadable output: file\n".as_slice()
+        );
     }
     Ok(())
 }
