@@ -11,6 +11,7 @@ pub mod Clearing
 pub mod Faults
 pub mod Standing
 pub mod Parts
+pub mod KeyNumberLaws
 pub mod AssemblyLaws
 pub mod Arrivals
 pub mod Collecting

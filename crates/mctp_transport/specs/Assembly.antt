@@ -14,7 +14,8 @@ use Rattle.mctp_transport.specs.declared.assembler.Fed.TheVariants as fed
 -- the message that is open in a slot, by the slot's part of the block
 abbrev pub partial_of : Option OpenMessage → List ℕ → Option Partial
 partial_of None bytes = None
-partial_of (Some o) bytes = Some (record { key = key_value o.key; number = o.number.value; unit = o.unit; bytes = take o.len bytes })
+partial_of (Some o) bytes =
+    Some (record { key = key_value o.key; number = o.number.value; unit = o.unit; bytes = take o.len bytes })
 
 -- slot by slot, the message that is open there
 abbrev pub table_of : Assembler → Table
@@ -41,11 +42,13 @@ answer_of (fed.Whole r) = Whole r.now
 answer_of fed.Held = Held
 answer_of (fed.Dropped w) = Dropped w
 
--- Packet p is fed: for each history that the assembler stood for, the answer is what is heard of the packet
--- after it, no other answer is, and the assembler then stands for the history with the packet at its end. Its memory stays the same.
+-- Packet p is fed: for each history that the assembler stood for, the answer is what is heard of the
+-- packet after it, no other answer is, and the assembler then stands for the history with the packet
+-- at its end. Its memory stays the same.
 pub record Feeds (old : Assembler) (p : Frame) (answer : Answer) (new : Assembler) : Type 0 where
   pub slots : assembler_slots new ≡ assembler_slots old
   pub limit : assembler_limit new ≡ assembler_limit old
   pub memory : assembler_memory new ≡ assembler_memory old
-  pub hears : (history : History) → StandsFor old history → HearsOnly (assembler_slots old) (assembler_limit old) history p answer
+  pub hears : (history : History) → StandsFor old history
+      → HearsOnly (assembler_slots old) (assembler_limit old) history p answer
   pub stands : (history : History) → StandsFor old history → StandsFor new (after history (Arrived p))

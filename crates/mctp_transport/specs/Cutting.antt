@@ -9,11 +9,13 @@ use Rattle.mctp_transport.specs.Messages.{EachPacket}
 pub record IsCut (unit : ℕ) (message : List ℕ) (payloads : List (List ℕ)) : Type 0 where
   pub whole : message ≡ concat payloads
   pub full : (i : ℕ) (p : List ℕ) → slice_get payloads i ≡ Some p → i + 1 < length payloads → length p ≡ unit
-  pub last : (i : ℕ) (p : List ℕ) → slice_get payloads i ≡ Some p → i + 1 ≡ length payloads → (0 < length p) × (length p ≤ unit)
+  pub last : (i : ℕ) (p : List ℕ) → slice_get payloads i ≡ Some p → i + 1 ≡ length payloads
+      → (0 < length p) × (length p ≤ unit)
 
 -- The packets of the message to a destination: their payloads are the message's cut, the i-th has number
 -- start + i modulo 4, SOM is on the first alone and EOM on the last alone, and the reserved bits are 0.
-pub record ArePacketsOf (unit : ℕ) (message : List ℕ) (destination : ℕ) (key : KeyValue) (start : ℕ) (frames : List Frame) : Type 0 where
+pub record ArePacketsOf (unit : ℕ) (message : List ℕ) (destination : ℕ) (key : KeyValue) (start : ℕ)
+    (frames : List Frame) : Type 0 where
   pub cut : IsCut unit message (map (λ f. f.payload) frames)
   pub addressed : EachPacket frames (λ i f. f.destination ≡ destination)
   pub of_key : EachPacket frames (λ i f. key_of f ≡ key)

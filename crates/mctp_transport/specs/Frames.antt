@@ -43,6 +43,10 @@ flag_byte f = 128 * bit f.som + 64 * bit f.eom + 16 * f.number + 8 * bit f.owner
 abbrev pub frame_bytes : Frame → List ℕ
 frame_bytes f = version_byte f ∷ f.destination ∷ f.source ∷ flag_byte f ∷ f.payload
 
+-- a transmission unit: how many payload bytes a packet may have, from the baseline's 64 to 1024
+abbrev pub IsUnit : ℕ → Type 0
+IsUnit unit = (64 ≤ unit) × (unit ≤ 1024)
+
 -- each field fits its bits, and the payload has at least one byte and at most the transmission unit
 pub record IsFrame (unit : ℕ) (f : Frame) : Type 0 where
   pub reserved : f.reserved < 16

@@ -2,7 +2,8 @@
 use Rattle.std.specs.Prelude.{◌≡◌, ◌⊎◌, ℕ, ◌+◌, ◌<◌, ◌≤◌, List, length, true, false}
 use Rattle.mctp_transport.specs.Frames.{Frame, key_of}
 use Rattle.mctp_transport.specs.Messages.{payloads_of, NumberFollows, LengthFits}
-use Rattle.mctp_transport.specs.Histories.{History, Arrived, after, last_of, ArePackets, IsOpen, IsOtherOpen, AsManyAs, Comes}
+use Rattle.mctp_transport.specs.Histories.{History, Arrived, after, last_of, ArePackets}
+use Rattle.mctp_transport.specs.Histories.{IsOpen, IsOtherOpen, AsManyAs, Comes}
 use Rattle.mctp_transport.specs.declared.why.Why.{Why}
 use Rattle.mctp_transport.specs.declared.why.Why.TheVariants as why
 
@@ -23,7 +24,8 @@ IsDropped slots limit history p why.NotOpen = (p.som ≡ false) × ¬ IsOpen slo
 IsDropped slots limit history p why.Number = GoesOn slots limit history p (λ ps. ¬ NumberFollows ps p)
 IsDropped slots limit history p why.Length = GoesOn slots limit history p (λ ps. NumberFollows ps p × ¬ LengthFits ps p)
 IsDropped slots limit history p why.Limit = ((p.som ≡ true) × (limit < length p.payload))
-    ⊎ GoesOn slots limit history p (λ ps. NumberFollows ps p × LengthFits ps p × (limit < length (payloads_of ps) + length p.payload))
+    ⊎ GoesOn slots limit history p
+    (λ ps. NumberFollows ps p × LengthFits ps p × (limit < length (payloads_of ps) + length p.payload))
 IsDropped slots limit history p why.Full = (p.som ≡ true) × (p.eom ≡ false) × (length p.payload ≤ limit)
     × AsManyAs slots (IsOtherOpen slots limit history (key_of p))
 

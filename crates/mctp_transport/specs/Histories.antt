@@ -1,5 +1,6 @@
 -- What an assembler has been given, and what follows from it.
-use Rattle.std.specs.Prelude.{◌≡◌, ◌≢◌, ◌⊎◌, ℕ, zero, suc, ◌<◌, ◌≤◌, List, [], ◌∷◌, ◌++◌, length, Bool, true, false, ◌&&◌, ◌==◌, filter, if◌then◌else◌, All, AllPairs}
+use Rattle.std.specs.Prelude.{◌≡◌, ◌≢◌, ◌⊎◌, ℕ, zero, suc, ◌<◌, ◌≤◌, List, [], ◌∷◌, ◌++◌, length}
+use Rattle.std.specs.Prelude.{Bool, true, false, ◌&&◌, ◌==◌, filter, if◌then◌else◌, All, AllPairs}
 use Rattle.std.specs.Bool.{beq}
 use Rattle.mctp_transport.specs.Frames.{Frame, KeyValue, key_of}
 use Rattle.mctp_transport.specs.Messages.{Joined, payloads_of}
@@ -62,11 +63,13 @@ ArePackets (TimeUp k ∷ is) qs = ⊥
 
 -- packets that begin a message and don't end it
 abbrev pub IsBegun : List Frame → Type 0
-IsBegun ps = (0 < length ps) × ((rest : List Frame) × (message : List ℕ) × (0 < length rest) × Joined (ps ++ rest) message)
+IsBegun ps =
+    (0 < length ps) × ((rest : List Frame) × (message : List ℕ) × (0 < length rest) × Joined (ps ++ rest) message)
 
 -- The key's message has begun, isn't whole and fits the limit, whether or not a slot was free for it.
 abbrev pub IsUnderWay : ℕ → History → KeyValue → Type 0
-IsUnderWay limit history key = (ps : List Frame) × ArePackets (last_of history key) ps × IsBegun ps × (length (payloads_of ps) ≤ limit)
+IsUnderWay limit history key =
+    (ps : List Frame) × ArePackets (last_of history key) ps × IsBegun ps × (length (payloads_of ps) ≤ limit)
 
 -- the history before the key's last start
 abbrev pub before_last_start : KeyValue → History → History

@@ -15,6 +15,7 @@ pub mod Hearing
 pub mod Tables
 pub mod TableChanges
 pub mod Parts
+pub mod KeyNumbers
 pub mod Assembly
 pub mod Steps
 pub mod Lending

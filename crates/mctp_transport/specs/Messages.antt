@@ -45,4 +45,5 @@ NumberFollows ps p = AtLast ps (λ q. p.number ≡ (q.number + 1) % 4)
 
 -- a middle packet's payload is as long as the first's, an end packet's is no longer
 abbrev pub LengthFits : List Frame → Frame → Type 0
-LengthFits ps p = AtFirst ps (λ q. (p.eom ≡ false → length p.payload ≡ length q.payload) × (length p.payload ≤ length q.payload))
+LengthFits ps p =
+    AtFirst ps (λ q. (p.eom ≡ false → length p.payload ≡ length q.payload) × (length p.payload ≤ length q.payload))

@@ -1,5 +1,6 @@
 -- What an iterator over a message's packets has yet to give.
-use Rattle.std.specs.Prelude.{ℕ, zero, suc, ◌+◌, ◌%◌, false, ◌==◌, if◌then◌else◌, nat_le, List, [], ◌∷◌, length, take, drop}
+use Rattle.std.specs.Prelude.{ℕ, zero, suc, ◌+◌, ◌%◌, false, ◌==◌, if◌then◌else◌}
+use Rattle.std.specs.Prelude.{nat_le, List, [], ◌∷◌, length, take, drop}
 use Rattle.mctp_transport.specs.Frames.{Frame}
 use Rattle.mctp_transport.specs.Packets.{frame}
 use Rattle.mctp_transport.specs.declared.cutting.Packets.{Packets}
@@ -14,4 +15,4 @@ cut unit (suc n) f =
 
 -- all that are left
 abbrev pub frames_left : Packets → List Frame
-frames_left s = cut 64 (length s.rest.now) (frame s.header s.rest.now)
+frames_left s = cut s.unit (length s.rest.now) (frame s.header s.rest.now)

@@ -1,5 +1,6 @@
 -- What a packet, or the end of a key's time, makes of a table, as the code does it.
-use Rattle.std.specs.Prelude.{ℕ, ◌+◌, ◌%◌, Bool, true, false, not, ◌&&◌, ◌||◌, ◌==◌, if◌then◌else◌, nat_lt, ◌++◌, length, slice_get, slice_set, position, is_none, Option, Some, None}
+use Rattle.std.specs.Prelude.{ℕ, ◌+◌, ◌%◌, Bool, true, false, not, ◌&&◌, ◌||◌, ◌==◌, if◌then◌else◌, nat_lt}
+use Rattle.std.specs.Prelude.{◌++◌, length, slice_get, slice_set, position, is_none, Option, Some, None}
 use Rattle.mctp_transport.specs.Frames.{Frame, KeyValue, key_of}
 use Rattle.mctp_transport.specs.Hearing.{Answer, Whole, Held, Dropped}
 use Rattle.mctp_transport.specs.declared.why.Why.{Why}
@@ -68,7 +69,8 @@ carried limit t p (Some i) = carried_at limit t p i (slice_get t i)
 -- what a table becomes by a packet, and the answer
 abbrev pub moved : ℕ → Table → Frame → Table × Answer
 moved limit t p =
-    if p.som then started limit (ended t (position (is_at (key_of p)) t)) p else carried limit t p (position (is_at (key_of p)) t)
+    if p.som then started limit (ended t (position (is_at (key_of p)) t)) p
+    else carried limit t p (position (is_at (key_of p)) t)
 
 -- what a table becomes when a key's time is up
 abbrev pub expired : Table → KeyValue → Table

@@ -27,7 +27,8 @@ pub record HoldsLast (history : History) (q : Partial) : Type 0 where
 -- the joined payloads, the first length and the last number of what was given since its last start.
 pub record TableStandsFor (slots limit : ℕ) (table : List (Option Partial)) (history : History) : Type 0 where
   pub held : (i : ℕ) (q : Partial) → Holds table i q → IsOpen slots limit history q.key × HoldsLast history q
-  pub opened : (key : KeyValue) → IsOpen slots limit history key → (i : ℕ) × (q : Partial) × Holds table i q × (q.key ≡ key)
+  pub opened : (key : KeyValue) → IsOpen slots limit history key
+      → (i : ℕ) × (q : Partial) × Holds table i q × (q.key ≡ key)
   pub once : (i j : ℕ) (q r : Partial) → Holds table i q → Holds table j r → q.key ≡ r.key → i ≡ j
 
 abbrev pub Table : Type 0

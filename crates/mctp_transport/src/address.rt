@@ -11,6 +11,7 @@ pub struct Eid {
 impl Eid {
     ghost use Rattle.mctp_transport.specs.Frames.{IsAssignable};
 
+    /// The endpoint ID of this number: any byte is one.
     pub fn new(value: u8) -> Self
         ensures { result.value ≡ value }
     {
@@ -33,6 +34,7 @@ pub struct Tag {
 }
 
 impl Tag {
+    /// The tag of this number, which is below 8.
     pub fn new(value: u8) -> Self
         requires { value < 8 }
         ensures { result.value ≡ value }
@@ -49,6 +51,7 @@ pub struct Seq {
 }
 
 impl Seq {
+    /// The sequence number of this value, which is below 4.
     pub fn new(value: u8) -> Self
         requires { value < 4 }
         ensures { result.value ≡ value }
@@ -72,6 +75,7 @@ pub struct Reserved {
 }
 
 impl Reserved {
+    /// The bits of this number, which is below 16.
     pub fn new(value: u8) -> Self
         requires { value < 16 }
         ensures { result.value ≡ value }
@@ -84,7 +88,9 @@ impl Reserved {
 /// whether the source owns the tag (DSP0236, section 8.1).
 #[derive(Clone, Copy, Debug, PartialEq, Eq)]
 pub struct Key {
+    /// The endpoint ID of the sender.
     pub source: Eid,
     pub tag: Tag,
+    /// Whether the sender owns the tag.
     pub owner: bool,
 }

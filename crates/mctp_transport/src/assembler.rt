@@ -1,8 +1,10 @@
 //! Joining packets to messages (DSP0236, "Message assembly").
-ghost use Rattle.std.specs.Prelude.{◌≡◌, ◌<◌, ◌≤◌, ◌+◌, ◌*◌, length, All, IfSome, IfOk};
+ghost use Rattle.std.specs.Prelude.{◌≡◌, ◌<◌, ◌≤◌, ◌+◌, ◌*◌, length, All, IfSome, IfOk, take, map};
 ghost use Rattle.std.proofs.Props.{props};
+ghost use Rattle.mctp_transport.specs.KeyNumbers.{slot_number};
 
 mod block;
+mod key_numbers;
 mod open_message;
 mod places;
 
@@ -11,8 +13,9 @@ use crate::cutting::MAX_MESSAGE;
 use crate::packet::PacketView;
 use crate::why::Why;
 use block::write;
+use key_numbers::{FREE, first_place, number_in, number_of};
 use open_message::OpenMessage;
-use places::{free_in, open_in, place_in};
+use places::open_in;
 use std::alloc::{AllocError, Global};
 
 /// The most slots of an assembler.
@@ -39,6 +42,8 @@ pub enum Fed<'a> {
 #[derive(Debug, Drop)]
 pub struct Assembler {
     slots: Vec<Option<OpenMessage>>,
+    /// The slots' numbers, by which they are found.
+    numbers: [u16; MAX_SLOTS],
     /// A part of `limit` bytes for each slot.
     block: Vec<u8>,
     limit: usize,
@@ -46,6 +51,7 @@ pub struct Assembler {
     ghost short: { limit ≤ 4096 },
     ghost sized: { length block.items ≡ length slots.items * limit },
     ghost within: { All (λ slot. IfSome slot (λ begun. begun.len ≤ limit)) slots.items } by { Prim.hlevel props },
+    ghost numbered: { take (length slots.items) numbers ≡ map slot_number slots.items } by { Prim.hlevel props },
 }
 
 /// What a packet did, and where a whole message lies then.
@@ -60,7 +66,7 @@ enum Step {
 }
 
 impl Assembler {
-    ghost use Rattle.std.specs.Prelude.{◌↔◌, IsTrue, position, is_none, is_some, slice_set, slice_get, count_by, Some, None, [], take, ◌++◌};
+    ghost use Rattle.std.specs.Prelude.{◌↔◌, IsTrue, position, is_none, is_some, slice_set, slice_get, count_by, Some, None, [], ◌++◌, ◌==◌};
     ghost use Rattle.std.specs.Borrow.{sem};
     ghost use Rattle.mctp_transport.specs.Frames.{key_of};
     ghost use Rattle.mctp_transport.specs.Packets.{frame_of, key_value};
@@ -89,6 +95,7 @@ impl Assembler {
         let block = vec![in alloc; 0; slots * limit]?;
         Ok(Assembler {
             slots: table,
+            numbers: [FREE; MAX_SLOTS],
             block,
             limit,
         })
@@ -157,7 +164,7 @@ impl Assembler {
         ensures place { result ≡ position (is_at (key_value key)) (table_of self.now) }
         ensures within { IfSome result (λ i. i < assembler_slots self.now) }
     {
-        place_in(&self.slots, key)
+        self.slot_of(number_of(key))
     }
 
     /// A free slot.
@@ -165,7 +172,20 @@ impl Assembler {
         ensures place { result ≡ position is_none (table_of self.now) }
         ensures within { IfSome result (λ i. i < assembler_slots self.now) }
     {
-        free_in(&self.slots)
+        self.slot_of(FREE)
+    }
+
+    /// The first slot of this number.
+    fn slot_of(&self, number: u16) -> Option<usize>
+        ensures place { result ≡ position (λ slot. slot_number slot == number) self.now.slots.items }
+        ensures within { IfSome result (λ i. i < assembler_slots self.now) }
+    {
+        let place = first_place(&self.numbers, number);
+        if place < self.slots.len() {
+            Some(place)
+        } else {
+            None
+        }
     }
 
     /// Frees a slot.
@@ -177,6 +197,7 @@ impl Assembler {
         ensures memory { assembler_memory self.new ≡ assembler_memory self.old }
     {
         self.slots[place] = None;
+        self.numbers[place] = FREE;
     }
 
     /// Writes bytes into a slot's part of the block, and says what is open there then.
@@ -194,6 +215,7 @@ impl Assembler {
     {
         write(&mut self.block, place * self.limit + at, bytes);
         self.slots[place] = message;
+        self.numbers[place] = number_in(message);
     }
 
     /// Opens a message in a slot.

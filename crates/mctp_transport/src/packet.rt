@@ -4,83 +4,91 @@ ghost use Rattle.arrayvec.specs.ArrayVec.{array_vec_len};
 
 use crate::address::{Eid, Key, Reserved, Seq, Tag};
 use crate::packet_error::PacketError;
-use crate::wire::Wire;
 use arrayvec::ArrayVec;
 
 /// The bytes of a header.
 pub const HEADER_LENGTH: usize = 4;
 
-/// The baseline transmission unit: the most payload bytes of a packet.
-pub const UNIT: usize = 64;
+/// The baseline transmission unit: the most payload bytes of a packet where no larger unit is agreed on (DSP0236,
+/// "Packet payload and transmission unit sizes").
+pub const BASELINE_UNIT: usize = 64;
 
-/// A packet's header. The header version is 1 and not kept.
+/// The largest transmission unit, in payload bytes.
+pub const MAX_UNIT: usize = 1024;
+
+/// A packet's header of four bytes (DSP0236, section 8.1): byte 0 has the reserved bits (7 to 4) and the header version,
+/// which is 1 and not kept; byte 1 is the destination, byte 2 the source; byte 3 has SOM (bit 7), EOM (6), the sequence
+/// number (5 and 4), the tag owner (3) and the tag (2 to 0).
 #[derive(Clone, Copy, Debug, PartialEq, Eq)]
 pub struct Header {
     pub reserved: Reserved,
+    /// The endpoint ID of the receiver.
     pub destination: Eid,
+    /// The endpoint ID of the sender.
     pub source: Eid,
     /// Start of message.
     pub som: bool,
     /// End of message.
     pub eom: bool,
+    /// The sequence number, which goes up by one with each packet of a message.
     pub number: Seq,
     /// Whether the source owns the tag: set in a request, clear in its response.
     pub owner: bool,
     pub tag: Tag,
 }
 
-/// A packet whose payload of 1 to 64 bytes is borrowed from the bytes that it was read from.
+/// A packet whose payload of 1 to 1024 bytes is borrowed from the bytes that it was read from.
+///
+/// How long a payload may be depends on the transmission unit under which packets are exchanged, from 64 to 1024
+/// bytes. A packet doesn't carry it, so only the reading is told it: `read` is for the baseline unit, `read_within` for
+/// any. `len` and `put` are those of a packet of any unit.
 #[derive(Clone, Copy, Debug)]
 pub struct PacketView<'a> {
     pub header: Header,
     pub payload: &'a [u8],
     ghost some: { 0 < length payload.now },
-    ghost most: { length payload.now ≤ 64 },
+    ghost most: { length payload.now ≤ 1024 },
 }
 
 impl<'a> PacketView<'a> {
-    ghost use Rattle.mctp_transport.specs.Frames.{key_of};
-    ghost use Rattle.mctp_transport.specs.Packets.{frame_of, key_value};
-
-    /// What the packet's message is told by.
-    pub fn key(&self) -> Key
-        ensures { key_value result ≡ key_of (frame_of self.now) }
-    {
-        Key {
-            source: self.header.source,
-            tag: self.header.tag,
-            owner: self.header.owner,
-        }
-    }
-}
-
-impl<'a> Wire<'a> for PacketView<'a> {
-    ghost use Rattle.std.specs.Prelude.{◌≡◌, ◌↔◌, ◌++◌, ℕ, List, length, drop, IfOk, IsOkAnd, Err};
-    ghost use Rattle.mctp_transport.specs.Wire.{Spells};
-    ghost use Rattle.mctp_transport.specs.Frames.{Frame, IsFrame, frame_bytes};
-    ghost use Rattle.mctp_transport.specs.FrameLaws.{one_frame};
-    ghost use Rattle.mctp_transport.specs.Packets.{frame_of};
+    ghost use Rattle.std.specs.Prelude.{◌↔◌, ◌++◌, drop, IfOk, IsOkAnd, Err};
+    ghost use Rattle.mctp_transport.specs.Frames.{Frame, IsFrame, IsUnit, Spelled, frame_bytes, key_of};
+    ghost use Rattle.mctp_transport.specs.Packets.{frame, frame_of, key_value};
     ghost use Rattle.mctp_transport.specs.Refusals.{IsShort, IsEmpty, IsLong, HasOtherVersion};
 
-    type Error = PacketError;
+    /// The packet of a header and a payload of 1 to 1024 bytes.
+    pub fn new(header: Header, payload: &'a [u8]) -> PacketView<'a>
+        requires some { 0 < length payload.now }
+        requires most { length payload.now ≤ MAX_UNIT }
+        ensures { frame_of result ≡ frame header payload.now }
+    {
+        PacketView { header, payload }
+    }
 
-    ghost Meaning = { Frame };
-
-    ghost meaning = { frame_of };
-
-    ghost IsLawful = { IsFrame 64 };
-
-    ghost spelling = { frame_bytes };
-
-    /// The packet that the bytes are. A longer payload than 64 bytes is refused.
-    fn read(bytes: &'a [u8]) -> Result<Self, PacketError>
-        ensures ok { IfOk result (λ v. Spells (IsFrame 64) frame_bytes (frame_of v) bytes.now) }
-        ensures all { (m : Frame) → Spells (IsFrame 64) frame_bytes m bytes.now → IsOkAnd result (λ v. frame_of v ≡ m) }
+    /// The packet that the bytes are, all of them, under the baseline transmission unit of 64 bytes.
+    pub fn read(bytes: &'a [u8]) -> Result<PacketView<'a>, PacketError>
+        ensures ok { IfOk result (λ packet. Spelled 64 (frame_of packet) bytes.now) }
+        ensures all { (f : Frame) → Spelled 64 f bytes.now → IsOkAnd result (λ packet. frame_of packet ≡ f) }
         ensures short { (result ≡ Err PacketError.Short) ↔ IsShort bytes.now }
         ensures empty { (result ≡ Err PacketError.Empty) ↔ (¬ IsShort bytes.now × IsEmpty bytes.now) }
         ensures long { (result ≡ Err PacketError.Long) ↔ IsLong 64 bytes.now }
         ensures version { (result ≡ Err PacketError.Version)
             ↔ (¬ IsShort bytes.now × ¬ IsEmpty bytes.now × ¬ IsLong 64 bytes.now × HasOtherVersion bytes.now) }
+    {
+        PacketView::read_within(bytes, BASELINE_UNIT)
+    }
+
+    /// The packet that the bytes are, all of them, under a transmission unit of 64 to 1024 bytes. A payload over the
+    /// unit is refused.
+    pub fn read_within(bytes: &'a [u8], unit: usize) -> Result<PacketView<'a>, PacketError>
+        requires { IsUnit unit }
+        ensures ok { IfOk result (λ packet. Spelled unit (frame_of packet) bytes.now) }
+        ensures all { (f : Frame) → Spelled unit f bytes.now → IsOkAnd result (λ packet. frame_of packet ≡ f) }
+        ensures short { (result ≡ Err PacketError.Short) ↔ IsShort bytes.now }
+        ensures empty { (result ≡ Err PacketError.Empty) ↔ (¬ IsShort bytes.now × IsEmpty bytes.now) }
+        ensures long { (result ≡ Err PacketError.Long) ↔ IsLong unit bytes.now }
+        ensures version { (result ≡ Err PacketError.Version)
+            ↔ (¬ IsShort bytes.now × ¬ IsEmpty bytes.now × ¬ IsLong unit bytes.now × HasOtherVersion bytes.now) }
     {
         let [first, destination, source, flags, payload @ ..] = bytes else {
             return Err(PacketError::Short);
@@ -88,7 +96,7 @@ impl<'a> Wire<'a> for PacketView<'a> {
         if payload.is_empty() {
             return Err(PacketError::Empty);
         }
-        if payload.len() > UNIT {
+        if payload.len() > unit {
             return Err(PacketError::Long);
         }
         if first % 16 != 1 {
@@ -107,11 +115,22 @@ impl<'a> Wire<'a> for PacketView<'a> {
         Ok(PacketView { header, payload })
     }
 
-    fn len(&self) -> usize {
+    /// How many bytes the packet has, its header of 4 among them.
+    pub fn len(&self) -> usize
+        ensures lawful { IsFrame 1024 (frame_of self.now) }
+        ensures count { result ≡ length (frame_bytes (frame_of self.now)) }
+    {
         HEADER_LENGTH + self.payload.len()
     }
 
-    fn put(&self, out: &mut [u8]) -> usize {
+    /// Writes the packet's bytes at the front of `out`, leaves the rest of it as it was, and returns how many bytes it
+    /// wrote. `out` has at least `len` bytes.
+    pub fn put(&self, out: &mut [u8]) -> usize
+        requires { length (frame_bytes (frame_of self.now)) ≤ length out.old }
+        ensures lawful { IsFrame 1024 (frame_of self.now) }
+        ensures count { result ≡ length (frame_bytes (frame_of self.now)) }
+        ensures front { out.new ≡ frame_bytes (frame_of self.now) ++ drop result out.old }
+    {
         let header = &self.header;
         out[0] = 16 * header.reserved.value + 1;
         out[1] = header.destination.value;
@@ -126,14 +145,23 @@ impl<'a> Wire<'a> for PacketView<'a> {
         len
     }
 
-    ghost one_value = { one_frame 64 };
+    /// What the packet's message is told by.
+    pub fn key(&self) -> Key
+        ensures { key_value result ≡ key_of (frame_of self.now) }
+    {
+        Key {
+            source: self.header.source,
+            tag: self.header.tag,
+            owner: self.header.owner,
+        }
+    }
 }
 
-/// A packet that holds its payload of 1 to 64 bytes.
+/// A packet that holds its payload of 1 to 1024 bytes.
 #[derive(Debug, Drop)]
 pub struct Packet {
     pub header: Header,
-    pub payload: ArrayVec<u8, UNIT>,
+    pub payload: ArrayVec<u8, MAX_UNIT>,
     pub ghost some: { 0 < array_vec_len payload },
 }
 

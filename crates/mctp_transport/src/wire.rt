@@ -6,6 +6,9 @@ ghost use Rattle.mctp_transport.specs.Wire.{Spells};
 ///
 /// What a value is, wherever its bytes lie in memory, is its ghost `Meaning`; which bytes spell a meaning is
 /// `Spells`. None of the calls can take memory.
+///
+/// A packet is no `Wire`: which bytes are one depends on the transmission unit. `PacketView` has `len` and `put` as
+/// here, and reads under a unit.
 pub trait Wire<'a>: Sized + Drop {
     /// Why bytes spell no value.
     type Error: Drop;

@@ -1,11 +1,13 @@
-use Rattle.std.proofs.Common.{sym, ◌∙◌, []}
+use Rattle.std.proofs.Common.{sym, ap, ◌∙◌, ◌==◌, position, ℕ}
 use Rattle.mctp_transport.specs.Packets.{key_value}
 use Rattle.mctp_transport.specs.Tables.{is_at}
-use Rattle.mctp_transport.specs.Assembly.{partial_of}
-use Rattle.mctp_transport.proofs.AssemblyLaws.{position_rows, at_same}
+use Rattle.mctp_transport.specs.KeyNumbers.{key_number, slot_number}
+use Rattle.mctp_transport.proofs.AssemblyLaws.{position_rows}
+use Rattle.mctp_transport.proofs.KeyNumberLaws.{at_number}
 use Rattle.mctp_transport.proofs.assembler.Assembler.place_of.Goals as goal
 
 pub returns-clause-place : goal.returns-clause-place
 returns-clause-place c =
-    (rw c.deref.ensures.value at c.place_in.ensures.place)
-    ∙ sym (position_rows (is_at (key_value c.args.key)) (λ o. is_at (key_value c.args.key) (partial_of o [])) c.args.self.now.limit c.args.self.now.block.items c.args.self.now.slots.items (at_same (key_value c.args.key)))
+    c.slot_of.ensures.place
+    ∙ ap (λ (n : ℕ). position (λ slot. slot_number slot == n) c.args.self.now.slots.items) c.number_of.ensures
+    ∙ sym (position_rows (is_at (key_value c.args.key)) (λ o. slot_number o == key_number c.args.key) c.args.self.now.limit c.args.self.now.block.items c.args.self.now.slots.items (at_number c.args.key))

@@ -1,10 +1,10 @@
 use Rattle.std.proofs.Common.{refl, arith, true, false}
 use Rattle.mctp_transport.proofs.PacketLists.{all_packets}
-use Rattle.mctp_transport.proofs.cutting.Packets.of.Goals as goal
+use Rattle.mctp_transport.proofs.cutting.Packets.within.Goals as goal
 
 pub returns : goal.returns
 returns c =
-    all_packets 64 (record {
+    all_packets c.args.unit (record {
       reserved = c.new.result.value;
       destination = c.args.destination.value;
       source = c.args.key.source.value;
