@@ -1,5 +1,6 @@
 -- Runs of free EIDs, and marks that are set.
-use Rattle.std.proofs.Common.{◌≡◌, ℕ, zero, suc, ◌+◌, ◌-◌, ◌<◌, ◌≤◌, false, true, slice_index_or, replicate, arith, add-zero, Option, IfSome}
+use Rattle.std.proofs.Common.{◌≡◌, ℕ, zero, suc, ◌+◌, ◌-◌, ◌<◌, ◌≤◌, false, true, slice_index_or, replicate, arith, add-zero, sym, ◌∙◌, inl, inr, Option, IfSome}
+use Rattle.std.proofs.lemmas.Bool.{cases_lt, false≢true}
 use Rattle.std.proofs.lemmas.Option.{IfSome_then}
 use Rattle.mctp_transport.specs.declared.address.Eid.{Eid}
 use Rattle.mctp_control.specs.Pools.{PoolValue, IsFree, IsFreeRun, IsLowestFree, IsLowestRun}
@@ -32,3 +33,67 @@ marked_in_run p count first eid a b m h =
     let here : first + (eid - first) ≡ eid = omega arith in
     let f = rw here at (h (eid - first) (omega arith)) in
     f.1 (f.0, m)
+
+-- no run begins before this EID
+abbrev pub NoneBefore : PoolValue → ℕ → ℕ → Type 0
+NoneBefore p count first = (e : ℕ) → e < first → ¬ IsFreeRun p count e
+
+-- all from one EID up to another are free, too few for a run, and no run begins before them
+pub record IsRunSoFar (p : PoolValue) (count first eid : ℕ) : Type 0 where
+  pub low : p.first ≤ first
+  pub high : first ≤ eid
+  pub short : eid < first + count
+  pub free : (e : ℕ) → first ≤ e → e < eid → slice_index_or p.marks e false ≡ false
+  pub before : NoneBefore p count first
+
+-- one that is out ends them, and the next ones begin behind it
+pub out_ends : (p : PoolValue) (count first eid : ℕ) → 0 < count → IsRunSoFar p count first eid → slice_index_or p.marks eid false ≡ true → IsRunSoFar p count (eid + 1) (eid + 1)
+out_ends p count first eid some h out = record {
+  low = omega (arith, h.low, h.high);
+  high = omega arith;
+  short = omega arith;
+  free = λ e a b. absurd (omega arith);
+  before = λ e small run. elim (cases_lt e first) [
+    | inl lt ↦ h.before e lt run
+    | inr ge ↦ marked_in_run p count e eid (omega arith) (omega (arith, h.short)) out run
+  ];
+}
+
+-- one that is free goes on with them
+pub free_goes_on : (p : PoolValue) (count first eid : ℕ) → IsRunSoFar p count first eid → slice_index_or p.marks eid false ≡ false → eid + 1 < first + count → IsRunSoFar p count first (eid + 1)
+free_goes_on p count first eid h free short = record {
+  low = h.low;
+  high = omega (arith, h.high);
+  short = short;
+  free = λ e a b. elim (cases_lt e eid) [
+    | inl lt ↦ h.free e a lt
+    | inr ge ↦ (let here : e ≡ eid = omega arith in rw here free)
+  ];
+  before = h.before;
+}
+
+-- or makes them a run, which is the lowest
+pub run_found : (p : PoolValue) (count first eid : ℕ) → IsRunSoFar p count first eid → slice_index_or p.marks eid false ≡ false → eid + 1 ≡ first + count → eid < p.first + p.size → IsLowestRun p count first
+run_found p count first eid h free whole within = record {
+  run = λ i small. (
+    (omega (arith, h.low), omega arith),
+    λ out. false≢true (sym (free_at (first + i) (omega arith) (omega arith)) ∙ out.1),
+  );
+  lowest = λ other run. elim (cases_lt other first) [
+    | inl lt ↦ absurd (h.before other lt run)
+    | inr ge ↦ omega arith
+  ];
+}
+  where
+    free_at : (e : ℕ) → first ≤ e → e < eid + 1 → slice_index_or p.marks e false ≡ false
+    free_at e a b = elim (cases_lt e eid) [
+      | inl lt ↦ h.free e a lt
+      | inr ge ↦ (let here : e ≡ eid = omega arith in rw here free)
+    ]
+
+-- at the end there is none
+pub none_found : (p : PoolValue) (count first end : ℕ) → 0 < count → IsRunSoFar p count first end → p.first + p.size ≤ end → (e : ℕ) → ¬ IsFreeRun p count e
+none_found p count first end some h all e run = elim (cases_lt e first) [
+  | inl lt ↦ h.before e lt run
+  | inr ge ↦ (let last = (run (count - 1) (omega arith)).0.1 in absurd (omega (arith, h.short)))
+]

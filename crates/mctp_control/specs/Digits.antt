@@ -25,8 +25,8 @@ pub digits_4 : (a b a' b' : ℕ) → b < 4 → b' < 4 → 4 * a + b ≡ 4 * a' +
 digits_4 a b a' b' hb hb' e = record { first = omega arith; second = omega arith }
 
 -- bits 7 and 6, bit 5, and bits 4 to 0
-pub digits_64_32 : (a b c a' b' c' : ℕ) → b ≤ 1 → c < 32 → b' ≤ 1 → c' < 32 → 64 * a + 32 * b + c ≡ 64 * a' + 32 * b' + c'
-    → Same3 a b c a' b' c'
+pub digits_64_32 : (a b c a' b' c' : ℕ) → b ≤ 1 → c < 32 → b' ≤ 1 → c' < 32
+    → 64 * a + 32 * b + c ≡ 64 * a' + 32 * b' + c' → Same3 a b c a' b' c'
 digits_64_32 a b c a' b' c' hb hc hb' hc' e = record { first = omega arith; second = omega arith; third = omega arith }
 
 -- four times two bits

@@ -29,7 +29,8 @@ HasUnknownCommand bytes = IsUnknown (slice_index bytes 2)
 
 -- how many bytes of data each command's request has
 abbrev pub IsCommandLength : ℕ → ℕ → Type 0
-IsCommandLength number count = (number ≡ 1 → count ≡ 2) × (number ≡ 2 → count ≡ 0) × (number ≡ 8 → count ≡ 3) × (number ≡ 10 → count ≡ 1)
+IsCommandLength number count =
+    (number ≡ 1 → count ≡ 2) × (number ≡ 2 → count ≡ 0) × (number ≡ 8 → count ≡ 3) × (number ≡ 10 → count ≡ 1)
 
 -- a request is as long as its command asks for
 abbrev pub HasRequestLength : List ℕ → Type 0
@@ -51,7 +52,9 @@ IsTableData rest = (2 ≤ length rest) × (length rest ≤ 60)
 -- what may follow a completion code: nothing after another code than success, three bytes after the success of
 -- commands 1, 2 and 8, a part of a table after that of command 10
 abbrev pub IsAnswerData : ℕ → ℕ → List ℕ → Type 0
-IsAnswerData number code rest = (code ≢ 0 → length rest ≡ 0) × (code ≡ 0 → number ≢ 10 → length rest ≡ 3) × (code ≡ 0 → number ≡ 10 → IsTableData rest)
+IsAnswerData number code rest =
+    (code ≢ 0 → length rest ≡ 0) × (code ≡ 0 → number ≢ 10 → length rest ≡ 3)
+    × (code ≡ 0 → number ≡ 10 → IsTableData rest)
 
 -- the response is as its command and its completion code ask for
 abbrev pub HasResponseLength : List ℕ → Type 0

@@ -1,13 +1,16 @@
 -- What a device replies to a request, and what it holds afterwards (DSP0236, the commands of these names;
 -- this project's own choice where the standard leaves one).
-use Rattle.std.specs.Prelude.{◌≡◌, ◌≢◌, ◌⊎◌, ℕ, ◌+◌, ◌/◌, ◌%◌, ◌<◌, ◌≤◌, ◌==◌, if◌then◌else◌, List, [], ◌∷◌, length, take, drop, slice_index, Option, Some, None}
+use Rattle.std.specs.Prelude.{◌≡◌, ◌≢◌, ◌⊎◌, ℕ, ◌+◌, ◌/◌, ◌%◌, ◌<◌, ◌≤◌, ◌==◌, if◌then◌else◌}
+use Rattle.std.specs.Prelude.{List, [], ◌∷◌, length, take, drop, slice_index, Option, Some, None}
 use Rattle.mctp_transport.specs.Frames.{IsAssignable}
 use Rattle.mctp_control.specs.Ranges.{IsAssignableRange}
 use Rattle.mctp_control.specs.RouteEntries.{EntryValue}
 use Rattle.mctp_control.specs.EntryLists.{entries_bytes}
-use Rattle.mctp_control.specs.Requests.{CommandValue, SetsEid, GetsEid, AllocatesEids, GetsEntries, RequestValue, SpellsRequest}
+use Rattle.mctp_control.specs.Requests.{CommandValue, SetsEid, GetsEid, AllocatesEids}
+use Rattle.mctp_control.specs.Requests.{GetsEntries, RequestValue, SpellsRequest}
 use Rattle.mctp_control.specs.Refusals.{IsUnknown, HasRequestLength}
-use Rattle.mctp_control.specs.Devices.{DeviceValue, present_eid, present_size, present_first, MayGiveEid, MayGivePool, endpoint_type, allocation_of, pool_wanted}
+use Rattle.mctp_control.specs.Devices.{DeviceValue, present_eid, present_size, present_first, MayGiveEid}
+use Rattle.mctp_control.specs.Devices.{MayGivePool, endpoint_type, allocation_of, pool_wanted}
 use Rattle.mctp_control.specs.declared.device.DeviceKind.{DeviceKind}
 use Rattle.mctp_control.specs.declared.device.DeviceKind.TheVariants as kind
 
@@ -36,8 +39,9 @@ pub record SetReplies (d : DeviceValue) (bus operation eid : ℕ) (content : Lis
       → (content ≡ 0 ∷ allocation_of (pool_wanted d.kind d.wants) d.pool ∷ eid ∷ pool_wanted d.kind d.wants ∷ [])
       × (new ≡ record d { eid = Some (record { eid = eid; giver = Some bus }) })
   pub rejected : IsAssignable eid → operation ≡ 0 → ¬ MayGiveEid d.eid bus
-      → (content ≡ 0 ∷ (16 + allocation_of (pool_wanted d.kind d.wants) d.pool) ∷ present_eid d.eid ∷ pool_wanted d.kind d.wants ∷ [])
-      × (new ≡ d)
+      → (content
+      ≡ 0 ∷ (16 + allocation_of (pool_wanted d.kind d.wants) d.pool) ∷ present_eid d.eid
+      ∷ pool_wanted d.kind d.wants ∷ []) × (new ≡ d)
 
 -- Get Endpoint ID: the EID or 0, what the device is, and a byte 0 for the medium.
 pub record GetReplies (d : DeviceValue) (content : List ℕ) (new : DeviceValue) : Type 0 where
@@ -47,12 +51,14 @@ pub record GetReplies (d : DeviceValue) (content : List ℕ) (new : DeviceValue)
 -- Allocate Endpoint IDs. Get information (2) tells the present pool. Allocate (0) and force (1) take up ranges
 -- inside 8 to 254: allocate where the bus may give the pool, force always. The answer has the status and the pool
 -- held afterwards.
-pub record AllocateReplies (d : DeviceValue) (bus operation size first : ℕ) (content : List ℕ) (new : DeviceValue) : Type 0 where
+pub record AllocateReplies (d : DeviceValue) (bus operation size first : ℕ) (content : List ℕ)
+    (new : DeviceValue) : Type 0 where
   pub reserved : 3 ≤ operation → (content ≡ 2 ∷ []) × (new ≡ d)
   pub information : operation ≡ 2 → (content ≡ 0 ∷ 0 ∷ present_size d.pool ∷ present_first d.pool ∷ []) × (new ≡ d)
   pub invalid : operation < 2 → ¬ IsAssignableRange first size → (content ≡ 2 ∷ []) × (new ≡ d)
   pub accepted : IsAssignableRange first size → ((operation ≡ 0) × MayGivePool d.pool bus) ⊎ (operation ≡ 1)
-      → (content ≡ 0 ∷ 0 ∷ size ∷ first ∷ []) × (new ≡ record d { pool = Some (record { first = first; size = size; giver = Some bus }) })
+      → (content ≡ 0 ∷ 0 ∷ size ∷ first ∷ [])
+      × (new ≡ record d { pool = Some (record { first = first; size = size; giver = Some bus }) })
   pub rejected : IsAssignableRange first size → operation ≡ 0 → ¬ MayGivePool d.pool bus
       → (content ≡ 0 ∷ 1 ∷ present_size d.pool ∷ present_first d.pool ∷ []) × (new ≡ d)
 
@@ -76,19 +82,23 @@ pub record EntriesReplies (table : List EntryValue) (handle : ℕ) (content : Li
 abbrev pub CommandReplies : DeviceValue → ℕ → List EntryValue → CommandValue → List ℕ → DeviceValue → Type 0
 CommandReplies d bus table (SetsEid operation reserved eid) content new = SetReplies d bus operation eid content new
 CommandReplies d bus table GetsEid content new = GetReplies d content new
-CommandReplies d bus table (AllocatesEids operation reserved size first) content new = AllocateReplies d bus operation size first content new
+CommandReplies d bus table (AllocatesEids operation reserved size first) content new =
+    AllocateReplies d bus operation size first content new
 CommandReplies d bus table (GetsEntries handle) content new = EntriesReplies table handle content × (new ≡ d)
 
 -- The device replies to the body that comes over the bus, with this routing table, and is new afterwards: not at all
 -- to what wants no response; with code 5 to a command that it doesn't support; with code 3 to a wrong length; else as
 -- the request's command asks for.
-pub record Replies (d : DeviceValue) (bus : ℕ) (table : List EntryValue) (body : List ℕ) (reply : Option (List ℕ)) (new : DeviceValue) : Type 0 where
+pub record Replies (d : DeviceValue) (bus : ℕ) (table : List EntryValue) (body : List ℕ) (reply : Option (List ℕ))
+    (new : DeviceValue) : Type 0 where
   pub silent : ¬ IsAsked body → (reply ≡ None) × (new ≡ d)
-  pub unsupported : IsAsked body → ¬ Supports d.kind (slice_index body 2) → (reply ≡ Some (reply_bytes body (5 ∷ []))) × (new ≡ d)
+  pub unsupported : IsAsked body → ¬ Supports d.kind (slice_index body 2)
+      → (reply ≡ Some (reply_bytes body (5 ∷ []))) × (new ≡ d)
   pub wrong_length : IsAsked body → Supports d.kind (slice_index body 2) → ¬ HasRequestLength body
       → (reply ≡ Some (reply_bytes body (3 ∷ []))) × (new ≡ d)
   pub answered : (r : RequestValue) → IsAsked body → Supports d.kind (slice_index body 2) → SpellsRequest r body
-      → (content : List ℕ) × (reply ≡ Some (reply_bytes body content)) × CommandReplies d bus table r.command content new
+      → (content : List ℕ) × (reply ≡ Some (reply_bytes body content))
+      × CommandReplies d bus table r.command content new
 
 -- each is a byte
 abbrev pub IsBytes : List ℕ → Type 0
@@ -96,5 +106,6 @@ IsBytes body = (i : ℕ) → slice_index body i < 256
 
 -- A device has one reply to a body at most, and is one device afterwards.
 abbrev pub HasOneReply : DeviceValue → ℕ → List EntryValue → List ℕ → Type 0
-HasOneReply d bus table body = (reply other : Option (List ℕ)) (new later : DeviceValue) → Replies d bus table body reply new → Replies d bus table body other later
-    → (reply ≡ other) × (new ≡ later)
+HasOneReply d bus table body =
+    (reply other : Option (List ℕ)) (new later : DeviceValue) → Replies d bus table body reply new
+    → Replies d bus table body other later → (reply ≡ other) × (new ≡ later)

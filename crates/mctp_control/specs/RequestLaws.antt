@@ -5,12 +5,16 @@ use Rattle.mctp_transport.specs.Frames.{bit}
 use Rattle.mctp_transport.specs.Bits.{bit_most, bit_one}
 use Rattle.mctp_control.specs.Digits.{digits_4, digits_64_32}
 use Rattle.mctp_control.specs.Headers.{HeaderValue, header_byte}
-use Rattle.mctp_control.specs.Requests.{CommandValue, SetsEid, GetsEid, AllocatesEids, GetsEntries, RequestValue, IsCommand, IsRequest, command_bytes, request_bytes}
+use Rattle.mctp_control.specs.Requests.{CommandValue, SetsEid, GetsEid, AllocatesEids, GetsEntries}
+use Rattle.mctp_control.specs.Requests.{RequestValue, IsCommand, IsRequest, command_bytes, request_bytes}
 
 -- headers are equal where their bytes are
-pub one_header : (rq : ℕ) (g h : HeaderValue) → g.instance < 32 → h.instance < 32 → header_byte rq g ≡ header_byte rq h → g ≡ h
+pub one_header : (rq : ℕ) (g h : HeaderValue) → g.instance < 32 → h.instance < 32 → header_byte rq g ≡ header_byte rq h
+    → g ≡ h
 one_header rq g h hg hh e =
-    let f = digits_64_32 (2 * rq + bit g.datagram) (bit g.reserved) g.instance (2 * rq + bit h.datagram) (bit h.reserved) h.instance
+    let f =
+    digits_64_32 (2 * rq + bit g.datagram) (bit g.reserved) g.instance (2 * rq + bit h.datagram)
+    (bit h.reserved) h.instance
     (bit_most g.reserved) hg (bit_most h.reserved) hh (omega arith) in
     let d : g.datagram ≡ h.datagram = bit_one g.datagram h.datagram (omega (arith, f.first)) in
     let r : g.reserved ≡ h.reserved = bit_one g.reserved h.reserved f.second in

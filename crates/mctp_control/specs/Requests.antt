@@ -24,7 +24,8 @@ pub record RequestValue : Type 0 where
 abbrev pub command_value : Command → CommandValue
 command_value (command.SetEndpointId operation reserved eid) = SetsEid (set_number operation) reserved.value eid.value
 command_value command.GetEndpointId = GetsEid
-command_value (command.AllocateEndpointIds operation reserved size first) = AllocatesEids (allocate_number operation) reserved.value size first.value
+command_value (command.AllocateEndpointIds operation reserved size first) =
+    AllocatesEids (allocate_number operation) reserved.value size first.value
 command_value (command.GetRoutingTableEntries handle) = GetsEntries handle
 
 abbrev pub request_value : Request → RequestValue
@@ -44,7 +45,8 @@ request_bytes r = 0 ∷ header_byte 1 r.header ∷ command_bytes r.command
 abbrev pub IsCommand : CommandValue → Type 0
 IsCommand (SetsEid operation reserved eid) = (operation < 4) × (reserved < 64) × (eid < 256)
 IsCommand GetsEid = Unit {0}
-IsCommand (AllocatesEids operation reserved size first) = (operation < 4) × (reserved < 64) × (size < 256) × (first < 256)
+IsCommand (AllocatesEids operation reserved size first) =
+    (operation < 4) × (reserved < 64) × (size < 256) × (first < 256)
 IsCommand (GetsEntries handle) = handle < 256
 
 pub record IsRequest (r : RequestValue) : Type 0 where

@@ -9,14 +9,16 @@ use Rattle.mctp_control.specs.RouteEntries.{EntryValue, IsEntry, entry_bytes, po
 use Rattle.mctp_control.specs.RouteEntryLaws.{one_entry}
 use Rattle.mctp_control.specs.EntryLists.{entries_bytes}
 use Rattle.mctp_control.specs.Statuses.{Pairs, ArePairs, pairs_byte, PoolStatusValue, IsPoolStatus, pool_byte}
-use Rattle.mctp_control.specs.Responses.{AnswerValue, EidSet, EidTold, PoolTold, EntriesTold, Failed, ResponseValue, IsAnswer, IsResponse, answer_bytes, response_bytes}
+use Rattle.mctp_control.specs.Responses.{AnswerValue, EidSet, EidTold, PoolTold, EntriesTold, Failed}
+use Rattle.mctp_control.specs.Responses.{ResponseValue, IsAnswer, IsResponse, answer_bytes, response_bytes}
 
 -- two entries at the front of the same bytes
 pub record SameFront (m n : EntryValue) (more others : List ℕ) : Type 0 where
   pub first : m ≡ n
   pub rest : more ≡ others
 
-same_front : (m n : EntryValue) (more others : List ℕ) → IsEntry m → IsEntry n → entry_bytes m ++ more ≡ entry_bytes n ++ others → SameFront m n more others
+same_front : (m n : EntryValue) (more others : List ℕ) → IsEntry m → IsEntry n
+    → entry_bytes m ++ more ≡ entry_bytes n ++ others → SameFront m n more others
 same_front m n more others hm hn e =
     let l : length m.address ≡ length n.address = cc in
     let t : m.address ++ more ≡ n.address ++ others = cc in
@@ -45,7 +47,9 @@ one_list (m ∷ ms) [] hm hn l e = absurd (omega arith)
 
 one_pairs : (p q : Pairs) → ArePairs p → ArePairs q → pairs_byte p ≡ pairs_byte q → p ≡ q
 one_pairs p q hp hq e =
-    let f = digits_pairs p.high p.second p.third p.low q.high q.second q.third q.low hp.second hp.third hp.low hq.second hq.third hq.low e in
+    let f =
+    digits_pairs p.high p.second p.third p.low q.high q.second q.third q.low hp.second hp.third hp.low hq.second
+    hq.third hq.low e in
     let a = f.first in let b = f.second in let c = f.third in let d = f.fourth in
     λ i. record { high = a i; second = b i; third = c i; low = d i }
 

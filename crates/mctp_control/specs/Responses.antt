@@ -4,7 +4,8 @@ use Rattle.std.specs.List.{AllByRecursion}
 use Rattle.mctp_transport.specs.Wire.{Spells}
 use Rattle.mctp_control.specs.Headers.{HeaderValue, header_value, header_byte}
 use Rattle.mctp_control.specs.Numbers.{command_number}
-use Rattle.mctp_control.specs.Statuses.{Pairs, ArePairs, pairs_byte, set_status, endpoint_status, PoolStatusValue, IsPoolStatus, pool_byte, pool_status}
+use Rattle.mctp_control.specs.Statuses.{Pairs, ArePairs, pairs_byte, set_status, endpoint_status}
+use Rattle.mctp_control.specs.Statuses.{PoolStatusValue, IsPoolStatus, pool_byte, pool_status}
 use Rattle.mctp_control.specs.RouteEntries.{EntryValue, IsEntry}
 use Rattle.mctp_control.specs.EntryLists.{entries_bytes}
 use Rattle.mctp_control.specs.EntriesValue.{entries_of}
@@ -59,7 +60,8 @@ abbrev pub IsAnswer : AnswerValue → Type 0
 IsAnswer (EidSet status eid size) = ArePairs status × (eid < 256) × (size < 256)
 IsAnswer (EidTold eid status medium) = (eid < 256) × ArePairs status × (medium < 256)
 IsAnswer (PoolTold status size first) = IsPoolStatus status × (size < 256) × (first < 256)
-IsAnswer (EntriesTold next entries) = (next < 256) × AllByRecursion IsEntry entries × (length (entries_bytes entries) ≤ 58)
+IsAnswer (EntriesTold next entries) =
+    (next < 256) × AllByRecursion IsEntry entries × (length (entries_bytes entries) ≤ 58)
 IsAnswer (Failed command code) = IsCommandNumber command × (0 < code) × (code < 256)
 
 pub record IsResponse (r : ResponseValue) : Type 0 where

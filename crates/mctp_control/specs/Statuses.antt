@@ -23,11 +23,23 @@ pub record ArePairs (p : Pairs) : Type 0 where
 
 -- acceptance in bits 5 and 4, allocation in bits 1 and 0
 abbrev pub set_status : SetStatus → Pairs
-set_status s = record { high = s.high.value; second = acceptance_number s.acceptance; third = s.low.value; low = allocation_number s.allocation }
+set_status s =
+    record {
+      high = s.high.value;
+      second = acceptance_number s.acceptance;
+      third = s.low.value;
+      low = allocation_number s.allocation;
+    }
 
 -- endpoint type in bits 5 and 4, EID type in bits 1 and 0
 abbrev pub endpoint_status : EndpointStatus → Pairs
-endpoint_status s = record { high = s.high.value; second = endpoint_number s.endpoint; third = s.low.value; low = eid_type_number s.eid }
+endpoint_status s =
+    record {
+      high = s.high.value;
+      second = endpoint_number s.endpoint;
+      third = s.low.value;
+      low = eid_type_number s.eid;
+    }
 
 -- bits 7 to 2, and 1 and 0
 pub record PoolStatusValue : Type 0 where

@@ -67,30 +67,16 @@ impl EidPool {
         ensures some { IfSome result (λ eid. IsLowestRun (pool_value self.now) count eid.value) }
         ensures none { (result ≡ None) ↔ ((eid : ℕ) → ¬ IsFreeRun (pool_value self.now) count eid) }
     {
-        for first in self.range.first.value..self.range.end() {
-            if self.is_free_run(first, count) {
+        // The free ones from this EID on are counted up to the one that is looked at.
+        let mut first = self.range.first.value;
+        for eid in self.range.first.value..self.range.end() {
+            if self.out[eid as usize] {
+                first = eid + 1;
+            } else if eid + 1 - first == count {
                 return Some(Eid::new(first));
             }
         }
         None
-    }
-
-    /// Whether so many EIDs from this one on are free.
-    fn is_free_run(&self, first: u8, count: u8) -> bool
-        requires some { 0 < count }
-        requires within { (pool_value self.now).first ≤ first }
-        ensures { IsTrue result ↔ IsFreeRun (pool_value self.now) count first }
-    {
-        let end = self.range.end();
-        if end < first || end - first < count {
-            return false;
-        }
-        for eid in first..first + count {
-            if self.out[eid as usize] {
-                return false;
-            }
-        }
-        true
     }
 
     /// Marks these EIDs of the pool as out.

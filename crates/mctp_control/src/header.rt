@@ -9,6 +9,7 @@ pub struct InstanceId {
 }
 
 impl InstanceId {
+    /// The instance ID of this number, which is below 32.
     pub fn new(value: u8) -> Self
         requires { value < 32 }
         ensures { result.value ≡ value }
@@ -24,6 +25,7 @@ pub struct ControlHeader {
     pub datagram: bool,
     /// Bit 5, kept as read.
     pub reserved: bool,
+    /// Bits 4 to 0.
     pub instance: InstanceId,
 }
 

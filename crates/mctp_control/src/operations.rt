@@ -67,6 +67,7 @@ pub struct Reserved {
 }
 
 impl Reserved {
+    /// The bits of this number, which is below 64.
     pub fn new(value: u8) -> Self
         requires { value < 64 }
         ensures { result.value ≡ value }

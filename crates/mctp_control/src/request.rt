@@ -36,6 +36,7 @@ pub enum Command {
 #[derive(Clone, Copy, Debug, PartialEq, Eq)]
 pub struct Request {
     pub header: ControlHeader,
+    /// The command with its data.
     pub command: Command,
 }
 

@@ -36,8 +36,8 @@ impl CommandNumber {
     }
 }
 
-/// A completion code other than 0x00, which is success (DSP0236, "MCTP control message completion codes"): 0x01 error, 0x02 invalid data, 0x03
-/// invalid length, 0x04 not ready, 0x05 unsupported command, and others.
+/// A completion code other than 0x00, which is success (DSP0236, "MCTP control message completion codes"): 0x01 error,
+/// 0x02 invalid data, 0x03 invalid length, 0x04 not ready, 0x05 unsupported command, and others.
 #[derive(Clone, Copy, Debug, PartialEq, Eq)]
 pub struct Failure {
     pub code: u8,
@@ -45,6 +45,7 @@ pub struct Failure {
 }
 
 impl Failure {
+    /// The completion code of this number, which is not 0x00.
     pub fn new(code: u8) -> Self
         requires { 0 < code }
         ensures { result.code ≡ code }
@@ -92,6 +93,7 @@ pub enum Answer {
 #[derive(Debug, PartialEq, Eq, Drop)]
 pub struct Response {
     pub header: ControlHeader,
+    /// The command that is answered, and the completion code with what follows it.
     pub answer: Answer,
 }
 

@@ -48,6 +48,7 @@ pub struct Port {
 }
 
 impl Port {
+    /// The port of this number, which is below 32.
     pub fn new(value: u8) -> Self
         requires { value < 32 }
         ensures { result.value ≡ value }
@@ -64,6 +65,7 @@ pub struct RouteEntry {
     pub size: u8,
     /// The first EID of the range.
     pub first: Eid,
+    /// What the entry is for: one endpoint or a range, with or without a bridge's own EID.
     pub kind: EntryKind,
     /// Whether the entry was set by hand and not learned.
     pub is_static: bool,

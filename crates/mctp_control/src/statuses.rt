@@ -127,6 +127,7 @@ pub struct ReservedPair {
 }
 
 impl ReservedPair {
+    /// The bits of this number, which is below 4.
     pub fn new(value: u8) -> Self
         requires { value < 4 }
         ensures { result.value ≡ value }
