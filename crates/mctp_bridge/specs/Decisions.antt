@@ -13,8 +13,8 @@ use Rattle.mctp_bridge.specs.declared.decision.Decision.{Decision}
 use Rattle.mctp_bridge.specs.declared.decision.Decision.TheVariants.{Here, Drop, Forward}
 use Rattle.mctp_bridge.specs.Rows.{Routes}
 
--- What the node decides on a packet for e, by whether it holds e, whether it forwards the packet at all, and along which
--- hops it routes e: the first that applies of here, the three obstacles, and else on along a hop.
+-- What the node decides on a packet for e, by whether it holds e, whether it forwards the packet at all, and along
+-- which hops it routes e: the first that applies of here, the three obstacles, and else on along a hop.
 abbrev pub Decides : (holds forwards : Type 0) (routes : Hop → Type 0) (e : ℕ) → Decision → Type 0
 Decides holds forwards routes e Here = holds
 Decides holds forwards routes e (Drop Unassignable) = ¬ holds × ¬ IsAssignable e

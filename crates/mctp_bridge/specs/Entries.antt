@@ -1,4 +1,5 @@
--- The routing table entries of a bridge's rows (DSP0236, Get Routing Table Entries; how rows are cut is this project's own).
+-- The routing table entries of a bridge's rows (DSP0236, Get Routing Table Entries; how rows are cut is this project's
+-- own).
 use Rattle.std.specs.Prelude.{ℕ, ◌+◌, ◌-◌, Bool, List, [], ◌∷◌, false, if◌then◌else◌, ◌==◌, ◌&&◌, nat_lt}
 use Rattle.std.specs.List.{flat_map, zip}
 use Rattle.mctp_control.specs.RouteEntries.{EntryValue}

@@ -1,5 +1,6 @@
 -- The pieces of an interval of endpoint IDs: what the rows of a table make of it (they are this project's own).
-use Rattle.std.specs.Prelude.{◌≡◌, ◌⊎◌, ◌↔◌, ℕ, ◌+◌, ◌-◌, ◌<◌, ◌≤◌, List, length, Option, MatchOption, All, Any, AllPairs}
+use Rattle.std.specs.Prelude.{◌≡◌, ◌⊎◌, ◌↔◌, ℕ, ◌+◌, ◌-◌, ◌<◌, ◌≤◌, List}
+use Rattle.std.specs.Prelude.{length, Option, MatchOption, All, Any, AllPairs}
 use Rattle.std.specs.List.{AllAdjacentBelow}
 use Rattle.mctp_bridge.specs.declared.row.Row.{Row}
 use Rattle.mctp_bridge.specs.declared.row.Hop.{Hop}
@@ -36,11 +37,12 @@ pub record IsGap (rows : List Row) (first last : ℕ) (piece : PieceValue) : Typ
 -- a piece with a hop is the whole part of a row with this hop, one without is a whole gap
 abbrev pub IsWhole : List Row → (first last : ℕ) → PieceValue → Type 0
 IsWhole rows first last piece =
-    MatchOption piece.hop (IsGap rows first last piece) (λ hop. Any (λ row. (row.hop ≡ hop) × IsPartOf first last piece row) rows)
+    MatchOption piece.hop (IsGap rows first last piece)
+    (λ hop. Any (λ row. (row.hop ≡ hop) × IsPartOf first last piece row) rows)
 
 -- The pieces of the interval from first to last: none is empty, each begins one after the one before it, they ascend,
--- together they have the interval's EIDs and no others, the hop of a piece is that of each of its EIDs, and each piece is
--- the whole part of a row or a whole gap, so that no row and no gap is cut in two.
+-- together they have the interval's EIDs and no others, the hop of a piece is that of each of its EIDs, and each piece
+-- is the whole part of a row or a whole gap, so that no row and no gap is cut in two.
 pub record ArePieces (rows : List Row) (first last : ℕ) (pieces : List PieceValue) : Type 0 where
   pub filled : All (λ piece. piece.first ≤ piece.last) pieces
   pub joined : AllAdjacentBelow (λ piece later. later.first ≡ piece.last + 1) pieces (length pieces)

@@ -10,8 +10,11 @@ use mctp_transport::{Eid, Header};
 /// A node as its decisions see it.
 #[derive(Clone, Copy, Debug)]
 pub struct Node<'a> {
+    /// The endpoint ID that it holds.
     pub eid: Eid,
+    /// Whether it is a bridge, which forwards packets of others.
     pub kind: DeviceKind,
+    /// Its rows.
     pub table: &'a RangeTable,
 }
 

@@ -1,5 +1,5 @@
 //! Reading a bridge's routing table from its answers.
-ghost use Rattle.std.specs.Prelude.{◌≤◌, vec_len, vec_capacity};
+ghost use Rattle.std.specs.Prelude.{◌≡◌, ◌≤◌, ◌+◌, true, false, is_some, vec_len, vec_capacity};
 
 use crate::read_fault::ReadFault;
 use crate::table_part::{TablePart, append};
@@ -9,6 +9,9 @@ use std::alloc::{AllocError, Global};
 
 /// The most entries that a reader holds: one for each endpoint ID from 8 to 254.
 pub const MAX_READ: usize = 247;
+
+/// The most answers that a reader takes: one for each entry, and one that ends the table or the reader.
+pub const MAX_TAKEN: usize = 248;
 
 /// The next handle of an answer after which there are no more entries.
 const NO_MORE: u8 = 0xff;
@@ -23,8 +26,14 @@ pub struct EntryReader {
     /// The instance ID of the request that has no answer yet.
     waiting: Option<InstanceId>,
     failed: bool,
+    /// How many answers were taken.
+    taken: usize,
     ghost room: { 247 ≤ vec_capacity entries },
     ghost few: { vec_len entries ≤ 247 },
+    // Each answer but one that ends the reading brings an entry, and then none is waited for.
+    ghost fruitful: { failed ≡ false → is_some waiting ≡ true → taken ≤ vec_len entries },
+    ghost bounded: { taken ≤ vec_len entries + 1 },
+    ghost asking: { failed ≡ false → is_some handle ≡ true → taken ≤ vec_len entries },
 }
 
 impl EntryReader {
@@ -43,6 +52,7 @@ impl EntryReader {
             handle: Some(0),
             waiting: None,
             failed: false,
+            taken: 0,
         })
     }
 
@@ -65,7 +75,8 @@ impl EntryReader {
         }
     }
 
-    /// Takes the bytes of an answer: true where the table is complete with it.
+    /// Takes the bytes of an answer: true where the table is complete with it. However long the peer answers, 248 answers
+    /// are taken at most.
     pub fn take(&mut self, answer: &[u8]) -> Result<bool, ReadFault>
         ensures takes { Takes (reader_state self.old) answer.now result (reader_state self.new) }
         ensures memory { reader_memory self.new ≡ reader_memory self.old }
@@ -89,6 +100,15 @@ impl EntryReader {
         &self.entries
     }
 
+    /// How many answers were taken, refused ones among them: all but those that were not asked for (E02) and those that
+    /// came after a failure (E05).
+    pub fn taken(&self) -> usize
+        ensures count { result ≡ (reader_state self.now).taken }
+        ensures most { result ≤ MAX_TAKEN }
+    {
+        self.taken
+    }
+
     /// Takes a success answer, where a request waits under this instance ID.
     fn take_answer(&mut self, id: InstanceId, part: TablePart) -> Result<bool, ReadFault>
         requires goes { self.old.failed ≡ false }
@@ -106,6 +126,7 @@ impl EntryReader {
     /// Takes a part of the table that was asked for.
     fn take_part(&mut self, part: TablePart) -> Result<bool, ReadFault>
         requires goes { self.old.failed ≡ false }
+        requires few { self.old.taken ≤ vec_len self.old.entries }
         ensures takes { TakesPart (reader_state self.old) part.next (entries_of part.entries) result (reader_state self.new) }
         ensures memory { reader_memory self.new ≡ reader_memory self.old }
     {
@@ -117,6 +138,7 @@ impl EntryReader {
             return self.fail(ReadFault::TooMany);
         }
         append(&mut self.entries, part.entries);
+        self.taken += 1;
         self.waiting = None;
         let complete = part.next == NO_MORE;
         self.handle = if complete { None } else { Some(part.next) };
@@ -125,10 +147,12 @@ impl EntryReader {
 
     /// From now on the reader has failed.
     fn fail(&mut self, fault: ReadFault) -> Result<bool, ReadFault>
+        requires few { self.old.taken ≤ vec_len self.old.entries }
         ensures fails { Fails (reader_state self.old) fault result (reader_state self.new) }
         ensures memory { reader_memory self.new ≡ reader_memory self.old }
     {
         self.failed = true;
+        self.taken += 1;
         Err(fault)
     }
 }

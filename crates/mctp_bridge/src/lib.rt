@@ -15,7 +15,7 @@ mod table_fault;
 mod table_part;
 
 pub use decision::{Decision, Node, Obstacle, Progress, decide};
-pub use entry_reader::{EntryReader, MAX_READ};
+pub use entry_reader::{EntryReader, MAX_READ, MAX_TAKEN};
 pub use laws::{asks_what_is_due, every_reply_is_taken, one_list_of_pieces, readings_collect_all};
 pub use pieces::{Piece, Pieces};
 pub use range_table::RangeTable;

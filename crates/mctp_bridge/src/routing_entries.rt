@@ -12,6 +12,7 @@ use std::alloc::{AllocError, Global};
 /// What a routing table entry tells of the node that a row names, and of the bus that leads there.
 #[derive(Clone, Copy, Debug)]
 pub struct Neighbor<'a> {
+    /// Whether the node is a bridge.
     pub kind: DeviceKind,
     /// The endpoint ID that the node holds.
     pub eid: Eid,

@@ -20,6 +20,7 @@ pub struct Row {
     pub first: Eid,
     /// How many it covers from there, as far as 255.
     pub size: u8,
+    /// Where they go from here.
     pub hop: Hop,
 }
 

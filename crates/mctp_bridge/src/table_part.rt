@@ -44,8 +44,7 @@ pub(crate) fn append(list: &mut Vec<RouteEntry>, more: Entries)
     ensures items { list.new.items ≡ list.old.items ++ more.items.items }
     ensures capacity { vec_capacity list.new ≡ vec_capacity list.old }
 {
-    let mut left = more.items;
-    while !left.is_empty() {
-        list.push_reserved(left.remove(0));
+    for entry in more.items {
+        list.push_reserved(entry);
     }
 }
