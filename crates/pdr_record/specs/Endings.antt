@@ -11,7 +11,8 @@ pub data EndsEarly (bytes : List ℕ) : Type 0 where
   Head : length bytes < 23 → EndsEarly bytes
   Middle : slice_index bytes 22 ≤ 5 → length bytes ≤ format_place bytes → EndsEarly bytes
   Tail : slice_index bytes 22 ≤ 5 → format_place bytes < length bytes → slice_index bytes (format_place bytes) ≤ 6
-      → length bytes < 47 + 3 * data_width bytes + 9 * width_of (slice_index bytes (format_place bytes)) → EndsEarly bytes
+      → length bytes < 47 + 3 * data_width bytes + 9 * width_of (slice_index bytes (format_place bytes))
+      → EndsEarly bytes
 
 abbrev pub IsNumericFault : RecordError → List ℕ → Type 0
 IsNumericFault error.Short bytes = ⊥
@@ -26,6 +27,7 @@ abbrev pub IsFrontFault : RecordError → ℕ → List ℕ → Type 0
 IsFrontFault error.Short number bytes = ⊥
 IsFrontFault error.Version number bytes = ⊥
 IsFrontFault error.Length number bytes = ⊥
-IsFrontFault error.Ends number bytes = ((rest : List ℕ) → ¬ StartsWithBody number bytes rest) × ¬ HasOtherCode number bytes
+IsFrontFault error.Ends number bytes =
+    ((rest : List ℕ) → ¬ StartsWithBody number bytes rest) × ¬ HasOtherCode number bytes
 IsFrontFault error.LeftOver number bytes = ⊥
 IsFrontFault error.Unsupported number bytes = HasOtherCode number bytes

@@ -24,8 +24,10 @@ abbrev pub IsBodyFault : RecordError → ℕ → List ℕ → Type 0
 IsBodyFault error.Short number bytes = ⊥
 IsBodyFault error.Version number bytes = ⊥
 IsBodyFault error.Length number bytes = ⊥
-IsBodyFault error.Ends number bytes = ((rest : List ℕ) → ¬ StartsWithBody number bytes rest) × ¬ HasOtherCode number bytes
-IsBodyFault error.LeftOver number bytes = ¬ IsOtherType number × ((rest : List ℕ) × (rest ≢ []) × StartsWithBody number bytes rest)
+IsBodyFault error.Ends number bytes =
+    ((rest : List ℕ) → ¬ StartsWithBody number bytes rest) × ¬ HasOtherCode number bytes
+IsBodyFault error.LeftOver number bytes =
+    ¬ IsOtherType number × ((rest : List ℕ) × (rest ≢ []) × StartsWithBody number bytes rest)
 IsBodyFault error.Unsupported number bytes = HasOtherCode number bytes
 
 -- the header has all its bytes, version 1, and the right number of bytes behind it
@@ -38,7 +40,8 @@ pub record HasHeader (bytes : List ℕ) : Type 0 where
 abbrev pub IsFault : RecordError → List ℕ → Type 0
 IsFault error.Short bytes = length bytes < 10
 IsFault error.Version bytes = (10 ≤ length bytes) × (slice_index bytes 4 ≢ 1)
-IsFault error.Length bytes = (10 ≤ length bytes) × (slice_index bytes 4 ≡ 1) × (length bytes ≢ 10 + little_number 2 (drop 8 bytes))
+IsFault error.Length bytes =
+    (10 ≤ length bytes) × (slice_index bytes 4 ≡ 1) × (length bytes ≢ 10 + little_number 2 (drop 8 bytes))
 IsFault error.Ends bytes = HasHeader bytes × IsBodyFault error.Ends (slice_index bytes 5) (drop 10 bytes)
 IsFault error.LeftOver bytes = HasHeader bytes × IsBodyFault error.LeftOver (slice_index bytes 5) (drop 10 bytes)
 IsFault error.Unsupported bytes = HasHeader bytes × IsBodyFault error.Unsupported (slice_index bytes 5) (drop 10 bytes)

@@ -1,12 +1,15 @@
 -- The bytes of fields tell the fields, where their shapes are known.
-use Rattle.std.proofs.Common.{◌≡◌, ℕ, ◌+◌, ◌/◌, ◌%◌, List, [], ◌∷◌, ◌++◌, length, drop, take, get_or, refl, sym, ap, ◌∙◌, append_assoc, arith, length-append}
+use Rattle.std.proofs.Common.{◌≡◌, ℕ, ◌+◌, ◌/◌, ◌%◌, List, [], ◌∷◌, ◌++◌, length, drop, take}
+use Rattle.std.proofs.Common.{get_or, refl, sym, ap, ◌∙◌, append_assoc, arith, length-append}
 use Rattle.std.proofs.lemmas.List.{take_at, drop_at}
 use Rattle.pdr_record.specs.Fields.{Field, U8, U16, U32, Raw, field_bytes, followed, bytes_of, Fit}
 
 -- the fields' bytes, and then the others
 pub followed-bytes : (fs : List Field) (rest : List ℕ) → followed fs rest ≡ bytes_of fs ++ rest
 followed-bytes [] rest = refl
-followed-bytes (f ∷ fs) rest = ap (λ (bs : List ℕ). field_bytes f ++ bs) (followed-bytes fs rest) ∙ sym (append_assoc (field_bytes f) (bytes_of fs) rest)
+followed-bytes (f ∷ fs) rest =
+    ap (λ (bs : List ℕ). field_bytes f ++ bs) (followed-bytes fs rest)
+    ∙ sym (append_assoc (field_bytes f) (bytes_of fs) rest)
 
 -- fields after fields
 pub followed-append : (fs gs : List Field) (rest : List ℕ) → followed (fs ++ gs) rest ≡ followed fs (followed gs rest)
@@ -19,7 +22,8 @@ length-followed fs rest = ap length (followed-bytes fs rest) ∙ length-append (
 pub same_rest : (fs : List Field) (r s : List ℕ) → followed fs r ≡ followed fs s → r ≡ s
 same_rest fs r s e =
     let n = length (bytes_of fs) in
-    sym (drop_at (bytes_of fs) r n refl) ∙ ap (drop n) (sym (followed-bytes fs r) ∙ e ∙ followed-bytes fs s) ∙ drop_at (bytes_of fs) s n refl
+    sym (drop_at (bytes_of fs) r n refl) ∙ ap (drop n) (sym (followed-bytes fs r) ∙ e ∙ followed-bytes fs s)
+    ∙ drop_at (bytes_of fs) s n refl
 
 -- numbers that fit, of some fields and of others
 pub fit_parts : (fs gs : List Field) → Fit (fs ++ gs) → Fit fs × Fit gs
@@ -43,7 +47,8 @@ abbrev pub shapes : List Field → List Shape
 shapes [] = []
 shapes (f ∷ fs) = shape f ∷ shapes fs
 
-pub one_fields : (fs gs : List Field) (r s : List ℕ) → Fit fs → Fit gs → shapes fs ≡ shapes gs → followed fs r ≡ followed gs s → (fs ≡ gs) × (r ≡ s)
+pub one_fields : (fs gs : List Field) (r s : List ℕ) → Fit fs → Fit gs → shapes fs ≡ shapes gs
+    → followed fs r ≡ followed gs s → (fs ≡ gs) × (r ≡ s)
 one_fields [] [] r s hf hg h e = (refl, e)
 one_fields (U8 m ∷ fs) (U8 n ∷ gs) r s hf hg h e =
     let later = one_fields fs gs r s hf.1 hg.1 (cc) (cc) in

@@ -28,7 +28,8 @@ pub record TerminusValue : Type 0 where
 
 abbrev pub terminus_fields : TerminusValue → List Field
 terminus_fields t =
-    U16 t.terminus_handle ∷ U8 t.validity ∷ U8 t.tid ∷ U16 t.container_id ∷ U8 t.locator_type ∷ U8 (length t.locator_value) ∷ Raw t.locator_value ∷ []
+    U16 t.terminus_handle ∷ U8 t.validity ∷ U8 t.tid ∷ U16 t.container_id ∷ U8 t.locator_type
+    ∷ U8 (length t.locator_value) ∷ Raw t.locator_value ∷ []
 
 -- ---- sensors
 
@@ -42,7 +43,8 @@ pub record SensorValue : Type 0 where
 
 abbrev pub sensor_fields : SensorValue → List Field
 sensor_fields s =
-    U16 s.terminus_handle ∷ U16 s.sensor_id ∷ U16 s.entity.entity_type ∷ U16 s.entity.instance_number ∷ U16 s.entity.container_id ∷ U8 s.sensor_init ∷ U8 s.auxiliary_names_pdr ∷ []
+    U16 s.terminus_handle ∷ U16 s.sensor_id ∷ U16 s.entity.entity_type ∷ U16 s.entity.instance_number
+    ∷ U16 s.entity.container_id ∷ U8 s.sensor_init ∷ U8 s.auxiliary_names_pdr ∷ []
 
 -- ---- state sensor
 
@@ -53,7 +55,8 @@ pub record StateSetValue : Type 0 where
 
 abbrev pub state_sets_fields : List StateSetValue → List Field
 state_sets_fields [] = []
-state_sets_fields (s ∷ ss) = U16 s.state_set_id ∷ U8 (length s.possible_states) ∷ Raw s.possible_states ∷ state_sets_fields ss
+state_sets_fields (s ∷ ss) =
+    U16 s.state_set_id ∷ U8 (length s.possible_states) ∷ Raw s.possible_states ∷ state_sets_fields ss
 
 pub record StateValue : Type 0 where
   pub sensor : SensorValue
@@ -72,7 +75,8 @@ pub record AssociationValue : Type 0 where
 
 abbrev pub association_fields : AssociationValue → List Field
 association_fields a =
-    U16 a.container_id ∷ U8 a.association_type ∷ U16 a.container_entity.entity_type ∷ U16 a.container_entity.instance_number ∷ U16 a.container_entity.container_id
+    U16 a.container_id ∷ U8 a.association_type ∷ U16 a.container_entity.entity_type
+    ∷ U16 a.container_entity.instance_number ∷ U16 a.container_entity.container_id
     ∷ U8 (length a.contained_entities) ∷ entities_fields a.contained_entities
 
 -- ---- numeric sensor
@@ -92,8 +96,8 @@ pub record UnitsValue : Type 0 where
 
 abbrev pub units_fields : UnitsValue → List Field
 units_fields u =
-    U8 u.base_unit ∷ U8 u.unit_modifier ∷ U8 u.rate_unit ∷ U8 u.base_oem_unit_handle ∷ U8 u.aux_unit ∷ U8 u.aux_unit_modifier ∷ U8 u.aux_rate_unit ∷ U8 u.rel
-    ∷ U8 u.aux_oem_unit_handle ∷ U8 u.is_linear ∷ []
+    U8 u.base_unit ∷ U8 u.unit_modifier ∷ U8 u.rate_unit ∷ U8 u.base_oem_unit_handle ∷ U8 u.aux_unit
+    ∷ U8 u.aux_unit_modifier ∷ U8 u.aux_rate_unit ∷ U8 u.rel ∷ U8 u.aux_oem_unit_handle ∷ U8 u.is_linear ∷ []
 
 -- how a reading is turned into a value, and how exact it is; resolution and offset are the bits of a real32
 pub record PrecisionValue : Type 0 where
@@ -114,7 +118,8 @@ pub record TimingValue : Type 0 where
   pub update_interval : ℕ
 
 abbrev pub timing_fields : TimingValue → List Field
-timing_fields t = U8 t.supported_thresholds ∷ U8 t.volatility ∷ U32 t.state_transition_interval ∷ U32 t.update_interval ∷ []
+timing_fields t =
+    U8 t.supported_thresholds ∷ U8 t.volatility ∷ U32 t.state_transition_interval ∷ U32 t.update_interval ∷ []
 
 -- the values that readings are compared with
 pub record RangesValue : Type 0 where
@@ -130,8 +135,8 @@ pub record RangesValue : Type 0 where
 
 abbrev pub ranges_fields : RangesValue → List Field
 ranges_fields r =
-    Raw r.nominal_value ∷ Raw r.normal_max ∷ Raw r.normal_min ∷ Raw r.warning_high ∷ Raw r.warning_low ∷ Raw r.critical_high ∷ Raw r.critical_low
-    ∷ Raw r.fatal_high ∷ Raw r.fatal_low ∷ []
+    Raw r.nominal_value ∷ Raw r.normal_max ∷ Raw r.normal_min ∷ Raw r.warning_high ∷ Raw r.warning_low
+    ∷ Raw r.critical_high ∷ Raw r.critical_low ∷ Raw r.fatal_high ∷ Raw r.fatal_low ∷ []
 
 pub record NumericValue : Type 0 where
   pub sensor : SensorValue
@@ -148,10 +153,12 @@ pub record NumericValue : Type 0 where
 
 abbrev pub numeric_fields : NumericValue → List Field
 numeric_fields n =
-    sensor_fields n.sensor ++ units_fields n.units ++ U8 n.data_size ∷ precision_fields n.precision ++ Raw n.hysteresis ∷ timing_fields n.timing
+    sensor_fields n.sensor ++ units_fields n.units ++ U8 n.data_size ∷ precision_fields n.precision ++ Raw n.hysteresis
+    ∷ timing_fields n.timing
     ++ Raw n.max_readable ∷ Raw n.min_readable ∷ U8 n.range_format ∷ U8 n.range_support ∷ ranges_fields n.ranges
 
--- the bytes of a value under a code: 0 and 1 are u8 and s8, 2 and 3 are u16 and s16, 4 and 5 are u32 and s32, and 6 is real32
+-- the bytes of a value under a code: 0 and 1 are u8 and s8, 2 and 3 are u16 and s16, 4 and 5 are u32 and s32, and 6 is
+-- real32
 abbrev pub width_of : ℕ → ℕ
 width_of code = if nat_lt code 2 then 1 else if nat_lt code 4 then 2 else 4
 
@@ -167,7 +174,8 @@ pub record HaveWidth (width : ℕ) (r : RangesValue) : Type 0 where
   pub fatal_high : length r.fatal_high ≡ width
   pub fatal_low : length r.fatal_low ≡ width
 
--- The codes are those of a data size, which has no real32, and of a range field format, and the values are as wide as they say.
+-- The codes are those of a data size, which has no real32, and of a range field format, and the values are as wide as
+-- they say.
 pub record IsNumeric (n : NumericValue) : Type 0 where
   pub data_size : n.data_size ≤ 5
   pub hysteresis : length n.hysteresis ≡ width_of n.data_size

@@ -16,4 +16,5 @@ HasOtherDataSize bytes = (22 < length bytes) × (5 < slice_index bytes 22)
 
 -- the data size is one, and the range field format is there and none
 abbrev pub HasOtherFormat : List ℕ → Type 0
-HasOtherFormat bytes = (slice_index bytes 22 ≤ 5) × (format_place bytes < length bytes) × (6 < slice_index bytes (format_place bytes))
+HasOtherFormat bytes =
+    (slice_index bytes 22 ≤ 5) × (format_place bytes < length bytes) × (6 < slice_index bytes (format_place bytes))

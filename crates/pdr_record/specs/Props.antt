@@ -3,7 +3,8 @@ use Rattle.std.specs.Prelude.{List}
 use Rattle.std.proofs.Props.{props}
 use Rattle.std.specs.List.{AllByRecursion-prop}
 use Rattle.pdr_record.specs.Fields.{Field, U8, U16, U32, Raw, FitsField, Fit}
-use Rattle.pdr_record.specs.Records.{BodyValue, Terminus, Numeric, State, Association, Other, IsLayout, IsBody, body_fields, RecordValue, header_fields, IsRecord}
+use Rattle.pdr_record.specs.Records.{BodyValue, Terminus, Numeric, State, Association, Other, IsLayout}
+use Rattle.pdr_record.specs.Records.{IsBody, body_fields, RecordValue, header_fields, IsRecord}
 
 field_prop : (f : Field) → IsProp (FitsField f)
 field_prop (U8 n) = hlevel props

@@ -2,7 +2,8 @@
 use Rattle.std.specs.Prelude.{◌≢◌, ℕ, List, [], ◌∷◌, ◌++◌, length, ⊤}
 use Rattle.mctp_transport.specs.Wire.{Spells}
 use Rattle.pdr_record.specs.Fields.{Field, U8, U16, U32, Raw, bytes_of, Fit}
-use Rattle.pdr_record.specs.Layouts.{TerminusValue, terminus_fields, NumericValue, numeric_fields, IsNumeric, StateValue, state_fields, AssociationValue, association_fields}
+use Rattle.pdr_record.specs.Layouts.{TerminusValue, terminus_fields, NumericValue, numeric_fields, IsNumeric}
+use Rattle.pdr_record.specs.Layouts.{StateValue, state_fields, AssociationValue, association_fields}
 
 -- what follows the header of a record: one of four layouts, or bytes under another type's number
 pub data BodyValue : Type 0 where
@@ -59,7 +60,8 @@ record_of handle change body = record { handle = handle; change = change; body =
 
 -- the common header, whose last field is the number of bytes that follow it
 abbrev pub header_fields : RecordValue → List Field
-header_fields r = U32 r.handle ∷ U8 1 ∷ U8 (type_of r.body) ∷ U16 r.change ∷ U16 (length (bytes_of (body_fields r.body))) ∷ []
+header_fields r =
+    U32 r.handle ∷ U8 1 ∷ U8 (type_of r.body) ∷ U16 r.change ∷ U16 (length (bytes_of (body_fields r.body))) ∷ []
 
 abbrev pub record_bytes : RecordValue → List ℕ
 record_bytes r = bytes_of (header_fields r ++ body_fields r.body)

@@ -6,10 +6,12 @@ use Rattle.pdr_record.specs.declared.units.Units.{Units}
 use Rattle.pdr_record.specs.declared.precision.Precision.{Precision}
 use Rattle.pdr_record.specs.declared.timing.Timing.{Timing}
 use Rattle.pdr_record.specs.declared.ranges.Ranges.{Ranges}
-use Rattle.pdr_record.specs.Layouts.{EntityValue, SensorValue, TerminusValue, UnitsValue, PrecisionValue, TimingValue, RangesValue}
+use Rattle.pdr_record.specs.Layouts.{EntityValue, SensorValue, TerminusValue, UnitsValue}
+use Rattle.pdr_record.specs.Layouts.{PrecisionValue, TimingValue, RangesValue}
 
 abbrev pub entity_value : Entity → EntityValue
-entity_value e = record { entity_type = e.entity_type; instance_number = e.instance_number; container_id = e.container_id }
+entity_value e =
+    record { entity_type = e.entity_type; instance_number = e.instance_number; container_id = e.container_id }
 
 abbrev pub sensor_value : Sensor → SensorValue
 sensor_value s = record {

@@ -6,21 +6,22 @@ ghost use Rattle.pdr_record.specs.Records.{type_of, body_fields, IsBody, IsOther
 use crate::entity_association::EntityAssociation;
 use crate::field::{Field, put_fields};
 use crate::numeric_sensor::NumericSensor;
-use crate::reading::Fields;
+use crate::reading::FieldReader;
 use crate::record_error::RecordError;
 use crate::state_sensor::StateSensor;
 use crate::terminus_locator::TerminusLocator;
 
-/// What follows the header of a record: one of four layouts, or the bytes of another type.
+/// What follows the header of a record: one of four layouts (DSP0248), or the bytes of another type. A number's lowest
+/// byte comes first.
 #[derive(Clone, Copy, Debug, PartialEq, Eq)]
 pub enum Body<'a> {
-    /// Type 1.
+    /// Type 1, a terminus locator: 8 bytes and the locator's value.
     Terminus(TerminusLocator<'a>),
-    /// Type 2.
+    /// Type 2, a numeric sensor: `47 + 3d + 9r` bytes, for values of `d` and `r` bytes.
     Numeric(NumericSensor<'a>),
-    /// Type 4.
+    /// Type 4, a state sensor: 13 bytes and its state sets.
     State(StateSensor<'a>),
-    /// Type 15.
+    /// Type 15, an entity association: `10 + 6n` bytes for `n` entities.
     Association(EntityAssociation<'a>),
     /// Any other type, and its bytes as they are.
     Other { record_type: u8, bytes: &'a [u8] },
@@ -31,14 +32,16 @@ impl<'a> Body<'a> {
     ghost use Rattle.pdr_record.specs.Faults.{IsBodyFault};
     ghost use Rattle.pdr_record.specs.Endings.{IsFrontFault};
 
-    /// The body that the bytes are under a type's number, all of them.
+    /// The body that the bytes are under a type's number, all of them. D04 is answered where they end before a field
+    /// does, D06 where a field has a code that is not supported, and D05 where bytes follow the last field. Under any
+    /// other number than those of the four layouts all bytes are read.
     pub fn read(record_type: u8, bytes: &'a [u8]) -> Result<Body<'a>, RecordError>
         ensures record_type { IfOk result (λ body. type_of (body_value body) ≡ record_type) }
         ensures bytes { IfOk result (λ body. bytes.now ≡ bytes_of (body_fields (body_value body))) }
         ensures lawful { IfOk result (λ body. IsBody (body_value body)) }
         ensures refused { IfErr result (λ e. IsBodyFault e record_type bytes.now) }
     {
-        let mut fields = Fields { rest: bytes };
+        let mut fields = FieldReader { rest: bytes };
         let body = Body::take(record_type, &mut fields)?;
         if !fields.rest.is_empty() {
             return Err(RecordError::LeftOver);
@@ -47,7 +50,7 @@ impl<'a> Body<'a> {
     }
 
     /// The body at the front of the fields. A type without layout takes all bytes.
-    fn take(record_type: u8, fields: &mut Fields<'a>) -> Result<Body<'a>, RecordError>
+    fn take(record_type: u8, fields: &mut FieldReader<'a>) -> Result<Body<'a>, RecordError>
         ensures record_type { IfOk result (λ body. type_of (body_value body) ≡ record_type) }
         ensures field { IfOk result (λ body. fields.old.rest.now ≡ followed (body_fields (body_value body)) fields.new.rest.now) }
         ensures lawful { IfOk result (λ body. IsBody (body_value body)) }

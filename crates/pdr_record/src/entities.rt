@@ -6,10 +6,11 @@ ghost use Rattle.pdr_record.specs.ListsAt.{entities_of};
 ghost use Rattle.pdr_record.specs.Values.{entity_value};
 
 use crate::entity::Entity;
-use crate::reading::Fields;
+use crate::reading::FieldReader;
 use crate::record_error::RecordError;
 
-/// Entities that stand one after the other, in six bytes each.
+/// Entities that stand one after the other, in six bytes each: at most 255 (DSP0248, Entity Association PDR). The bytes
+/// are borrowed.
 #[derive(Clone, Copy, Debug, PartialEq, Eq)]
 pub struct Entities<'a> {
     count: u8,
@@ -20,7 +21,7 @@ pub struct Entities<'a> {
 impl<'a> Entities<'a> {
     ghost use Rattle.pdr_record.specs.Lists.{entities_value};
 
-    pub(crate) fn take(fields: &mut Fields<'a>, count: u8) -> Result<Entities<'a>, RecordError>
+    pub(crate) fn take(fields: &mut FieldReader<'a>, count: u8) -> Result<Entities<'a>, RecordError>
         ensures field { IfOk result (λ es. fields.old.rest.now ≡ followed (entities_fields (entities_value es)) fields.new.rest.now) }
         ensures count { IfOk result (λ es. length (entities_value es) ≡ count) }
         ensures fits { IfOk result (λ es. Fit (entities_fields (entities_value es))) }
@@ -60,7 +61,7 @@ impl<'a> Entities<'a> {
         ensures none { IfNone result (entities_value self.entry ≡ []) }
     {
         let count = self.count.checked_sub(1)?;
-        let mut fields = Fields { rest: self.bytes };
+        let mut fields = FieldReader { rest: self.bytes };
         let first = Entity::take(&mut fields);
         let bytes = fields.rest;
         Some((first, Entities { count, bytes }))

@@ -3,9 +3,10 @@ ghost use Rattle.std.specs.Prelude.{◌≡◌, ◌≤◌, ◌+◌, length};
 ghost use Rattle.pdr_record.specs.Fields.{followed};
 ghost use Rattle.pdr_record.specs.Layouts.{entity_fields};
 
-use crate::reading::Fields;
+use crate::reading::FieldReader;
 
-/// An entity: what kind of thing it is, which one of them, and what contains it.
+/// An entity: what kind of thing it is, which one of them, and what contains it. It has six bytes, two for each number,
+/// whose lowest byte comes first (DSP0248, section 9).
 #[derive(Clone, Copy, Debug, PartialEq, Eq)]
 pub struct Entity {
     pub entity_type: u16,
@@ -17,7 +18,7 @@ impl Entity {
     ghost use Rattle.pdr_record.specs.Values.{entity_value};
 
     /// The entity at the front of six bytes and more.
-    pub(crate) fn take(fields: &mut Fields) -> Entity
+    pub(crate) fn take(fields: &mut FieldReader) -> Entity
         requires { 6 ≤ length fields.old.rest.now }
         ensures field { fields.old.rest.now ≡ followed (entity_fields (entity_value result)) fields.new.rest.now }
         ensures left { length fields.old.rest.now ≡ 6 + length fields.new.rest.now }

@@ -7,10 +7,11 @@ ghost use Rattle.pdr_record.specs.Written.{fields_of};
 use crate::entities::Entities;
 use crate::entity::Entity;
 use crate::field::Field;
-use crate::reading::Fields;
+use crate::reading::FieldReader;
 use crate::record_error::RecordError;
 
-/// Which entities an entity contains (DSP0248, Entity Association PDR, type 15): `10 + 6n` bytes.
+/// Which entities an entity contains (DSP0248, Entity Association PDR, type 15): `10 + 6n` bytes for `n` of them, at
+/// most 255. A number's lowest byte comes first.
 #[derive(Clone, Copy, Debug, PartialEq, Eq)]
 pub struct EntityAssociation<'a> {
     pub container_id: u16,
@@ -23,7 +24,7 @@ pub struct EntityAssociation<'a> {
 impl<'a> EntityAssociation<'a> {
     ghost use Rattle.pdr_record.specs.ListValues.{association_value};
 
-    pub(crate) fn take(fields: &mut Fields<'a>) -> Result<EntityAssociation<'a>, RecordError>
+    pub(crate) fn take(fields: &mut FieldReader<'a>) -> Result<EntityAssociation<'a>, RecordError>
         ensures field { IfOk result (λ a. fields.old.rest.now ≡ followed (association_fields (association_value a)) fields.new.rest.now) }
         ensures fits { IfOk result (λ a. Fit (association_fields (association_value a))) }
         ensures refused { IfErr result (λ e. (e ≡ RecordError.Ends) × (length fields.old.rest.now < 10 + 6 * slice_index fields.old.rest.now 9)) }

@@ -9,7 +9,7 @@ use crate::field::Field;
 use crate::precision::Precision;
 use crate::range_field_format::RangeFieldFormat;
 use crate::ranges::Ranges;
-use crate::reading::Fields;
+use crate::reading::FieldReader;
 use crate::record_error::RecordError;
 use crate::sensor::Sensor;
 use crate::sensor_data_size::SensorDataSize;
@@ -40,7 +40,7 @@ pub struct NumericSensor<'a> {
 impl<'a> NumericSensor<'a> {
     ghost use Rattle.pdr_record.specs.NumericValues.{numeric_value};
 
-    pub(crate) fn take(fields: &mut Fields<'a>) -> Result<NumericSensor<'a>, RecordError>
+    pub(crate) fn take(fields: &mut FieldReader<'a>) -> Result<NumericSensor<'a>, RecordError>
         ensures field { IfOk result (λ n. fields.old.rest.now ≡ followed (numeric_fields (numeric_value n)) fields.new.rest.now) }
         ensures fits { IfOk result (λ n. Fit (numeric_fields (numeric_value n))) }
         ensures layout { IfOk result (λ n. IsNumeric (numeric_value n)) }

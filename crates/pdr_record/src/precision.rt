@@ -3,9 +3,10 @@ ghost use Rattle.std.specs.Prelude.{◌≡◌, ◌≤◌, ◌+◌, length};
 ghost use Rattle.pdr_record.specs.Fields.{followed, Fit};
 ghost use Rattle.pdr_record.specs.Layouts.{precision_fields};
 
-use crate::reading::Fields;
+use crate::reading::FieldReader;
 
-/// How a numeric sensor's readings become values, and how exact they are (DSP0248, Numeric Sensor PDR).
+/// How a numeric sensor's readings become values, and how exact they are, in 12 bytes (DSP0248, Numeric Sensor PDR). A
+/// number's lowest byte comes first.
 #[derive(Clone, Copy, Debug, PartialEq, Eq)]
 pub struct Precision {
     /// The bits of a real32.
@@ -21,7 +22,7 @@ pub struct Precision {
 impl Precision {
     ghost use Rattle.pdr_record.specs.Values.{precision_value};
 
-    pub(crate) fn take(fields: &mut Fields) -> Precision
+    pub(crate) fn take(fields: &mut FieldReader) -> Precision
         requires { 12 ≤ length fields.old.rest.now }
         ensures field { fields.old.rest.now ≡ followed (precision_fields (precision_value result)) fields.new.rest.now }
         ensures fits { Fit (precision_fields (precision_value result)) }

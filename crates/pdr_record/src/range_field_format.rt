@@ -5,7 +5,8 @@ ghost use Rattle.pdr_record.specs.Layouts.{width_of};
 use crate::record_error::RecordError;
 use crate::sensor_data_size::SensorDataSize;
 
-/// The format of a numeric sensor's range fields (DSP0248, rangeFieldFormat): that of a data size, or a real number.
+/// The format of a numeric sensor's range fields, in one byte (DSP0248, rangeFieldFormat): that of a data size, or a
+/// real number of 32 bits.
 #[derive(Clone, Copy, Debug, PartialEq, Eq)]
 pub enum RangeFieldFormat {
     Integer(SensorDataSize),
@@ -15,7 +16,7 @@ pub enum RangeFieldFormat {
 impl RangeFieldFormat {
     ghost use Rattle.pdr_record.specs.Numbers.{format_code};
 
-    /// The format of a code. Codes from 7 on are refused.
+    /// The format of a code. D06 is answered for codes from 7 on.
     pub fn of(code: u8) -> Result<RangeFieldFormat, RecordError>
         ensures ok { IfOk result (λ format. format_code format ≡ code) }
         ensures refused { IfErr result (λ e. (e ≡ RecordError.Unsupported) × (6 < code)) }
@@ -26,6 +27,7 @@ impl RangeFieldFormat {
         Ok(RangeFieldFormat::Integer(SensorDataSize::of(code)?))
     }
 
+    /// Its code, 0 to 6.
     pub fn code(self) -> u8
         ensures { result ≡ format_code self }
     {

@@ -3,7 +3,7 @@ ghost use Rattle.std.specs.Prelude.{◌≡◌, ◌≤◌, ◌+◌, ◌*◌, leng
 ghost use Rattle.pdr_record.specs.Fields.{followed};
 ghost use Rattle.pdr_record.specs.Layouts.{ranges_fields, HaveWidth};
 
-use crate::reading::Fields;
+use crate::reading::FieldReader;
 
 /// The values that a numeric sensor's readings are compared with (DSP0248, Numeric Sensor PDR), each as wide as the
 /// range field format says. A number's lowest byte comes first.
@@ -24,7 +24,7 @@ impl<'a> Ranges<'a> {
     ghost use Rattle.pdr_record.specs.Values.{ranges_value};
 
     /// Nine values of `width` bytes each.
-    pub(crate) fn take(fields: &mut Fields<'a>, width: usize) -> Ranges<'a>
+    pub(crate) fn take(fields: &mut FieldReader<'a>, width: usize) -> Ranges<'a>
         requires room { 9 * width ≤ length fields.old.rest.now }
         ensures field { fields.old.rest.now ≡ followed (ranges_fields (ranges_value result)) fields.new.rest.now }
         ensures width { HaveWidth width (ranges_value result) }

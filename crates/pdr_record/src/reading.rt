@@ -7,11 +7,11 @@ use byteorder::{ByteOrder, LittleEndian};
 
 /// The bytes of a body that are not read yet.
 #[derive(Clone, Copy, Debug)]
-pub struct Fields<'a> {
+pub struct FieldReader<'a> {
     pub rest: &'a [u8],
 }
 
-impl<'a> Fields<'a> {
+impl<'a> FieldReader<'a> {
     /// Refuses where fewer than `count` bytes are left.
     pub fn want(&self, count: usize) -> Result<(), RecordError>
         ensures enough { OnOk result (count ≤ length self.now.rest.now) }

@@ -6,19 +6,27 @@ ghost use Rattle.pdr_record.specs.Props.{record_prop};
 
 use crate::body::Body;
 use crate::field::{Field, put_fields};
-use crate::reading::Fields;
+use crate::reading::FieldReader;
 use crate::record_error::RecordError;
 use mctp_transport::Wire;
 
-/// The bytes of the common header.
+/// The bytes of the common header, which each record begins with: the handle (4 bytes), the header version (1), the
+/// type (1), the change number (2) and how many bytes follow (2) (DSP0248, Common PDR header).
 pub const HEADER_LENGTH: usize = 10;
 
-/// A platform descriptor record (DSP0248, Common PDR header): its handle, its change number and what follows the
-/// header. The header version is 1 and not kept.
+/// The version of the common header.
+const HEADER_VERSION: u8 = 1;
+
+/// A platform descriptor record: the common header of 10 bytes, and at most 65535 bytes behind it, each number with its
+/// lowest byte first (DSP0248, Common PDR header). The header version is 1, so it is not kept, nor is the number of
+/// bytes behind the header.
 #[derive(Clone, Copy, Debug, PartialEq, Eq)]
 pub struct Record<'a> {
+    /// Tells the record from the others of its terminus, where it is not 0. Any number is read.
     pub handle: u32,
+    /// Another one whenever the record has changed.
     pub change: u16,
+    /// What follows the header.
     pub body: Body<'a>,
     ghost lawful: { IsRecord (record_of handle change (body_value body)) } by { record_prop (record_of handle change (body_value body)) },
 }
@@ -41,7 +49,10 @@ impl<'a> Wire<'a> for Record<'a> {
 
     ghost spelling = { record_bytes };
 
-    /// The record that the bytes are, all of them. Of several causes for which they are none, the first is answered.
+    /// The record that the bytes are, all of them; what it lends are slices of these. Else the first cause is answered
+    /// of these, in this order: D01 for fewer than 10 bytes, D02 for a header version other than 1, D03 for a data
+    /// length that is not the number of bytes behind the header, then by the body's fields in their order D04 where the
+    /// bytes end before a field does and D06 for a code that is not supported, and D05 for bytes behind the last field.
     fn read(bytes: &'a [u8]) -> Result<Self, RecordError>
         ensures ok { IfOk result (λ r. Spells IsRecord record_bytes (record_value r) bytes.now) }
         ensures all { (m : RecordValue) → Spells IsRecord record_bytes m bytes.now → IsOkAnd result (λ r. record_value r ≡ m) }
@@ -58,7 +69,7 @@ impl<'a> Wire<'a> for Record<'a> {
         let data_length = self.body.len() as u16;
         let header = [
             Field::U32(self.handle),
-            Field::U8(1),
+            Field::U8(HEADER_VERSION),
             Field::U8(self.body.record_type()),
             Field::U16(self.change),
             Field::U16(data_length),
@@ -80,12 +91,12 @@ impl<'a> Record<'a> {
         ensures ok { IfOk result (λ r. Spells IsRecord record_bytes (record_value r) bytes.now) }
         ensures refused { IfErr result (λ e. IsFault e bytes.now) }
     {
-        let mut fields = Fields { rest: bytes };
+        let mut fields = FieldReader { rest: bytes };
         if bytes.len() < HEADER_LENGTH {
             return Err(RecordError::Short);
         }
         let handle = fields.u32();
-        if fields.u8() != 1 {
+        if fields.u8() != HEADER_VERSION {
             return Err(RecordError::Version);
         }
         let record_type = fields.u8();

@@ -4,7 +4,8 @@ ghost use Rattle.std.specs.Prelude.{◌≡◌};
 use std::error::Error;
 use std::fmt;
 
-/// Why bytes are no record.
+/// Why bytes are no record. Where several causes apply, the first of these is answered; of D04 and D06 the first in the
+/// order of the fields.
 #[derive(Clone, Copy, Debug, PartialEq, Eq)]
 pub enum RecordError {
     /// D01: fewer than ten bytes, which is less than the common header.

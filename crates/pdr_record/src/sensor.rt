@@ -5,9 +5,10 @@ ghost use Rattle.pdr_record.specs.Layouts.{sensor_fields};
 
 use crate::entity::Entity;
 use crate::field::Field;
-use crate::reading::Fields;
+use crate::reading::FieldReader;
 
-/// How the record of a numeric or a state sensor begins (DSP0248, sections 28.4 and 28.6).
+/// How the record of a numeric or a state sensor begins: in 12 bytes, two for each number but the last two fields, the
+/// lowest byte first (DSP0248, sections 28.4 and 28.6).
 #[derive(Clone, Copy, Debug, PartialEq, Eq)]
 pub struct Sensor {
     pub terminus_handle: u16,
@@ -24,7 +25,7 @@ impl Sensor {
     ghost use Rattle.pdr_record.specs.Values.{sensor_value};
 
     /// The fields at the front of twelve bytes and more.
-    pub(crate) fn take(fields: &mut Fields) -> Sensor
+    pub(crate) fn take(fields: &mut FieldReader) -> Sensor
         requires { 12 ≤ length fields.old.rest.now }
         ensures field { fields.old.rest.now ≡ followed (sensor_fields (sensor_value result)) fields.new.rest.now }
         ensures fits { Fit (sensor_fields (sensor_value result)) }

@@ -4,7 +4,8 @@ ghost use Rattle.pdr_record.specs.Layouts.{width_of};
 
 use crate::record_error::RecordError;
 
-/// A numeric sensor's data size (DSP0248, sensorDataSize); the number is its code.
+/// A numeric sensor's data size, in one byte (DSP0248, sensorDataSize): a value has 8, 16 or 32 bits, and is unsigned
+/// (U) or two's complement (S). The number is its code.
 #[derive(Clone, Copy, Debug, PartialEq, Eq)]
 pub enum SensorDataSize {
     U8 = 0,
@@ -18,7 +19,7 @@ pub enum SensorDataSize {
 impl SensorDataSize {
     ghost use Rattle.pdr_record.specs.Numbers.{size_code};
 
-    /// The data size of a code. Codes from 6 on are refused.
+    /// The data size of a code. D06 is answered for codes from 6 on.
     pub fn of(code: u8) -> Result<SensorDataSize, RecordError>
         ensures ok { IfOk result (λ size. size_code size ≡ code) }
         ensures refused { IfErr result (λ e. (e ≡ RecordError.Unsupported) × (5 < code)) }
@@ -34,6 +35,7 @@ impl SensorDataSize {
         }
     }
 
+    /// Its code, 0 to 5.
     pub fn code(self) -> u8
         ensures { result ≡ size_code self }
     {

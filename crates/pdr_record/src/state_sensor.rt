@@ -6,7 +6,7 @@ ghost use Rattle.pdr_record.specs.ListsAt.{after_state_sets};
 ghost use Rattle.pdr_record.specs.Written.{fields_of};
 
 use crate::field::Field;
-use crate::reading::Fields;
+use crate::reading::FieldReader;
 use crate::record_error::RecordError;
 use crate::sensor::Sensor;
 use crate::state_sets::StateSets;
@@ -22,7 +22,7 @@ pub struct StateSensor<'a> {
 impl<'a> StateSensor<'a> {
     ghost use Rattle.pdr_record.specs.ListValues.{state_value};
 
-    pub(crate) fn take(fields: &mut Fields<'a>) -> Result<StateSensor<'a>, RecordError>
+    pub(crate) fn take(fields: &mut FieldReader<'a>) -> Result<StateSensor<'a>, RecordError>
         ensures field { IfOk result (λ s. fields.old.rest.now ≡ followed (state_fields (state_value s)) fields.new.rest.now) }
         ensures fits { IfOk result (λ s. Fit (state_fields (state_value s))) }
         ensures refused { let bytes = fields.old.rest.now in

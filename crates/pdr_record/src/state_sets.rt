@@ -5,18 +5,19 @@ ghost use Rattle.pdr_record.specs.Layouts.{state_sets_fields};
 ghost use Rattle.pdr_record.specs.ListsAt.{state_sets_of, after_state_set, after_state_sets};
 ghost use Rattle.pdr_record.specs.StateSetValues.{bytes_after, state_set_value};
 
-use crate::reading::Fields;
+use crate::reading::FieldReader;
 use crate::record_error::RecordError;
 
 /// A state set of a composite sensor (DSP0248, State Sensor PDR), and the bits of its states that the sensor can
-/// report, state 0 in bit 0 of the first byte.
+/// report, state 0 in bit 0 of the first byte: three bytes and at most 255 of bits. The bits are borrowed.
 #[derive(Clone, Copy, Debug, PartialEq, Eq)]
 pub struct StateSet<'a> {
     pub state_set_id: u16,
     pub possible_states: &'a [u8],
 }
 
-/// State sets that stand one after the other: an identifier of two bytes, a size, and so many bytes.
+/// State sets that stand one after the other, at most 255: each an identifier of two bytes, its lowest byte first, a
+/// size of one byte, and so many bytes (DSP0248, State Sensor PDR). The bytes are borrowed.
 #[derive(Clone, Copy, Debug, PartialEq, Eq)]
 pub struct StateSets<'a> {
     count: u8,
@@ -27,7 +28,10 @@ pub struct StateSets<'a> {
 impl<'a> StateSets<'a> {
     ghost use Rattle.pdr_record.specs.Lists.{state_sets_value};
 
-    pub(crate) fn take(fields: &mut Fields<'a>, count: u8) -> Result<StateSets<'a>, RecordError>
+    pub(crate) fn take(
+        fields: &mut FieldReader<'a>,
+        count: u8,
+    ) -> Result<StateSets<'a>, RecordError>
         ensures field { IfOk result (λ ss. fields.old.rest.now ≡ followed (state_sets_fields (state_sets_value ss)) fields.new.rest.now) }
         ensures count { IfOk result (λ ss. length (state_sets_value ss) ≡ count) }
         ensures fits { IfOk result (λ ss. Fit (state_sets_fields (state_sets_value ss))) }
@@ -72,7 +76,7 @@ impl<'a> StateSets<'a> {
         ensures none { IfNone result (state_sets_value self.entry ≡ []) }
     {
         let count = self.count.checked_sub(1)?;
-        let mut fields = Fields { rest: self.bytes };
+        let mut fields = FieldReader { rest: self.bytes };
         let state_set_id = fields.u16();
         let size = usize::from(fields.u8());
         let possible_states = fields.bytes(size);

@@ -5,10 +5,11 @@ ghost use Rattle.pdr_record.specs.Layouts.{terminus_fields};
 ghost use Rattle.pdr_record.specs.Written.{fields_of};
 
 use crate::field::Field;
-use crate::reading::Fields;
+use crate::reading::FieldReader;
 use crate::record_error::RecordError;
 
-/// Where a terminus is found (DSP0248, Terminus Locator PDR, type 1): 8 bytes and the locator's value.
+/// Where a terminus is found (DSP0248, Terminus Locator PDR, type 1): 8 bytes and the locator's value, at most 255. A
+/// number's lowest byte comes first.
 #[derive(Clone, Copy, Debug, PartialEq, Eq)]
 pub struct TerminusLocator<'a> {
     pub terminus_handle: u16,
@@ -25,7 +26,7 @@ pub struct TerminusLocator<'a> {
 impl<'a> TerminusLocator<'a> {
     ghost use Rattle.pdr_record.specs.Values.{terminus_value};
 
-    pub(crate) fn take(fields: &mut Fields<'a>) -> Result<TerminusLocator<'a>, RecordError>
+    pub(crate) fn take(fields: &mut FieldReader<'a>) -> Result<TerminusLocator<'a>, RecordError>
         ensures field { IfOk result (λ t. fields.old.rest.now ≡ followed (terminus_fields (terminus_value t)) fields.new.rest.now) }
         ensures fits { IfOk result (λ t. Fit (terminus_fields (terminus_value t))) }
         ensures refused { IfErr result (λ e. (e ≡ RecordError.Ends) × (length fields.old.rest.now < 8 + slice_index fields.old.rest.now 7)) }

@@ -3,9 +3,10 @@ ghost use Rattle.std.specs.Prelude.{◌≡◌, ◌≤◌, ◌+◌, length};
 ghost use Rattle.pdr_record.specs.Fields.{followed, Fit};
 ghost use Rattle.pdr_record.specs.Layouts.{timing_fields};
 
-use crate::reading::Fields;
+use crate::reading::FieldReader;
 
-/// Which thresholds a numeric sensor has, and how often it is updated (DSP0248, Numeric Sensor PDR).
+/// Which thresholds a numeric sensor has, and how often it is updated, in 10 bytes (DSP0248, Numeric Sensor PDR). A
+/// number's lowest byte comes first.
 #[derive(Clone, Copy, Debug, PartialEq, Eq)]
 pub struct Timing {
     pub supported_thresholds: u8,
@@ -19,7 +20,7 @@ pub struct Timing {
 impl Timing {
     ghost use Rattle.pdr_record.specs.Values.{timing_value};
 
-    pub(crate) fn take(fields: &mut Fields) -> Timing
+    pub(crate) fn take(fields: &mut FieldReader) -> Timing
         requires { 10 ≤ length fields.old.rest.now }
         ensures field { fields.old.rest.now ≡ followed (timing_fields (timing_value result)) fields.new.rest.now }
         ensures fits { Fit (timing_fields (timing_value result)) }

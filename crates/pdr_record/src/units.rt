@@ -3,9 +3,9 @@ ghost use Rattle.std.specs.Prelude.{◌≡◌, ◌≤◌, ◌+◌, length};
 ghost use Rattle.pdr_record.specs.Fields.{followed, Fit};
 ghost use Rattle.pdr_record.specs.Layouts.{units_fields};
 
-use crate::reading::Fields;
+use crate::reading::FieldReader;
 
-/// What a numeric sensor measures in (DSP0248, Numeric Sensor PDR).
+/// What a numeric sensor measures in: ten fields of one byte (DSP0248, Numeric Sensor PDR).
 #[derive(Clone, Copy, Debug, PartialEq, Eq)]
 pub struct Units {
     pub base_unit: u8,
@@ -25,7 +25,7 @@ pub struct Units {
 impl Units {
     ghost use Rattle.pdr_record.specs.Values.{units_value};
 
-    pub(crate) fn take(fields: &mut Fields) -> Units
+    pub(crate) fn take(fields: &mut FieldReader) -> Units
         requires { 10 ≤ length fields.old.rest.now }
         ensures field { fields.old.rest.now ≡ followed (units_fields (units_value result)) fields.new.rest.now }
         ensures fits { Fit (units_fields (units_value result)) }

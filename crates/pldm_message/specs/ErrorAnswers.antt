@@ -32,4 +32,5 @@ HasCodeAlone bytes = (length bytes ≡ 5) × (slice_index bytes 4 ≢ 0)
 
 -- the first fault of such an answer, or none
 abbrev pub ErrorAnswerFault : List ℕ → Option PldmError → Type 0
-ErrorAnswerFault bytes fault = WantedFault (IsResponse bytes) bytes fault (First (¬ HasCodeAlone bytes) (fault ≡ Some error.Length) (fault ≡ None))
+ErrorAnswerFault bytes fault =
+    WantedFault (IsResponse bytes) bytes fault (First (¬ HasCodeAlone bytes) (fault ≡ Some error.Length) (fault ≡ None))

@@ -1,5 +1,6 @@
 -- Why bytes are not the PLDM message that was wanted.
-use Rattle.std.specs.Prelude.{◌≡◌, ◌≢◌, ℕ, ◌<◌, ◌≤◌, ◌/◌, ◌%◌, List, length, slice_index, Option, Some, None, codes, ◌==◌, if◌then◌else◌}
+use Rattle.std.specs.Prelude.{◌≡◌, ◌≢◌, ℕ, ◌<◌, ◌≤◌, ◌/◌, ◌%◌, List, length, slice_index}
+use Rattle.std.specs.Prelude.{Option, Some, None, codes, ◌==◌, if◌then◌else◌}
 use Rattle.pldm_message.specs.declared.pldm_error.PldmError.{PldmError}
 use Rattle.pldm_message.specs.declared.pldm_error.PldmError.TheVariants as error
 use Rattle.pldm_message.specs.declared.command.Command.{Command}
@@ -33,19 +34,23 @@ HeaderFault bytes fault later =
 
 -- the first fault up to the PLDM type, command and direction that are wanted, or what comes after them
 abbrev pub WantedFault : Type 0 → List ℕ → Option PldmError → Type 0 → Type 0
-WantedFault wanted bytes fault later = HeaderFault bytes fault (First (¬ wanted) (fault ≡ Some error.OtherMessage) later)
+WantedFault wanted bytes fault later =
+    HeaderFault bytes fault (First (¬ wanted) (fault ≡ Some error.OtherMessage) later)
 
 -- the first fault of a message, of which the length is known, or none
 abbrev pub MessageFault : Type 0 → ℕ → List ℕ → Option PldmError → Type 0
-MessageFault wanted long bytes fault = WantedFault wanted bytes fault (First (length bytes ≢ long) (fault ≡ Some error.Length) (fault ≡ None))
+MessageFault wanted long bytes fault =
+    WantedFault wanted bytes fault (First (length bytes ≢ long) (fault ≡ Some error.Length) (fault ≡ None))
 
 -- a request (Rq 1, either D) with this command
 abbrev pub IsRequestOf : Command → List ℕ → Type 0
-IsRequestOf c bytes = (2 ≤ slice_index bytes 1 / 64) × (slice_index bytes 2 % 64 ≡ type_of c) × (slice_index bytes 3 ≡ command_byte c)
+IsRequestOf c bytes =
+    (2 ≤ slice_index bytes 1 / 64) × (slice_index bytes 2 % 64 ≡ type_of c) × (slice_index bytes 3 ≡ command_byte c)
 
 -- a response (Rq 0) to a request with this command
 abbrev pub IsAnswerOf : Command → List ℕ → Type 0
-IsAnswerOf c bytes = (slice_index bytes 1 / 64 < 2) × (slice_index bytes 2 % 64 ≡ type_of c) × (slice_index bytes 3 ≡ command_byte c)
+IsAnswerOf c bytes =
+    (slice_index bytes 1 / 64 < 2) × (slice_index bytes 2 % 64 ≡ type_of c) × (slice_index bytes 3 ≡ command_byte c)
 
 -- the length of an answer: so long where its completion code is 0, and else no more than that code
 abbrev pub answer_length : ℕ → List ℕ → ℕ

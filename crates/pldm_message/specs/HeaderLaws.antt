@@ -25,15 +25,19 @@ pub record SameDigits (k r i k' r' i' : ℕ) : Type 0 where
   pub second : r ≡ r'
   pub third : i ≡ i'
 
-pub digits : (k r i k' r' i' : ℕ) → r ≤ 1 → i < 32 → r' ≤ 1 → i' < 32 → 64 * k + 32 * r + i ≡ 64 * k' + 32 * r' + i' → SameDigits k r i k' r' i'
+pub digits : (k r i k' r' i' : ℕ) → r ≤ 1 → i < 32 → r' ≤ 1 → i' < 32 → 64 * k + 32 * r + i ≡ 64 * k' + 32 * r' + i'
+    → SameDigits k r i k' r' i'
 digits k r i k' r' i' hr hi hr' hi' e = record { first = omega arith; second = omega arith; third = omega arith }
 
 -- headers are equal where their fields are
-same_header : (m n : HeaderValue) → m.kind ≡ n.kind → m.reserved ≡ n.reserved → m.instance ≡ n.instance → m.pldm_type ≡ n.pldm_type → m.command ≡ n.command → m ≡ n
+same_header : (m n : HeaderValue) → m.kind ≡ n.kind → m.reserved ≡ n.reserved → m.instance ≡ n.instance
+    → m.pldm_type ≡ n.pldm_type → m.command ≡ n.command → m ≡ n
 same_header m n k r i t c = λ j. record { kind = k j; reserved = r j; instance = i j; pldm_type = t j; command = c j }
 
 pub one_header : (m n : HeaderValue) → IsHeader m → IsHeader n → header_bytes m ≡ header_bytes n → m ≡ n
 one_header m n hm hn e =
     let byte : instance_byte m ≡ instance_byte n = cc in
-    let d = digits (kind_bits m.kind) (bit m.reserved) m.instance (kind_bits n.kind) (bit n.reserved) n.instance (bit_most m.reserved) hm.instance (bit_most n.reserved) hn.instance byte in
+    let d =
+    digits (kind_bits m.kind) (bit m.reserved) m.instance (kind_bits n.kind) (bit n.reserved) n.instance
+    (bit_most m.reserved) hm.instance (bit_most n.reserved) hn.instance byte in
     same_header m n (kind_one m.kind n.kind d.first) (bit_one m.reserved n.reserved d.second) d.third (cc) (cc)

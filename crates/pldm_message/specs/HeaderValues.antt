@@ -3,4 +3,11 @@ use Rattle.pldm_message.specs.declared.header.PldmHeader.{PldmHeader}
 use Rattle.pldm_message.specs.Headers.{HeaderValue}
 
 abbrev pub header_value : PldmHeader → HeaderValue
-header_value h = record { kind = h.kind; reserved = h.reserved; instance = h.instance.value; pldm_type = h.pldm_type.value; command = h.command }
+header_value h =
+    record {
+      kind = h.kind;
+      reserved = h.reserved;
+      instance = h.instance.value;
+      pldm_type = h.pldm_type.value;
+      command = h.command;
+    }

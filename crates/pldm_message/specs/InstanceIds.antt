@@ -1,5 +1,6 @@
 -- The instance IDs of a requester: each stands for one request at a time (DSP0240, PLDM message fields).
-use Rattle.std.specs.Prelude.{◌≡◌, ℕ, ◌<◌, ◌≤◌, ◌+◌, ◌-◌, ◌%◌, Bool, true, false, not, ◌==◌, ◌&&◌, ◌||◌, Option, Some, None}
+use Rattle.std.specs.Prelude.{◌≡◌, ℕ, ◌<◌, ◌≤◌, ◌+◌, ◌-◌, ◌%◌, Bool, true}
+use Rattle.std.specs.Prelude.{false, not, ◌==◌, ◌&&◌, ◌||◌, Option, Some, None}
 
 -- which IDs are out, and the last one given, if any was
 pub record IdSet : Type 0 where
@@ -25,7 +26,8 @@ AreAllOut ids = (id : ℕ) → id < 32 → ids.out id ≡ true
 -- a free ID to which no other free one comes before
 pub record IsNextFree (ids : IdSet) (id : ℕ) : Type 0 where
   pub free : IsFree ids id
-  pub first : (other : ℕ) → IsFree ids other → steps_to (first_place ids.last) id ≤ steps_to (first_place ids.last) other
+  pub first : (other : ℕ) → IsFree ids other
+      → steps_to (first_place ids.last) id ≤ steps_to (first_place ids.last) other
 
 -- the next free ID goes out, and is the last one given; of the others nothing changes
 pub record Gives (old : IdSet) (id : ℕ) (new : IdSet) : Type 0 where

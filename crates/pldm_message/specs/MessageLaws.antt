@@ -8,7 +8,9 @@ use Rattle.pldm_message.specs.declared.kind.RequestKind.TheVariants.{Request, Da
 use Rattle.pldm_message.specs.declared.command.Command.{Command}
 use Rattle.pldm_message.specs.Headers.{instance_byte, kind_bits}
 use Rattle.pldm_message.specs.HeaderLaws.{digits}
-use Rattle.pldm_message.specs.Messages.{RequestHeadValue, AnswerHeadValue, RequestMessage, AnswerMessage, IsRequest, IsAnswer, IsOutcome, request_bytes, answer_bytes, outcome_bytes, request_header, answer_header, message_kind}
+use Rattle.pldm_message.specs.Messages.{RequestHeadValue, AnswerHeadValue, RequestMessage, AnswerMessage}
+use Rattle.pldm_message.specs.Messages.{IsRequest, IsAnswer, IsOutcome, request_bytes, answer_bytes}
+use Rattle.pldm_message.specs.Messages.{outcome_bytes, request_header, answer_header, message_kind}
 
 -- no two values have one spelling
 abbrev pub IsOneValue : {A : Type 0} → (A → Type 0) → (A → List ℕ) → Type 0
@@ -20,7 +22,8 @@ request_one Datagram Datagram e = refl
 request_one Request Datagram e = absurd (omega arith)
 request_one Datagram Request e = absurd (omega arith)
 
-same_request_head : (m n : RequestHeadValue) → m.kind ≡ n.kind → m.reserved ≡ n.reserved → m.instance ≡ n.instance → m ≡ n
+same_request_head : (m n : RequestHeadValue) → m.kind ≡ n.kind → m.reserved ≡ n.reserved → m.instance ≡ n.instance
+    → m ≡ n
 same_request_head m n k r i = λ j. record { kind = k j; reserved = r j; instance = i j }
 
 same_answer_head : (m n : AnswerHeadValue) → m.reserved ≡ n.reserved → m.instance ≡ n.instance → m ≡ n
@@ -39,17 +42,22 @@ one_outcome lawful spell one (Ok a) (Err d) hm hn e = let byte : 0 ≡ d = cc in
 one_outcome lawful spell one (Err c) (Ok b) hm hn e = let byte : c ≡ 0 = cc in absurd (omega (arith, hm.0, byte))
 one_outcome lawful spell one (Err c) (Err d) hm hn e = ap Err (cc)
 
-pub one_request : {A : Type 0} (c : Command) (lawful : A → Type 0) (spell : A → List ℕ) → IsOneValue lawful spell → IsOneValue (IsRequest lawful) (request_bytes c spell)
+pub one_request : {A : Type 0} (c : Command) (lawful : A → Type 0) (spell : A → List ℕ) → IsOneValue lawful spell
+    → IsOneValue (IsRequest lawful) (request_bytes c spell)
 one_request c lawful spell one m n hm hn e =
     let byte : instance_byte (request_header c m.head) ≡ instance_byte (request_header c n.head) = cc in
-    let d = digits (kind_bits (message_kind m.head.kind)) (bit m.head.reserved) m.head.instance (kind_bits (message_kind n.head.kind)) (bit n.head.reserved) n.head.instance
+    let d =
+    digits (kind_bits (message_kind m.head.kind)) (bit m.head.reserved) m.head.instance
+    (kind_bits (message_kind n.head.kind)) (bit n.head.reserved) n.head.instance
     (bit_most m.head.reserved) hm.0 (bit_most n.head.reserved) hn.0 byte in
     let rest : spell m.body ≡ spell n.body = cc in
     same_request m n
-    (same_request_head m.head n.head (request_one m.head.kind n.head.kind d.first) (bit_one m.head.reserved n.head.reserved d.second) d.third)
+    (same_request_head m.head n.head (request_one m.head.kind n.head.kind d.first)
+    (bit_one m.head.reserved n.head.reserved d.second) d.third)
     (one m.body n.body hm.1 hn.1 rest)
 
-pub one_answer : {A : Type 0} (c : Command) (lawful : A → Type 0) (spell : A → List ℕ) → IsOneValue lawful spell → IsOneValue (IsAnswer lawful) (answer_bytes c spell)
+pub one_answer : {A : Type 0} (c : Command) (lawful : A → Type 0) (spell : A → List ℕ) → IsOneValue lawful spell
+    → IsOneValue (IsAnswer lawful) (answer_bytes c spell)
 one_answer c lawful spell one m n hm hn e =
     let byte : instance_byte (answer_header c m.head) ≡ instance_byte (answer_header c n.head) = cc in
     let d = digits 0 (bit m.head.reserved) m.head.instance 0 (bit n.head.reserved) n.head.instance

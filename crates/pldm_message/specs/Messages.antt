@@ -24,10 +24,24 @@ message_kind request.Request = message.Request
 message_kind request.Datagram = message.Datagram
 
 abbrev pub request_header : Command → RequestHeadValue → HeaderValue
-request_header c h = record { kind = message_kind h.kind; reserved = h.reserved; instance = h.instance; pldm_type = type_of c; command = command_byte c }
+request_header c h =
+    record {
+      kind = message_kind h.kind;
+      reserved = h.reserved;
+      instance = h.instance;
+      pldm_type = type_of c;
+      command = command_byte c;
+    }
 
 abbrev pub answer_header : Command → AnswerHeadValue → HeaderValue
-answer_header c h = record { kind = message.Response; reserved = h.reserved; instance = h.instance; pldm_type = type_of c; command = command_byte c }
+answer_header c h =
+    record {
+      kind = message.Response;
+      reserved = h.reserved;
+      instance = h.instance;
+      pldm_type = type_of c;
+      command = command_byte c;
+    }
 
 -- a request: the rest of its header, and its data
 pub record RequestMessage (A : Type 0) : Type 0 where

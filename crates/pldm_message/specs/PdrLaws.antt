@@ -1,12 +1,15 @@
 -- No two requests for parts, and no two parts, have the same bytes.
-use Rattle.std.specs.Prelude.{◌≡◌, ℕ, ◌<◌, ◌^◌, ◌+◌, ◌/◌, ◌%◌, List, [], ◌∷◌, ◌++◌, length, Option, Some, None, take, drop, refl, is_some, ◌==◌}
+use Rattle.std.specs.Prelude.{◌≡◌, ℕ, ◌<◌, ◌^◌, ◌+◌, ◌/◌, ◌%◌, List, [], ◌∷◌, ◌++◌}
+use Rattle.std.specs.Prelude.{length, Option, Some, None, take, drop, refl, is_some, ◌==◌}
 use Rattle.std.proofs.Common.{arith, ap, length-append}
 use Rattle.std.specs.Option.{option_to_list}
 use Rattle.byteorder.specs.Endian.{little_bytes}
 use Rattle.pldm_message.specs.declared.command.Command.TheVariants as command
 use Rattle.mctp_transport.specs.Wire.{Spells}
 use Rattle.pldm_message.specs.MessageLaws.{IsOneValue, one_request, one_answer}
-use Rattle.pldm_message.specs.Pdrs.{PartRequest, IsPartRequest, part_request_bytes, Part, IsPart, part_bytes, IsGetPdrRequest, get_pdr_request_bytes, IsGetPdrAnswer, get_pdr_answer_bytes, check_length, part_length}
+use Rattle.pldm_message.specs.Pdrs.{PartRequest, IsPartRequest, part_request_bytes, Part, IsPart}
+use Rattle.pldm_message.specs.Pdrs.{part_bytes, IsGetPdrRequest, get_pdr_request_bytes}
+use Rattle.pldm_message.specs.Pdrs.{IsGetPdrAnswer, get_pdr_answer_bytes, check_length, part_length}
 
 -- a number of four bytes is known by them
 four : (a b : ℕ) → a < 2 ^ 32 → b < 2 ^ 32 → little_bytes 4 a ≡ little_bytes 4 b → a ≡ b
@@ -23,8 +26,10 @@ two a b ha hb e =
     let e1 : a / 256 % 256 ≡ b / 256 % 256 = cc in
     omega arith
 
-same_part_request : (m n : PartRequest) → m.handle ≡ n.handle → m.transfer ≡ n.transfer → m.operation ≡ n.operation → m.count ≡ n.count → m.change ≡ n.change → m ≡ n
-same_part_request m n h t o c g = λ j. record { handle = h j; transfer = t j; operation = o j; count = c j; change = g j }
+same_part_request : (m n : PartRequest) → m.handle ≡ n.handle → m.transfer ≡ n.transfer → m.operation ≡ n.operation
+    → m.count ≡ n.count → m.change ≡ n.change → m ≡ n
+same_part_request m n h t o c g =
+    λ j. record { handle = h j; transfer = t j; operation = o j; count = c j; change = g j }
 
 one_part_request : IsOneValue IsPartRequest part_request_bytes
 one_part_request m n hm hn e =
@@ -33,13 +38,16 @@ one_part_request m n hm hn e =
     let operation : m.operation ≡ n.operation = cc in
     let count : little_bytes 2 m.count ≡ little_bytes 2 n.count = ap (λ xs. take 2 (drop 9 xs)) e in
     let change : little_bytes 2 m.change ≡ little_bytes 2 n.change = ap (drop 11) e in
-    same_part_request m n (four m.handle n.handle hm.handle hn.handle handle) (four m.transfer n.transfer hm.transfer hn.transfer transfer) operation
+    same_part_request m n (four m.handle n.handle hm.handle hn.handle handle)
+    (four m.transfer n.transfer hm.transfer hn.transfer transfer) operation
     (two m.count n.count hm.count hn.count count) (two m.change n.change hm.change hn.change change)
 
 pub one_get_pdr_request : IsOneValue IsGetPdrRequest get_pdr_request_bytes
-one_get_pdr_request m n hm hn e = one_request command.GetPdr IsPartRequest part_request_bytes one_part_request m n hm hn e
+one_get_pdr_request m n hm hn e =
+    one_request command.GetPdr IsPartRequest part_request_bytes one_part_request m n hm hn e
 
-same_part : (m n : Part) → m.next ≡ n.next → m.transfer ≡ n.transfer → m.flag ≡ n.flag → m.bytes ≡ n.bytes → m.crc ≡ n.crc → m ≡ n
+same_part : (m n : Part) → m.next ≡ n.next → m.transfer ≡ n.transfer → m.flag ≡ n.flag → m.bytes ≡ n.bytes
+    → m.crc ≡ n.crc → m ≡ n
 same_part m n x t f b c = λ j. record { next = x j; transfer = t j; flag = f j; bytes = b j; crc = c j }
 
 -- lists of one length at the front of equal lists are equal, and so is what follows them
@@ -66,8 +74,11 @@ one_part m n hm hn e =
     let flag : m.flag ≡ n.flag = cc in
     let count : little_bytes 2 (length m.bytes) ≡ little_bytes 2 (length n.bytes) = ap (λ xs. take 2 (drop 9 xs)) e in
     let rest : m.bytes ++ option_to_list m.crc ≡ n.bytes ++ option_to_list n.crc = ap (drop 11) e in
-    let both = fronts m.bytes n.bytes (option_to_list m.crc) (option_to_list n.crc) (two (length m.bytes) (length n.bytes) hm.count hn.count count) rest in
-    same_part m n (four m.next n.next hm.next hn.next next) (four m.transfer n.transfer hm.transfer hn.transfer transfer) flag both.0 (listed m.crc n.crc both.1)
+    let both =
+    fronts m.bytes n.bytes (option_to_list m.crc) (option_to_list n.crc)
+    (two (length m.bytes) (length n.bytes) hm.count hn.count count) rest in
+    same_part m n (four m.next n.next hm.next hn.next next)
+    (four m.transfer n.transfer hm.transfer hn.transfer transfer) flag both.0 (listed m.crc n.crc both.1)
 
 length-listed : (flag : ℕ) (a : Option ℕ) → is_some a ≡ (flag == 4) → length (option_to_list a) ≡ check_length flag
 length-listed flag None e = rw (← e) refl

@@ -7,13 +7,21 @@ use Rattle.pldm_message.specs.Heads.{request_of, answer_of}
 use Rattle.pldm_message.specs.Pdrs.{PartRequest, Part}
 
 abbrev pub part_request : GetPdrRequest → PartRequest
-part_request r = record { handle = r.record_handle; transfer = r.transfer_handle; operation = r.operation.value; count = r.count; change = r.change_number }
+part_request r =
+    record {
+      handle = r.record_handle;
+      transfer = r.transfer_handle;
+      operation = r.operation.value;
+      count = r.count;
+      change = r.change_number;
+    }
 
 abbrev pub get_pdr_request : GetPdrRequest → RequestMessage PartRequest
 get_pdr_request r = request_of r.head (part_request r)
 
 abbrev pub part : PdrPart → Part
-part p = record { next = p.next_record; transfer = p.next_transfer; flag = p.flag.value; bytes = p.bytes.now; crc = p.check }
+part p =
+    record { next = p.next_record; transfer = p.next_transfer; flag = p.flag.value; bytes = p.bytes.now; crc = p.check }
 
 abbrev pub get_pdr_answer : GetPdrAnswer → AnswerMessage Part
 get_pdr_answer a = answer_of part a.head a.outcome

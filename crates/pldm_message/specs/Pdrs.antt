@@ -1,5 +1,6 @@
 -- Requests for parts of records, and their answers (DSP0248, GetPDR).
-use Rattle.std.specs.Prelude.{◌≡◌, ℕ, ◌+◌, ◌<◌, ◌^◌, List, [], ◌∷◌, ◌++◌, length, drop, slice_index, Option, is_some, Some, ◌==◌, if◌then◌else◌}
+use Rattle.std.specs.Prelude.{◌≡◌, ℕ, ◌+◌, ◌<◌, ◌^◌, List, [], ◌∷◌, ◌++◌, length, drop}
+use Rattle.std.specs.Prelude.{slice_index, Option, is_some, Some, ◌==◌, if◌then◌else◌}
 use Rattle.std.specs.Option.{option_to_list}
 use Rattle.byteorder.specs.Endian.{little_bytes, little_number}
 use Rattle.pldm_message.specs.declared.command.Command.TheVariants as command
@@ -23,7 +24,9 @@ pub record IsPartRequest (r : PartRequest) : Type 0 where
 
 -- 13 bytes, each number with its lowest byte first
 abbrev pub part_request_bytes : PartRequest → List ℕ
-part_request_bytes r = little_bytes 4 r.handle ++ little_bytes 4 r.transfer ++ (r.operation ∷ []) ++ little_bytes 2 r.count ++ little_bytes 2 r.change
+part_request_bytes r =
+    little_bytes 4 r.handle ++ little_bytes 4 r.transfer ++ (r.operation ∷ []) ++ little_bytes 2 r.count
+    ++ little_bytes 2 r.change
 
 -- a part of a record: the handle of the record after it (0: none), where the record's next part begins (0: none), which
 -- part it is, its bytes, and the check byte of a record of several parts at its last

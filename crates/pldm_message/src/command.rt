@@ -31,7 +31,7 @@ impl Command {
         }
     }
 
-    /// The header's command byte.
+    /// The header's command byte, its fourth.
     pub fn byte(self) -> u8
         ensures { result ≡ command_byte self }
     {

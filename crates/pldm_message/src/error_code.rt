@@ -7,6 +7,7 @@ pub const SUCCESS: u8 = 0;
 /// A completion code other than 0, which is success (DSP0240, completion codes; of GetPDR DSP0248, GetPDR).
 #[derive(Clone, Copy, Debug, PartialEq, Eq)]
 pub struct ErrorCode {
+    /// 1 to 255.
     pub value: u8,
     pub ghost some: { 0 < value },
     pub ghost in_range: { value < 256 },
@@ -34,6 +35,7 @@ impl ErrorCode {
     /// GetPDR: the change number is not the record's.
     pub const INVALID_CHANGE_NUMBER: ErrorCode = ErrorCode { value: 0x83 };
 
+    /// The code of any byte but 0.
     pub fn new(value: u8) -> Self
         requires { 0 < value }
         ensures { result.value ≡ value }

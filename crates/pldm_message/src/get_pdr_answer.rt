@@ -36,7 +36,9 @@ impl<'a> Wire<'a> for GetPdrAnswer<'a> {
 
     ghost spelling = { get_pdr_answer_bytes };
 
-    /// The answer that the bytes are, all of them. The part's bytes stay where they are.
+    /// The answer that the bytes are, all of them. The part's bytes stay where they are. Else the first cause, where
+    /// L06 stands for another PLDM type, command or direction, and L04 for a length that is not the one of its
+    /// completion code, its flag and its count.
     #[tactic(auto, using(crate::specs::PdrLaws::one_get_pdr_answer))]
     fn read(bytes: &'a [u8]) -> Result<Self, PldmError>
         ensures ok { IfOk result (λ a. Spells IsGetPdrAnswer get_pdr_answer_bytes (get_pdr_answer a) bytes.now) }

@@ -57,7 +57,8 @@ impl<'a> Wire<'a> for GetPdrRequest {
 
     ghost spelling = { get_pdr_request_bytes };
 
-    /// The request that the bytes are, all of them.
+    /// The request that the bytes are, all of them. Else the first cause, where L06 stands for another PLDM type,
+    /// command or direction, and L04 for another length than 17 bytes.
     #[tactic(auto, using(crate::specs::PdrLaws::one_get_pdr_request))]
     fn read(bytes: &'a [u8]) -> Result<Self, PldmError>
         ensures ok { IfOk result (λ r. Spells IsGetPdrRequest get_pdr_request_bytes (get_pdr_request r) bytes.now) }

@@ -34,7 +34,8 @@ impl<'a> Wire<'a> for GetPldmTypes {
 
     ghost spelling = { get_pldm_types_bytes };
 
-    /// The request that the bytes are, all of them.
+    /// The request that the bytes are, all of them. Else the first cause, where L06 stands for another PLDM type,
+    /// command or direction, and L04 for another length than 4 bytes.
     fn read(bytes: &'a [u8]) -> Result<Self, PldmError>
         ensures ok { IfOk result (λ r. Spells IsGetPldmTypes get_pldm_types_bytes (get_pldm_types r) bytes.now) }
         ensures all { (m : RequestMessage (Unit {0})) → Spells IsGetPldmTypes get_pldm_types_bytes m bytes.now → IsOkAnd result (λ r. get_pldm_types r ≡ m) }

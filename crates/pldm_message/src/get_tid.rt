@@ -34,7 +34,8 @@ impl<'a> Wire<'a> for GetTid {
 
     ghost spelling = { get_tid_bytes };
 
-    /// The request that the bytes are, all of them.
+    /// The request that the bytes are, all of them. Else the first cause, where L06 stands for another PLDM type,
+    /// command or direction, and L04 for another length than 4 bytes.
     fn read(bytes: &'a [u8]) -> Result<Self, PldmError>
         ensures ok { IfOk result (λ r. Spells IsGetTid get_tid_bytes (get_tid r) bytes.now) }
         ensures all { (m : RequestMessage (Unit {0})) → Spells IsGetTid get_tid_bytes m bytes.now → IsOkAnd result (λ r. get_tid r ≡ m) }

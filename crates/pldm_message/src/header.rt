@@ -7,7 +7,7 @@ use crate::kind::MessageKind;
 use crate::pldm_error::PldmError;
 use mctp_transport::Wire;
 
-/// The bytes of a header.
+/// The bytes of a header, with MCTP's message type.
 pub const HEADER_LENGTH: usize = 4;
 
 /// A PLDM type, 0 to 63 (DSP0245).
@@ -23,6 +23,7 @@ impl PldmType {
     /// 2: platform monitoring and control (DSP0248).
     pub const PLATFORM_MONITORING: PldmType = PldmType { value: 2 };
 
+    /// The type of a number below 64.
     pub fn new(value: u8) -> Self
         requires { value < 64 }
         ensures { result.value ≡ value }
@@ -31,8 +32,9 @@ impl PldmType {
     }
 }
 
-/// A message's header: its first four bytes, with MCTP's message type (DSP0240, PLDM message fields). The message type
-/// is 1 and the header version 0, so neither is kept.
+/// A message's header: its first four bytes, which are MCTP's message type, then Rq in bit 7, D in bit 6, a reserved
+/// bit and the instance ID in bits 4 to 0, then the header version in bits 7 and 6 and the PLDM type in bits 5 to 0,
+/// then the command (DSP0240, PLDM message fields). The message type is 1 and the header version 0, so neither is kept.
 #[derive(Clone, Copy, Debug, PartialEq, Eq)]
 pub struct PldmHeader {
     pub kind: MessageKind,
@@ -40,6 +42,7 @@ pub struct PldmHeader {
     pub reserved: bool,
     pub instance: InstanceId,
     pub pldm_type: PldmType,
+    /// Any byte. Which commands there are, depends on the PLDM type.
     pub command: u8,
     pub ghost in_range: { command < 256 },
 }
@@ -52,7 +55,8 @@ impl PldmHeader {
     ghost use Rattle.pldm_message.specs.HeaderValues.{header_value};
     ghost use Rattle.pldm_message.specs.Faults.{HeaderFault};
 
-    /// The header that a message begins with, whatever follows it.
+    /// The header that a message begins with, whatever follows it. Else the first cause of L01 for fewer than 4 bytes,
+    /// L02 for another message type, L03 for another header version, and L05 for Rq 0 with D 1.
     pub fn front(message: &[u8]) -> Result<PldmHeader, PldmError>
         ensures ok { IfOk result (λ h. BeginsWith (header_value h) message.now) }
         ensures all { (m : HeaderValue) → BeginsWith m message.now → IsOkAnd result (λ h. header_value h ≡ m) }
@@ -122,7 +126,7 @@ impl<'a> Wire<'a> for PldmHeader {
 
     ghost spelling = { header_bytes };
 
-    /// The header that the four bytes are, and none of more bytes.
+    /// The header that the four bytes are. L04 is answered for more bytes, behind the causes of `front`.
     fn read(bytes: &'a [u8]) -> Result<Self, PldmError>
         ensures ok { IfOk result (λ h. Spells IsHeader header_bytes (header_value h) bytes.now) }
         ensures all { (m : HeaderValue) → Spells IsHeader header_bytes m bytes.now → IsOkAnd result (λ h. header_value h ≡ m) }

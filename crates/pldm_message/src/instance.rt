@@ -1,7 +1,8 @@
 //! Instance IDs, which tell the requests of one requester from each other.
 ghost use Rattle.std.specs.Prelude.{◌≡◌, ◌<◌};
 
-/// An instance ID, 0 to 31 (DSP0240, PLDM message fields). An answer has that of its request.
+/// An instance ID, 0 to 31, in bits 4 to 0 of a message's second byte (DSP0240, PLDM message fields). An answer has
+/// that of its request.
 #[derive(Clone, Copy, Debug, PartialEq, Eq)]
 pub struct InstanceId {
     pub value: u8,
@@ -9,6 +10,7 @@ pub struct InstanceId {
 }
 
 impl InstanceId {
+    /// The ID of a number below 32.
     pub fn new(value: u8) -> Self
         requires { value < 32 }
         ensures { result.value ≡ value }

@@ -6,7 +6,7 @@ use crate::header::PldmType;
 /// The bytes of a set of PLDM types.
 pub const TYPES_LENGTH: usize = 8;
 
-/// A set of PLDM types: bit j of byte i says whether it has type 8 i + j (DSP0240, GetPLDMTypes).
+/// A set of PLDM types, in 8 bytes: bit j of byte i says whether it has type 8 i + j (DSP0240, GetPLDMTypes).
 #[derive(Clone, Copy, Debug, PartialEq, Eq)]
 pub struct PldmTypes {
     pub bits: [u8; 8],
@@ -16,6 +16,7 @@ pub struct PldmTypes {
 impl PldmTypes {
     ghost use Rattle.pldm_message.specs.BaseCommands.{HasType};
 
+    /// The set of these bits.
     pub fn new(bits: [u8; 8]) -> Self
         ensures { result.bits ≡ bits }
     {

@@ -36,7 +36,8 @@ impl<'a> Wire<'a> for SetTid {
 
     ghost spelling = { set_tid_bytes };
 
-    /// The request that the bytes are, all of them.
+    /// The request that the bytes are, all of them. Else the first cause, where L06 stands for another PLDM type,
+    /// command or direction, and L04 for another length than 5 bytes.
     fn read(bytes: &'a [u8]) -> Result<Self, PldmError>
         ensures ok { IfOk result (λ r. Spells IsSetTid set_tid_bytes (set_tid r) bytes.now) }
         ensures all { (m : RequestMessage ℕ) → Spells IsSetTid set_tid_bytes m bytes.now → IsOkAnd result (λ r. set_tid r ≡ m) }

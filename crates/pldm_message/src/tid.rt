@@ -1,7 +1,7 @@
 //! Terminus IDs.
 ghost use Rattle.std.specs.Prelude.{◌≡◌, ◌<◌, ◌↔◌, IsTrue};
 
-/// A terminus ID (DSP0240): 0 says that none is set, 1 to 254 can be set, 255 is reserved.
+/// A terminus ID, in one byte (DSP0240, SetTID): 0 says that none is set, 1 to 254 can be set, 255 is reserved.
 #[derive(Clone, Copy, Debug, PartialEq, Eq)]
 pub struct Tid {
     pub value: u8,
@@ -11,6 +11,7 @@ pub struct Tid {
 impl Tid {
     ghost use Rattle.pldm_message.specs.BaseCommands.{IsAssignableTid};
 
+    /// The terminus ID of any byte.
     pub fn new(value: u8) -> Self
         ensures { result.value ≡ value }
     {

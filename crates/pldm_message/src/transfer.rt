@@ -1,7 +1,8 @@
 //! How a record's bytes are transferred: in one part or in several.
 ghost use Rattle.std.specs.Prelude.{◌≡◌, ◌<◌};
 
-/// Whether a first or a next part of a record is asked for (DSP0248, GetPDR). Other bytes can be read too.
+/// Whether a first or a next part of a record is asked for: the transfer operation flag, one byte (DSP0248, GetPDR).
+/// Other bytes can be read too, and a terminus refuses them.
 #[derive(Clone, Copy, Debug, PartialEq, Eq)]
 pub struct TransferOperation {
     pub value: u8,
@@ -14,6 +15,7 @@ impl TransferOperation {
     /// The record from its first byte on.
     pub const FIRST_PART: TransferOperation = TransferOperation { value: 1 };
 
+    /// The flag of any byte.
     pub fn new(value: u8) -> Self
         ensures { result.value ≡ value }
     {
@@ -21,7 +23,8 @@ impl TransferOperation {
     }
 }
 
-/// Which part of a record an answer has (DSP0248, GetPDR). Other bytes can be read too.
+/// Which part of a record an answer has: the transfer flag, one byte (DSP0248, GetPDR). Other bytes can be read too,
+/// and a walker refuses them.
 #[derive(Clone, Copy, Debug, PartialEq, Eq)]
 pub struct TransferFlag {
     pub value: u8,
@@ -38,6 +41,7 @@ impl TransferFlag {
     /// The only part.
     pub const START_AND_END: TransferFlag = TransferFlag { value: 5 };
 
+    /// The flag of any byte.
     pub fn new(value: u8) -> Self
         ensures { result.value ≡ value }
     {

@@ -10,5 +10,5 @@ returns-in_err-body-clause-refused c =
     let rest = c.u16.new.self.rest.now in
     let is : c.args.bytes.now
     ≡ followed (U32 c.u32-handle.result ∷ U8 c.u8.result ∷ U8 c.u8-record_type.result ∷ U16 c.u16-change.result ∷ U16 c.u16.result ∷ []) rest = cc in
-    rw (p.1, p.2) (fault_behind _ c.u32-handle.result c.u8.result c.u8-record_type.result c.u16-change.result c.u16.result rest c.args.bytes.now is c.if-u8-ne1.false (omega arith) (omega arith)
+    rw (p.1, p.2) (fault_behind _ c.u32-handle.result c.u8.result c.u8-record_type.result c.u16-change.result c.u16.result rest c.args.bytes.now is c.if-u8-ne-HEADER_VERSION.false (omega arith) (omega arith)
     c.in_err-body.ensures.refused)
