@@ -1,5 +1,5 @@
 -- A search for a handle, and what is found.
-use Rattle.std.proofs.Common.{◌≡◌, ℕ, Bool, true, false, ◌==◌, ◌||◌, List, [], ◌∷◌, map, not, eqb, refl, ap, ◌∙◌, sym, subst, inl, inr}
+use Rattle.std.proofs.Common.{◌≡◌, ℕ, Bool, true, false, ◌==◌, List, not, eqb, refl, ◌∙◌, sym, subst, inl, inr}
 use Rattle.std.specs.Prelude.{Any, IsTrue, ◌↔◌, MatchOption, Option, Some}
 use Rattle.std.specs.List.{list_any}
 use Rattle.std.proofs.lemmas.List.Folds.{Any-from_list_any, list_any-from_Any}
@@ -8,18 +8,13 @@ use Rattle.pdr_repository.specs.Records.{handle_in}
 use Rattle.pdr_repository.specs.Crc.{IsCrc}
 use Rattle.pdr_repository.proofs.Crcs.{one_crc}
 
-list_any-map : {X Y : Type 0} (p : Y → Bool) (f : X → Y) (xs : List X) → list_any p (map f xs) ≡ list_any (λ x. p (f x)) xs
-list_any-map p f [] = refl
-list_any-map p f (x ∷ xs) = ap (λ b. p (f x) || b) (list_any-map p f xs)
-
-pub any_handle : {X : Type 0} (f : X → List ℕ) (handle : ℕ) (xs : List X) → list_any (λ x. handle_in (f x) == handle) xs ≡ true → Any (λ bytes. handle_in bytes ≡ handle) (map f xs)
-any_handle f handle xs h =
-    let found = Any-from_list_any (λ bytes. handle_in bytes == handle) (map f xs) (list_any-map (λ bytes. handle_in bytes == handle) f xs ∙ h) in
+any_handle : (handle : ℕ) (records : List (List ℕ)) → list_any (λ bytes. handle_in bytes == handle) records ≡ true → Any (λ bytes. handle_in bytes ≡ handle) records
+any_handle handle records h =
+    let found = Any-from_list_any (λ bytes. handle_in bytes == handle) records h in
     (found.0, found.1, found.2, found.3, (Decides-eqb (handle_in found.1) handle).0 found.4)
 
-pub handle_any : {X : Type 0} (f : X → List ℕ) (handle : ℕ) (xs : List X) → Any (λ bytes. handle_in bytes ≡ handle) (map f xs) → list_any (λ x. handle_in (f x) == handle) xs ≡ true
-handle_any f handle xs (k, x, within, is, h) =
-    sym (list_any-map (λ bytes. handle_in bytes == handle) f xs) ∙ list_any-from_Any (λ bytes. handle_in bytes == handle) (map f xs) (k, x, within, is, (Decides-eqb (handle_in x) handle).1 h)
+handle_any : (handle : ℕ) (records : List (List ℕ)) → Any (λ bytes. handle_in bytes ≡ handle) records → list_any (λ bytes. handle_in bytes == handle) records ≡ true
+handle_any handle records (k, x, within, is, h) = list_any-from_Any (λ bytes. handle_in bytes == handle) records (k, x, within, is, (Decides-eqb (handle_in x) handle).1 h)
 
 wrong_where_other : (k computed : ℕ) (whole : List ℕ) → IsCrc whole computed → IsTrue (not (eqb k computed)) ↔ ¬ IsCrc whole k
 wrong_where_other k computed whole right =
@@ -34,11 +29,11 @@ wrong_crc crc k computed whole is right =
     let P : Option ℕ → Type 0 = λ o. MatchOption o ⊥ (λ c. ¬ IsCrc whole c) in
     (λ h. subst P (sym is) (decides.0 h), λ h. decides.1 (subst P is h))
 
-pub doubled : {X : Type 0} (f : X → List ℕ) (xs : List X) (result : Bool) (handle target : ℕ) (last : Type 0) → last → result ≡ list_any (λ x. handle_in (f x) == handle) xs → handle ≡ target
-    → IsTrue result ↔ (last × Any (λ bytes. handle_in bytes ≡ target) (map f xs))
-doubled f xs result handle target last is found same =
-    let P : ℕ → Type 0 = λ h. Any (λ bytes. handle_in bytes ≡ h) (map f xs) in
-    (λ h. (is, subst P same (any_handle f handle xs (sym found ∙ h))), λ h. found ∙ handle_any f handle xs (subst P (sym same) h.1))
+pub doubled : (records : List (List ℕ)) (result : Bool) (handle target : ℕ) (last : Type 0) → last → result ≡ list_any (λ bytes. handle_in bytes == handle) records → handle ≡ target
+    → IsTrue result ↔ (last × Any (λ bytes. handle_in bytes ≡ target) records)
+doubled records result handle target last is found same =
+    let P : ℕ → Type 0 = λ h. Any (λ bytes. handle_in bytes ≡ h) records in
+    (λ h. (is, subst P same (any_handle handle records (sym found ∙ h))), λ h. found ∙ handle_any handle records (subst P (sym same) h.1))
 
 -- a test that answered no
 pub passed : {cause : Type 0} → (IsTrue false ↔ cause) → ¬ cause

@@ -9,6 +9,7 @@ pub mod Indexing
 pub mod Blocks
 pub mod OneLentParts
 pub mod Handles
+pub mod Collected
 pub mod Judging
 pub mod Taking
 pub mod Wanting

@@ -30,7 +30,7 @@ pub other_fault : (P : Type 0) (result : Result Step WalkFault) (f : WalkFault) 
 other_fault P result f is other wants = absurd (other (cc))
 
 pub lacks_at_last : (w : Walker) (p : Part) (result : Result Step WalkFault) → length p.bytes ≤ w.count → IsLast p
-    → OnErr result ((vec_capacity w.under_way < vec_len w.under_way + length p.bytes) ⊎ (vec_capacity w.records ≤ vec_len w.records)) → result ≡ Err OutOfMemory → LacksRoom w p
+    → OnErr result ((vec_capacity w.under_way < vec_len w.under_way + length p.bytes) ⊎ (vec_capacity w.collected.records ≤ vec_len w.collected.records)) → result ≡ Err OutOfMemory → LacksRoom w p
 lacks_at_last w p (Ok step) short last full wants = absurd (cc)
 lacks_at_last w p (Err f) short last (inl bytes) wants = (short, inl bytes)
 lacks_at_last w p (Err f) short last (inr list) wants = (short, inr (last, list))

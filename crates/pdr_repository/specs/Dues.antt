@@ -6,7 +6,14 @@ use Rattle.pdr_repository.specs.declared.walker.due.Due.{Due}
 use Rattle.pdr_repository.specs.declared.walker.judging.Limits.{Limits}
 
 abbrev pub request_of : ℕ → Due → PartRequest
-request_of count due = record { handle = due.record_handle; transfer = due.transfer_handle; operation = due.operation.value; count = count; change = due.change_number }
+request_of count due =
+    record {
+      handle = due.record_handle;
+      transfer = due.transfer_handle;
+      operation = due.operation.value;
+      count = count;
+      change = due.change_number;
+    }
 
 abbrev pub room : Limits → Room
 room l = record { max_records = l.max_records; max_bytes = l.max_bytes; records = l.records; bytes = l.bytes }

@@ -1,11 +1,15 @@
 -- What can be wrong with a part that a walker is given.
-use Rattle.std.specs.Prelude.{◌≡◌, ◌≢◌, ◌⊎◌, ℕ, ◌+◌, ◌<◌, ◌≤◌, List, ◌++◌, length, Option, Some, None, MatchOption, Any, codes}
+use Rattle.std.specs.Prelude.{◌≡◌, ◌≢◌, ◌⊎◌, ℕ, ◌+◌, ◌<◌, ◌≤◌, List, ◌++◌, length}
+use Rattle.std.specs.Prelude.{Option, Some, None, MatchOption, Any, codes}
 use Rattle.pdr_repository.specs.Crc.{IsCrc}
 use Rattle.mctp_transport.specs.First.{First}
 use Rattle.pldm_message.specs.Pdrs.{PartRequest, Part}
 use Rattle.pdr_repository.specs.Records.{handle_in, data_length_in}
 use Rattle.pdr_repository.specs.declared.walk_fault.WalkFault.{WalkFault}
-use Rattle.pdr_repository.specs.declared.walk_fault.WalkFault.TheVariants.{FailedBefore, NotAsked, Unreadable, RecordChanged, OtherCode, WrongFlag, WrongSize, WrongCrc, WrongHandle, DoubledHandle, TooMuch, OutOfMemory}
+use Rattle.pdr_repository.specs.declared.walk_fault.WalkFault.TheVariants.{FailedBefore, NotAsked, Unreadable}
+use Rattle.pdr_repository.specs.declared.walk_fault.WalkFault.TheVariants.{RecordChanged, OtherCode, WrongFlag}
+use Rattle.pdr_repository.specs.declared.walk_fault.WalkFault.TheVariants.{WrongSize, WrongCrc, WrongHandle}
+use Rattle.pdr_repository.specs.declared.walk_fault.WalkFault.TheVariants.{DoubledHandle, TooMuch, OutOfMemory}
 
 -- the part is the record's last
 abbrev pub IsLast : Part → Type 0
@@ -13,14 +17,16 @@ IsLast p = (p.flag ≡ 4) ⊎ (p.flag ≡ 5)
 
 -- the flag that a first part and a next part may have
 abbrev pub IsFlagFor : PartRequest → Part → Type 0
-IsFlagFor r p = ((r.operation ≡ 1) × ((p.flag ≡ 0) ⊎ (p.flag ≡ 5))) ⊎ ((r.operation ≡ 0) × ((p.flag ≡ 1) ⊎ (p.flag ≡ 4)))
+IsFlagFor r p =
+    ((r.operation ≡ 1) × ((p.flag ≡ 0) ⊎ (p.flag ≡ 5))) ⊎ ((r.operation ≡ 0) × ((p.flag ≡ 1) ⊎ (p.flag ≡ 4)))
 
 -- In the causes `before` is the data of the record under way, without this part.
 -- the flag is not one for this request, or more is to come and the next transfer handle is 0
 abbrev pub HasWrongFlag : PartRequest → Part → Type 0
 HasWrongFlag r p = (¬ IsFlagFor r p) ⊎ ((¬ IsLast p) × (p.transfer ≡ 0))
 
--- the part is empty, longer than asked for, a start that lacks the change number, or a last part after which the record has not the length that its header says
+-- the part is empty, longer than asked for, a start that lacks the change number, or a last part after which the record
+-- has not the length that its header says
 abbrev pub HasWrongSize : List ℕ → PartRequest → Part → Type 0
 HasWrongSize before r p =
     (length p.bytes ≡ 0)
@@ -34,7 +40,8 @@ HasWrongCrc before p = MatchOption p.crc ⊥ (λ crc. ¬ IsCrc (before ++ p.byte
 
 -- the record's handle is 0, or not the one that was asked for by number
 abbrev pub HasWrongHandle : List ℕ → PartRequest → Part → Type 0
-HasWrongHandle before r p = IsLast p × ((handle_in (before ++ p.bytes) ≡ 0) ⊎ ((r.handle ≢ 0) × (handle_in (before ++ p.bytes) ≢ r.handle)))
+HasWrongHandle before r p =
+    IsLast p × ((handle_in (before ++ p.bytes) ≡ 0) ⊎ ((r.handle ≢ 0) × (handle_in (before ++ p.bytes) ≢ r.handle)))
 
 -- a record of this handle was collected before
 abbrev pub HasDoubledHandle : List (List ℕ) → List ℕ → Part → Type 0

@@ -9,14 +9,18 @@ use Rattle.pdr_repository.specs.Parts.{AnswersPart}
 
 -- these are the answer's packets, to some destination
 abbrev pub AreSentFor : ℕ → AnswerMessage Part → List Frame → Type 0
-AreSentFor unit m packets = (destination : ℕ) × (key : KeyValue) × (start : ℕ) × ArePacketsOf unit (get_pdr_answer_bytes m) destination key start packets
+AreSentFor unit m packets =
+    (destination : ℕ) × (key : KeyValue) × (start : ℕ)
+    × ArePacketsOf unit (get_pdr_answer_bytes m) destination key start packets
 
 -- What is answered to a request for at most so many bytes has at most five packets.
 abbrev pub FitFive : ℕ → ℕ → Type 0
 FitFive unit count =
-    (records : List Entry) (r : PartRequest) (m : AnswerMessage Part) (packets : List Frame) → r.count ≤ count → AnswersPart records r m.outcome → AreSentFor unit m packets → length packets ≤ 5
+    (records : List Entry) (r : PartRequest) (m : AnswerMessage Part) (packets : List Frame) → r.count ≤ count
+    → AnswersPart records r m.outcome → AreSentFor unit m packets → length packets ≤ 5
 
 -- An answer with so many bytes and the check byte has more than five packets.
 abbrev pub PassFive : ℕ → ℕ → Type 0
 PassFive unit count =
-    (m : AnswerMessage Part) (p : Part) (packets : List Frame) → m.outcome ≡ Ok p → length p.bytes ≡ count → is_some p.crc ≡ true → AreSentFor unit m packets → 5 < length packets
+    (m : AnswerMessage Part) (p : Part) (packets : List Frame) → m.outcome ≡ Ok p → length p.bytes ≡ count
+    → is_some p.crc ≡ true → AreSentFor unit m packets → 5 < length packets

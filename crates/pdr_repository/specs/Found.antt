@@ -7,7 +7,9 @@ use Rattle.pdr_repository.specs.Parts.{HasChange, IsWithin, offset_of}
 
 -- the handle means the record of these bytes, after which the one of the handle `next` stands
 abbrev pub IsFound : List Entry → ℕ → ℕ → List ℕ → Type 0
-IsFound records handle next bytes = (place : ℕ) × (e : Entry) × Means records handle place e × (next ≡ handle_at records (place + 1)) × (bytes ≡ e.bytes)
+IsFound records handle next bytes =
+    (place : ℕ) × (e : Entry) × Means records handle place e × (next ≡ handle_at records (place + 1))
+    × (bytes ≡ e.bytes)
 
 -- a handle and the record that was found, if it means one
 abbrev pub Finds : List Entry → ℕ → Option (ℕ × List ℕ) → Type 0

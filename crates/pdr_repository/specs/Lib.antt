@@ -12,6 +12,7 @@ pub mod BlockTermini
 pub mod Walks
 pub mod Faults
 pub mod Dues
+pub mod Handles
 pub mod Walkers
 pub mod WalkerStates
 pub mod WalkerRooms

@@ -19,5 +19,6 @@ entries_in block spans = map (entry_in block) spans
 
 -- the handles are distinct and not 0
 pub record HaveHandles (records : List Entry) : Type 0 where
-  pub distinct : (i j : ℕ) (e f : Entry) → slice_get records i ≡ Some e → slice_get records j ≡ Some f → e.handle ≡ f.handle → i ≡ j
+  pub distinct : (i j : ℕ) (e f : Entry) → slice_get records i ≡ Some e → slice_get records j ≡ Some f
+      → e.handle ≡ f.handle → i ≡ j
   pub some : (i : ℕ) (e : Entry) → slice_get records i ≡ Some e → e.handle ≢ 0

@@ -24,10 +24,12 @@ data_length_in bytes = little_from 8 2 bytes
 abbrev pub IsRecordOf : ℕ → List ℕ → Type 0
 IsRecordOf handle bytes = (r : RecordValue) × Spelled r bytes × (r.handle ≡ handle)
 
--- a list of records that a terminus can have: not empty, the handles distinct and not 0, each record's bytes those of a record of its handle
+-- a list of records that a terminus can have: not empty, the handles distinct and not 0, each record's
+-- bytes those of a record of its handle
 pub record IsLawful (records : List Entry) : Type 0 where
   pub some : 0 < length records
-  pub distinct : (i j : ℕ) (e f : Entry) → slice_get records i ≡ Some e → slice_get records j ≡ Some f → e.handle ≡ f.handle → i ≡ j
+  pub distinct : (i j : ℕ) (e f : Entry) → slice_get records i ≡ Some e → slice_get records j ≡ Some f
+      → e.handle ≡ f.handle → i ≡ j
   pub handles : (i : ℕ) (e : Entry) → slice_get records i ≡ Some e → e.handle ≢ 0
   pub spelled : (i : ℕ) (e : Entry) → slice_get records i ≡ Some e → IsRecordOf e.handle e.bytes
 
@@ -35,7 +37,8 @@ pub record IsLawful (records : List Entry) : Type 0 where
 abbrev pub IsLawfulAt : List Entry → ℕ → Type 0
 IsLawfulAt records place =
     (e : Entry) → slice_get records place ≡ Some e
-    → (e.handle ≢ 0) × ((i : ℕ) (f : Entry) → slice_get records i ≡ Some f → f.handle ≡ e.handle → place ≤ i) × IsRecordOf e.handle e.bytes
+    → (e.handle ≢ 0) × ((i : ℕ) (f : Entry) → slice_get records i ≡ Some f → f.handle ≡ e.handle → place ≤ i)
+    × IsRecordOf e.handle e.bytes
 
 -- the records that a list of handles and bytes holds
 abbrev pub entry_of : {Z : Type 0} → (ℕ × Vec ℕ Z) → Entry

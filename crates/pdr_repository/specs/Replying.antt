@@ -22,9 +22,12 @@ IsAskedFor c request = (h : HeaderValue) × BeginsWith h request × (h.kind ≡ 
 -- what follows the header of the answer to such a request, and the TID afterwards: a wrong length, else by the command
 abbrev pub CarriesOut : Command → ℕ → List Entry → List ℕ → List ℕ → ℕ → Type 0
 CarriesOut c tid records request reply next_tid =
-    First (length (drop 4 request) ≢ request_length c) (AnswersCode 0x03 tid reply next_tid) (AnswersData c tid records (drop 4 request) reply next_tid)
+    First (length (drop 4 request) ≢ request_length c) (AnswersCode 0x03 tid reply next_tid)
+    (AnswersData c tid records (drop 4 request) reply next_tid)
 
 -- the whole answer to such a request of this instance ID, and the TID afterwards
 abbrev pub Replies : Command → ℕ → ℕ → List Entry → List ℕ → List ℕ → ℕ → Type 0
 Replies c instance tid records request answer next_tid =
-    (reply : List ℕ) × (answer ≡ header_bytes (answer_header c (record { reserved = false; instance = instance })) ++ reply) × CarriesOut c tid records request reply next_tid
+    (reply : List ℕ)
+    × (answer ≡ header_bytes (answer_header c (record { reserved = false; instance = instance })) ++ reply)
+    × CarriesOut c tid records request reply next_tid

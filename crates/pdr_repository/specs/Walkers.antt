@@ -1,11 +1,14 @@
 -- A walker, which is fed the answers to its requests one by one.
-use Rattle.std.specs.Prelude.{◌≡◌, ◌≢◌, ◌⊎◌, ℕ, ◌+◌, ◌<◌, Bool, true, false, List, [], ◌∷◌, ◌++◌, length, sum_by, Option, Some, None, option_map, Result, Ok, Err, MatchOption, MatchResult, ◌==◌, if◌then◌else◌}
+use Rattle.std.specs.Prelude.{◌≡◌, ◌≢◌, ◌⊎◌, ℕ, ◌+◌, ◌<◌, Bool, true, false, List, [], ◌∷◌}
+use Rattle.std.specs.Prelude.{◌++◌, length, sum_by, Option, Some, None, option_map, Result}
+use Rattle.std.specs.Prelude.{Ok, Err, MatchOption, MatchResult, ◌==◌, if◌then◌else◌}
 use Rattle.mctp_transport.specs.Wire.{Spells}
 use Rattle.mctp_transport.specs.First.{First}
 use Rattle.pldm_message.specs.declared.kind.RequestKind.TheVariants.{Request}
 use Rattle.pldm_message.specs.Headers.{HeaderValue, BeginsWith}
 use Rattle.pldm_message.specs.Messages.{RequestMessage, AnswerMessage, AnswerHeadValue}
-use Rattle.pldm_message.specs.Pdrs.{PartRequest, IsPartRequest, Part, IsGetPdrAnswer, get_pdr_request_bytes, get_pdr_answer_bytes}
+use Rattle.pldm_message.specs.Pdrs.{PartRequest, IsPartRequest, Part, IsGetPdrAnswer}
+use Rattle.pldm_message.specs.Pdrs.{get_pdr_request_bytes, get_pdr_answer_bytes}
 use Rattle.pdr_repository.specs.Records.{Entry, IsLawful, bytes_by_place}
 use Rattle.pdr_repository.specs.Parts.{PartAnswer, AnswersPart}
 use Rattle.pdr_repository.specs.Answers.{Answers}
@@ -14,10 +17,13 @@ use Rattle.pdr_repository.specs.Faults.{Judges, Room}
 use Rattle.pdr_repository.specs.declared.walk_fault.Step.{Step}
 use Rattle.pdr_repository.specs.declared.walk_fault.Step.TheVariants.{More, Record, Done}
 use Rattle.pdr_repository.specs.declared.walk_fault.WalkFault.{WalkFault}
-use Rattle.pdr_repository.specs.declared.walk_fault.WalkFault.TheVariants.{FailedBefore, NotAsked, Unreadable, RecordChanged, OtherCode, TooMuch, OutOfMemory}
+use Rattle.pdr_repository.specs.declared.walk_fault.WalkFault.TheVariants.{FailedBefore, NotAsked}
+use Rattle.pdr_repository.specs.declared.walk_fault.WalkFault.TheVariants.{Unreadable, RecordChanged}
+use Rattle.pdr_repository.specs.declared.walk_fault.WalkFault.TheVariants.{OtherCode, TooMuch, OutOfMemory}
 
--- What a walker holds: its limits, the records that it has collected, the data of the record under way, the request that is due (none once it is done),
--- the instance ID under which that request is outstanding, whether it has failed, and how many answers it has taken.
+-- What a walker holds: its limits, the records that it has collected, the data of the record under way, the request
+-- that is due (none once it is done), the instance ID under which that request is outstanding, whether it has
+-- failed, and how many answers it has taken.
 pub record WalkState : Type 0 where
   pub count : ℕ
   pub max_records : ℕ
@@ -30,7 +36,13 @@ pub record WalkState : Type 0 where
   pub taken : ℕ
 
 abbrev pub room_of : WalkState → Room
-room_of w = record { max_records = w.max_records; max_bytes = w.max_bytes; records = length w.records; bytes = sum_by length w.records + length w.under_way }
+room_of w =
+    record {
+      max_records = w.max_records;
+      max_bytes = w.max_bytes;
+      records = length w.records;
+      bytes = sum_by length w.records + length w.under_way;
+    }
 
 -- before the first request
 abbrev pub fresh : ℕ → ℕ → ℕ → WalkState
@@ -46,7 +58,8 @@ fresh count max_records max_bytes = record {
   taken = 0;
 }
 
--- The walker stands for these exchanges: its records, its data under way and the request that is due are what they lead to, and it has not failed.
+-- The walker stands for these exchanges: its records, its data under way and the request that is due are
+-- what they lead to, and it has not failed.
 pub record StandsFor (w : WalkState) (xs : List Exchange) : Type 0 where
   pub collects : Collects xs w.records w.under_way
   pub due : w.due ≡ due_after w.count xs
@@ -60,7 +73,8 @@ asked_under id r = record { head = record { kind = Request; reserved = false; in
 abbrev pub Asks : WalkState → ℕ → Option (List ℕ) → WalkState → Type 0
 Asks old id request new =
     First ((old.failed ≡ true) ⊎ (old.due ≡ None)) ((request ≡ None) × (new ≡ old))
-    ((r : PartRequest) × (old.due ≡ Some r) × IsPartRequest r × (request ≡ Some (get_pdr_request_bytes (asked_under id r))) × (new ≡ record old { waiting = Some id }))
+    ((r : PartRequest) × (old.due ≡ Some r) × IsPartRequest r
+    × (request ≡ Some (get_pdr_request_bytes (asked_under id r))) × (new ≡ record old { waiting = Some id }))
 
 -- nothing changes
 abbrev pub Ignores : WalkState → WalkFault → Result Step WalkFault → WalkState → Type 0
@@ -94,13 +108,18 @@ step_after p = if p.flag == 0 then More else (if p.flag == 1 then More else (if 
 
 -- the part is taken, or memory was refused and nothing changes
 abbrev pub Proceeds : WalkState → PartRequest → Part → Result Step WalkFault → WalkState → Type 0
-Proceeds old r p result new = MatchResult result (λ step. (step ≡ step_after p) × (new ≡ state_after old r p)) (λ fault. (fault ≡ OutOfMemory) × (new ≡ old))
+Proceeds old r p result new =
+    MatchResult result (λ step. (step ≡ step_after p) × (new ≡ state_after old r p))
+    (λ fault. (fault ≡ OutOfMemory) × (new ≡ old))
 
--- what is done with the outcome of the request: a completion code, the first fault of the part, or else the part is taken
+-- what is done with the outcome of the request: a completion code, the first fault of the part, or else the part is
+-- taken
 abbrev pub TakesOutcome : WalkState → PartRequest → PartAnswer → Result Step WalkFault → WalkState → Type 0
-TakesOutcome old r (Err code) result new = First (code ≡ 0x83) (Fails old RecordChanged result new) (Fails old OtherCode result new)
+TakesOutcome old r (Err code) result new =
+    First (code ≡ 0x83) (Fails old RecordChanged result new) (Fails old OtherCode result new)
 TakesOutcome old r (Ok p) result new =
-    (fault : Option WalkFault) × Judges (room_of old) old.records old.under_way r p fault × MatchOption fault (Proceeds old r p result new) (λ f. Fails old f result new)
+    (fault : Option WalkFault) × Judges (room_of old) old.records old.under_way r p fault
+    × MatchOption fault (Proceeds old r p result new) (λ f. Fails old f result new)
 
 -- the bytes are this answer to a GetPDR request
 abbrev pub IsAnswerIn : List ℕ → AnswerMessage Part → Type 0
@@ -110,9 +129,11 @@ IsAnswerIn bytes m = Spells IsGetPdrAnswer get_pdr_answer_bytes m bytes
 abbrev pub TakesMessage : WalkState → List ℕ → Result Step WalkFault → WalkState → Type 0
 TakesMessage old bytes result new =
     First ((m : AnswerMessage Part) → ¬ IsAnswerIn bytes m) (Fails old Unreadable result new)
-    ((m : AnswerMessage Part) × (r : PartRequest) × IsAnswerIn bytes m × (old.due ≡ Some r) × TakesOutcome old r m.outcome result new)
+    ((m : AnswerMessage Part) × (r : PartRequest) × IsAnswerIn bytes m × (old.due ≡ Some r)
+    × TakesOutcome old r m.outcome result new)
 
--- What is done with bytes, in the order of the tests: failed before, nothing outstanding, no header, another instance ID; then by the message.
+-- What is done with bytes, in the order of the tests: failed before, nothing outstanding, no header,
+-- another instance ID; then by the message.
 abbrev pub Takes : WalkState → List ℕ → Result Step WalkFault → WalkState → Type 0
 Takes old bytes result new =
     First (old.failed ≡ true) (Ignores old FailedBefore result new)
@@ -122,7 +143,8 @@ Takes old bytes result new =
     × First (old.waiting ≢ Some h.instance) (Ignores old NotAsked result new)
     (TakesMessage old bytes result new))))
 
--- What the step says: the record goes on, a record is complete and another is to be asked for, or the last record is complete.
+-- What the step says: the record goes on, a record is complete and another is to be asked for, or the last record is
+-- complete.
 abbrev pub TellsStep : Step → WalkState → WalkState → Type 0
 TellsStep More old new = (new.records ≡ old.records) × (new.due ≢ None)
 TellsStep Record old new = (bytes : List ℕ) × (new.records ≡ old.records ++ bytes ∷ []) × (new.due ≢ None)
@@ -131,8 +153,10 @@ TellsStep Done old new = (bytes : List ℕ) × (new.records ≡ old.records ++ b
 abbrev pub Tells : Result Step WalkFault → WalkState → WalkState → Type 0
 Tells result old new = MatchResult result (λ step. TellsStep step old new) (λ fault. Unit {0})
 
--- these bytes are an answer of a terminus with these records to the request that is outstanding, of a walk that the walker stands for
-pub record IsDueAnswer (old : WalkState) (bytes : List ℕ) (records : List Entry) (xs : List Exchange) (x : Exchange) : Type 0 where
+-- these bytes are an answer of a terminus with these records to the request that is
+-- outstanding, of a walk that the walker stands for
+pub record IsDueAnswer (old : WalkState) (bytes : List ℕ) (records : List Entry) (xs : List Exchange)
+    (x : Exchange) : Type 0 where
   pub lawful : IsLawful records
   pub walk : Walk records old.count xs
   pub stands : StandsFor old xs
@@ -142,7 +166,8 @@ pub record IsDueAnswer (old : WalkState) (bytes : List ℕ) (records : List Entr
   pub waiting : old.waiting ≡ Some head.instance
   pub spelled : IsAnswerIn bytes (record { head = head; outcome = x.answer })
 
--- The walker stands for these exchanges, which are a walk: it has collected a beginning of the records by place, and at the last step all of them, after exactly so many exchanges.
+-- The walker stands for these exchanges, which are a walk: it has collected a beginning of the records by place, and at
+-- the last step all of them, after exactly so many exchanges.
 pub record WalksOn (records : List Entry) (xs : List Exchange) (step : Step) (new : WalkState) : Type 0 where
   pub walk : Walk records new.count xs
   pub stands : StandsFor new xs
@@ -154,12 +179,16 @@ pub record WalksOn (records : List Entry) (xs : List Exchange) (step : Step) (ne
 abbrev pub GoesOn : WalkState → List ℕ → Result Step WalkFault → WalkState → Type 0
 GoesOn old bytes result new =
     (records : List Entry) (xs : List Exchange) (x : Exchange) → IsDueAnswer old bytes records xs x
-    → MatchResult result (λ step. WalksOn records (xs ++ x ∷ []) step new) (λ fault. (fault ≡ TooMuch) ⊎ (fault ≡ OutOfMemory))
+    → MatchResult result (λ step. WalksOn records (xs ++ x ∷ []) step new)
+    (λ fault. (fault ≡ TooMuch) ⊎ (fault ≡ OutOfMemory))
 
--- The request is the one that is due in each walk that the walker stands for, and asking doesn't change which those are.
+-- The request is the one that is due in each walk that the walker stands for, and asking doesn't change which those
+-- are.
 abbrev pub AsksWhatIsDue : WalkState → ℕ → Option (List ℕ) → WalkState → Type 0
 AsksWhatIsDue old id request new =
-    (xs : List Exchange) → StandsFor old xs → (request ≡ option_map (λ r. get_pdr_request_bytes (asked_under id r)) (due_after old.count xs)) × StandsFor new xs
+    (xs : List Exchange) → StandsFor old xs
+    → (request ≡ option_map (λ r. get_pdr_request_bytes (asked_under id r)) (due_after old.count xs))
+    × StandsFor new xs
 
 -- what a terminus with these records answers to a request under this instance ID is an answer to it, under the same ID
 pub record AnswersWalker (records : List Entry) (id : ℕ) (r : PartRequest) (answer : Option (List ℕ)) : Type 0 where
@@ -172,5 +201,6 @@ pub record AnswersWalker (records : List Entry) (id : ℕ) (r : PartRequest) (an
 -- every request of a walker is answered so
 abbrev pub EveryRequestIsAnswered : Type 0
 EveryRequestIsAnswered =
-    (tid next_tid id : ℕ) (records : List Entry) (r : PartRequest) (answer : Option (List ℕ)) → IsLawful records → IsPartRequest r → id < 32
+    (tid next_tid id : ℕ) (records : List Entry) (r : PartRequest) (answer : Option (List ℕ)) → IsLawful records
+    → IsPartRequest r → id < 32
     → Answers tid records (get_pdr_request_bytes (asked_under id r)) answer next_tid → AnswersWalker records id r answer

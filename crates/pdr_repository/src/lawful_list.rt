@@ -67,8 +67,8 @@ fn are_lawful(records: &[(u32, Vec<u8>)]) -> bool
     true
 }
 
-/// Whether a terminus can be made over these records, by place: 1 to 4096 of them, their handles distinct and not 0, each
-/// record's bytes those of a record of its handle. It takes no memory.
+/// Whether a terminus can be made over these records, by place: 1 to 4096 of them, their handles distinct and not 0,
+/// each record's bytes those of a record of its handle. It takes no memory.
 pub fn is_lawful_list(records: &[(u32, Vec<u8>)]) -> bool
     ensures { IsTrue result ↔ ((length records.now ≤ 4096) × IsLawful (entries records.now)) }
 {

@@ -2,12 +2,14 @@
 ghost use Rattle.std.specs.Prelude.{◌≡◌, ◌≢◌, ◌⊎◌, ◌+◌, ◌<◌, ◌≤◌, ◌^◌, length, sum_by, map, true, false, Some, is_some};
 ghost use Rattle.pdr_repository.specs.declared.walker.due.Due.{Due};
 
+mod collected;
 mod due;
 mod judging;
 mod pieces;
 
 use crate::parts::change_of;
 use crate::walk_fault::{Step, WalkFault};
+use collected::Collected;
 use due::Due;
 use judging::{Limits, is_last, judge};
 use mctp_transport::Wire;
@@ -28,7 +30,7 @@ pub struct Walker {
     count: u16,
     max_records: usize,
     max_bytes: usize,
-    records: Vec<Vec<u8>>,
+    collected: Collected,
     /// The parts of the record under way, joined.
     under_way: Vec<u8>,
     /// How many bytes are in the records and under way.
@@ -46,7 +48,7 @@ pub struct Walker {
     ghost fewer: { taken ≤ bytes + 1 },
     ghost asked: { is_some due ≡ false → is_some waiting ≡ false },
     ghost fresh: { (d : Due) → due ≡ Some d → d.operation.value ≡ 1 → length under_way.items ≡ 0 },
-    ghost counted: { bytes ≡ sum_by length (map (λ v. v.items) records.items) + length under_way.items },
+    ghost counted: { bytes ≡ sum_by length (map (λ v. v.items) collected.records.items) + length under_way.items },
     ghost within: { bytes ≤ max_bytes },
 }
 
@@ -82,7 +84,7 @@ impl Walker {
             count,
             max_records,
             max_bytes,
-            records: Vec::new(alloc),
+            collected: Collected::new(alloc),
             under_way,
             bytes: 0,
             due: Some(Due {
@@ -151,9 +153,9 @@ impl Walker {
         requires starts { given.now.flag.value ≡ 5 → self.old.under_way.items ≡ [] }
         ensures proceeds { Proceeds (state_of self.old) (first_part self.old.count 0) (part given.now) result (state_of self.new) }
         ensures wants { OnErr result ((vec_capacity self.old.under_way < vec_len self.old.under_way + length given.now.bytes.now)
-            ⊎ (vec_capacity self.old.records ≤ vec_len self.old.records)) }
+            ⊎ (vec_capacity self.old.collected.records ≤ vec_len self.old.collected.records)) }
     {
-        if self.records.reserve(1).is_err()
+        if self.collected.reserve().is_err()
             || self.under_way.extend_from_slice(given.bytes).is_err()
         {
             return Err(WalkFault::OutOfMemory);
@@ -162,7 +164,7 @@ impl Walker {
         self.waiting = None;
         self.taken += 1;
         let bytes = mem::replace(&mut self.under_way, Vec::new(self.alloc));
-        let _ = self.records.push(bytes);
+        self.collected.push_reserved(bytes);
         if given.next_record == 0 {
             self.due = None;
             return Ok(Step::Done);
@@ -180,16 +182,15 @@ impl Walker {
     fn first_fault(&self, due: &Due, given: &PdrPart) -> Option<WalkFault>
         ensures { Judges (room_of (state_of self.now)) (state_of self.now).records (state_of self.now).under_way (request_of self.now.count due.now) (part given.now) result }
     {
-        let records = self.records.as_slice();
         let limits = Limits {
             max_records: self.max_records,
             max_bytes: self.max_bytes,
-            records: records.len(),
+            records: self.collected.records.len(),
             bytes: self.bytes,
         };
         judge(
             &limits,
-            records,
+            &self.collected,
             self.under_way.as_slice(),
             self.count,
             due,
@@ -260,14 +261,14 @@ impl Walker {
         }
     }
 
-    /// Makes room, so that the next `take` wants no memory, whatever bytes it is given: for a record more, and for as many
-    /// bytes of the record under way as are asked for. Where memory was refused, the walker stands for the same.
+    /// Makes room, so that the next `take` wants no memory, whatever bytes it is given: for a record more, and for as
+    /// many bytes of the record under way as are asked for. Where memory was refused, the walker stands for the same.
     pub fn reserve(&mut self) -> Result<(), AllocError>
         ensures state { state_of self.new ≡ state_of self.old }
         ensures room { OnOk result (HasRoom self.new) }
         ensures full { OnErr result (¬ HasRoom self.old) }
     {
-        self.records.reserve(1)?;
+        self.collected.reserve()?;
         self.under_way.reserve(usize::from(self.count))
     }
 
@@ -310,7 +311,7 @@ impl Walker {
         ensures records { map (λ v. v.items) result.now ≡ (state_of self.now).records }
         ensures collected { (xs : List Exchange) → StandsFor (state_of self.now) xs → Collects xs (map (λ v. v.items) result.now) (state_of self.now).under_way }
     {
-        self.records.as_slice()
+        self.collected.records.as_slice()
     }
 
     /// Whether the last record is complete, so that nothing is due.

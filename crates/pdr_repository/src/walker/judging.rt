@@ -1,11 +1,10 @@
 //! The tests of a part that a walker is given.
-ghost use Rattle.std.specs.Prelude.{◌≡◌, ◌≤◌, IsTrue, ◌↔◌, slice_index, map, ◌==◌};
-ghost use Rattle.std.specs.List.{list_any};
+ghost use Rattle.std.specs.Prelude.{◌≡◌, ◌≤◌, IsTrue, ◌↔◌, slice_index, map};
 ghost use Rattle.pldm_message.specs.PdrValues.{part};
-ghost use Rattle.pdr_repository.specs.Records.{handle_in};
 ghost use Rattle.pdr_repository.specs.Faults.{IsLast, HasWrongFlag, HasWrongSize, HasWrongCrc, HasWrongHandle, HasDoubledHandle, IsTooMuch, Judges};
 ghost use Rattle.pdr_repository.specs.Dues.{request_of, room};
 
+use super::collected::Collected;
 use super::due::Due;
 use super::pieces::{data_length_of, handle_of};
 use crate::crc::{crc8, crc8_after};
@@ -80,27 +79,11 @@ fn has_wrong_handle(before: &[u8], due: &Due, given: &PdrPart) -> bool
     handle == 0 || due.record_handle != 0 && handle != due.record_handle
 }
 
-/// The handle in the header of a record.
-fn handle_of_record(bytes: &[u8]) -> u32
-    ensures { result ≡ handle_in bytes.now }
-{
-    handle_of(bytes, &[])
-}
-
-/// Whether a record has this handle.
-fn has_handle(records: &[Vec<u8>], handle: u32) -> bool
-    ensures { result ≡ list_any (λ v. handle_in v.items == handle) records.now }
-{
-    records
-        .iter()
-        .any(|bytes| handle_of_record(bytes) == handle)
-}
-
 /// Whether a record of that handle was collected before.
-fn has_doubled_handle(records: &[Vec<u8>], before: &[u8], given: &PdrPart) -> bool
-    ensures { IsTrue result ↔ HasDoubledHandle (map (λ v. v.items) records.now) before.now (part given.now) }
+fn has_doubled_handle(collected: &Collected, before: &[u8], given: &PdrPart) -> bool
+    ensures { IsTrue result ↔ HasDoubledHandle (map (λ v. v.items) collected.now.records.items) before.now (part given.now) }
 {
-    is_last(given) && has_handle(records, handle_of(before, given.bytes))
+    is_last(given) && collected.has_handle(handle_of(before, given.bytes))
 }
 
 /// Whether a part passes the limits.
@@ -115,14 +98,14 @@ fn is_too_much(limits: &Limits, given: &PdrPart) -> bool
 /// The first fault of a part.
 pub(super) fn judge(
     limits: &Limits,
-    records: &[Vec<u8>],
+    collected: &Collected,
     before: &[u8],
     count: u16,
     due: &Due,
     given: &PdrPart,
 ) -> Option<WalkFault>
     requires { limits.now.bytes ≤ limits.now.max_bytes }
-    ensures { Judges (room limits.now) (map (λ v. v.items) records.now) before.now (request_of count due.now) (part given.now) result }
+    ensures { Judges (room limits.now) (map (λ v. v.items) collected.now.records.items) before.now (request_of count due.now) (part given.now) result }
 {
     if has_wrong_flag(due, given) {
         return Some(WalkFault::WrongFlag);
@@ -136,7 +119,7 @@ pub(super) fn judge(
     if has_wrong_handle(before, due, given) {
         return Some(WalkFault::WrongHandle);
     }
-    if has_doubled_handle(records, before, given) {
+    if has_doubled_handle(collected, before, given) {
         return Some(WalkFault::DoubledHandle);
     }
     if is_too_much(limits, given) {
