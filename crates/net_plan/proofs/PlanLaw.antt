@@ -1,5 +1,5 @@
 -- What is read of a plan is what the relation tells.
-use Rattle.std.proofs.Common.{◌≡◌, ◌≢◌, ℕ, zero, suc, unwrap_or, ◌<◌, ◌≤◌, List, [], ◌∷◌, length, Bool, true, false, nat_le, nat_lt, ◌&&◌, Some, None, Result, Ok, Err, refl, sym, ap, ◌∙◌, subst, cond, true≢false, codes, slice_get, arith}
+use Rattle.std.proofs.Common.{◌≡◌, ◌≢◌, ℕ, zero, suc, unwrap_or, ◌<◌, ◌≤◌, List, [], ◌∷◌, length, Bool, true, false, nat_le, nat_lt, ◌&&◌, Some, None, Result, Ok, Err, refl, sym, ap, ◌∙◌, subst, cond, true≢false, codes, slice_get, is_ok, arith}
 use Rattle.std.proofs.lemmas.Bool.{leb-true, le-leb, ltb-true, lt-ltb}
 use Rattle.std.proofs.lemmas.List.{length-map}
 use Rattle.std.proofs.lemmas.Slice.Eq.{bytes_eq-Decides}
@@ -8,20 +8,22 @@ use Rattle.std.specs.Str.{bytes_eq}
 use Rattle.hex.specs.Hex.{decode_of}
 use Rattle.hex.specs.declared.error.FromHexError.{FromHexError}
 use Rattle.serde_json.specs.Data.{Data, null, boolean, number, string, array, object, Items, no_items, item}
-use Rattle.net_plan.specs.Json.{each, items_count, keyed, at_key, list_within, optional, demand, name_text, reference, whole_number, hex_text, address_text, decoded}
-use Rattle.net_plan.specs.JsonWords.{At, IsShortListOf, IsOptional, IsNumber, IsNumberWithin, IsName, IsHex, IsAddress, IsPlace, IsFirstOf, AreItems}
+use Rattle.net_plan.specs.Json.{each, items_count, keyed, at_key, list_within, optional, demand, name_text, reference, whole_number, hex_text, address_text, decoded, found}
+use Rattle.net_plan.specs.JsonWords.{HasKeys, At, IsShortListOf, IsOptional, IsNumber, IsNumberWithin, IsName, IsHex, IsAddress, IsPlace, IsFirstOf, AreItems}
 use Rattle.net_plan.specs.NameText.{is_name}
 use Rattle.net_plan.specs.Names.{place_of, place_among, names_differ, text_found, text_at, each_text_at, texts_at}
 use Rattle.net_plan.specs.Keys.{plan_keys, bus_keys, port_keys, row_keys, pool_keys, record_keys, terminus_keys, node_keys}
 use Rattle.net_plan.specs.Placed.{is_port_placed, is_row_placed, is_owner_placed, is_node_placed, are_placed}
-use Rattle.net_plan.specs.PlanReading.{byte, word, bus, port, row, pool, repository_record, terminus, kind_text, node, nodes_among, plan}
-use Rattle.net_plan.specs.PlanText.{IsBusOf, IsPortOf, IsRowOf, IsPoolOf, IsRecordOf, IsTerminusOf, IsKindOf, IsNodeOf, IsPlanOf}
+use Rattle.net_plan.specs.PlanReading.{byte, word, bus, port, row, pool, repository_record, terminus, kind_text, node, nodes_among, unit_by, unit, plan}
+use Rattle.net_plan.specs.PlanText.{IsBusOf, IsPortOf, IsRowOf, IsPoolOf, IsRecordOf, IsTerminusOf, IsKindOf, IsNodeOf, IsPlanFormat, IsUnitOf, IsPlanOf}
 use Rattle.net_plan.specs.PlanValues.{BusValue, PortValue, RowValue, PoolValue, RecordValue, TerminusValue, NodeValue, PlanValue, bus_names, node_names}
 use Rattle.net_plan.specs.Reading.{then_with}
 use Rattle.net_plan.specs.declared.error.Fault.{Fault}
 use Rattle.net_plan.specs.declared.error.Fault.TheVariants.{OutOfRange, OverLimit, UnknownName, Doubled}
 use Rattle.net_plan.specs.declared.nodes.Kind.{Kind}
 use Rattle.net_plan.specs.declared.nodes.Kind.TheVariants.{Bridge, Endpoint}
+use Rattle.net_plan.specs.declared.plan_format.PlanFormat.{PlanFormat}
+use Rattle.net_plan.specs.declared.plan_format.PlanFormat.TheVariants.{One, Two}
 use Rattle.net_plan.proofs.Differing.{differ_sound, differ_whole}
 use Rattle.net_plan.proofs.KeysLaw.{keys_sound, keys_whole}
 use Rattle.net_plan.proofs.Names.{place_among-of, place_within}
@@ -431,29 +433,69 @@ module _ (buses : List (List ℕ)) where
 buses_at : Tells (at_key (codes "buses") (list_within 64 bus)) any (At (codes "buses") (IsShortListOf 64 IsBusOf))
 buses_at = at_key_tells (codes "buses") (list_within 64 bus) any (IsShortListOf 64 IsBusOf) (within_any_tells bus IsBusOf bus_tells 64)
 
+numbered_sound : (k : ℕ) (d : Data) (n : ℕ) → at_key (codes "format") (whole_number k k) d ≡ Ok n → At (codes "format") IsNumber d k
+numbered_sound k d n e =
+    let h = (number_at (codes "format") k k).sound d n e refl in
+    let low : k ≤ n = h.2.1 in
+    let high : n ≤ k = h.2.2 in
+    let same : n ≡ k = omega arith in
+    (h.0, h.1, subst (IsNumber h.0) same h.2.0)
+
+numbered_whole : (k : ℕ) (d : Data) → At (codes "format") IsNumber d k → at_key (codes "format") (whole_number k k) d ≡ Ok k
+numbered_whole k d h = (number_at (codes "format") k k).whole d k (h.0, h.1, (h.2, omega arith, omega arith))
+
 pub format_sound : (d : Data) (n : ℕ) → at_key (codes "format") (whole_number 1 1) d ≡ Ok n → At (codes "format") IsNumber d 1
-format_sound d n e =
-    let h = (number_at (codes "format") 1 1).sound d n e refl in
-    let low : 1 ≤ n = h.2.1 in
-    let high : n ≤ 1 = h.2.2 in
-    let one : n ≡ 1 = omega arith in
-    (h.0, h.1, subst (IsNumber h.0) one h.2.0)
+format_sound d n e = numbered_sound 1 d n e
 
 pub format_whole : (d : Data) → At (codes "format") IsNumber d 1 → at_key (codes "format") (whole_number 1 1) d ≡ Ok 1
-format_whole d h = (number_at (codes "format") 1 1).whole d 1 (h.0, h.1, (h.2, omega arith, omega arith))
+format_whole d h = numbered_whole 1 d h
+
+-- the format is this one, and with it the keys and the unit
+pub record HasUnit (d : Data) (u : ℕ) (format : PlanFormat) : Type 0 where
+  pub numbered : At (codes "format") IsPlanFormat d format
+  pub keys : HasKeys (plan_keys format) d
+  pub unit : IsUnitOf format d u
+
+unit_at : Tells (at_key (codes "unit") (whole_number 64 1024)) any (At (codes "unit") (IsNumberWithin 64 1024))
+unit_at = number_at (codes "unit") 64 1024
+
+unit_sound : (d : Data) (u : ℕ) → unit d ≡ Ok u → (f : PlanFormat) × HasUnit d u f
+unit_sound d u e = by (at_key (codes "format") (whole_number 2 2) d) refl e
+  where
+    by : (r : Result ℕ Fault) → at_key (codes "format") (whole_number 2 2) d ≡ r → unit_by (cond (is_ok r) Two One) d ≡ Ok u → (f : PlanFormat) × HasUnit d u f
+    by (Ok n) is e =
+        let k = then_Ok (keyed (plan_keys Two) d) (λ _. at_key (codes "unit") (whole_number 64 1024) d) u e in
+        (Two, record { numbered = numbered_sound 2 d n is; keys = keys_sound (plan_keys Two) d k.0 k.1; unit = unit_at.sound d u k.2 refl })
+    by (Err fault) is e =
+        let k = then_Ok (keyed (plan_keys One) d) (λ _. then_with (at_key (codes "format") (whole_number 1 1) d) (λ _. Ok 64)) u e in
+        let f = then_Ok (at_key (codes "format") (whole_number 1 1) d) (λ _. Ok 64) u k.2 in
+        (One, record { numbered = numbered_sound 1 d f.0 f.1; keys = keys_sound (plan_keys One) d k.0 k.1; unit = sym (same_Ok f.2) })
+
+-- a plan of format 1 does not say format 2
+not_two : (d : Data) → At (codes "format") IsNumber d 1 → at_key (codes "format") (whole_number 2 2) d ≡ Err OutOfRange
+not_two d h = ap (λ o. then_with (found o) (whole_number 2 2)) h.1 ∙ ap (whole_number 2 2) h.2
+
+unit_whole : (d : Data) (u : ℕ) (f : PlanFormat) → HasUnit d u f → unit d ≡ Ok u
+unit_whole d u One h = ap (λ r. unit_by (cond (is_ok r) Two One) d) (not_two d h.numbered)
+    ∙ ap (λ r. then_with r (λ _. then_with (at_key (codes "format") (whole_number 1 1) d) (λ _. Ok 64))) (keys_whole (plan_keys One) d h.keys)
+    ∙ ap (λ r. then_with r (λ _. Ok 64)) (numbered_whole 1 d h.numbered) ∙ ap Ok (sym h.unit)
+unit_whole d u Two h = ap (λ r. unit_by (cond (is_ok r) Two One) d) (numbered_whole 2 d h.numbered)
+    ∙ ap (λ r. then_with r (λ _. at_key (codes "unit") (whole_number 64 1024) d)) (keys_whole (plan_keys Two) d h.keys) ∙ unit_at.whole d u h.unit
 
 plan_sound : (d : Data) (v : PlanValue) → plan d ≡ Ok v → IsPlanOf d v
 plan_sound d v e =
-    let k = then_Ok (keyed plan_keys d) _ v e in
-    let f = then_Ok (at_key (codes "format") (whole_number 1 1) d) _ v k.2 in
-    let b = then_Ok (at_key (codes "buses") (list_within 64 bus) d) _ v f.2 in
+    let m = then_Ok (unit d) _ v e in
+    let f = unit_sound d m.0 m.1 in
+    let b = then_Ok (at_key (codes "buses") (list_within 64 bus) d) _ v m.2 in
     let n = then_Ok (at_key (codes "nodes") (nodes_among (bus_names b.0)) d) _ v b.2 in
     let u = then_Ok (demand Doubled (names_differ (bus_names b.0))) _ v n.2 in
     let p = then_Ok (demand UnknownName (are_placed (length b.0) n.0)) _ v u.2 in
     let placed : are_placed (length (bus_names b.0)) n.0 ≡ true = ap (λ count. are_placed count n.0) (length-map b.0 (λ b. b.name)) ∙ demanded UnknownName (are_placed (length b.0) n.0) p.0 p.1 in
     subst (IsPlanOf d) (same_Ok p.2) (record {
-      keys = keys_sound plan_keys d k.0 k.1;
-      format = format_sound d f.0 f.1;
+      format = f.0;
+      numbered = f.1.numbered;
+      keys = f.1.keys;
+      unit = f.1.unit;
       buses = buses_at.sound d b.0 b.1 refl;
       names = differ_sound (bus_names b.0) (demanded Doubled (names_differ (bus_names b.0)) u.0 u.1);
       nodes = (nodes_at (bus_names b.0)).sound d n.0 n.1 placed;
@@ -465,7 +507,8 @@ plan_whole d v h =
     let n = (nodes_at (bus_names v.buses)).whole d v.nodes h.nodes in
     let u = differ_whole (bus_names v.buses) h.names in
     let placed : are_placed (length v.buses) v.nodes ≡ true = ap (λ count. are_placed count v.nodes) (sym (length-map v.buses (λ b. b.name))) ∙ (nodes_at (bus_names v.buses)).passes d v.nodes h.nodes in
-    rw (keys_whole plan_keys d h.keys, format_whole d h.format, b, n, u, placed) refl
+    let m = unit_whole d v.unit h.format (record { numbered = h.numbered; keys = h.keys; unit = h.unit }) in
+    rw (m, b, n, u, placed) refl
 
 pub plan_tells : Tells plan any IsPlanOf
 plan_tells = record { sound = λ d v e pass. plan_sound d v e; whole = plan_whole; passes = λ d v h. refl }

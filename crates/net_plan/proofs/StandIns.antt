@@ -16,11 +16,11 @@ use Rattle.serde_json.specs.Data.{Data}
 use Rattle.serde_json.specs.Find as find
 use Rattle.serde_json.specs.Find.{get}
 use Rattle.net_plan.specs.Gathered.{with_last, IsPlain, EachIs}
-use Rattle.net_plan.specs.JsonWords.{HasKeys, At, AreItems, IsShortListOf, IsOptional, IsNumber, IsName, IsPlace}
+use Rattle.net_plan.specs.JsonWords.{HasKeys, At, AreItems, IsShortListOf, IsOptional, IsNumberWithin, IsName, IsPlace}
 use Rattle.net_plan.specs.Keys.{node_keys, plan_keys}
 use Rattle.net_plan.specs.NodeValues.{NodeValue, TerminusValue, node_value, terminus_value, bus_names, node_names}
 use Rattle.net_plan.specs.Names.{names_differ, place_among}
-use Rattle.net_plan.specs.PlanText.{IsByte, IsBusOf, IsPortOf, IsRowOf, IsPoolOf, IsTerminusOf, IsKindOf, IsNodeOf, IsPlanOf}
+use Rattle.net_plan.specs.PlanText.{IsByte, IsBusOf, IsPortOf, IsRowOf, IsPoolOf, IsTerminusOf, IsKindOf, IsNodeOf, IsPlanFormat, IsUnitOf, IsPlanOf}
 use Rattle.net_plan.specs.PlanValues.{PlanValue}
 use Rattle.net_plan.specs.SingleKeys.{single, items_single, members_single}
 use Rattle.net_plan.specs.Skeleton.{IsStandIn, AreStandIns, IsCutTerminus, IsCutRows, IsCutNodes, IsNodeSkeleton, CutValue, cut_value, placed_value, found_row, found_value, with_part, with_parts}
@@ -28,6 +28,8 @@ use Rattle.net_plan.specs.RowParts.{NamedRowValue, IsNamedRowOf, named_row}
 use Rattle.net_plan.specs.Placed.{is_owner_placed, is_port_placed, is_row_placed, is_node_placed, are_placed}
 use Rattle.net_plan.specs.Trees.{Tree, view, items_view, data_of, items_of, members_of, fits, items_fit, members_fit}
 use Rattle.net_plan.specs.declared.nodes.Node.{Node}
+use Rattle.net_plan.specs.declared.plan_format.PlanFormat.{PlanFormat}
+use Rattle.net_plan.specs.declared.plan_format.PlanFormat.TheVariants.{One, Two}
 use Rattle.net_plan.specs.declared.row_parts.NamedRow.{NamedRow}
 use Rattle.net_plan.specs.declared.skeleton.CutParts.{CutParts}
 use Rattle.net_plan.specs.declared.skeleton.NodeSkeleton.{NodeSkeleton}
@@ -263,14 +265,20 @@ list_full buses b cs vs j l h pass is =
     let renamed = subst (λ ns. AreItems (IsNodeOf buses ns) (items_of js) all) (sym named) read in
     subst (λ us. AreNodes buses (data_of j) (all_filled vs us)) (sym h.3) ((items_of js, ap data_of h.1.1, renamed), subst (λ n. n ≤ 64) (sym count) is.1)
 
+unit_full : (u : ℕ) (cs : Option (List CutValue)) (ms ls : Members) → AreStandIns (codes "nodes") (IsCutNodes cs) ms ls → (f : PlanFormat) → IsUnitOf f (data_of (object ls)) u → IsUnitOf f (data_of (object ms)) u
+unit_full u cs ms ls h One is = is
+unit_full u cs ms ls h Two is = at_same (codes "nodes") (IsCutNodes cs) ms ls h (codes "unit") (IsNumberWithin 64 1024) u refl is
+
 pub plan_full : (v : PlanValue) (b : ℕ) (cs : List CutValue) (ms ls : Members) → AreStandIns (codes "nodes") (IsCutNodes (Some cs)) ms ls → are_placed b (all_filled v.nodes cs) ≡ true → IsPlanOf (data_of (object ls)) v
-    → IsPlanOf (data_of (object ms)) (record { buses = v.buses; nodes = all_filled v.nodes cs })
+    → IsPlanOf (data_of (object ms)) (record { unit = v.unit; buses = v.buses; nodes = all_filled v.nodes cs })
 plan_full v b cs ms ls h pass is =
     let cut = codes "nodes" in
     let R = IsCutNodes (Some cs) in
     record {
-      keys = keys_full cut R ms ls h plan_keys is.keys;
-      format = at_same cut R ms ls h (codes "format") IsNumber 1 refl is.format;
+      format = is.format;
+      numbered = at_same cut R ms ls h (codes "format") IsPlanFormat is.format refl is.numbered;
+      keys = keys_full cut R ms ls h (plan_keys is.format) is.keys;
+      unit = unit_full v.unit (Some cs) ms ls h is.format is.unit;
       buses = at_same cut R ms ls h (codes "buses") (IsShortListOf 64 IsBusOf) v.buses refl is.buses;
       names = is.names;
       nodes = at_cut cut R ms ls h (AreNodes (bus_names v.buses)) (AreNodes (bus_names v.buses)) v.nodes (all_filled v.nodes cs) (λ j l r p. list_full (bus_names v.buses) b cs v.nodes j l r pass p) is.nodes;

@@ -12,21 +12,28 @@ use Rattle.net_plan.specs.declared.error.Fault.{Fault}
 use Rattle.net_plan.specs.declared.error.Fault.TheVariants.{OutOfRange, UnknownName, Doubled}
 
 abbrev pub level : (List ℕ → ℕ) → Data → Result LevelValue Fault
-level find d = then_with (keyed level_keys d) (λ _. then_with (at_key (codes "level") (whole_number 1 63) d) (λ l. then_with (at_key (codes "node") (reference find) d) (λ n.
-    Ok (record { level = l; node = n }))))
+level find d =
+    then_with (keyed level_keys d) (λ _.
+    then_with (at_key (codes "level") (whole_number 1 63) d) (λ l.
+    then_with (at_key (codes "node") (reference find) d) (λ n. Ok (record { level = l; node = n }))))
 
 abbrev pub node_places : (List ℕ → ℕ) → Data → Result PlacesValue Fault
 node_places find d = then_with (keyed places_keys d) (λ _. then_with (at_key (codes "node") (reference find) d) (λ n.
     then_with (at_key (codes "places") (all_of (whole_number 0 4095)) d) (λ ps. Ok (record { node = n; places = ps }))))
 
 abbrev pub range : Data → Result RangeValue Fault
-range d = then_with (keyed range_keys d) (λ _. then_with (at_key (codes "first") byte d) (λ f. then_with (at_key (codes "rank") (whole_number 1 255) d) (λ r.
-    then_with (at_key (codes "size") (whole_number 1 255) d) (λ s. then_with (demand OutOfRange (nat_le (f + s) 256)) (λ _.
-    Ok (record { first = f; rank = r; size = s }))))))
+range d =
+    then_with (keyed range_keys d) (λ _.
+    then_with (at_key (codes "first") byte d) (λ f.
+    then_with (at_key (codes "rank") (whole_number 1 255) d) (λ r.
+    then_with (at_key (codes "size") (whole_number 1 255) d) (λ s.
+    then_with (demand OutOfRange (nat_le (f + s) 256)) (λ _. Ok (record { first = f; rank = r; size = s }))))))
 
 abbrev pub node_ranks : (List ℕ → ℕ) → Data → Result NodeRanksValue Fault
-node_ranks find d = then_with (keyed ranks_keys d) (λ _. then_with (at_key (codes "node") (reference find) d) (λ n. then_with (at_key (codes "ranges") (all_of range) d) (λ rs.
-    Ok (record { node = n; ranges = rs }))))
+node_ranks find d =
+    then_with (keyed ranks_keys d) (λ _.
+    then_with (at_key (codes "node") (reference find) d) (λ n.
+    then_with (at_key (codes "ranges") (all_of range) d) (λ rs. Ok (record { node = n; ranges = rs }))))
 
 -- no two entries of a list name one node
 abbrev pub nodes_differ : Data → Result ⊤ Fault
@@ -39,18 +46,29 @@ ascends end (r ∷ rs) = nat_le end r.first && ascends (r.first + r.size) rs
 
 -- all entries are of one of so many nodes
 abbrev pub are_known : ℕ → CertificateValue → Bool
-are_known nodes c = list_all (λ l. nat_lt l.node nodes) c.levels && (list_all (λ p. nat_lt p.node nodes) c.places && list_all (λ r. nat_lt r.node nodes) c.ranks)
+are_known nodes c =
+    list_all (λ l. nat_lt l.node nodes) c.levels
+    && (list_all (λ p. nat_lt p.node nodes) c.places && list_all (λ r. nat_lt r.node nodes) c.ranks)
 
 -- the three lists, by what finds the places of nodes
 unfoldable pub entries : (List ℕ → ℕ) → Data → Result CertificateValue Fault
-entries find d = then_with (at_key (codes "levels") (all_of (level find)) d) (λ ls. then_with (at_key (codes "places") (all_of (node_places find)) d) (λ ps.
-    then_with (at_key (codes "ranks") (all_of (node_ranks find)) d) (λ rs. Ok (record { levels = ls; places = ps; ranks = rs }))))
+entries find d =
+    then_with (at_key (codes "levels") (all_of (level find)) d) (λ ls.
+    then_with (at_key (codes "places") (all_of (node_places find)) d) (λ ps.
+    then_with (at_key (codes "ranks") (all_of (node_ranks find)) d) (λ rs.
+    Ok (record { levels = ls; places = ps; ranks = rs }))))
 
 -- no list names a node twice
 unfoldable pub entries_differ : Data → Result ⊤ Fault
-entries_differ d = then_with (at_key (codes "levels") nodes_differ d) (λ _. then_with (at_key (codes "places") nodes_differ d) (λ _. at_key (codes "ranks") nodes_differ d))
+entries_differ d =
+    then_with (at_key (codes "levels") nodes_differ d) (λ _.
+    then_with (at_key (codes "places") nodes_differ d) (λ _. at_key (codes "ranks") nodes_differ d))
 
 abbrev pub certificate : List (List ℕ) → Data → Result CertificateValue Fault
-certificate nodes d = then_with (keyed certificate_keys d) (λ _. then_with (at_key (codes "format") (whole_number 1 1) d) (λ _. then_with (entries (place_among nodes) d) (λ c.
-    then_with (entries_differ d) (λ _. then_with (demand Doubled (list_all (λ r. ascends 0 r.ranges) c.ranks)) (λ _.
+certificate nodes d =
+    then_with (keyed certificate_keys d) (λ _.
+    then_with (at_key (codes "format") (whole_number 1 1) d) (λ _.
+    then_with (entries (place_among nodes) d) (λ c.
+    then_with (entries_differ d) (λ _.
+    then_with (demand Doubled (list_all (λ r. ascends 0 r.ranges) c.ranks)) (λ _.
     then_with (demand UnknownName (are_known (length nodes) c)) (λ _. Ok c))))))

@@ -45,4 +45,9 @@ abbrev pub node_ranks_value : NodeRanks → NodeRanksValue
 node_ranks_value r = record { node = r.node; ranges = map range_value r.ranges.items }
 
 abbrev pub certificate_value : Certificate → CertificateValue
-certificate_value c = record { levels = map level_value c.levels.items; places = map places_value c.places.items; ranks = map node_ranks_value c.ranks.items }
+certificate_value c =
+    record {
+      levels = map level_value c.levels.items;
+      places = map places_value c.places.items;
+      ranks = map node_ranks_value c.ranks.items;
+    }

@@ -14,7 +14,9 @@ use Rattle.net_plan.specs.declared.event_text.Format.TheVariants.{Three}
 
 -- the keys of all events
 abbrev pub event_keys : List (List ℕ)
-event_keys = codes "do" ∷ codes "node" ∷ codes "bytes" ∷ codes "flight" ∷ codes "keep" ∷ codes "source" ∷ codes "tag" ∷ codes "owner" ∷ codes "eid" ∷ codes "count" ∷ codes "walker" ∷ []
+event_keys =
+    codes "do" ∷ codes "node" ∷ codes "bytes" ∷ codes "flight" ∷ codes "keep" ∷ codes "source" ∷ codes "tag"
+    ∷ codes "owner" ∷ codes "eid" ∷ codes "count" ∷ codes "walker" ∷ []
 
 -- a text, and what it is
 abbrev pub IsWritten : Data → List ℕ → Type 0
@@ -40,7 +42,9 @@ given o = if is_some o then 1 else 0
 
 -- how many keys were read beside `do`
 abbrev pub keys_given : EventParts → ℕ
-keys_given p = given p.node + given p.bytes + given p.flight + given p.keep + given p.source + given p.tag + given p.owner + given p.eid + given p.count + given p.walker
+keys_given p =
+    given p.node + given p.bytes + given p.flight + given p.keep + given p.source + given p.tag + given p.owner
+    + given p.eid + given p.count + given p.walker
 
 -- an event of format 3 at the nodes whose places are found
 abbrev pub IsEventBy : (List ℕ → Option ℕ) → Data → EventEntry → Type 0
@@ -48,4 +52,6 @@ IsEventBy find d e = (names : List (List ℕ)) → ArePlaces find names → IsEv
 
 -- an object of these parts, where this word stands at `do`, is this event
 abbrev pub IsMadeOf : List ℕ → (List ℕ → Option ℕ) → EventParts → EventEntry → Type 0
-IsMadeOf word find p e = (ms : Members) → AreEventParts p ms → IsGathered (codes "do") IsWritten (Some word) ms → IsEventBy find (data_of (object ms)) e × IsPlain (object ms)
+IsMadeOf word find p e =
+    (ms : Members) → AreEventParts p ms → IsGathered (codes "do") IsWritten (Some word) ms
+    → IsEventBy find (data_of (object ms)) e × IsPlain (object ms)

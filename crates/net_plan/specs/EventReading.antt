@@ -3,9 +3,12 @@ use Rattle.std.specs.Prelude.{ℕ, ◌==◌, codes, List, length, Bool, true, fa
 use Rattle.std.specs.List.{list_all}
 use Rattle.std.specs.Str.{bytes_eq}
 use Rattle.serde_json.specs.Data.{Data, string}
-use Rattle.net_plan.specs.EventValues.{EventEntry, put, move, lose, expire, answer, switch, walk, ask, collected, is_known_event}
-use Rattle.net_plan.specs.Json.{keyed, some_object, at_key, list_within, demand, reference, whole_number, truth, hex_text}
-use Rattle.net_plan.specs.Keys.{events_keys, put_keys, move_keys, lose_keys, expire_keys, answer_keys, switch_keys, walk_keys, ask_keys, collected_keys}
+use Rattle.net_plan.specs.EventValues.{EventEntry, put, move, lose, expire, answer}
+use Rattle.net_plan.specs.EventValues.{switch, walk, ask, collected, is_known_event}
+use Rattle.net_plan.specs.Json.{keyed, some_object, at_key, list_within, demand}
+use Rattle.net_plan.specs.Json.{reference, whole_number, truth, hex_text}
+use Rattle.net_plan.specs.Keys.{events_keys, put_keys, move_keys, lose_keys, expire_keys}
+use Rattle.net_plan.specs.Keys.{answer_keys, switch_keys, walk_keys, ask_keys, collected_keys}
 use Rattle.net_plan.specs.Names.{place_among}
 use Rattle.net_plan.specs.PlanReading.{byte, word}
 use Rattle.net_plan.specs.Reading.{then_with}
@@ -14,7 +17,8 @@ use Rattle.net_plan.specs.declared.error.Fault.TheVariants.{WrongKind, OutOfRang
 use Rattle.net_plan.specs.declared.event_text.Format.{Format}
 use Rattle.net_plan.specs.declared.event_text.Format.TheVariants.{One, Two, Three}
 use Rattle.net_plan.specs.declared.event_text.Verb.{Verb}
-use Rattle.net_plan.specs.declared.event_text.Verb.TheVariants.{Put, Move, Lose, Expire, Answer, Switch, Walk, Ask, Collected}
+use Rattle.net_plan.specs.declared.event_text.Verb.TheVariants.{Put, Move, Lose, Expire, Answer}
+use Rattle.net_plan.specs.declared.event_text.Verb.TheVariants.{Switch, Walk, Ask, Collected}
 
 -- the format that has this number
 abbrev pub format_of : ℕ → Format
@@ -48,10 +52,16 @@ abbrev pub verb_in : Format → Verb → Result Verb Fault
 verb_in f v = if is_in f v then Ok v else Err OutOfRange
 
 abbrev pub verb_of : List ℕ → Result Verb Fault
-verb_of s = if bytes_eq s (codes "put") then Ok Put else (if bytes_eq s (codes "move") then Ok Move else (if bytes_eq s (codes "lose") then Ok Lose
-    else (if bytes_eq s (codes "expire") then Ok Expire else (if bytes_eq s (codes "answer") then Ok Answer else (if bytes_eq s (codes "switch") then Ok Switch
-    else (if bytes_eq s (codes "walk") then Ok Walk else (if bytes_eq s (codes "ask") then Ok Ask else (if bytes_eq s (codes "collected") then Ok Collected
-    else Err OutOfRange))))))))
+verb_of s =
+    if bytes_eq s (codes "put") then Ok Put
+    else (if bytes_eq s (codes "move") then Ok Move
+    else (if bytes_eq s (codes "lose") then Ok Lose
+    else (if bytes_eq s (codes "expire") then Ok Expire
+    else (if bytes_eq s (codes "answer") then Ok Answer
+    else (if bytes_eq s (codes "switch") then Ok Switch
+    else (if bytes_eq s (codes "walk") then Ok Walk
+    else (if bytes_eq s (codes "ask") then Ok Ask
+    else (if bytes_eq s (codes "collected") then Ok Collected else Err OutOfRange))))))))
 
 -- what happens; a word that the format does not have is like any other unknown word
 abbrev pub verb : Format → Data → Result Verb Fault
@@ -59,33 +69,53 @@ verb f (string s) = then_with (verb_of s) (verb_in f)
 verb f _ = Err WrongKind
 
 abbrev pub put_event : (List ℕ → ℕ) → Data → Result EventEntry Fault
-put_event find d = then_with (keyed put_keys d) (λ _. then_with (at_key (codes "node") (reference find) d) (λ n. then_with (at_key (codes "bytes") hex_text d) (λ b. Ok (put n b))))
+put_event find d =
+    then_with (keyed put_keys d) (λ _.
+    then_with (at_key (codes "node") (reference find) d) (λ n.
+    then_with (at_key (codes "bytes") hex_text d) (λ b. Ok (put n b))))
 
 abbrev pub move_event : Data → Result EventEntry Fault
-move_event d = then_with (keyed move_keys d) (λ _. then_with (at_key (codes "flight") word d) (λ f. then_with (at_key (codes "keep") truth d) (λ k. Ok (move f k))))
+move_event d =
+    then_with (keyed move_keys d) (λ _.
+    then_with (at_key (codes "flight") word d) (λ f.
+    then_with (at_key (codes "keep") truth d) (λ k. Ok (move f k))))
 
 abbrev pub lose_event : Data → Result EventEntry Fault
 lose_event d = then_with (keyed lose_keys d) (λ _. then_with (at_key (codes "flight") word d) (λ f. Ok (lose f)))
 
 abbrev pub expire_event : (List ℕ → ℕ) → Data → Result EventEntry Fault
-expire_event find d = then_with (keyed expire_keys d) (λ _. then_with (at_key (codes "node") (reference find) d) (λ n. then_with (at_key (codes "source") byte d) (λ s.
-    then_with (at_key (codes "tag") (whole_number 0 7) d) (λ t. then_with (at_key (codes "owner") (whole_number 0 1) d) (λ o. Ok (expire n s t (o == 1)))))))
+expire_event find d =
+    then_with (keyed expire_keys d) (λ _.
+    then_with (at_key (codes "node") (reference find) d) (λ n.
+    then_with (at_key (codes "source") byte d) (λ s.
+    then_with (at_key (codes "tag") (whole_number 0 7) d) (λ t.
+    then_with (at_key (codes "owner") (whole_number 0 1) d) (λ o. Ok (expire n s t (o == 1)))))))
 
 abbrev pub answer_event : (List ℕ → ℕ) → Data → Result EventEntry Fault
-answer_event find d = then_with (keyed answer_keys d) (λ _. then_with (at_key (codes "node") (reference find) d) (λ n. Ok (answer n)))
+answer_event find d =
+    then_with (keyed answer_keys d) (λ _.
+    then_with (at_key (codes "node") (reference find) d) (λ n. Ok (answer n)))
 
 abbrev pub switch_event : (List ℕ → ℕ) → Data → Result EventEntry Fault
-switch_event find d = then_with (keyed switch_keys d) (λ _. then_with (at_key (codes "node") (reference find) d) (λ n. Ok (switch n)))
+switch_event find d =
+    then_with (keyed switch_keys d) (λ _.
+    then_with (at_key (codes "node") (reference find) d) (λ n. Ok (switch n)))
 
 abbrev pub walk_event : (List ℕ → ℕ) → Data → Result EventEntry Fault
-walk_event find d = then_with (keyed walk_keys d) (λ _. then_with (at_key (codes "node") (reference find) d) (λ n. then_with (at_key (codes "eid") (whole_number 8 254) d) (λ e.
-    then_with (at_key (codes "tag") (whole_number 0 7) d) (λ t. then_with (at_key (codes "count") (whole_number 8 4079) d) (λ c. Ok (walk n e t c))))))
+walk_event find d =
+    then_with (keyed walk_keys d) (λ _.
+    then_with (at_key (codes "node") (reference find) d) (λ n.
+    then_with (at_key (codes "eid") (whole_number 8 254) d) (λ e.
+    then_with (at_key (codes "tag") (whole_number 0 7) d) (λ t.
+    then_with (at_key (codes "count") (whole_number 8 4079) d) (λ c. Ok (walk n e t c))))))
 
 abbrev pub ask_event : Data → Result EventEntry Fault
 ask_event d = then_with (keyed ask_keys d) (λ _. then_with (at_key (codes "walker") word d) (λ w. Ok (ask w)))
 
 abbrev pub collected_event : Data → Result EventEntry Fault
-collected_event d = then_with (keyed collected_keys d) (λ _. then_with (at_key (codes "walker") word d) (λ w. Ok (collected w)))
+collected_event d =
+    then_with (keyed collected_keys d) (λ _.
+    then_with (at_key (codes "walker") word d) (λ w. Ok (collected w)))
 
 abbrev pub event_of : Verb → (List ℕ → ℕ) → Data → Result EventEntry Fault
 event_of Put find d = put_event find d

@@ -2,8 +2,10 @@
 use Rattle.std.specs.Prelude.{ℕ, ◌≡◌, ◌≢◌, Bool, true, false, codes, List}
 use Rattle.serde_json.specs.Data.{Data}
 use Rattle.net_plan.specs.EventValues.{EventEntry, put, move, lose, expire, answer, switch, walk, ask, collected}
-use Rattle.net_plan.specs.JsonWords.{HasKeys, At, IsShortListOf, IsNumber, IsNumberWithin, IsTruth, IsText, IsHex, IsPlace}
-use Rattle.net_plan.specs.Keys.{events_keys, put_keys, move_keys, lose_keys, expire_keys, answer_keys, switch_keys, walk_keys, ask_keys, collected_keys}
+use Rattle.net_plan.specs.JsonWords.{HasKeys, At, IsShortListOf, IsNumber}
+use Rattle.net_plan.specs.JsonWords.{IsNumberWithin, IsTruth, IsText, IsHex, IsPlace}
+use Rattle.net_plan.specs.Keys.{events_keys, put_keys, move_keys, lose_keys, expire_keys}
+use Rattle.net_plan.specs.Keys.{answer_keys, switch_keys, walk_keys, ask_keys, collected_keys}
 use Rattle.net_plan.specs.PlanText.{IsByte, IsWord}
 use Rattle.net_plan.specs.PlanValues.{PlanValue, node_names}
 use Rattle.net_plan.specs.declared.event_text.Format.{Format}

@@ -1,7 +1,8 @@
 -- Events as plain lists and numbers.
 use Rattle.std.specs.Prelude.{ℕ, Bool, true, List, nat_lt}
 use Rattle.net_plan.specs.declared.event.Event.{Event}
-use Rattle.net_plan.specs.declared.event.Event.TheVariants.{Put, Move, Lose, Expire, Answer, Switch, Walk, Ask, Collected}
+use Rattle.net_plan.specs.declared.event.Event.TheVariants.{Put, Move, Lose, Expire, Answer}
+use Rattle.net_plan.specs.declared.event.Event.TheVariants.{Switch, Walk, Ask, Collected}
 
 -- an entry of a list of events; nodes are places in the plan's list
 pub data EventEntry : Type 0 where

@@ -43,7 +43,8 @@ IsOneMore key old new Before After = IsNext old new (λ j. (ms : Members) → Be
 
 -- the tokens begin with a value, at a depth, that is one more member at a key
 abbrev pub IsMore : ℕ → List ℕ → List Token → List Token → (Members → Type 0) → (Members → Type 0) → Type 0
-IsMore depth key old new Before After = (j : Json) × (value depth old ≡ Some (j, new)) × ((ms : Members) → Before ms → After (with_last ms key j))
+IsMore depth key old new Before After =
+    (j : Json) × (value depth old ≡ Some (j, new)) × ((ms : Members) → Before ms → After (with_last ms key j))
 
 -- the tokens begin with a value, at a depth, of which P holds, and go on with these
 abbrev pub IsThere : ℕ → List Token → List Token → (Json → Type 0) → Type 0

@@ -1,15 +1,18 @@
 -- What a JSON value says, by functions: the value that it stands for, or its first fault in the order of tests.
-use Rattle.std.specs.Prelude.{ℕ, suc, ⊤, is_some, ◌&&◌, ◌||◌, List, [], ◌∷◌, length, Bool, true, false, not, nat_le, if◌then◌else◌, Option, Some, None, Result, Ok, Err}
+use Rattle.std.specs.Prelude.{ℕ, suc, ⊤, is_some, ◌&&◌, ◌||◌, List, [], ◌∷◌, length, Bool, true}
+use Rattle.std.specs.Prelude.{false, not, nat_le, if◌then◌else◌, Option, Some, None, Result, Ok, Err}
 use Rattle.std.specs.List.{list_any}
 use Rattle.std.specs.Str.{bytes_eq}
 use Rattle.hex.specs.Hex.{decode_of}
 use Rattle.hex.specs.declared.error.FromHexError.{FromHexError}
-use Rattle.serde_json.specs.Data.{Data, null, boolean, number, string, array, object, Items, no_items, item, Members, no_members, member}
+use Rattle.serde_json.specs.Data.{Data, null, boolean, number, string, array, object}
+use Rattle.serde_json.specs.Data.{Items, no_items, item, Members, no_members, member}
 use Rattle.serde_json.specs.Find.{get, get_member, as_u64}
 use Rattle.net_plan.specs.NameText.{is_name}
 use Rattle.net_plan.specs.Reading.{then_with}
 use Rattle.net_plan.specs.declared.error.Fault.{Fault}
-use Rattle.net_plan.specs.declared.error.Fault.TheVariants.{WrongKind, MissingKey, UnknownKey, OutOfRange, BadHex, OverLimit}
+use Rattle.net_plan.specs.declared.error.Fault.TheVariants.{WrongKind, MissingKey, UnknownKey}
+use Rattle.net_plan.specs.declared.error.Fault.TheVariants.{OutOfRange, BadHex, OverLimit}
 
 -- each item, one after another
 abbrev pub each : {A : Type 0} → (Data → Result A Fault) → Items → Result (List A) Fault
@@ -110,4 +113,6 @@ hex_text _ = Err WrongKind
 
 -- hex text of at most 8 bytes
 abbrev pub address_text : Data → Result (List ℕ) Fault
-address_text d = then_with (hex_text d) (λ bytes. then_with (demand OverLimit (nat_le (length bytes) 8)) (λ _. Ok bytes))
+address_text d =
+    then_with (hex_text d) (λ bytes.
+    then_with (demand OverLimit (nat_le (length bytes) 8)) (λ _. Ok bytes))

@@ -1,8 +1,12 @@
 -- The keys of each object.
 use Rattle.std.specs.Prelude.{ℕ, List, [], ◌∷◌, codes}
+use Rattle.net_plan.specs.declared.plan_format.PlanFormat.{PlanFormat}
+use Rattle.net_plan.specs.declared.plan_format.PlanFormat.TheVariants.{One, Two}
 
-abbrev pub plan_keys : List (List ℕ)
-plan_keys = codes "format" ∷ codes "buses" ∷ codes "nodes" ∷ []
+-- a plan of format 2 says its transmission unit
+abbrev pub plan_keys : PlanFormat → List (List ℕ)
+plan_keys One = codes "format" ∷ codes "buses" ∷ codes "nodes" ∷ []
+plan_keys Two = codes "format" ∷ codes "unit" ∷ codes "buses" ∷ codes "nodes" ∷ []
 
 abbrev pub bus_keys : List (List ℕ)
 bus_keys = codes "name" ∷ codes "binding" ∷ codes "media" ∷ []
@@ -14,7 +18,9 @@ abbrev pub row_keys : List (List ℕ)
 row_keys = codes "first" ∷ codes "size" ∷ codes "port" ∷ codes "next" ∷ []
 
 abbrev pub node_keys : List (List ℕ)
-node_keys = codes "name" ∷ codes "kind" ∷ codes "eid" ∷ codes "owner" ∷ codes "pool" ∷ codes "ports" ∷ codes "rows" ∷ codes "terminus" ∷ []
+node_keys =
+    codes "name" ∷ codes "kind" ∷ codes "eid" ∷ codes "owner" ∷ codes "pool" ∷ codes "ports" ∷ codes "rows"
+    ∷ codes "terminus" ∷ []
 
 abbrev pub pool_keys : List (List ℕ)
 pool_keys = codes "first" ∷ codes "size" ∷ []

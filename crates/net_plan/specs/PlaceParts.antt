@@ -13,7 +13,8 @@ use Rattle.net_plan.specs.declared.place_parts.PlacesParts.{PlacesParts}
 pub record ArePlacesParts (p : PlacesParts) (ms : Members) : Type 0 where
   pub plain : ArePlain places_keys ms
   pub node : IsGathered (codes "node") IsName (option_map (λ name. name.now) p.node) ms
-  pub places : IsGathered (codes "places") (IsListOf (IsNumberWithin 0 4095)) (option_map (λ v. map (λ place. place.value) v.items) p.places) ms
+  pub places : IsGathered (codes "places") (IsListOf (IsNumberWithin 0 4095))
+      (option_map (λ v. map (λ place. place.value) v.items) p.places) ms
 
 -- the places of the records of a node whose place is found
 abbrev pub ArePlacesBy : (List ℕ → Option ℕ) → Data → PlacesValue → Type 0

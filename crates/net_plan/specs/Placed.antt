@@ -23,7 +23,8 @@ is_owner_placed nodes owner = is_none_or (λ place. nat_lt place nodes) owner
 
 -- what a node names is among so many buses and nodes
 abbrev pub is_node_placed : ℕ → ℕ → NodeValue → Bool
-is_node_placed buses nodes n = is_owner_placed nodes n.owner && (list_all (is_port_placed buses) n.ports && list_all (is_row_placed nodes) n.rows)
+is_node_placed buses nodes n =
+    is_owner_placed nodes n.owner && (list_all (is_port_placed buses) n.ports && list_all (is_row_placed nodes) n.rows)
 
 -- what nodes name is among so many buses, and among these nodes
 abbrev pub are_placed : ℕ → List NodeValue → Bool
@@ -31,4 +32,6 @@ are_placed buses ns = list_all (is_node_placed buses (length ns)) ns
 
 -- the same of a node itself
 abbrev pub is_placed : ℕ → ℕ → Node → Bool
-is_placed buses nodes n = is_owner_placed nodes n.owner && (list_all (λ p. nat_lt p.bus buses) n.ports.items && list_all (λ r. nat_lt r.next nodes) n.rows.items)
+is_placed buses nodes n =
+    is_owner_placed nodes n.owner
+    && (list_all (λ p. nat_lt p.bus buses) n.ports.items && list_all (λ r. nat_lt r.next nodes) n.rows.items)

@@ -17,9 +17,12 @@ use Rattle.net_plan.specs.declared.plain_certificate.CertificateParts.{Certifica
 pub record AreCertificateParts (p : CertificateParts) (ms : Members) : Type 0 where
   pub plain : ArePlain certificate_keys ms
   pub format : IsGathered (codes "format") (IsNumberWithin 1 1) p.format ms
-  pub levels : IsGathered (codes "levels") (IsListOf (IsLevelBy (noted p.nodes.now))) (option_map (λ v. map level_value v.items) p.levels) ms
-  pub places : IsGathered (codes "places") (IsListOf (ArePlacesBy (noted p.nodes.now))) (option_map (λ v. map places_value v.items) p.places) ms
-  pub ranks : IsGathered (codes "ranks") (IsListOf (AreRanksBy (noted p.nodes.now))) (option_map (λ v. map node_ranks_value v.items) p.ranks) ms
+  pub levels : IsGathered (codes "levels") (IsListOf (IsLevelBy (noted p.nodes.now)))
+      (option_map (λ v. map level_value v.items) p.levels) ms
+  pub places : IsGathered (codes "places") (IsListOf (ArePlacesBy (noted p.nodes.now)))
+      (option_map (λ v. map places_value v.items) p.places) ms
+  pub ranks : IsGathered (codes "ranks") (IsListOf (AreRanksBy (noted p.nodes.now)))
+      (option_map (λ v. map node_ranks_value v.items) p.ranks) ms
 
 -- a certificate of the nodes whose places are found
 abbrev pub IsCertificateBy : (List ℕ → Option ℕ) → Data → CertificateValue → Type 0

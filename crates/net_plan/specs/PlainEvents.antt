@@ -5,7 +5,8 @@ use Rattle.serde_json.specs.Data.{Data}
 use Rattle.net_plan.specs.EventParts.{IsEventBy}
 use Rattle.net_plan.specs.EventReading.{is_in}
 use Rattle.net_plan.specs.EventText.{IsFormat, AreEventsOf}
-use Rattle.net_plan.specs.EventValues.{EventEntry, put, move, lose, expire, answer, switch, walk, ask, collected, event_entry}
+use Rattle.net_plan.specs.EventValues.{EventEntry, put, move, lose, expire, answer}
+use Rattle.net_plan.specs.EventValues.{switch, walk, ask, collected, event_entry}
 use Rattle.net_plan.specs.Gathered.{ArePlain, IsGathered}
 use Rattle.net_plan.specs.JsonWords.{IsShortListOf}
 use Rattle.net_plan.specs.Keys.{events_keys}
@@ -18,7 +19,8 @@ use Rattle.net_plan.specs.declared.plain_events.EventsParts.{EventsParts}
 pub record AreEventsParts (p : EventsParts) (ms : Members) : Type 0 where
   pub plain : ArePlain events_keys ms
   pub format : IsGathered (codes "format") IsFormat p.format ms
-  pub events : IsGathered (codes "events") (IsShortListOf 100000 (IsEventBy (noted p.nodes.now))) (option_map (λ v. map event_entry v.items) p.events) ms
+  pub events : IsGathered (codes "events") (IsShortListOf 100000 (IsEventBy (noted p.nodes.now)))
+      (option_map (λ v. map event_entry v.items) p.events) ms
 
 -- lists of the format have this event
 abbrev pub is_event_in : Format → EventEntry → Bool

@@ -1,11 +1,16 @@
 -- Which plan a JSON value is.
-use Rattle.std.specs.Prelude.{ℕ, ◌≢◌, codes, List, AllPairs}
+use Rattle.std.specs.Prelude.{ℕ, ◌≡◌, ◌≢◌, codes, List, AllPairs}
 use Rattle.serde_json.specs.Data.{Data}
-use Rattle.net_plan.specs.JsonWords.{HasKeys, At, IsShortListOf, IsOptional, IsNumber, IsNumberWithin, IsName, IsText, IsHex, IsAddress, IsPlace}
-use Rattle.net_plan.specs.Keys.{plan_keys, bus_keys, port_keys, row_keys, pool_keys, record_keys, terminus_keys, node_keys}
-use Rattle.net_plan.specs.PlanValues.{BusValue, PortValue, RowValue, PoolValue, RecordValue, TerminusValue, NodeValue, PlanValue, bus_names, node_names}
+use Rattle.net_plan.specs.JsonWords.{HasKeys, At, IsShortListOf, IsOptional, IsNumber}
+use Rattle.net_plan.specs.JsonWords.{IsNumberWithin, IsName, IsText, IsHex, IsAddress, IsPlace}
+use Rattle.net_plan.specs.Keys.{plan_keys, bus_keys, port_keys, row_keys}
+use Rattle.net_plan.specs.Keys.{pool_keys, record_keys, terminus_keys, node_keys}
+use Rattle.net_plan.specs.PlanValues.{BusValue, PortValue, RowValue, PoolValue, RecordValue}
+use Rattle.net_plan.specs.PlanValues.{TerminusValue, NodeValue, PlanValue, bus_names, node_names}
 use Rattle.net_plan.specs.declared.nodes.Kind.{Kind}
 use Rattle.net_plan.specs.declared.nodes.Kind.TheVariants.{Bridge, Endpoint}
+use Rattle.net_plan.specs.declared.plan_format.PlanFormat.{PlanFormat}
+use Rattle.net_plan.specs.declared.plan_format.PlanFormat.TheVariants.{One, Two}
 
 abbrev pub IsByte : Data → ℕ → Type 0
 IsByte d n = IsNumberWithin 0 255 d n
@@ -66,10 +71,22 @@ pub record IsNodeOf (buses nodes : List (List ℕ)) (d : Data) (n : NodeValue) :
   pub rows : At (codes "rows") (IsShortListOf 256 (IsRowOf nodes)) d n.rows
   pub terminus : At (codes "terminus") (IsOptional IsTerminusOf) d n.terminus
 
+-- the number of the format
+abbrev pub IsPlanFormat : Data → PlanFormat → Type 0
+IsPlanFormat d One = IsNumber d 1
+IsPlanFormat d Two = IsNumber d 2
+
+-- the transmission unit: in format 1 the baseline of 64 bytes, in format 2 the number at its key
+abbrev pub IsUnitOf : PlanFormat → Data → ℕ → Type 0
+IsUnitOf One d unit = unit ≡ 64
+IsUnitOf Two d unit = At (codes "unit") (IsNumberWithin 64 1024) d unit
+
 -- a plan: no two buses have one name, and ports, rows and owners name its own buses and nodes
 pub record IsPlanOf (d : Data) (p : PlanValue) : Type 0 where
-  pub keys : HasKeys plan_keys d
-  pub format : At (codes "format") IsNumber d 1
+  pub format : PlanFormat
+  pub numbered : At (codes "format") IsPlanFormat d format
+  pub keys : HasKeys (plan_keys format) d
+  pub unit : IsUnitOf format d p.unit
   pub buses : At (codes "buses") (IsShortListOf 64 IsBusOf) d p.buses
   pub names : AllPairs (λ a b. a ≢ b) (bus_names p.buses)
   pub nodes : At (codes "nodes") (IsShortListOf 64 (IsNodeOf (bus_names p.buses) (node_names p.nodes))) d p.nodes

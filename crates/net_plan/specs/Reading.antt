@@ -1,7 +1,8 @@
 -- What the reader of one JSON value answers.
 use Rattle.std.specs.Prelude.{◌≡◌, ◌≢◌, Result, Ok, Err, MatchResult}
 use Rattle.net_plan.specs.declared.error.Fault.{Fault}
-use Rattle.net_plan.specs.declared.error.Fault.TheVariants.{WrongKind, MissingKey, UnknownKey, OutOfRange, UnknownName, BadHex, OverLimit, Doubled, OutOfMemory}
+use Rattle.net_plan.specs.declared.error.Fault.TheVariants.{WrongKind, MissingKey, UnknownKey, OutOfRange}
+use Rattle.net_plan.specs.declared.error.Fault.TheVariants.{UnknownName, BadHex, OverLimit, Doubled, OutOfMemory}
 use Rattle.net_plan.specs.declared.error.PlanError.{PlanError}
 use Rattle.net_plan.specs.declared.error.PlanError.TheVariants as errors
 

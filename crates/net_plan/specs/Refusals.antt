@@ -9,7 +9,9 @@ use Rattle.net_plan.specs.Trees.{data_of}
 use Rattle.net_plan.specs.declared.error.Fault.{Fault}
 use Rattle.net_plan.specs.declared.error.Fault.TheVariants as fault
 use Rattle.net_plan.specs.declared.error.PlanError.{PlanError}
-use Rattle.net_plan.specs.declared.error.PlanError.TheVariants.{NotJson, WrongKind, MissingKey, UnknownKey, OutOfRange, UnknownName, BadHex, OverLimit, Doubled, Device, OutOfMemory}
+use Rattle.net_plan.specs.declared.error.PlanError.TheVariants.{NotJson, WrongKind, MissingKey, UnknownKey}
+use Rattle.net_plan.specs.declared.error.PlanError.TheVariants.{OutOfRange, UnknownName, BadHex, OverLimit}
+use Rattle.net_plan.specs.declared.error.PlanError.TheVariants.{Doubled, Device, OutOfMemory}
 
 -- the value is R to nothing, and its first fault in the order of tests is this one
 abbrev pub IsFaultyValue : {A : Type 0} → (Data → Result A Fault) → (Data → A → Type 0) → Fault → Data → Type 0
@@ -44,7 +46,8 @@ IsNoneFor said R j OutOfRange = IsFaultyValue said R fault.OutOfRange (data_of j
 IsNoneFor said R j UnknownName = IsFaultyValue said R fault.UnknownName (data_of j) × HasUniqueKeys j
 IsNoneFor said R j BadHex = IsFaultyValue said R fault.BadHex (data_of j)
 IsNoneFor said R j OverLimit = IsFaultyValue said R fault.OverLimit (data_of j)
-IsNoneFor said R j Doubled = IsFaultyValue said R fault.Doubled (data_of j) ⊎ ((¬ HasUniqueKeys j) × IsWellButForNames said (data_of j))
+IsNoneFor said R j Doubled =
+    IsFaultyValue said R fault.Doubled (data_of j) ⊎ ((¬ HasUniqueKeys j) × IsWellButForNames said (data_of j))
 IsNoneFor said R j Device = ⊥
 IsNoneFor said R j OutOfMemory = ⊤
 
@@ -71,8 +74,10 @@ GaveNoValue old new OutOfMemory = ⊤
 GaveNoValue old new _ = ⊥
 
 -- why what a source gave is none of these values; whether the source failed is told by its count
-abbrev pub GaveNone : {A : Type 0} → (Data → Result A Fault) → (Data → A → Type 0) → Option (List ℕ) → Option (List ℕ) → PlanError → Type 0
-GaveNone said R old new OverLimit = TakesMoreThan 16777216 old new ⊎ Gave 16777216 old new (IsFaulty said R fault.OverLimit)
+abbrev pub GaveNone : {A : Type 0} → (Data → Result A Fault) → (Data → A → Type 0) → Option (List ℕ) → Option (List ℕ)
+    → PlanError → Type 0
+GaveNone said R old new OverLimit =
+    TakesMoreThan 16777216 old new ⊎ Gave 16777216 old new (IsFaulty said R fault.OverLimit)
 GaveNone said R old new Device = ⊤
 GaveNone said R old new OutOfMemory = ⊤
 GaveNone said R old new e = Gave 16777216 old new (λ text. IsRefused said R text e)

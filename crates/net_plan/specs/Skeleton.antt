@@ -39,8 +39,11 @@ IsCutRows None j l = ⊥
 IsCutRows (Some rs) j l = IsShortListOf 256 IsNamedRowOf (data_of j) rs × IsPlain j × (l ≡ array no_items)
 
 abbrev pub AreNodeParts : NodeParts → Members → Type 0
-AreNodeParts p ms = (mid : Members) × AreStandIns (codes "terminus") (IsCutTerminus (option_map (λ t. option_map terminus_value t) p.terminus)) ms mid
-    × AreStandIns (codes "rows") (IsCutRows (option_map (λ v. map named_row v.items) p.rows)) mid (members_view p.found.items)
+AreNodeParts p ms =
+    (mid : Members)
+    × AreStandIns (codes "terminus") (IsCutTerminus (option_map (λ t. option_map terminus_value t) p.terminus)) ms mid
+    × AreStandIns (codes "rows") (IsCutRows (option_map (λ v. map named_row v.items) p.rows)) mid
+    (members_view p.found.items)
 
 -- what is read beside the rest of a node; the next nodes of its rows are still names
 pub record CutValue : Type 0 where
@@ -52,20 +55,27 @@ cut_value p = record { rows = map named_row p.rows.items; terminus = option_map 
 
 -- a node whose rows and terminus stand beside the rest
 abbrev pub IsNodeSkeleton : Json → NodeSkeleton → Type 0
-IsNodeSkeleton j s = (ms mid ls : Members) × (j ≡ object ms) × (value_view s.value ≡ object ls) × AreStandIns (codes "terminus") (IsCutTerminus (Some (cut_value s.parts).terminus)) ms mid
+IsNodeSkeleton j s =
+    (ms mid ls : Members) × (j ≡ object ms) × (value_view s.value ≡ object ls)
+    × AreStandIns (codes "terminus") (IsCutTerminus (Some (cut_value s.parts).terminus)) ms mid
     × AreStandIns (codes "rows") (IsCutRows (Some (cut_value s.parts).rows)) mid ls
 
 -- a list of nodes stands for the nodes with these parts
 abbrev pub IsCutNodes : Option (List CutValue) → Json → Json → Type 0
 IsCutNodes None j l = ⊥
-IsCutNodes (Some ps) j l = (ss : List NodeSkeleton) × IsArrayOf IsNodeSkeleton j ss × (l ≡ array (items_view (map (λ s. s.value) ss))) × (ps ≡ map (λ s. cut_value s.parts) ss)
+IsCutNodes (Some ps) j l =
+    (ss : List NodeSkeleton) × IsArrayOf IsNodeSkeleton j ss × (l ≡ array (items_view (map (λ s. s.value) ss)))
+    × (ps ≡ map (λ s. cut_value s.parts) ss)
 
 abbrev pub ArePlanParts : PlanParts → Members → Type 0
-ArePlanParts p ms = AreStandIns (codes "nodes") (IsCutNodes (option_map (λ v. map cut_value v.items) p.parts)) ms (members_view p.found.items)
+ArePlanParts p ms =
+    AreStandIns (codes "nodes") (IsCutNodes (option_map (λ v. map cut_value v.items) p.parts)) ms
+    (members_view p.found.items)
 
 -- the text is an object, in which nodes without rows and termini stand for those with these
 abbrev pub IsPlanSkeleton : List ℕ → PlanSkeleton → Type 0
-IsPlanSkeleton text s = (ms ls : Members) × (value max_depth (tokens text) ≡ Some (object ms, [])) × (value_view s.value ≡ object ls)
+IsPlanSkeleton text s =
+    (ms ls : Members) × (value max_depth (tokens text) ≡ Some (object ms, [])) × (value_view s.value ≡ object ls)
     × AreStandIns (codes "nodes") (IsCutNodes (Some (map cut_value s.parts.items))) ms ls × (fits (object ls) ≡ true)
 
 -- a row whose next node stands at the place that was found
@@ -85,7 +95,17 @@ found_value find c = record { rows = map (found_row find) c.rows; terminus = c.t
 
 -- a node with these rows and this terminus
 abbrev pub with_part : NodeValue → PlacedValue → NodeValue
-with_part n p = record { name = n.name; kind = n.kind; eid = n.eid; owner = n.owner; pool = n.pool; ports = n.ports; rows = p.rows; terminus = p.terminus }
+with_part n p =
+    record {
+      name = n.name;
+      kind = n.kind;
+      eid = n.eid;
+      owner = n.owner;
+      pool = n.pool;
+      ports = n.ports;
+      rows = p.rows;
+      terminus = p.terminus;
+    }
 
 -- nodes with these rows and termini, one by one
 abbrev pub with_parts : List NodeValue → List PlacedValue → List NodeValue

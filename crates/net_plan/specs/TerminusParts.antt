@@ -11,4 +11,5 @@ use Rattle.net_plan.specs.declared.terminus_parts.TerminusParts.{TerminusParts}
 pub record AreTerminusParts (p : TerminusParts) (ms : Members) : Type 0 where
   pub plain : ArePlain terminus_keys ms
   pub tid : IsGathered (codes "tid") (IsNumberWithin 0 254) p.tid ms
-  pub records : IsGathered (codes "records") (IsShortListOf 4096 IsRecordOf) (option_map (λ v. map record_value v.items) p.records) ms
+  pub records : IsGathered (codes "records") (IsShortListOf 4096 IsRecordOf)
+      (option_map (λ v. map record_value v.items) p.records) ms

@@ -5,7 +5,8 @@ use Rattle.net_plan.specs.CertificateText.{IsAscending}
 use Rattle.net_plan.specs.CertificateValues.{CertificateValue}
 use Rattle.net_plan.specs.PlanValues.{PlanValue, node_names}
 
--- No two nodes of the plan have one name; all entries are of the plan's nodes, in no list two of one node; the ranges of each node ascend apart. The numbers are in bounds by their types.
+-- No two nodes of the plan have one name; all entries are of the plan's nodes, in no list two of one node; the ranges
+-- of each node ascend apart. The numbers are in bounds by their types.
 pub record IsWellFormed (plan : PlanValue) (c : CertificateValue) : Type 0 where
   pub names : AllPairs (λ a b. a ≢ b) (node_names plan.nodes)
   pub known : IsTrue (are_known (length plan.nodes) c)

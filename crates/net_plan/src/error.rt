@@ -36,9 +36,10 @@ pub enum PlanError {
     /// object has a key twice.
     #[error("J09")]
     Doubled,
-    /// The source failed.
+    /// The source or the sink failed.
     #[error("file")]
     Device,
+    /// There was too little memory.
     #[error("no memory")]
     OutOfMemory,
 }

@@ -4,7 +4,7 @@ ghost use Rattle.net_plan.specs.NameText.{is_name};
 
 use crate::words::is_name;
 
-/// A name of 1 to 32 ASCII letters, digits, `-`, `_` or `.`.
+/// The name of a bus or a node: 1 to 32 ASCII letters, digits, `-`, `_` or `.`.
 #[derive(Debug, PartialEq, Eq, Drop)]
 pub struct Name {
     pub text: String,
@@ -16,7 +16,7 @@ impl Name {
     ghost use Rattle.net_plan.specs.NameText.{is_name};
     ghost use Rattle.net_plan.specs.NodeValues.{name_bytes};
 
-    /// The name of this text, where it is one: 1 to 32 ASCII letters, digits, `-`, `_` or `.`.
+    /// The name that a text is. `None` where it is none.
     pub fn of(text: String) -> Option<Name>
         ensures { option_map name_bytes result ≡ (if is_name (string_bytes text) then Some (string_bytes text) else None) }
     {

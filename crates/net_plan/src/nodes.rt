@@ -5,15 +5,17 @@ use crate::name::Name;
 use crate::terminus::Terminus;
 use mctp_transport::Eid;
 
-/// A bus, by the binding and the medium of its packets (the identifiers of DSP0239).
+/// An MCTP bus segment.
 #[derive(Debug, Drop)]
 pub struct Bus {
     pub name: Name,
+    /// The physical transport binding identifier of its packets (DSP0239).
     pub binding: u8,
+    /// The physical media identifier of its packets (DSP0239).
     pub media: u8,
 }
 
-/// Whether a node forwards the packets of others.
+/// What a node does with the packets of others.
 #[derive(Clone, Copy, Debug, PartialEq, Eq)]
 pub enum Kind {
     /// It forwards packets by its rows.
@@ -25,27 +27,27 @@ pub enum Kind {
 /// A node's connection to a bus, with its physical address there.
 #[derive(Debug, Drop)]
 pub struct Port {
-    /// The place of the bus in the plan's list.
+    /// The index of the bus in the plan's list.
     pub bus: usize,
-    /// At most 8 bytes.
+    /// The node's physical address on the bus: at most 8 bytes, in the order in which they are written.
     pub address: Vec<u8>,
     pub ghost short: { vec_len address ≤ 8 },
 }
 
-/// A row of a routing table: where packets to a run of endpoint IDs go.
+/// A row of a routing table: where packets to some endpoint IDs, one after another, go.
 #[derive(Clone, Copy, Debug, PartialEq, Eq)]
 pub struct Row {
     /// The first endpoint ID that the row covers.
     pub first: Eid,
-    /// How many it covers from there.
+    /// How many it covers from there. `check` asks for at least one, none over 254.
     pub size: u8,
-    /// The place of the port in the node's list, through which the packets leave.
+    /// The index, in the node's list of ports, of the port through which the packets leave.
     pub port: u8,
-    /// The place of the next node in the plan's list.
+    /// The index of the next node in the plan's list.
     pub next: usize,
 }
 
-/// A run of endpoint IDs that a bridge gives to the nodes behind it (DSP0236, the EID pool).
+/// An EID pool (DSP0236): the endpoint IDs, one after another, that a bridge gives to the nodes behind it.
 #[derive(Clone, Copy, Debug, PartialEq, Eq)]
 pub struct Pool {
     /// The first endpoint ID of the pool.
@@ -54,19 +56,22 @@ pub struct Pool {
     pub size: u8,
 }
 
-/// A bridge or an endpoint.
+/// A node of a plan: a bridge or an endpoint.
 #[derive(Debug, Drop)]
 pub struct Node {
     pub name: Name,
     pub kind: Kind,
+    /// The endpoint ID that the node holds. Any byte may stand here; `check` asks for one of 8 to 254.
     pub eid: Eid,
-    /// The place in the plan's list of the bus owner that gives the node its endpoint ID.
+    /// The index, in the plan's list, of the bus owner that gives the node its endpoint ID. `None` where nobody does.
     pub owner: Option<usize>,
+    /// The endpoint IDs that the node gives to others, where it does.
     pub pool: Option<Pool>,
     /// At most 32.
     pub ports: Vec<Port>,
-    /// At most 256.
+    /// The routing table, at most 256 rows.
     pub rows: Vec<Row>,
+    /// The PLDM terminus, where the node has one.
     pub terminus: Option<Terminus>,
     pub ghost few_ports: { vec_len ports ≤ 32 },
     pub ghost few_rows: { vec_len rows ≤ 256 },

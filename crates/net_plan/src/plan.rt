@@ -1,4 +1,4 @@
-//! A plan: its buses and its nodes.
+//! A plan: its transmission unit, its buses and its nodes.
 ghost use Rattle.std.specs.Prelude.{◌≤◌, vec_len, map, IsTrue};
 ghost use Rattle.net_plan.specs.NodeValues.{node_value};
 ghost use Rattle.net_plan.specs.Placed.{are_placed};
@@ -6,13 +6,23 @@ ghost use Rattle.net_plan.specs.Placed.{are_placed};
 use crate::nodes::{Bus, Node};
 use crate::references::are_placed;
 
+/// The transmission unit that all nodes support (DSP0236, the baseline transmission unit), in bytes.
+pub const BASELINE_UNIT: u16 = 64;
+
+/// The largest transmission unit of a plan, in bytes.
+pub const LARGEST_UNIT: u16 = 1024;
+
 /// A planned network. Its ports name its own buses; its rows and owners name its own nodes.
 #[derive(Debug, Drop)]
 pub struct Plan {
-    /// At most 64.
+    /// The transmission unit: the most payload bytes of a packet, 64 to 1024.
+    pub unit: u16,
+    /// At most 64. No two of them have one name where the plan was read from a text.
     pub buses: Vec<Bus>,
     /// At most 64.
     pub nodes: Vec<Node>,
+    pub ghost least_unit: { 64 ≤ unit },
+    pub ghost most_unit: { unit ≤ 1024 },
     pub ghost few_buses: { vec_len buses ≤ 64 },
     pub ghost few_nodes: { vec_len nodes ≤ 64 },
     pub ghost placed: { IsTrue (are_placed (vec_len buses) (map node_value nodes.items)) },
@@ -23,14 +33,18 @@ impl Plan {
     ghost use Rattle.net_plan.specs.NodeValues.{node_value};
     ghost use Rattle.net_plan.specs.Placed.{are_placed};
 
-    /// The plan of these buses and nodes, where they are few enough and name only each other.
-    pub fn of(buses: Vec<Bus>, nodes: Vec<Node>) -> Option<Plan>
-        ensures lawful { IsSome result ↔ (vec_len buses ≤ 64) × (vec_len nodes ≤ 64) × IsTrue (are_placed (vec_len buses) (map node_value nodes.items)) }
-        ensures whole { IfSome result (λ plan. (plan.buses ≡ buses) × (plan.nodes ≡ nodes)) }
+    /// The plan of this transmission unit, these buses and these nodes. `None` where the unit is not 64 to 1024, where
+    /// there are more than 64 buses or nodes, or where they name others than each other.
+    pub fn of(unit: u16, buses: Vec<Bus>, nodes: Vec<Node>) -> Option<Plan>
+        ensures lawful { IsSome result ↔ (64 ≤ unit) × (unit ≤ 1024) × (vec_len buses ≤ 64) × (vec_len nodes ≤ 64) × IsTrue (are_placed (vec_len buses) (map node_value nodes.items)) }
+        ensures whole { IfSome result (λ plan. (plan.unit ≡ unit) × (plan.buses ≡ buses) × (plan.nodes ≡ nodes)) }
     {
+        if !(BASELINE_UNIT..=LARGEST_UNIT).contains(&unit) {
+            return None;
+        }
         if buses.len() > 64 || nodes.len() > 64 || !are_placed(buses.len(), nodes.as_slice()) {
             return None;
         }
-        Some(Plan { buses, nodes })
+        Some(Plan { unit, buses, nodes })
     }
 }

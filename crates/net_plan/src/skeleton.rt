@@ -309,13 +309,13 @@ pub fn plain_plan(alloc: Global, text: &str) -> Option<Plan>
     if !has_single_keys(&value) {
         return None;
     }
-    let Plan { buses, nodes } = plan;
+    let Plan { unit, buses, nodes } = plan;
     let Ok(places) = Places::of(alloc, &NodeName, nodes.as_slice()) else {
         return None;
     };
     let parts = placed(alloc, &places, parts)?;
     drop(places);
-    Plan::of(buses, with_parts(alloc, nodes, parts)?)
+    Plan::of(unit, buses, with_parts(alloc, nodes, parts)?)
 }
 
 /// The rows and termini of nodes that have these places.

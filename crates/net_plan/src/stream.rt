@@ -1,18 +1,18 @@
 //! Where the bytes of a text come from, and where they go.
-ghost use Rattle.std.specs.Prelude.{◌≡◌, ℕ, ◌+◌, ◌^◌, ◌-◌, ◌<◌, ◌≤◌, List, length, Option, IfOk, IfErr, OnOk, OnErr, vec_len};
+ghost use Rattle.std.specs.Prelude.{◌≡◌, ℕ, ◌+◌, ◌^◌, ◌-◌, ◌<◌, ◌≤◌, List, length, take, drop, Option, IfOk, IfErr, OnOk, OnErr, vec_len};
 ghost use Rattle.std.specs.Io.{ReadsAtMost, WritesAtMost};
 ghost use Rattle.std.specs.Io.KnownBytes.{ReadConsumes, WriteAppends, Consumes, Appends, IsAtEnd};
 ghost use Rattle.net_plan.specs.Stream.{failure_count, TakesMoreThan, AppendsBeginning};
 ghost use Rattle.net_plan.specs.TextFaults.{device_count};
 
-use std::alloc::Global;
+use std::alloc::{AllocError, Global};
 use std::io::{Read, Write};
 
 /// A read or a write failed.
 #[derive(Clone, Copy, Debug, PartialEq, Eq)]
 pub struct Failed;
 
-/// Gives the bytes of a text, piece by piece.
+/// Gives bytes, piece by piece.
 pub trait Source {
     // The bytes that pulls will give from here on, where they are known.
     ghost remaining: { Self → Option (List ℕ) };
@@ -20,6 +20,7 @@ pub trait Source {
     // How many pulls have failed.
     ghost failures: { Self → ℕ };
 
+    /// Fills the beginning of `buf`, and tells how many bytes it filled; 0 where the bytes have ended.
     fn pull(&mut self, buf: &mut [u8]) -> Result<usize, Failed>
         requires { failures self.old < 2 ^ 64 - 1 }
         ensures bound { ReadsAtMost result buf.new }
@@ -27,7 +28,7 @@ pub trait Source {
         ensures counts { failures self.new ≡ failures self.old + failure_count result };
 }
 
-/// Takes the bytes of a text, piece by piece.
+/// Takes bytes, piece by piece.
 pub trait Sink {
     // The bytes that were taken so far, where they are known.
     ghost contents: { Self → Option (List ℕ) };
@@ -35,6 +36,7 @@ pub trait Sink {
     // How many pushes have failed.
     ghost failures: { Self → ℕ };
 
+    /// Takes the beginning of a piece, and tells how many bytes it took: at least one, unless the piece is empty.
     fn push(&mut self, piece: &[u8]) -> Result<usize, Failed>
         requires { failures self.old < 2 ^ 64 - 1 }
         ensures bound { WritesAtMost result piece.now }
@@ -51,6 +53,7 @@ pub struct Counted<T> {
 }
 
 impl<T> Counted<T> {
+    /// A reader or a writer of which no call has failed yet.
     pub fn new(inner: T) -> Counted<T>
         ensures inner { result.inner ≡ inner }
         ensures failures { result.failures ≡ 0 }
@@ -58,7 +61,7 @@ impl<T> Counted<T> {
         Counted { inner, failures: 0 }
     }
 
-    /// What is counted.
+    /// The reader or the writer.
     pub fn inner(&self) -> &T
         ensures { result.now ≡ self.now.inner }
     {
@@ -71,6 +74,7 @@ impl<R: Read> Source for Counted<R> {
 
     ghost failures = { λ s. s.failures };
 
+    /// Fills the beginning of `buf`, and tells how many bytes it filled; 0 where the bytes have ended.
     fn pull(&mut self, buf: &mut [u8]) -> Result<usize, Failed> {
         match self.inner.read(buf) {
             Ok(count) => Ok(count),
@@ -101,12 +105,37 @@ impl<W: Write> Sink for Counted<W> {
 /// Why a source was not read to its end.
 #[derive(Clone, Copy, Debug, PartialEq, Eq)]
 pub enum TextFault {
+    /// It gave more bytes than were allowed.
     TooLong,
+    /// It failed.
     Device,
+    /// There was too little memory for its bytes.
     OutOfMemory,
 }
 
-/// Reads a source to its end.
+impl From<AllocError> for TextFault {
+    ghost use Rattle.std.specs.Prelude.{◌≡◌};
+    ghost use Rattle.net_plan.specs.declared.stream.TextFault.TheVariants.{OutOfMemory};
+
+    ghost from_gives = { λ _ fault. fault ≡ OutOfMemory };
+
+    fn from(_error: AllocError) -> TextFault {
+        TextFault::OutOfMemory
+    }
+}
+
+impl From<Failed> for TextFault {
+    ghost use Rattle.std.specs.Prelude.{◌≡◌};
+    ghost use Rattle.net_plan.specs.declared.stream.TextFault.TheVariants.{Device};
+
+    ghost from_gives = { λ _ fault. fault ≡ Device };
+
+    fn from(_failed: Failed) -> TextFault {
+        TextFault::Device
+    }
+}
+
+/// The bytes that a source gives to its end, at most so many. No read is tried again once it has failed.
 pub fn read_within<S: Source>(
     alloc: Global,
     source: &mut S,
@@ -121,24 +150,71 @@ pub fn read_within<S: Source>(
     ensures counts { S.failures source.new ≡ S.failures source.old + device_count result }
 {
     let mut text = Vec::new(alloc);
-    let mut piece = [0u8; 4096];
-    loop {
-        let Ok(count) = source.pull(&mut piece) else {
-            return Err(TextFault::Device);
-        };
+    let mut filled = 0;
+    'pieces: loop {
+        make_room(&mut text, filled, limit)?;
+        let count = pull_into(source, &mut text, filled)?;
         if count == 0 {
+            text.truncate(filled);
             return Ok(text);
         }
-        if limit - text.len() < count {
+        filled += count;
+        if limit < filled {
             return Err(TextFault::TooLong);
-        }
-        if text.extend_from_slice(&piece[..count]).is_err() {
-            return Err(TextFault::OutOfMemory);
         }
     }
 }
 
-/// Gives all bytes to a sink.
+/// The least room for the bytes of a text.
+const FIRST_ROOM: usize = 4096;
+
+/// Makes a text longer than what is filled of it, by zeros. It becomes twice as long, but no longer than a byte over the limit,
+/// by which it is known to be too long.
+fn make_room(text: &mut Vec<u8>, filled: usize, limit: usize) -> Result<(), TextFault>
+    requires { filled ≤ vec_len text.old }
+    ensures room { OnOk result (filled < vec_len text.new) }
+    ensures front { OnOk result (take filled text.new.items ≡ take filled text.old.items) }
+    ensures fault { IfErr result (λ e. e ≡ TextFault.OutOfMemory) }
+{
+    if filled < text.len() {
+        return Ok(());
+    }
+    let twice = filled.saturating_add(filled.max(FIRST_ROOM));
+    let longer = twice.min(limit.saturating_add(1));
+    if longer <= filled {
+        return Err(TextFault::OutOfMemory);
+    }
+    text.resize(longer, 0)?;
+    Ok(())
+}
+
+/// One pull, into a text's own memory from an index on.
+fn pull_into<S: Source>(source: &mut S, text: &mut Vec<u8>, at: usize) -> Result<usize, Failed>
+    requires failures { S.failures source.old < 2 ^ 64 - 1 }
+    requires room { at < vec_len text.old }
+    ensures front { take at text.new.items ≡ take at text.old.items }
+    ensures fits { IfOk result (λ count. at + count ≤ vec_len text.new) }
+    ensures bytes { IfOk result (λ count. Consumes (S.remaining source.old) (S.remaining source.new) (take count (drop at text.new.items))) }
+    ensures end { IfOk result (λ count. count ≡ 0 → IsAtEnd (S.remaining source.new)) }
+    ensures counts { S.failures source.new ≡ S.failures source.old + failure_count result }
+{
+    pull_at(source, text.as_mut_slice(), at)
+}
+
+/// One pull, into some bytes from an index on.
+fn pull_at<S: Source>(source: &mut S, text: &mut [u8], at: usize) -> Result<usize, Failed>
+    requires failures { S.failures source.old < 2 ^ 64 - 1 }
+    requires room { at < length text.old }
+    ensures front { take at text.new ≡ take at text.old }
+    ensures fits { IfOk result (λ count. at + count ≤ length text.new) }
+    ensures bytes { IfOk result (λ count. Consumes (S.remaining source.old) (S.remaining source.new) (take count (drop at text.new))) }
+    ensures end { IfOk result (λ count. count ≡ 0 → IsAtEnd (S.remaining source.new)) }
+    ensures counts { S.failures source.new ≡ S.failures source.old + failure_count result }
+{
+    source.pull(&mut text[at..])
+}
+
+/// Gives all bytes to a sink. No write is tried again once it has failed; the sink has then taken a beginning of the bytes.
 pub fn write_whole<S: Sink>(sink: &mut S, bytes: &[u8]) -> Result<(), Failed>
     requires { S.failures sink.old < 2 ^ 64 - 1 }
     ensures all { OnOk result (Appends (S.contents sink.old) (S.contents sink.new) bytes.now) }

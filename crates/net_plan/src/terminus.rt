@@ -4,11 +4,11 @@ ghost use Rattle.std.specs.Prelude.{◌≤◌, vec_len};
 /// A platform descriptor record (DSP0248) as it stands in a repository.
 #[derive(Debug, Drop)]
 pub struct Record {
-    /// The number by which the record is asked for.
+    /// The record handle, by which the record is asked for.
     pub handle: u32,
-    /// The number of the record that follows; 0 where none does.
+    /// The record handle of the record that follows; 0 where none does.
     pub next: u32,
-    /// The record's bytes, its common header among them.
+    /// The record's bytes: its common header (10 bytes, DSP0248), then its body. `check` asks whether they are well formed.
     pub bytes: Vec<u8>,
 }
 

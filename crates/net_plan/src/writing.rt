@@ -21,7 +21,9 @@ use crate::reading::certificate_of_text;
 use crate::stream::{Sink, write_whole};
 use std::alloc::{AllocError, Global};
 
-/// The text of a certificate of a plan.
+/// The text of a certificate of a plan: one line of compact JSON, each object's keys in the order of their letters.
+///
+/// It fails where there is too little memory for the JSON value and the text.
 pub fn text_of_certificate(
     alloc: Global,
     plan: &Plan,
@@ -47,8 +49,10 @@ fn compact_text(alloc: Global, plan: &Plan, certificate: &Certificate) -> Result
     certificate_json(alloc, plan.nodes.as_slice(), certificate)?.to_string(alloc)
 }
 
-/// Gives the text of a certificate of a plan to a sink. The text is made whole first, so that nothing is out where there is
-/// too little memory.
+/// Gives the text of a certificate of a plan to a sink.
+///
+/// The text is made whole first, so that the sink has taken nothing where there is too little memory (`OutOfMemory`). Where
+/// the sink failed (`Device`), it has taken a beginning of the text.
 #[tactic(auto, using(crate::proofs::ReadsBack::text_stands))]
 pub fn write_certificate<S: Sink>(
     alloc: Global,

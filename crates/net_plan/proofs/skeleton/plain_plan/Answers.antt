@@ -34,13 +34,15 @@ returns c =
     let same_find : find_in places ≡ place_among (node_names vs) = λ i q. find q i in
     let filled : map node_value c.in_ok-with_parts.field-0.items ≡ all_filled vs cs = c.in_ok-with_parts.ensures ∙ ap (with_parts vs) (c.in_ok-parts.ensures ∙ ap (λ f. map (found_value f) cs) same_find) in
     if_some c.of-2.result (λ p same.
-    let buses = ap (λ v. map bus_value v.items) (sym same.0) in
-    let nodes = sym filled ∙ ap (λ v. map node_value v.items) (sym same.1) in
+    let unit = sym same.0 in
+    let buses = ap (λ v. map bus_value v.items) (sym same.1) in
+    let nodes = sym filled ∙ ap (λ v. map node_value v.items) (sym same.2) in
     let placed : are_placed (vec_len p.buses) (all_filled vs cs) ≡ true = subst (λ ns. are_placed (vec_len p.buses) ns ≡ true) (sym nodes) p.placed in
     let full = plan_full (plan_value lean) (vec_len p.buses) cs ms ls shape.4 placed is in (
       object ms,
       shape.2,
       plain,
-      subst (λ bs. IsPlanOf (data_of (object ms)) (record { buses = bs; nodes = map node_value p.nodes.items })) buses
-          (subst (λ ns. IsPlanOf (data_of (object ms)) (record { buses = map bus_value lean.buses.items; nodes = ns })) nodes full),
+      subst (λ u. IsPlanOf (data_of (object ms)) (record { unit = u; buses = map bus_value p.buses.items; nodes = map node_value p.nodes.items })) unit
+          (subst (λ bs. IsPlanOf (data_of (object ms)) (record { unit = lean.unit; buses = bs; nodes = map node_value p.nodes.items })) buses
+          (subst (λ ns. IsPlanOf (data_of (object ms)) (record { unit = lean.unit; buses = map bus_value lean.buses.items; nodes = ns })) nodes full)),
     )) c.of-2.ensures.whole
