@@ -18,7 +18,7 @@ use Rattle.net_check.proofs.Elements.{element, in_set, in_push}
 use Rattle.net_check.proofs.Lines.{lands_within}
 use Rattle.net_check.proofs.ChainLaws.{next_same, handle_same, one_follows, follows_within, zero_ends, one_next, follows_or_ends, end_is_zero, as_far_is_one, near_end, without_end_circles}
 
-none_placed : (n j : ℕ) (o : Option ℕ) → slice_get (replicate n None) j ≡ Some o → o ≡ None
+pub none_placed : (n j : ℕ) (o : Option ℕ) → slice_get (replicate n None) j ≡ Some o → o ≡ None
 none_placed zero j o is = absurd (none-some o is)
 none_placed (suc n) zero o is = sym (same_Some None o is)
 none_placed (suc n) (suc j) o is = none_placed n j o is

@@ -8,7 +8,7 @@ use Rattle.std.proofs.lemmas.Option.{same_Some}
 use Rattle.mctp_transport.specs.Hearing.{Whole}
 use Rattle.mctp_transport.proofs.InOrder.{all_from}
 use Rattle.mctp_transport.proofs.PacketLists.{packets_join}
-use Rattle.mctp_transport.proofs.Sending.{few_packets, many_packets}
+use Rattle.mctp_transport.proofs.Sending.{few_packets}
 use Rattle.pldm_message.specs.InstanceIds.{IdSet, Gives, TakesBack}
 use Rattle.pldm_message.specs.Pdrs.{PartRequest, get_pdr_request_bytes}
 use Rattle.pdr_repository.specs.Records.{Entry, IsLawful}
@@ -17,10 +17,11 @@ use Rattle.pdr_repository.specs.declared.walk_fault.Step.{Step}
 use Rattle.pdr_repository.specs.Walkers.{WalkState, StandsFor, asked_under, IsDueAnswer}
 use Rattle.pdr_repository.proofs.Walks.{stands}
 use Rattle.net_plan.specs.declared.certificate.Certificate.{Certificate}
+use Rattle.net_check.proofs.Units.{least_unit, five_fit, part_fits}
 use Rattle.net_check.specs.Routing.{Holds}
 use Rattle.net_check.specs.Repositories.{records_by_place}
 use Rattle.net_check.specs.Termini.{TerminusState, AreBytes, with_waiting}
-use Rattle.net_check.specs.States.{NetworkState, with_packet, unit}
+use Rattle.net_check.specs.States.{NetworkState, with_packet, unit_of}
 use Rattle.net_check.specs.TwoPlans.{Tables}
 use Rattle.net_check.specs.Events.{Move, Entered, N01, N02, N03, N04, N05, N06, N07, most_flights}
 use Rattle.net_check.specs.NetworkWalks.{IsSameWalker}
@@ -33,6 +34,7 @@ use Rattle.net_check.proofs.FirstAsks.{never}
 use Rattle.net_check.proofs.Fitting.{TakesOn, takes_on}
 use Rattle.net_check.proofs.Lawful as ways
 use Rattle.net_check.proofs.Reaching.{Reaches, reaches_on, one_turn}
+use Rattle.net_check.proofs.Sent.{packets_some}
 use Rattle.net_check.proofs.Replying.{HasAsked, comes_there, HasReplied, replies}
 use Rattle.net_check.proofs.Takings.{MayMake, HasTaken, may_make}
 use Rattle.net_check.proofs.Travels.{Now}
@@ -60,7 +62,7 @@ module _ (tables : Tables) (cert : Certificate) (lawful : ways.IsLawful tables c
     pub idle : walker.walk.waiting ≡ None
     pub ended : walker.ended ≡ None
     pub least : 8 ≤ walker.walk.count
-    pub most : walker.walk.count ≤ five_packets unit
+    pub most : walker.walk.count ≤ five_packets (unit_of tables.plan)
     pub few : length (records_by_place tables.plan cert n) ≤ walker.walk.max_records
     pub fits : sum_by (λ (e : Entry). length e.bytes) (records_by_place tables.plan cert n) ≤ walker.walk.max_bytes
     pub walk : Walk (records_by_place tables.plan cert n) walker.walk.count xs
@@ -108,7 +110,7 @@ module _ (tables : Tables) (cert : Certificate) (lawful : ways.IsLawful tables c
         record { home = (own, small, ready.home); tag = l.tag; eid = l.eid; due = l.due; outstanding = l.outstanding; free = l.free }
 
     most_there : ready.walker.walk.count ≤ 4079
-    most_there = let most = ready.most in omega arith
+    most_there = part_fits tables.plan ready.walker.walk.count ready.most
 
     counted : r.count ≡ ready.walker.walk.count
     counted = elim (stands (records_by_place tables.plan cert n) ready.walker.walk.count xs right_records ready.least most_there ready.walk) [
@@ -119,8 +121,8 @@ module _ (tables : Tables) (cert : Certificate) (lawful : ways.IsLawful tables c
     some_request : (id : ℕ) → 0 < length (get_pdr_request_bytes (asked_under id r))
     some_request id = omega arith
 
-    short_request : (id : ℕ) → length (get_pdr_request_bytes (asked_under id r)) ≤ unit
-    short_request id = omega arith
+    short_request : (id : ℕ) → length (get_pdr_request_bytes (asked_under id r)) ≤ (unit_of tables.plan)
+    short_request id = omega (arith, least_unit tables.plan)
 
     -- the walker has asked
     module _ (id : ℕ) (ids : IdSet) (gives : Gives ready.walker.ids id ids) (asks : AsksUnder tables w.network ready.walker own r id ids) where
@@ -166,20 +168,20 @@ module _ (tables : Tables) (cert : Certificate) (lawful : ways.IsLawful tables c
 
       -- at most five packets
       packets_few : (c : Came ready.rest.state) (a : Replied c.new waiting_there) → length a.packets ≤ 5
-      packets_few c a = few_packets unit 5 a.message own (answering_key ready.walker) 0 a.packets a.are (let few = a.few in let count = counted in let most = ready.most in omega arith)
+      packets_few c a = few_packets (unit_of tables.plan) 5 a.message own (answering_key ready.walker) 0 a.packets a.are (let few = a.few in let count = counted in let most = five_fit tables.plan ready.walker.walk.count ready.most in omega arith)
 
       short : (c : Came ready.rest.state) (a : Replied c.new waiting_there) → length a.message ≤ 4096
-      short c a = let few = a.few in let count = counted in let most = ready.most in omega arith
+      short c a = let few = a.few in let count = counted in let most = part_fits tables.plan ready.walker.walk.count ready.most in omega arith
 
       abbrev Brought : (c : Came ready.rest.state) (a : Replied c.new waiting_there) → Type 0
       Brought c a = Brings tables cert lawful walkers w.begun ready.walker.node n own (answering_key ready.walker) a.message (short c a) ready.home back refl a.new
 
       brought : (c : Came ready.rest.state) (a : Replied c.new waiting_there) → Brought c a
       brought c a =
-          let many = many_packets unit a.message own (answering_key ready.walker) 0 a.packets a.are in
+          let many = packets_some (unit_of tables.plan) a.message own (answering_key ready.walker) a.packets a.are a.some in
           let some = a.some in
           all_brought tables cert lawful walkers w.begun ready.walker.node n own (answering_key ready.walker) a.message (short c a) ready.home back refl a.packets a.new a.base (omega arith)
-          (packets_join unit a.message own (answering_key ready.walker) 0 a.packets some a.are)
+          (packets_join (unit_of tables.plan) a.message own (answering_key ready.walker) 0 a.packets some a.are)
           (all_from (IsOfMessage tables cert lawful walkers w.begun ready.walker.node n own (answering_key ready.walker) a.message (short c a) ready.home back refl) a.packets
           (λ i p at. (a.are.of_key i p at, a.are.addressed i p at)))
           a.under a.closed
@@ -260,7 +262,7 @@ module _ (tables : Tables) (cert : Certificate) (lawful : ways.IsLawful tables c
                   idle = ap (λ (v : WalkState). v.waiting) made.is;
                   ended = ready.ended;
                   least = let least = ready.least in omega arith;
-                  most = let most = ready.most in omega arith;
+                  most = let most = part_fits tables.plan ready.walker.walk.count ready.most in omega arith;
                   few = let same = ap (λ (v : WalkState). v.max_records) made.is in let few = ready.few in omega arith;
                   fits = let same = ap (λ (v : WalkState). v.max_bytes) made.is in let fits = ready.fits in omega arith;
                   walk = t.walks.walk;

@@ -51,7 +51,7 @@ handles_of records = map (λ r. r.handle) records
 pub handle_of_record : (records : List Record) (j : ℕ) (r : Record) → slice_get records j ≡ Some r → slice_get (handles_of records) j ≡ Some r.handle
 handle_of_record records j r is = slice_get-map (λ (x : Record). x.handle) records j ∙ ap (option_map (λ (x : Record). x.handle)) is
 
-record_of_handle : (records : List Record) (i h : ℕ) → slice_get (handles_of records) i ≡ Some h → (r : Record) × (slice_get records i ≡ Some r) × (r.handle ≡ h)
+pub record_of_handle : (records : List Record) (i h : ℕ) → slice_get (handles_of records) i ≡ Some h → (r : Record) × (slice_get records i ≡ Some r) × (r.handle ≡ h)
 record_of_handle records i h is = by (slice_get records i) refl (sym (slice_get-map (λ (x : Record). x.handle) records i) ∙ is)
   where
     by : (o : Option Record) → slice_get records i ≡ o → option_map (λ (x : Record). x.handle) o ≡ Some h → (r : Record) × (slice_get records i ≡ Some r) × (r.handle ≡ h)

@@ -78,7 +78,7 @@ NeedsWhatIsGiven tables cert n = AtNodeOrEid (NeedsWhatItIsGiven tables.plan cer
 
 pub as_many_nodes : (before after : Plan) → HaveSameFrame before after → length before.nodes.items ≡ length after.nodes.items
 unfolding HaveSameFrame
-as_many_nodes before after same = same.1
+as_many_nodes before after same = same.2
 
 pub same_node_beyond : (before after : Plan) (n : ℕ) → length before.nodes.items ≤ n → length after.nodes.items ≤ n → IsSameNode before after n
 unfolding IsSameNode

@@ -24,7 +24,7 @@ use Rattle.net_check.specs.MoveRules.{Before, After, AcceptsMove}
 use Rattle.net_check.specs.declared.rule.Rule.TheVariants.{C05}
 use Rattle.net_check.specs.Repositories.{records_of, places_of, RecordsHaveOrder}
 use Rattle.net_check.specs.Termini.{TerminusState, WaitingMessage}
-use Rattle.net_check.specs.States.{NetworkState, Flight, with_flight, without_flight, with_made, with_input, with_terminus, with_packet, with_packets, with_received, destination, rows_now, unit, slots, limit}
+use Rattle.net_check.specs.States.{NetworkState, Flight, with_flight, without_flight, with_made, with_input, with_terminus, with_packet, with_packets, with_received, destination, rows_now, unit_of, slots, limit}
 use Rattle.net_check.specs.TwoPlans.{Tables, one_plan, moving, rows_by}
 use Rattle.net_check.specs.Events.{EventValue, Put, Move, Lose, Expire, AnswerAt, Switch, OutcomeValue, PutIn, Moved, Entered, Stopped, Lost, Expired, Answered, Silent, Switched, Refused, Refusal, N01, N02, N03, N04, N05, N06, N07, refusal_number, IsRefused, IsFirstRefusal}
 use Rattle.net_check.specs.Networks.{Step, Happens, Moves, IsDone, IsAnswered, answer_key}
@@ -169,8 +169,8 @@ module _ (plan : Plan) (node : ℕ) where
   answered_one key w None _ _ u v x y = absurd x
   answered_one key w (Some answer) (Answered n first last) (Answered m begin end) u v (eid, ps, holds, are, at, from, to, is) (e, qs, holds', are', at', from', to', is') =
       let eids : eid ≡ e = same_Some eid e (sym holds ∙ holds') in
-      let P : ℕ → Type 0 = λ k. ArePacketsOf unit answer key.source (answer_key k key) 0 ps in
-      let packets : ps ≡ qs = same_packets unit answer key.source (answer_key e key) 0 ps qs (subst P eids are) are' in
+      let P : ℕ → Type 0 = λ k. ArePacketsOf (unit_of plan) answer key.source (answer_key k key) 0 ps in
+      let packets : ps ≡ qs = same_packets (unit_of plan) answer key.source (answer_key e key) 0 ps qs (subst P eids are) are' in
       let nodes : n ≡ m = at ∙ sym at' in
       let firsts : first ≡ begin = from ∙ sym from' in
       let lasts : last ≡ end = to ∙ (ap (λ (xs : List Frame). w.made + length xs) packets ∙ sym to') in
@@ -211,7 +211,7 @@ module _ (tables : Tables) (apart : HaveRowsApart tables) where
 
   happens_one : (w : NetworkState) (lists : HoldsLawfulLists w) (event : EventValue) (a b : OutcomeValue) (u v : NetworkState) → Happens tables w event a u → Happens tables w event b v → AreOne a b u v
   happens_one w lists (Put node bytes) (PutIn k n) (PutIn j m) u v (p, spelled, number, at, is) (q, spelled', number', at', is') =
-      let packets : p ≡ q = one_frame unit p q spelled.0 spelled'.0 (spelling spelled.1 spelled'.1) in
+      let packets : p ≡ q = one_frame (unit_of tables.plan) p q spelled.0 spelled'.0 (spelling spelled.1 spelled'.1) in
       let flights : k ≡ j = number ∙ sym number' in
       let nodes : n ≡ m = at ∙ sym at' in
       (λ i. PutIn (flights i) (nodes i), is ∙ (ap (λ (x : Frame). with_packet w node x) packets ∙ sym is'))

@@ -19,7 +19,7 @@ use Rattle.net_plan.specs.declared.certificate.Certificate.{Certificate}
 use Rattle.net_check.specs.Routing.{Holds}
 use Rattle.net_check.specs.Repositories.{records_by_place}
 use Rattle.net_check.specs.Termini.{TerminusState, AreBytes, with_waiting}
-use Rattle.net_check.specs.States.{NetworkState, with_terminus, with_packets, with_received, unit}
+use Rattle.net_check.specs.States.{NetworkState, with_terminus, with_packets, with_received, unit_of}
 use Rattle.net_check.specs.TwoPlans.{Tables, HasRowAlways}
 use Rattle.net_check.specs.Events.{Move, AnswerAt, Entered, Answered, Refusal, N01, N02, N03, N04, N05, N06, N07, IsRefused, most_flights}
 use Rattle.net_check.specs.Networks.{Step, answer_key}
@@ -51,7 +51,7 @@ module _ (tables : Tables) (cert : Certificate) (lawful : ways.IsLawful tables c
   waits_elsewhere w n m key request owner other = elim (eqb_tells m n) [ inl same ↦ absurd (other same.1) | inr apart ↦ rw (owner, apart.0) refl ]
 
   module _ (n eid from : ℕ) (key : KeyValue) (request : List ℕ) (holds : Holds tables.plan n eid) (way : Holds tables.plan from eid ⊎ HasRowAlways tables from eid) (owner : key.owner ≡ true)
-      (some : 0 < length request) (short : length request ≤ unit) where
+      (some : 0 < length request) (short : length request ≤ (unit_of tables.plan)) where
     -- the request has come, and waits
     pub record HasAsked (w : NetworkState) (t : TerminusState) : Type 0 where
       pub new : NetworkState
@@ -62,13 +62,13 @@ module _ (tables : Tables) (cert : Certificate) (lawful : ways.IsLawful tables c
       pub there : new.terminus n ≡ Some (with_waiting t (record { key = key; bytes = request }))
       pub elsewhere : (m : ℕ) → m ≢ n → new.terminus m ≡ w.terminus m
 
-    pub comes_there : (w : NetworkState) (k : ℕ) (p : Frame) (t : TerminusState) → ArePacketsOf unit request eid key 0 (p ∷ []) → w.flight k ≡ Some (new_flight from p)
+    pub comes_there : (w : NetworkState) (k : ℕ) (p : Frame) (t : TerminusState) → ArePacketsOf (unit_of tables.plan) request eid key 0 (p ∷ []) → w.flight k ≡ Some (new_flight from p)
         → ((j : ℕ) → j ≢ k → w.flight j ≡ None) → ((m : ℕ) → IsClosed (w.history m)) → w.terminus n ≡ Some t → HasAsked w t
     comes_there w k p t are stands others closed is =
         let mine = are.of_key 0 p refl in
         let to = are.addressed 0 p refl in
         let H : ℕ → Type 0 = λ e. Holds tables.plan n e in
-        let joined = packets_join unit request eid key 0 (p ∷ []) some are in
+        let joined = packets_join (unit_of tables.plan) request eid key 0 (p ∷ []) some are in
         let came = comes_last request key (omega arith) (w.history n) [] p joined mine (closed n) in
         let e = enters_there tables cert lawful walkers begun w k (new_flight from p) n (Whole request) stands (subst H (sym to) holds)
         (way_is_route tables cert lawful walkers begun from eid p to way) came.0 in
@@ -111,7 +111,7 @@ module _ (tables : Tables) (cert : Certificate) (lawful : ways.IsLawful tables c
     pub few : length message ≤ r.count + 17
     pub some : 0 < length message
     pub packets : List Frame
-    pub are : ArePacketsOf unit message own (answer_key eid key) 0 packets
+    pub are : ArePacketsOf (unit_of tables.plan) message own (answer_key eid key) 0 packets
     pub base : ℕ
     pub under : AreUnderWay new base n packets
     pub closed : (m : ℕ) → IsClosed (new.history m)
@@ -158,11 +158,11 @@ module _ (tables : Tables) (cert : Certificate) (lawful : ways.IsLawful tables c
           let answers = subst O a.is s.answers in
           let b = answer_is_bytes t.tid t.records (get_pdr_request_bytes (asked_under id r)) (Some a.bytes) s.tid_after tid (records_of_bytes t.records bytes_there)
           (each_byte (get_pdr_request_bytes (asked_under id r)) asked_bytes) answers in
-          put_in s a answers (b.0 a.bytes refl) b.1 (message_packets a.bytes key.source (answer_key eid key))
+          put_in s a answers (b.0 a.bytes refl) b.1 (message_packets tables.plan a.bytes key.source (answer_key eid key))
         where
           put_in : (s : SomeAnswer t.tid t.records (get_pdr_request_bytes (asked_under id r))) (a : AnswersWalker (records_by_place tables.plan cert n) id r s.answer)
               → Answers t.tid t.records (get_pdr_request_bytes (asked_under id r)) (Some a.bytes) s.tid_after → EachByte a.bytes → s.tid_after < 256
-              → (ps : List Frame) × ArePacketsOf unit a.bytes key.source (answer_key eid key) 0 ps → HasReplied n eid own key id r w t
+              → (ps : List Frame) × ArePacketsOf (unit_of tables.plan) a.bytes key.source (answer_key eid key) 0 ps → HasReplied n eid own key id r w t
           put_in s a answers content low (ps, are) =
               let after_it : TerminusState = record t { tid = s.tid_after; waiting = [] } in
               let v : NetworkState = with_terminus w n (Some after_it) in
@@ -170,7 +170,7 @@ module _ (tables : Tables) (cert : Certificate) (lawful : ways.IsLawful tables c
               (may, (t, record { key = key; bytes = get_pdr_request_bytes (asked_under id r) }, [], Some a.bytes, s.tid_after, is, waits, answers, (eid, ps, holds, are, refl, refl, refl, refl))) in
               let long = ap length a.spelled.1 in
               let C : (ℕ → History) → Type 0 = λ histories. (m : ℕ) → IsClosed (histories m) in
-              let P : ℕ → Type 0 = λ d. ArePacketsOf unit a.bytes d (answer_key eid key) 0 ps in
+              let P : ℕ → Type 0 = λ d. ArePacketsOf (unit_of tables.plan) a.bytes d (answer_key eid key) 0 ps in
               record {
                 new = with_packets v n ps;
                 run = network_turn tables (Now tables cert lawful walkers begun w) (AnswerAt n) (Answered n (v.made + 1) (v.made + length ps)) (with_packets v n ps) (λ node bytes same. cc) step

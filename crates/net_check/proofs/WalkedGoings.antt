@@ -23,9 +23,10 @@ use Rattle.pdr_repository.specs.declared.walk_fault.WalkFault.{WalkFault}
 use Rattle.pdr_repository.specs.Walkers.{WalkState, asked_under, Asks, IsAnswerIn, Takes, TakesOutcome, Proceeds, Fails}
 use Rattle.net_plan.specs.declared.plan.Plan.{Plan}
 use Rattle.net_plan.specs.declared.certificate.Certificate.{Certificate}
+use Rattle.net_check.proofs.Units.{part_fits}
 use Rattle.net_check.specs.Routing.{Holds}
 use Rattle.net_check.specs.Termini.{AreBytes}
-use Rattle.net_check.specs.States.{NetworkState, unit}
+use Rattle.net_check.specs.States.{NetworkState, unit_of}
 use Rattle.net_check.specs.TwoPlans.{Tables}
 use Rattle.net_check.specs.Events.{EventValue, Put, OutcomeValue, PutIn, N01}
 use Rattle.net_check.specs.ByteRuns.{RecordsAreBytes}
@@ -261,8 +262,8 @@ request_is_bytes id r small lawful =
       ),
     )
 
-frame_is_bytes : (p : Frame) → IsFrame unit p → EachByte p.payload → EachByte (frame_bytes p)
-frame_is_bytes p frame all =
+frame_is_bytes : (unit : ℕ) (p : Frame) → IsFrame unit p → EachByte p.payload → EachByte (frame_bytes p)
+frame_is_bytes unit p frame all =
     let som = bit_most p.som in
     let eom = bit_most p.eom in
     let owner = bit_most p.owner in
@@ -280,7 +281,7 @@ asking_puts_bytes tables w walker flight new next kept asking kept_next =
     let E : List ℕ → Type 0 = EachByte in
     let payload : asking.packet.payload ≡ asking.request = sym (append-nil asking.packet.payload) ∙ sym (asking.cut.cut.whole ∙ joined_payloads (asking.packet ∷ [])) in
     let content : EachByte asking.packet.payload = subst E (sym (payload ∙ asked.request_is)) request in
-    are_bytes asking.bytes (subst E (sym asking.spelled.1) (frame_is_bytes asking.packet asking.spelled.0 content))
+    are_bytes asking.bytes (subst E (sym asking.spelled.1) (frame_is_bytes (unit_of tables.plan) asking.packet asking.spelled.0 content))
 
 -- ---- the network
 
@@ -337,7 +338,7 @@ module _ (tables : Tables) (eids : EidsAreBytes tables.plan) where
       → IsKept tables.plan (fresh_walker node eid tag count)
   fresh_is_kept w node eid tag count small may =
       let own = holds_some tables.plan node (may (Also N01)) in
-      let count_fits : count < 2 ^ 16 = elim (cases_lt (five_packets unit) count) [ inl more ↦ absurd (may N10 (inr more)) | inr fits ↦ omega arith ] in
+      let count_fits : count < 2 ^ 16 = elim (cases_lt (five_packets (unit_of tables.plan)) count) [ inl more ↦ absurd (may N10 (inr more)) | inr fits ↦ omega (arith, part_fits tables.plan count fits) ] in
       record {
         home = (own.0, eids node own.0 own.1, own.1);
         tag = small;

@@ -13,8 +13,9 @@ use Rattle.pdr_repository.specs.declared.walk_fault.Step.{Step}
 use Rattle.pdr_repository.specs.declared.walk_fault.WalkFault.{WalkFault}
 use Rattle.pdr_repository.specs.Walkers.{asked_under}
 use Rattle.net_plan.specs.declared.plan.Plan.{Plan}
+use Rattle.net_check.proofs.Units.{least_unit}
 use Rattle.net_check.specs.Routing.{Holds}
-use Rattle.net_check.specs.States.{NetworkState, with_packet, unit}
+use Rattle.net_check.specs.States.{NetworkState, with_packet, unit_of}
 use Rattle.net_check.specs.TwoPlans.{Tables}
 use Rattle.net_check.specs.Events.{EventValue, Put, OutcomeValue, PutIn, Moved, Entered, Stopped, Lost, Expired, Answered, Silent, Switched, Refused, Refusal, N01, N02, N03, N04, N05, N06, N07, IsRefused, most_flights}
 use Rattle.net_check.specs.Networks as network
@@ -147,7 +148,7 @@ module _ (tables : Tables) (w : WalkedState) (can : CanGoOn tables.plan w) where
   walk_refused_or_not (BeginWalk node eid tag count) (Also N01) = at_most_or_not (length tables.plan.nodes.items) node
   walk_refused_or_not (BeginWalk node eid tag count) N08 = there_or_not node eid tag
   walk_refused_or_not (BeginWalk node eid tag count) N09 = no_terminus_or_not eid
-  walk_refused_or_not (BeginWalk node eid tag count) N10 = either_or_not _ _ (less_or_not count 8) (less_or_not (five_packets unit) count)
+  walk_refused_or_not (BeginWalk node eid tag count) N10 = either_or_not _ _ (less_or_not count 8) (less_or_not (five_packets (unit_of tables.plan)) count)
   walk_refused_or_not (Ask k) (Also N06) = less_or_not (most_flights - w.network.made) 1
   walk_refused_or_not (Ask k) N11 = none_or_not (w.walker k)
   walk_refused_or_not (Ask k) N12 = waits_or_not k
@@ -158,9 +159,9 @@ module _ (tables : Tables) (w : WalkedState) (can : CanGoOn tables.plan w) where
 -- ---- what is put in
 
 -- a packet of a message may be put in, where the destination and the key fit their bits
-pub packets_are_frames : (message : List ℕ) (d : ℕ) (key : KeyValue) (p : Frame) → d < 256 → key.source < 256 → key.tag < 8
+pub packets_are_frames : (unit : ℕ) (message : List ℕ) (d : ℕ) (key : KeyValue) (p : Frame) → d < 256 → key.source < 256 → key.tag < 8
     → ArePacketsOf unit message d key 0 (p ∷ []) → IsFrame unit p
-packets_are_frames message d key p small narrow short are =
+packets_are_frames unit message d key p small narrow short are =
     let reserved = are.reserved 0 p refl in
     let to = are.addressed 0 p refl in
     let mine = are.of_key 0 p refl in
@@ -178,12 +179,12 @@ packets_are_frames message d key p small narrow short are =
     }
 
 -- a short message is one packet
-pub one_packet : (message : List ℕ) (d : ℕ) (key : KeyValue) → 0 < length message → length message ≤ unit → (p : Frame) × ArePacketsOf unit message d key 0 (p ∷ [])
-one_packet message d key some short = by (message_packets message d key)
+pub one_packet : (plan : Plan) (message : List ℕ) (d : ℕ) (key : KeyValue) → 0 < length message → length message ≤ unit_of plan → (p : Frame) × ArePacketsOf (unit_of plan) message d key 0 (p ∷ [])
+one_packet plan message d key some short = by (message_packets plan message d key)
   where
-    by : (ps : List Frame) × ArePacketsOf unit message d key 0 ps → (p : Frame) × ArePacketsOf unit message d key 0 (p ∷ [])
-    by ([], are) = absurd (omega (arith, many_packets unit message d key 0 [] are))
-    by (p ∷ q ∷ ps, are) = absurd (omega (arith, few_packets unit 1 message d key 0 (p ∷ q ∷ ps) are (omega arith)))
+    by : (ps : List Frame) × ArePacketsOf (unit_of plan) message d key 0 ps → (p : Frame) × ArePacketsOf (unit_of plan) message d key 0 (p ∷ [])
+    by ([], are) = absurd (omega (arith, many_packets (unit_of plan) message d key 0 [] are))
+    by (p ∷ q ∷ ps, are) = absurd (omega (arith, few_packets (unit_of plan) 1 message d key 0 (p ∷ q ∷ ps) are (omega arith)))
     by (p ∷ [], are) = (p, are)
 
 -- the next free ID goes out
@@ -211,7 +212,7 @@ asked_walker walker id ids = record walker { walk = record walker.walk { waiting
 -- the request that is due is put in, as one packet
 pub record AsksUnder (tables : Tables) (w : NetworkState) (walker : WalkerValue) (own : ℕ) (r : PartRequest) (id : ℕ) (ids : IdSet) : Type 0 where
   pub packet : Frame
-  pub are : ArePacketsOf unit (get_pdr_request_bytes (asked_under id r)) walker.eid (asking_key own walker) 0 (packet ∷ [])
+  pub are : ArePacketsOf (unit_of tables.plan) (get_pdr_request_bytes (asked_under id r)) walker.eid (asking_key own walker) 0 (packet ∷ [])
   pub asking : IsAsking tables w walker (w.made + 1) (with_packet w walker.node packet) (asked_walker walker id ids)
 
 pub asks_under : (tables : Tables) (w : NetworkState) (walker : WalkerValue) (lawful : IsLawfulWalker tables.plan walker) (r : PartRequest) → walker.walk.due ≡ Some r → ¬ IsOver walker
@@ -220,8 +221,8 @@ pub asks_under : (tables : Tables) (w : NetworkState) (walker : WalkerValue) (la
     → AsksUnder tables w walker lawful.home.0 r id ids
 asks_under tables w walker lawful r due not_over left id ids under =
     let request = get_pdr_request_bytes (asked_under id r) in
-    let (p, are) = one_packet request walker.eid (asking_key lawful.home.0 walker) (omega arith) (omega arith) in
-    let frame = packets_are_frames request walker.eid (asking_key lawful.home.0 walker) p lawful.eid lawful.home.1 lawful.tag are in
+    let (p, are) = one_packet tables.plan request walker.eid (asking_key lawful.home.0 walker) (omega arith) (omega (arith, least_unit tables.plan)) in
+    let frame = packets_are_frames (unit_of tables.plan) request walker.eid (asking_key lawful.home.0 walker) p lawful.eid lawful.home.1 lawful.tag are in
     record {
       packet = p;
       are = are;
@@ -243,7 +244,7 @@ asks_under tables w walker lawful r due not_over left id ids under =
       };
     }
   where
-    may_put : (p : Frame) → IsFrame unit p → (why : Refusal) → ¬ IsRefused tables w (Put walker.node (frame_bytes p)) why
+    may_put : (p : Frame) → IsFrame (unit_of tables.plan) p → (why : Refusal) → ¬ IsRefused tables w (Put walker.node (frame_bytes p)) why
     may_put p frame N01 refused = let inside = holder_is_there tables.plan walker.node lawful.home.0 lawful.home.2 in omega (arith, inside, refused)
     may_put p frame N02 refused = refused p (frame, refl)
     may_put p frame N03 refused = refused

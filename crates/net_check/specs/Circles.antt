@@ -1,5 +1,6 @@
 -- Where moves from place to place lead: to an end, or round a circle.
-use Rattle.std.specs.Prelude.{◌≡◌, ◌≢◌, ℕ, suc, ◌+◌, ◌-◌, ◌<◌, ◌≤◌, List, length, slice_get, Option, Some, option_and_then}
+use Rattle.std.specs.Prelude.{◌≡◌, ◌≢◌, ℕ, suc, ◌+◌, ◌-◌, ◌<◌, ◌≤◌, List}
+use Rattle.std.specs.Prelude.{length, slice_get, Option, Some, option_and_then}
 use Rattle.net_check.specs.declared.certifying.walks.Walked.{Walked}
 use Rattle.net_check.specs.declared.certifying.walks.Walked.TheVariants.{Ended, Circled}
 use Rattle.net_check.specs.Moves.{Leads, IsEnd}

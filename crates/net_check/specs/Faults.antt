@@ -2,7 +2,8 @@
 use Rattle.std.specs.Prelude.{◌≡◌, ◌⊎◌, ℕ, suc, ◌<◌, List, [], ◌∷◌, Option, Some, None, option_map}
 use Rattle.mctp_transport.specs.declared.address.Eid.{Eid}
 use Rattle.net_check.specs.declared.rule.Rule.{Rule}
-use Rattle.net_check.specs.declared.rule.Rule.TheVariants.{C01, C02, C03, C04, C05, C06, C07, C08, C09, C10, C11, C12, C13, C14, C15, C16}
+use Rattle.net_check.specs.declared.rule.Rule.TheVariants.{C01, C02, C03, C04, C05, C06, C07, C08}
+use Rattle.net_check.specs.declared.rule.Rule.TheVariants.{C09, C10, C11, C12, C13, C14, C15, C16}
 use Rattle.net_check.specs.declared.fault.Fault.{Fault}
 use Rattle.net_plan.specs.declared.plan.Plan.{Plan}
 use Rattle.net_plan.specs.declared.certificate.Certificate.{Certificate}

@@ -16,14 +16,16 @@ IsFirstUnlike before after (Some n) = ¬ IsSameNode before after n × ((m : ℕ)
 -- a node, an entry and an EID come before others
 abbrev pub NodeComesBefore : ℕ → Option ℕ → Option ℕ → ℕ → Option ℕ → Option ℕ → Type 0
 NodeComesBefore n entry eid n' entry' eid' =
-    LessByFirstDifference (n ∷ order_of_number entry ∷ order_of_number eid ∷ []) (n' ∷ order_of_number entry' ∷ order_of_number eid' ∷ [])
+    LessByFirstDifference (n ∷ order_of_number entry ∷ order_of_number eid ∷ [])
+    (n' ∷ order_of_number entry' ∷ order_of_number eid' ∷ [])
 
 -- the first fault of one rule, by what the rules demand, if any
 abbrev pub IsFirstByRule : (Rule → ℕ → Option ℕ → Option ℕ → Type 0) → Rule → Option Fault → Type 0
 IsFirstByRule D rule None = (n : ℕ) (entry eid : Option ℕ) → D rule n entry eid
 IsFirstByRule D rule (Some fault) =
     (fault.rule ≡ rule) × ¬ D rule fault.node fault.entry (eid_number fault.eid)
-    × ((n : ℕ) (entry eid : Option ℕ) → NodeComesBefore n entry eid fault.node fault.entry (eid_number fault.eid) → D rule n entry eid)
+    × ((n : ℕ) (entry eid : Option ℕ) → NodeComesBefore n entry eid fault.node fault.entry (eid_number fault.eid)
+    → D rule n entry eid)
 
 -- the first fault of all, by what the rules demand, if any
 abbrev pub IsFirstByRules : (Rule → ℕ → Option ℕ → Option ℕ → Type 0) → Option Fault → Type 0
@@ -37,4 +39,5 @@ abbrev pub IsFirstByNode : MoveRule → (ℕ → Option ℕ → Option ℕ → T
 IsFirstByNode rule D None = (n : ℕ) (entry eid : Option ℕ) → D n entry eid
 IsFirstByNode rule D (Some fault) =
     (fault.rule ≡ rule) × ¬ D fault.node fault.entry (eid_number fault.eid)
-    × ((n : ℕ) (entry eid : Option ℕ) → NodeComesBefore n entry eid fault.node fault.entry (eid_number fault.eid) → D n entry eid)
+    × ((n : ℕ) (entry eid : Option ℕ) → NodeComesBefore n entry eid fault.node fault.entry (eid_number fault.eid)
+    → D n entry eid)

@@ -20,8 +20,11 @@ HoldsLawfulLists w = (n : ℕ) (t : TerminusState) → w.terminus n ≡ Some t �
 
 -- What comes of the event, and the network after it, are determined.
 abbrev pub HasOneOutcome : Tables → NetworkState → EventValue → Type 0
-HasOneOutcome tables w event = (a b : OutcomeValue) (u v : NetworkState) → Step tables w event a u → Step tables w event b v → (a ≡ b) × (u ≡ v)
+HasOneOutcome tables w event =
+    (a b : OutcomeValue) (u v : NetworkState) → Step tables w event a u → Step tables w event b v → (a ≡ b) × (u ≡ v)
 
 -- so it is at each moment of each run by the tables
 abbrev pub RunsHaveOneOutcome : Tables → Certificate → Type 0
-RunsHaveOneOutcome tables cert = (turns : List Turn) (event : EventValue) → RunOf tables cert turns → HasOneOutcome tables (reached tables.plan cert turns) event
+RunsHaveOneOutcome tables cert =
+    (turns : List Turn) (event : EventValue) → RunOf tables cert turns
+    → HasOneOutcome tables (reached tables.plan cert turns) event

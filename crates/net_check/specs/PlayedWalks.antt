@@ -9,7 +9,8 @@ use Rattle.net_check.specs.Repositories.{terminus_of, records_by_place}
 use Rattle.net_check.specs.Termini.{AreBytes}
 use Rattle.net_check.specs.States.{unit_of}
 use Rattle.net_check.specs.Events.{Put}
-use Rattle.net_check.specs.Walkers.{WalkerValue, Happening, BeginWalk, Begun, fresh_walker, five_packets, most_records, most_bytes}
+use Rattle.net_check.specs.Walkers.{WalkerValue, Happening, BeginWalk, Begun}
+use Rattle.net_check.specs.Walkers.{fresh_walker, five_packets, most_records, most_bytes}
 use Rattle.net_check.specs.NetworkWalks.{IsSameWalker}
 use Rattle.net_check.specs.WalkedRuns.{WalkedTurn, WalkedRunOf, walked_reached}
 
@@ -38,7 +39,11 @@ pub record IsPlayedToItsEnd (tables : Tables) (cert : Certificate) (node eid tag
 -- Each walk that isn't refused can be played to its end, where requests and answers have ways to go by, and the
 -- records of the terminus are bytes and not too many.
 abbrev pub WalksCanBePlayed : Tables → Certificate → Type 0
-WalksCanBePlayed tables cert = (node own eid tag count n : ℕ) → Holds tables.plan node own → Holds tables.plan n eid → terminus_of tables.plan n ≢ None → tag < 8
+WalksCanBePlayed tables cert =
+    (node own eid tag count n : ℕ) → Holds tables.plan node own → Holds tables.plan n eid
+    → terminus_of tables.plan n ≢ None → tag < 8
     → 8 ≤ count → count ≤ five_packets (unit_of tables.plan) → HasWay tables node eid → HasWay tables n own
-    → All (λ e. AreBytes e.bytes) (records_by_place tables.plan cert n) → length (records_by_place tables.plan cert n) ≤ most_records
-    → sum_by (λ e. length e.bytes) (records_by_place tables.plan cert n) ≤ most_bytes → IsPlayedToItsEnd tables cert node eid tag count n
+    → All (λ e. AreBytes e.bytes) (records_by_place tables.plan cert n)
+    → length (records_by_place tables.plan cert n) ≤ most_records
+    → sum_by (λ e. length e.bytes) (records_by_place tables.plan cert n) ≤ most_bytes
+    → IsPlayedToItsEnd tables cert node eid tag count n

@@ -15,8 +15,8 @@ pub record IsLongestRun (ranks : ℕ → ℕ) (range : RankRange) : Type 0 where
 -- The ranges are the longest runs of neighboring EIDs of equal rank above 0, all of them, in order.
 pub record AreLongestRuns (ranks : ℕ → ℕ) (ranges : List RankRange) : Type 0 where
   pub runs : (i : ℕ) (range : RankRange) → slice_get ranges i ≡ Some range → IsLongestRun ranks range
-  pub ascend : (i j : ℕ) (one other : RankRange) → i < j → slice_get ranges i ≡ Some one → slice_get ranges j ≡ Some other
-      → one.first.value + one.size ≤ other.first.value
+  pub ascend : (i j : ℕ) (one other : RankRange) → i < j → slice_get ranges i ≡ Some one
+      → slice_get ranges j ≡ Some other → one.first.value + one.size ≤ other.first.value
   pub all : (e : ℕ) → 0 < ranks e → (i : ℕ) × (range : RankRange) × (slice_get ranges i ≡ Some range) × LiesIn range e
 
 -- the ranks of the EIDs below a bound, 0 from there on
@@ -37,7 +37,8 @@ abbrev pub AreNone : ℕ → List NodeRanks → Type 0
 AreNone count given = (length given ≡ count)
     × ((n : ℕ) (one : NodeRanks) → slice_get given n ≡ Some one → (one.node ≡ n) × (one.ranges.items ≡ []))
 
--- The longest runs of the EIDs below first become those of the EIDs up to last, where all from first to last have this rank.
+-- The longest runs of the EIDs below first become those of the EIDs up to last, where all from first to last have this
+-- rank.
 abbrev pub GrowsBy : (first last rank : ℕ) → List RankRange → List RankRange → Type 0
 GrowsBy first last rank old new = (ranks : ℕ → ℕ) → ((e : ℕ) → first ≤ e → e ≤ last → ranks e ≡ rank)
     → AreLongestRuns (below first ranks) old → AreLongestRuns (below (last + 1) ranks) new
@@ -49,5 +50,5 @@ pub record IsGrown (first last rank : ℕ) (old new : NodeRanks) : Type 0 where
 
 abbrev pub AreGrown : (first last : ℕ) → List ℕ → List NodeRanks → List NodeRanks → Type 0
 AreGrown first last counts old new = (length new ≡ length old)
-    × ((n rank : ℕ) (one other : NodeRanks) → slice_get counts n ≡ Some rank → slice_get old n ≡ Some one → slice_get new n ≡ Some other
-    → IsGrown first last rank one other)
+    × ((n rank : ℕ) (one other : NodeRanks) → slice_get counts n ≡ Some rank → slice_get old n ≡ Some one
+    → slice_get new n ≡ Some other → IsGrown first last rank one other)

@@ -17,7 +17,8 @@ rank_in ranges e = unwrap_or (option_map (λ range. range.rank) (find (λ range.
 
 -- the rank that the list gives n and e, 0 where it gives none
 abbrev pub rank_given : List NodeRanks → ℕ → ℕ → ℕ
-rank_given ranks n e = unwrap_or (option_map (λ given. rank_in given.ranges.items e) (find (λ given. given.node == n) ranks)) 0
+rank_given ranks n e =
+    unwrap_or (option_map (λ given. rank_in given.ranges.items e) (find (λ given. given.node == n) ranks)) 0
 
 abbrev pub rank : Certificate → ℕ → ℕ → ℕ
 rank cert n e = rank_given cert.ranks.items n e

@@ -1,5 +1,6 @@
 -- The chain that the next handles of records make.
-use Rattle.std.specs.Prelude.{codes, ◌≡◌, ◌≢◌, ◌⊎◌, ℕ, ◌+◌, ◌<◌, List, length, map, slice_get, Option, Some, None, MatchOption}
+use Rattle.std.specs.Prelude.{codes, ◌≡◌, ◌≢◌, ◌⊎◌, ℕ, ◌+◌, ◌<◌, List, length}
+use Rattle.std.specs.Prelude.{map, slice_get, Option, Some, None, MatchOption}
 use Rattle.std.specs.Ordering.{nat_cmp}
 use Rattle.std.specs.BTreeMap.{BTreeMap, get}
 use Rattle.net_plan.specs.declared.terminus.Record.{Record}
@@ -25,17 +26,20 @@ HasNewNext records j r = (i : ℕ) (other : Record) → i < j → slice_get reco
 
 -- the next handle of record j is record k's handle
 abbrev pub IsFollowedBy : List Record → ℕ → ℕ → Type 0
-IsFollowedBy records j k = (r : Record) × (other : Record) × (slice_get records j ≡ Some r) × (slice_get records k ≡ Some other) × (r.next ≡ other.handle)
+IsFollowedBy records j k =
+    (r : Record) × (other : Record) × (slice_get records j ≡ Some r) × (slice_get records k ≡ Some other)
+    × (r.next ≡ other.handle)
 
 -- each record has a new handle
 abbrev pub HaveNewHandles : List Record → Type 0
 HaveNewHandles records = (j : ℕ) (r : Record) → slice_get records j ≡ Some r → HasNewHandle records j r
 
--- What is wrong with a chain: the first record without its next one; where none is, the first with an earlier one's next
--- handle; where none is, the first on a circle.
+-- What is wrong with a chain: the first record without its next one; where none is, the first with an earlier one's
+-- next handle; where none is, the first on a circle.
 abbrev pub IsBadChain : List Record → ChainFault → Type 0
 IsBadChain records (Missing j) = IsFirstItem records (λ _ r. HasNext records r) (Some j)
-IsBadChain records (Doubled j) = IsFirstItem records (λ _ r. HasNext records r) None × IsFirstItem records (HasNewNext records) (Some j)
+IsBadChain records (Doubled j) =
+    IsFirstItem records (λ _ r. HasNext records r) None × IsFirstItem records (HasNewNext records) (Some j)
 IsBadChain records (Circle j) =
     IsFirstItem records (λ _ r. HasNext records r) None × IsFirstItem records (HasNewNext records) None
     × IsLeastOnCircle (IsFollowedBy records) j
@@ -71,7 +75,8 @@ IsFirstPlaceOf keys key place = (slice_get keys place ≡ Some key) × ((i : ℕ
 
 -- each key of the list is mapped to its first place, and no other is
 abbrev pub IsIndexOf : List ℕ → BTreeMap ℕ ℕ → Type 0
-IsIndexOf keys index = (key : ℕ) → MatchOption (get nat_cmp index key) ((i : ℕ) → slice_get keys i ≢ Some key) (IsFirstPlaceOf keys key)
+IsIndexOf keys index =
+    (key : ℕ) → MatchOption (get nat_cmp index key) ((i : ℕ) → slice_get keys i ≢ Some key) (IsFirstPlaceOf keys key)
 
 -- no record is without its next one, and no two have one next handle
 pub record AreLinked (records : List Record) : Type 0 where

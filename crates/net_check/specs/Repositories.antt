@@ -1,5 +1,6 @@
 -- The records of a plan's termini, and their order by the certificate's places.
-use Rattle.std.specs.Prelude.{◌≡◌, ◌≢◌, ◌⊎◌, ℕ, ◌+◌, ◌<◌, List, [], length, map, find, position, slice_get, Option, Some, None, option_map, unwrap_or, ◌==◌}
+use Rattle.std.specs.Prelude.{◌≡◌, ◌≢◌, ◌⊎◌, ℕ, ◌+◌, ◌<◌, List, [], length, map, find, position}
+use Rattle.std.specs.Prelude.{slice_get, Option, Some, None, option_map, unwrap_or, ◌==◌}
 use Rattle.std.specs.List.{filter_map, range_with_len}
 use Rattle.std.specs.Option.{option_and_then}
 use Rattle.net_plan.specs.declared.plan.Plan.{Plan}
@@ -19,7 +20,8 @@ records_of plan n = unwrap_or (option_map (λ t. t.records.items) (terminus_of p
 
 -- the places that the list gives the records of n, in the same order; none where it gives none
 abbrev pub places_given : List NodePlaces → ℕ → List ℕ
-places_given places n = unwrap_or (option_map (λ given. map (λ p. p.value) given.places.items) (find (λ given. given.node == n) places)) []
+places_given places n =
+    unwrap_or (option_map (λ given. map (λ p. p.value) given.places.items) (find (λ given. given.node == n) places)) []
 
 abbrev pub places_of : Certificate → ℕ → List ℕ
 places_of cert n = places_given cert.places.items n
@@ -42,15 +44,16 @@ records_by_place plan cert n = by_place (records_of plan n) (places_of cert n)
 
 -- the record's handle isn't 0, nor that of an earlier one
 abbrev pub HasNewHandle : List Record → ℕ → Record → Type 0
-HasNewHandle records j r = (r.handle ≢ 0) × ((i : ℕ) (other : Record) → i < j → slice_get records i ≡ Some other → other.handle ≢ r.handle)
+HasNewHandle records j r =
+    (r.handle ≢ 0) × ((i : ℕ) (other : Record) → i < j → slice_get records i ≡ Some other → other.handle ≢ r.handle)
 
 -- the handle is that of a record at the place
 abbrev pub IsHandleAt : List Record → List ℕ → ℕ → ℕ → Type 0
 IsHandleAt records places place handle = (k : ℕ) × (r : Record)
     × (slice_get records k ≡ Some r) × (slice_get places k ≡ Some place) × (handle ≡ r.handle)
 
--- The record is given a place, which is below the number of records and not an earlier one's. Its next handle is that of
--- a record at the following place, or, at the last place, 0.
+-- The record is given a place, which is below the number of records and not an earlier one's. Its next handle is that
+-- of a record at the following place, or, at the last place, 0.
 pub record IsChained (records : List Record) (places : List ℕ) (j : ℕ) (r : Record) : Type 0 where
   pub place : ℕ
   pub given : slice_get places j ≡ Some place
@@ -62,8 +65,8 @@ pub record IsChained (records : List Record) (places : List ℕ) (j : ℕ) (r : 
 unfoldable pub HasRecords : Plan → ℕ → Type 0
 HasRecords plan n = terminus_of plan n ≢ None → 0 < length (records_of plan n)
 
--- The records are some, each with a new handle, with bytes that are those of a record of that handle, and chained to the
--- next.
+-- The records are some, each with a new handle, with bytes that are those of a record of that handle, and chained to
+-- the next.
 pub record HaveOrder (records : List Record) (places : List ℕ) : Type 0 where
   pub some : 0 < length records
   pub handles : (j : ℕ) (r : Record) → slice_get records j ≡ Some r → HasNewHandle records j r

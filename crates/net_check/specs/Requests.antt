@@ -14,8 +14,9 @@ use Rattle.net_check.specs.Networks.{answer_key}
 use Rattle.net_check.specs.Runs.{Turn, Run, reached}
 use Rattle.net_check.specs.ExactMessages.{FitsKey}
 
--- A run with whose last turn the terminus of n, which holds d, answers the request. Before that turn exactly the request waits there, under
--- the key, and the packets that the turn puts in are those of its answer, to where the request came from.
+-- A run with whose last turn the terminus of n, which holds d, answers the request. Before that turn
+-- exactly the request waits there, under the key, and the packets that the turn puts in are those of its
+-- answer, to where the request came from.
 pub record IsAnsweredRun (plan : Plan) (cert : Certificate) (n d : ℕ) (key : KeyValue) (request : List ℕ) : Type 0 where
   pub earlier : List Turn
   pub turn : Turn
@@ -31,11 +32,16 @@ pub record IsAnsweredRun (plan : Plan) (cert : Certificate) (n d : ℕ) (key : K
   pub packets : List Frame
   pub some : 0 < length packets
   pub are : ArePacketsOf (unit_of plan) answer key.source (answer_key d key) 0 packets
-  pub tells : turn.outcome ≡ Answered n ((reached plan cert earlier).made + 1) ((reached plan cert earlier).made + length packets)
-  pub put_in : turn.after ≡ with_packets (with_terminus (reached plan cert earlier) n (Some (record terminus { tid = tid; waiting = [] }))) n packets
+  pub tells : turn.outcome
+      ≡ Answered n ((reached plan cert earlier).made + 1) ((reached plan cert earlier).made + length packets)
+  pub put_in : turn.after
+      ≡ with_packets
+      (with_terminus (reached plan cert earlier) n (Some (record terminus { tid = tid; waiting = [] }))) n packets
 
 -- Where a node has a terminus, each request of one packet to it can be sent so that it is answered.
 abbrev pub RequestsCanBeAnswered : Plan → Certificate → Type 0
-RequestsCanBeAnswered plan cert = (n d : ℕ) (key : KeyValue) (request : List ℕ) → n < length plan.nodes.items → Holds plan n d → d < 256
-    → FitsKey key → key.owner ≡ true → terminus_of plan n ≢ None → All (λ e. AreBytes e.bytes) (records_by_place plan cert n)
+RequestsCanBeAnswered plan cert =
+    (n d : ℕ) (key : KeyValue) (request : List ℕ) → n < length plan.nodes.items → Holds plan n d → d < 256
+    → FitsKey key → key.owner ≡ true → terminus_of plan n ≢ None
+    → All (λ e. AreBytes e.bytes) (records_by_place plan cert n)
     → AreBytes request → IsAsked request → length request ≤ unit_of plan → IsAnsweredRun plan cert n d key request

@@ -2,7 +2,8 @@
 use Rattle.std.specs.Prelude.{ℕ, List, Option, Some, None, ⊤, codes}
 use Rattle.mctp_transport.specs.Frames.{IsAssignable}
 use Rattle.net_check.specs.declared.rule.Rule.{Rule}
-use Rattle.net_check.specs.declared.rule.Rule.TheVariants.{C01, C02, C03, C04, C05, C06, C07, C08, C09, C10, C11, C12, C13, C14, C15, C16}
+use Rattle.net_check.specs.declared.rule.Rule.TheVariants.{C01, C02, C03, C04, C05, C06, C07, C08}
+use Rattle.net_check.specs.declared.rule.Rule.TheVariants.{C09, C10, C11, C12, C13, C14, C15, C16}
 use Rattle.net_plan.specs.declared.plan.Plan.{Plan}
 use Rattle.net_plan.specs.declared.nodes.Row.{Row}
 use Rattle.net_plan.specs.declared.certificate.Certificate.{Certificate}
@@ -39,8 +40,8 @@ code_of C14 = codes "C14"
 code_of C15 = codes "C15"
 code_of C16 = codes "C16"
 
--- Where a rule speaks: at the node alone, at the node's EID, at each EID, at each item of a list (the node's rows, or the
--- records of its terminus), at each EID of a row or of a record. Elsewhere it demands nothing.
+-- Where a rule speaks: at the node alone, at the node's EID, at each EID, at each item of a list (the node's rows, or
+-- the records of its terminus), at each EID of a row or of a record. Elsewhere it demands nothing.
 abbrev pub AtNode : Type 0 → Option ℕ → Option ℕ → Type 0
 AtNode P None None = P
 AtNode P None (Some e) = ⊤
@@ -90,7 +91,8 @@ PlanDemands plan C08 n entry eid = AtItsEid plan n (IsInItsPool plan n) entry ei
 PlanDemands plan C09 n entry eid = AtNode (HasLawfulPool plan n) entry eid
 PlanDemands plan C10 n entry eid = ⊤
 PlanDemands plan C11 n entry eid = AtRowEid plan n (λ row e. IsLedOn (one_plan plan) n e row.next) entry eid
-PlanDemands plan C12 n entry eid = AtNodeOrItem (HasRecords plan n) (records_of plan n) (HasNewHandle (records_of plan n)) entry eid
+PlanDemands plan C12 n entry eid =
+    AtNodeOrItem (HasRecords plan n) (records_of plan n) (HasNewHandle (records_of plan n)) entry eid
 PlanDemands plan C13 n entry eid = AtItem (records_of plan n) (λ _ r. IsRecordOf r.handle r.bytes.items) entry eid
 PlanDemands plan C14 n entry eid = ⊤
 PlanDemands plan C15 n entry eid = AtItemOrEid (records_of plan n) HasOneByteAsEid (LocatesTerminus plan) entry eid
@@ -111,9 +113,11 @@ CertificateDemands plan cert C10 n entry eid = AtRowEid plan n (Falls plan cert 
 CertificateDemands plan cert C11 n entry eid = ⊤
 CertificateDemands plan cert C12 n entry eid = ⊤
 CertificateDemands plan cert C13 n entry eid = ⊤
-CertificateDemands plan cert C14 n entry eid = AtItem (records_of plan n) (IsChained (records_of plan n) (places_of cert n)) entry eid
+CertificateDemands plan cert C14 n entry eid =
+    AtItem (records_of plan n) (IsChained (records_of plan n) (places_of cert n)) entry eid
 CertificateDemands plan cert C15 n entry eid = ⊤
-CertificateDemands plan cert C16 n entry eid = AtNodeOrEid (NeedsWhatItIsGiven plan cert n) (NeedsItsRank (one_plan plan) cert n) entry eid
+CertificateDemands plan cert C16 n entry eid =
+    AtNodeOrEid (NeedsWhatItIsGiven plan cert n) (NeedsItsRank (one_plan plan) cert n) entry eid
 
 -- All that a rule demands at a node, an entry and an EID.
 abbrev pub Demands : Plan → Certificate → Rule → ℕ → Option ℕ → Option ℕ → Type 0

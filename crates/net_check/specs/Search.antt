@@ -8,7 +8,8 @@ use Rattle.net_plan.specs.declared.nodes.Row.{Row}
 use Rattle.net_plan.specs.declared.certificate.Certificate.{Certificate}
 use Rattle.net_check.specs.Routing.{OfItem, Covers}
 use Rattle.net_check.specs.Rules.{RuleHolds, Accepts}
-use Rattle.net_check.specs.Faults.{Place, place_of, eid_number, order_of_number, LessByFirstDifference, ComesBefore, IsMet, IsBroken, IsFirstFault}
+use Rattle.net_check.specs.Faults.{Place, place_of, eid_number, order_of_number}
+use Rattle.net_check.specs.Faults.{LessByFirstDifference, ComesBefore, IsMet, IsBroken, IsFirstFault}
 
 -- the first item of the list of which the fact fails, if any
 abbrev pub IsFirstItem : {A : Type 0} → List A → (ℕ → A → Type 0) → Option ℕ → Type 0

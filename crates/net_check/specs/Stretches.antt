@@ -6,7 +6,8 @@ use Rattle.net_check.specs.Ranks.{rank_in}
 
 -- the ranges that give n its ranks
 abbrev pub ranges_of : Certificate → ℕ → List RankRange
-ranges_of cert n = unwrap_or (option_map (λ given. given.ranges.items) (find (λ given. given.node == n) cert.ranks.items)) []
+ranges_of cert n =
+    unwrap_or (option_map (λ given. given.ranges.items) (find (λ given. given.node == n) cert.ranks.items)) []
 
 -- the fact holds all along the stretch, or nowhere on it
 abbrev pub IsStretch : (ℕ → Type 0) → ℕ → ℕ → Type 0

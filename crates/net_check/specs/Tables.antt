@@ -28,4 +28,5 @@ SendsAs rows table = (e : ℕ) (hop : Option Hop) → IsNext table e hop → IsH
 -- so many nodes of the plan have their tables
 abbrev pub AreTables : Plan → ℕ → List (List bridge.Row) → Type 0
 AreTables plan count tables =
-    (length tables ≡ count) × ((n : ℕ) (table : List bridge.Row) → slice_get tables n ≡ Some table → SendsAs (rows_of plan n) table)
+    (length tables ≡ count)
+    × ((n : ℕ) (table : List bridge.Row) → slice_get tables n ≡ Some table → SendsAs (rows_of plan n) table)

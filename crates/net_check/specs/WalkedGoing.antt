@@ -49,11 +49,14 @@ EidsAreBytes plan = (n e : ℕ) → Holds plan n e → e < 256
 
 -- each put puts in bytes, and the tag of each walk that begins has three bits
 abbrev pub PutBytesWalked : List WalkedTurn → Type 0
-PutBytesWalked turns = All (λ turn. ((node : ℕ) (bytes : List ℕ) → turn.event ≡ Happening (Put node bytes) → AreBytes bytes)
+PutBytesWalked turns =
+    All (λ turn. ((node : ℕ) (bytes : List ℕ) → turn.event ≡ Happening (Put node bytes) → AreBytes bytes)
     × ((node eid tag count : ℕ) → turn.event ≡ BeginWalk node eid tag count → tag < 8)) turns
 
 -- whatever the event, each such run has what it needs in order to go on, and goes on
 abbrev pub WalkedRunsGoOn : Tables → Certificate → Type 0
-WalkedRunsGoOn tables cert = (turns : List WalkedTurn) (event : WalkedEvent) → EidsAreBytes tables.plan → RecordsAreBytes tables.plan cert
+WalkedRunsGoOn tables cert =
+    (turns : List WalkedTurn) (event : WalkedEvent) → EidsAreBytes tables.plan → RecordsAreBytes tables.plan cert
     → PutBytesWalked turns → WalkedRunOf tables cert turns
-    → CanGoOn tables.plan (walked_reached tables.plan cert turns) × WalkedGoesOn tables (walked_reached tables.plan cert turns) event
+    → CanGoOn tables.plan (walked_reached tables.plan cert turns)
+    × WalkedGoesOn tables (walked_reached tables.plan cert turns) event

@@ -5,7 +5,7 @@ use crate::fault::Fault;
 use mctp_transport::Eid;
 use std::alloc::AllocError;
 
-/// Why a plan has no certificate: of what rules certificates out, that which comes first in the order of the rules.
+/// Why a plan has no certificate: the first cause, in the order of the rules.
 #[derive(Debug, Drop)]
 pub enum CertifyError {
     /// The plan breaks a rule, whatever the certificate.
@@ -13,13 +13,13 @@ pub enum CertifyError {
     /// Owners go round (C07): the nodes from the first one on a circle of owners, each followed by its owner, back to
     /// itself, so that the first stands there twice.
     OwnerLoop(Vec<usize>),
-    /// What is for this endpoint ID goes round (C10): the nodes from the first one on a circle, along their rows, back to
-    /// itself, so that the first stands there twice. It is the least endpoint ID that goes round.
+    /// What is for this endpoint ID goes round (C10): the nodes from the first one on a circle, along their rows, back
+    /// to itself, so that the first stands there twice. It is the least endpoint ID that goes round.
     Loop(Eid, Vec<usize>),
     /// The next handles of the records of this node's terminus, the first such, do not lead through all of them once
     /// (C14).
     BadChain(usize, ChainFault),
-    /// Want of memory.
+    /// Memory ran out.
     OutOfMemory,
 }
 

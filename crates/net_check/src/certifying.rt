@@ -33,8 +33,8 @@ use std::alloc::Global;
 
 /// The certificate of a plan: each node's level is the number of owners above it, each record's place is where the next
 /// handles lead to it, and the rank of each node and endpoint ID is the number of moves along rows from the node to the
-/// endpoint ID's holder, or to a node without a row for it. It is answered exactly where a certificate exists; otherwise,
-/// unless memory ran out, that which comes first in the order of the rules of what rules certificates out.
+/// endpoint ID's holder, or to a node without a row for it. It is answered exactly where a certificate exists.
+/// Otherwise the error says why there is none: the first cause in the order of the rules, unless memory ran out.
 #[tactic(auto, using(crate::proofs::ExactCertificates::made_exact, crate::proofs::ExactCertificates::made_meets, crate::proofs::ExactCertificates::exact_few, crate::proofs::Obstacles::none_made, crate::proofs::ExactCertificates::exact_accepted, crate::proofs::ExactCertificates::exact_only))]
 pub fn certify(alloc: Global, plan: &Plan) -> Result<Certificate, CertifyError>
     ensures accepted { IfOk result (λ certificate. Accepts plan.now certificate) }

@@ -8,7 +8,7 @@ use std::alloc::AllocError;
 pub enum CheckError {
     /// The first fault.
     Fault(Fault),
-    /// Want of memory.
+    /// Memory ran out.
     OutOfMemory,
 }
 

@@ -1,9 +1,11 @@
 //! The search for the first fault of a plan and a certificate.
 ghost use Rattle.std.specs.Prelude.{◌<◌, length, IfOk};
+ghost use Rattle.net_check.specs.Following.{AreRangesOf};
 ghost use Rattle.net_check.specs.Rules.{Demands};
 ghost use Rattle.net_check.specs.Search.{IsFirstSpot, IsFirstOfRule, IsFirstOfAll};
 
 use crate::fault::Fault;
+use crate::node_ranges::{NodeRanges, ranges_by_node};
 use crate::plan_fault::first_of_plan_at;
 use crate::plans::Plans;
 use crate::rule::{RULES, Rule};
@@ -37,8 +39,9 @@ pub fn first_of_rule(
 ) -> Result<Option<Fault>, AllocError>
     ensures { IfOk result (IsFirstOfRule plan.now certificate.now rule) }
 {
+    let lists = ranges_for(alloc, plan, certificate, rule)?;
     for node in 0..plan.nodes.len() {
-        if let Some(spot) = first_at(alloc, plan, certificate, rule, node)? {
+        if let Some(spot) = first_at(alloc, plan, certificate, &lists, rule, node)? {
             return Ok(Some(Fault {
                 rule,
                 node,
@@ -50,20 +53,37 @@ pub fn first_of_rule(
     Ok(None)
 }
 
+/// The ranges of the nodes by place, where the rule looks them up.
+fn ranges_for<'a>(
+    alloc: Global,
+    plan: &Plan,
+    certificate: &'a Certificate,
+    rule: Rule,
+) -> Result<Vec<NodeRanges<'a>>, AllocError>
+    ensures { IfOk result (λ lists. AreRangesOf certificate.now lists.items) }
+{
+    match rule {
+        Rule::C10 => ranges_by_node(alloc, certificate, plan.nodes.len()),
+        _ => ranges_by_node(alloc, certificate, 0),
+    }
+}
+
 /// The first place at the node where the rule is broken.
 fn first_at(
     alloc: Global,
     plan: &Plan,
     certificate: &Certificate,
+    lists: &[NodeRanges<'_>],
     rule: Rule,
     node: usize,
 ) -> Result<Option<Spot>, AllocError>
-    requires { node < length plan.now.nodes.items }
+    requires within { node < length plan.now.nodes.items }
+    requires lists { AreRangesOf certificate.now lists.now }
     ensures { IfOk result (IsFirstSpot (Demands plan.now certificate.now rule node)) }
 {
     match rule {
         Rule::C07 => Ok(owners::unlawful_owner(plan, certificate, node)),
-        Rule::C10 => Ok(ranks::row_without_fall(plan, certificate, node)),
+        Rule::C10 => Ok(ranks::row_without_fall(plan, certificate, lists, node)),
         Rule::C14 => chains::unchained_record(alloc, plan, certificate, node),
         Rule::C16 => Ok(superfluous::superfluous_entry(
             &Plans { plan, after: None },

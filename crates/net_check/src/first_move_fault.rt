@@ -20,7 +20,7 @@ use crate::rules::superfluous::superfluous_entry;
 use net_plan::{Certificate, Plan};
 use std::alloc::{AllocError, Global};
 
-/// Whether each rule of a move holds. Otherwise the first fault is answered, or want of memory.
+/// Whether each rule of a move holds. Otherwise the error is the first fault, or out of memory.
 pub fn meet_rules_of_move(
     alloc: Global,
     before: &Plan,

@@ -180,3 +180,10 @@ pub fn rank_in_ranges(ranges: &[RankRange], eid: u8) -> u8
             && u16::from(eid) < u16::from(range.first.value) + u16::from(range.size))
         .map_or(0, |range| range.rank)
 }
+
+/// The number after that of the range's last endpoint ID.
+pub fn range_end(range: &RankRange) -> u16
+    ensures { result ≡ range.now.first.value + range.now.size }
+{
+    u16::from(range.first.value) + u16::from(range.size)
+}

@@ -10,8 +10,8 @@ use std::alloc::AllocError;
 /// M03.
 #[derive(Clone, Copy, Debug, PartialEq, Eq)]
 pub enum MoveError {
-    /// M01: the plans differ in more than rows, at the first node that is not the same; at none where their buses or
-    /// the numbers of their nodes differ.
+    /// M01: the plans differ in more than rows, at the first node that is not the same; at none where their unit, buses
+    /// or the numbers of their nodes differ.
     Differ(Option<usize>),
     /// The old plan breaks a rule, or M02 along its rows.
     Old(MoveFault),
@@ -19,7 +19,7 @@ pub enum MoveError {
     New(MoveFault),
     /// Both plans together break M03.
     Both(MoveFault),
-    /// Want of memory.
+    /// Memory ran out.
     OutOfMemory,
 }
 

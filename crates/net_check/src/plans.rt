@@ -28,16 +28,6 @@ impl<'a> Plans<'a> {
         }
     }
 
-    /// Whether the node has a row for the endpoint ID in one of the plans.
-    pub fn has_row_in_one(&self, node: usize, eid: Eid) -> bool
-        ensures { IsTrue result ↔ HasRowEver (tables_of self.now) node eid.value }
-    {
-        match self.after {
-            Some(after) => has_row(self.plan, node, eid) || has_row(after, node, eid),
-            None => has_row(self.plan, node, eid),
-        }
-    }
-
     /// The end of a stretch from the endpoint ID on for which the node has rows or has none, in each plan for itself.
     pub fn row_border(&self, node: usize, eid: Eid) -> u16
         ensures always { IsStretch (HasRowAlways (tables_of self.now) node) eid.value result }

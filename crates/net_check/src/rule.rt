@@ -20,7 +20,8 @@ pub enum Rule {
     C06,
     /// A node's owner is a bridge that shares a bus with it, and is of a lower level.
     C07,
-    /// An owned node's endpoint ID lies in its owner's pool, and no node's lies in a pool of a bridge of the same owner.
+    /// An owned node's endpoint ID lies in its owner's pool, and no node's lies in a pool of a bridge of the same
+    /// owner.
     C08,
     /// Only a bridge has a pool, which is not empty, lies in 8 to 254 and in the pool of the bridge's owner, and apart
     /// from those of earlier nodes of the same owner.

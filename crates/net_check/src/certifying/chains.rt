@@ -141,8 +141,8 @@ fn has_new_next(records: &[Record], nexts: &BTreeMap<u32, usize>, j: usize) -> b
     }
 }
 
-/// The places of the records from which the next handles lead to the end of the chain: from the last place down, each of
-/// the record before.
+/// The places of the records from which the next handles lead to the end of the chain: from the last place down, each
+/// of the record before.
 fn places_from_the_end(
     alloc: Global,
     records: &[Record],

@@ -3,6 +3,7 @@ ghost use Rattle.std.specs.Prelude.{◌≡◌, ℕ, ◌+◌, ◌<◌, ◌≤◌,
 ghost use Rattle.net_check.specs.RankRuns.{Precedes, Continues, AreGrown, GrowsBy, AreNone};
 
 use crate::certifying::stretches::Stretch;
+use crate::lookup::range_end;
 use mctp_transport::Eid;
 use net_plan::{NodeRanks, RankRange};
 use std::alloc::{AllocError, Global};
@@ -69,13 +70,6 @@ fn precedes(range: &RankRange, eid: Eid, rank: u8) -> bool
     ensures { IsTrue result ↔ Precedes range.now eid.value rank }
 {
     range.rank == rank && range_end(range) == u16::from(eid.value)
-}
-
-/// The number after that of the range's last endpoint ID.
-fn range_end(range: &RankRange) -> u16
-    ensures { result ≡ range.now.first.value + range.now.size }
-{
-    u16::from(range.first.value) + u16::from(range.size)
 }
 
 /// The range with so many endpoint IDs more at its end.

@@ -1,7 +1,8 @@
 //! C14: the certified places lead along the next handles through all records of a terminus once.
-ghost use Rattle.std.specs.Prelude.{◌≡◌, ℕ, ◌+◌, ◌<◌, ◌↔◌, ◌⊎◌, IsTrue, IfOk, length, map};
+ghost use Rattle.std.specs.Prelude.{◌≡◌, ℕ, ◌+◌, ◌<◌, ◌≤◌, ◌↔◌, ◌⊎◌, IsTrue, IfOk, IfSome, Some, None, length, map, replicate, slice_get};
 ghost use Rattle.std.specs.BTreeSet.{IsFromIterResult, contains};
-ghost use Rattle.net_check.specs.Handles.{by_place_and_handle, pairs};
+ghost use Rattle.net_check.specs.Handles.{by_place_and_handle, pairs, AreFiled};
+ghost use Rattle.net_check.specs.RecordChains.{AreChained};
 ghost use Rattle.net_check.specs.Repositories.{IsChained};
 ghost use Rattle.net_check.specs.Rules.{CertificateDemands};
 ghost use Rattle.net_check.specs.Search.{IsFirstItem, IsFirstSpot};
@@ -29,6 +30,98 @@ pub fn unchained_record(
 
 /// The first record that has no place of its own, or whose next handle is not that of a record at the following place.
 fn first_unchained(
+    alloc: Global,
+    records: &[Record],
+    places: &[RecordPlace],
+) -> Result<Option<usize>, AllocError>
+    ensures { IfOk result (IsFirstItem records.now (IsChained records.now (map (λ p. p.value) places.now))) }
+{
+    if are_all_chained(alloc, records, places)? {
+        return Ok(None);
+    }
+    search_unchained(alloc, records, places)
+}
+
+/// Whether each record has a place of its own, and its next handle is that of the record at the following place. It is
+/// found in two passes, by a list of the handles in the order of the places.
+fn are_all_chained(
+    alloc: Global,
+    records: &[Record],
+    places: &[RecordPlace],
+) -> Result<bool, AllocError>
+    ensures { IfOk result (λ all. IsTrue all → AreChained records.now (map (λ p. p.value) places.now)) }
+{
+    match handles_in_order(alloc, records, places)? {
+        Some(handles) => Ok(all_lead_on(records, places, &handles)),
+        None => Ok(false),
+    }
+}
+
+/// The handles in the order of the places, if each record has a place of its own.
+fn handles_in_order(
+    alloc: Global,
+    records: &[Record],
+    places: &[RecordPlace],
+) -> Result<Option<Vec<Option<u32>>>, AllocError>
+    ensures { IfOk result (λ filed. IfSome filed (λ handles. AreFiled records.now (map (λ p. p.value) places.now) (length records.now) handles.items)) }
+{
+    let mut handles = no_handles(alloc, records.len())?;
+    for (j, record) in records.iter().enumerate() {
+        let Some(place) = places.get(j) else {
+            return Ok(None);
+        };
+        let place = usize::from(place.value);
+        if !is_free(&handles, place) {
+            return Ok(None);
+        }
+        handles[place] = Some(record.handle);
+    }
+    Ok(Some(handles))
+}
+
+/// So many places without a handle.
+fn no_handles(alloc: Global, count: usize) -> Result<Vec<Option<u32>>, AllocError>
+    ensures { IfOk result (λ handles. handles.items ≡ replicate count None) }
+{
+    vec![in alloc; None; count]
+}
+
+/// Whether there is the place, and it has no handle.
+fn is_free(handles: &[Option<u32>], place: usize) -> bool
+    ensures { IsTrue result ↔ (slice_get handles.now place ≡ Some None) }
+{
+    handles.get(place) == Some(&None)
+}
+
+/// Whether each record's next handle stands at the place after that of the record.
+fn all_lead_on(records: &[Record], places: &[RecordPlace], handles: &[Option<u32>]) -> bool
+    requires { AreFiled records.now (map (λ p. p.value) places.now) (length records.now) handles.now }
+    ensures { IsTrue result → AreChained records.now (map (λ p. p.value) places.now) }
+{
+    for (j, record) in records.iter().enumerate() {
+        let Some(place) = places.get(j) else {
+            return false;
+        };
+        if !is_followed_by(handles, place.value, record.next) {
+            return false;
+        }
+    }
+    true
+}
+
+/// Whether the next handle stands at the place after this one, or is 0 where there is none.
+fn is_followed_by(handles: &[Option<u32>], place: u16, next: u32) -> bool
+    ensures { IsTrue result ↔ ((slice_get handles.now (place + 1) ≡ Some (Some next)) ⊎ ((length handles.now ≤ place + 1) × (next ≡ 0))) }
+{
+    match handles.get(usize::from(place) + 1) {
+        Some(handle) => *handle == Some(next),
+        None => next == 0,
+    }
+}
+
+/// The same record by sets of the places that are taken and of the handles at each, also where two records have one
+/// place.
+fn search_unchained(
     alloc: Global,
     records: &[Record],
     places: &[RecordPlace],

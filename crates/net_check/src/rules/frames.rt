@@ -6,12 +6,13 @@ ghost use Rattle.net_check.specs.MoveSearch.{IsFirstUnlike};
 
 use net_plan::{Bus, Node, Plan, Port, Record, Terminus};
 
-/// Whether the plans have the same buses, in one order, and as many nodes.
+/// Whether the plans have the same transmission unit, the same buses, in one order, and as many nodes.
 #[tactic(auto, unfolding(crate::specs::MoveRules::HaveSameFrame))]
 pub fn have_same_frame(before: &Plan, after: &Plan) -> bool
     ensures { IsTrue result ↔ HaveSameFrame before.now after.now }
 {
-    are_same_buses(before.buses.as_slice(), after.buses.as_slice())
+    before.unit == after.unit
+        && are_same_buses(before.buses.as_slice(), after.buses.as_slice())
         && before.nodes.len() == after.nodes.len()
 }
 

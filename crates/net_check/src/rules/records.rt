@@ -1,8 +1,10 @@
 //! C12 and C13: the records of a terminus have handles of their own, and bytes that are those of a record.
-ghost use Rattle.std.specs.Prelude.{◌≡◌, ◌≢◌, ℕ, ◌<◌, ◌↔◌, true, false, IsTrue, IfOk, OnOk};
+ghost use Rattle.std.specs.Prelude.{◌≡◌, ◌≢◌, ℕ, ◌<◌, ◌↔◌, ◌∷◌, true, false, IsTrue, IfOk, OnOk, map};
 ghost use Rattle.std.specs.BTreeSet.{contains, Updates};
+ghost use Rattle.std.specs.List.Sorted.{IsStrictlyIncreasing};
 ghost use Rattle.std.specs.Ordering.{nat_cmp};
 ghost use Rattle.pdr_repository.specs.Records.{IsRecordOf};
+ghost use Rattle.net_check.specs.RecordChains.{HaveNewHandles};
 ghost use Rattle.net_check.specs.Repositories.{HasRecords, HasNewHandle};
 ghost use Rattle.net_check.specs.Rules.{PlanDemands};
 ghost use Rattle.net_check.specs.Search.{IsFirstItem, IsFirstSpot};
@@ -46,6 +48,49 @@ fn has_records(plan: &Plan, node: usize) -> bool
 
 /// The first record whose handle is 0 or an earlier record's.
 fn first_without_new_handle(alloc: Global, records: &[Record]) -> Result<Option<usize>, AllocError>
+    ensures { IfOk result (IsFirstItem records.now (HasNewHandle records.now)) }
+{
+    if have_new_handles(alloc, records)? {
+        return Ok(None);
+    }
+    first_with_old_handle(alloc, records)
+}
+
+/// Whether no handle is 0, and no two are the same: they ascend from above 0 on, as they stand or once they are sorted.
+fn have_new_handles(alloc: Global, records: &[Record]) -> Result<bool, AllocError>
+    ensures { IfOk result (λ all. IsTrue all ↔ HaveNewHandles records.now) }
+{
+    let mut handles = handles_of(alloc, records)?;
+    if ascend(&handles) {
+        return Ok(true);
+    }
+    handles.sort_unstable();
+    Ok(ascend(&handles))
+}
+
+/// The handles of the records.
+fn handles_of(alloc: Global, records: &[Record]) -> Result<Vec<u32>, AllocError>
+    ensures { IfOk result (λ handles. handles.items ≡ map (λ r. r.handle) records.now) }
+{
+    records.iter().map(|record| record.handle).collect(alloc)
+}
+
+/// Whether the first number is above 0, and each other one above the one before it.
+fn ascend(numbers: &[u32]) -> bool
+    ensures { IsTrue result ↔ IsStrictlyIncreasing (0 ∷ numbers.now) }
+{
+    let mut last = 0;
+    for number in numbers {
+        if *number <= last {
+            return false;
+        }
+        last = *number;
+    }
+    true
+}
+
+/// The first record whose handle is 0 or in the set of those of earlier records.
+fn first_with_old_handle(alloc: Global, records: &[Record]) -> Result<Option<usize>, AllocError>
     ensures { IfOk result (IsFirstItem records.now (HasNewHandle records.now)) }
 {
     let mut handles = BTreeSet::new(alloc);

@@ -5,6 +5,7 @@ ghost use Rattle.net_check.specs.Rules.{PlanDemands};
 ghost use Rattle.net_check.specs.Search.{IsFirstItem, IsFirstSpot};
 
 use crate::lookup::{bus_at, is_bridge, is_on_bus, row_end, rows_at};
+use crate::rows_in_force::rows_follow;
 use crate::rule::Rule;
 use crate::spot::Spot;
 use net_plan::{Plan, Row};
@@ -51,8 +52,19 @@ fn is_in_range(row: &Row) -> bool
 }
 
 /// The first row that overlaps an earlier one.
-#[tactic(auto, unfolding(crate::specs::Rows::IsApartFromEarlier))]
+#[tactic(auto, using(crate::proofs::FollowingLaws::rows_apart))]
 fn first_overlapping(rows: &[Row]) -> Option<usize>
+    ensures { IsFirstItem rows.now (IsApartFromEarlier rows.now) result }
+{
+    if rows_follow(rows) {
+        return None;
+    }
+    search_overlapping(rows)
+}
+
+/// The first row that overlaps an earlier one, where they stand in any order: each is compared with those before it.
+#[tactic(auto, unfolding(crate::specs::Rows::IsApartFromEarlier))]
+fn search_overlapping(rows: &[Row]) -> Option<usize>
     ensures { IsFirstItem rows.now (IsApartFromEarlier rows.now) result }
 {
     for (r, row) in rows.iter().enumerate() {

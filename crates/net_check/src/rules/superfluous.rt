@@ -6,18 +6,18 @@ ghost use Rattle.net_check.specs.TwoPlans.{tables_of};
 ghost use Rattle.net_check.specs.Rules.{AtNodeOrEid};
 ghost use Rattle.net_check.specs.Search.{IsFirstSpot};
 
-use crate::borders::{held_border, rank_border};
-use crate::lookup::{
-    given_level_of, holds, owner_at, places_at, ranges_at, rank_in_ranges, records_at,
-};
+use crate::borders::held_border;
+use crate::lookup::{given_level_of, holds, owner_at, places_at, ranges_at, records_at};
+use crate::node_ranges::NodeRanges;
 use crate::plans::Plans;
+use crate::rows_in_force::RowsInForce;
 use crate::spot::Spot;
 use crate::stretches::{Stretched, first_broken};
 use mctp_transport::Eid;
-use net_plan::{Certificate, Plan, RankRange};
+use net_plan::{Certificate, Plan};
 
-/// Where the certificate gives the node a level or places that the plan has no use for, or a rank that none of the plans
-/// has a use for.
+/// Where the certificate gives the node a level or places that the plan has no use for, or a rank that none of the
+/// plans has a use for.
 pub fn superfluous_entry(plans: &Plans<'_>, certificate: &Certificate, node: usize) -> Option<Spot>
     requires { node < length plans.now.plan.now.nodes.items }
     ensures { IsFirstSpot (AtNodeOrEid (NeedsWhatItIsGiven plans.now.plan.now certificate.now node) (NeedsItsRank (tables_of plans.now) certificate.now node)) result }
@@ -39,19 +39,17 @@ fn superfluous_rank(plans: &Plans<'_>, certificate: &Certificate, node: usize) -
         × ((d : ℕ) → d < eid.value → NeedsItsRank (tables_of plans.now) certificate.now node d)) }
 {
     let need = RankNeed {
-        plans,
-        node,
-        ranges: ranges_at(certificate, node),
+        rows: RowsInForce::of(plans, node),
+        ranges: NodeRanges::of(ranges_at(certificate, node)),
     };
     first_broken(&need, 0, 256)
 }
 
 /// That a node needs the ranks that it is given, by one of the plans.
-#[derive(Clone, Copy)]
+#[derive(Drop)]
 struct RankNeed<'a> {
-    plans: &'a Plans<'a>,
-    node: usize,
-    ranges: &'a [RankRange],
+    rows: RowsInForce<'a>,
+    ranges: NodeRanges<'a>,
 }
 
 impl<'a> Stretched for RankNeed<'a> {
@@ -60,20 +58,20 @@ impl<'a> Stretched for RankNeed<'a> {
     ghost use Rattle.net_check.specs.TwoPlans.{tables_of, HasRowEver};
     ghost use Rattle.net_check.specs.Ranks.{rank_in};
 
-    ghost Demand = { λ need e. rank_in need.ranges.now e ≢ 0 → ¬ Holds need.plans.now.plan.now need.node e × HasRowEver (tables_of need.plans.now) need.node e };
+    ghost Demand = { λ need e. rank_in need.ranges e ≢ 0 → ¬ Holds need.rows.0.plan.now need.rows.1 e × HasRowEver (tables_of need.rows.0) need.rows.1 e };
 
     /// Whether the node is given no rank for the endpoint ID, or does not hold it and has a row for it in one of the
     /// plans.
     fn is_met_at(&self, eid: Eid) -> bool {
-        rank_in_ranges(self.ranges, eid.value) == 0
-            || (!holds(self.plans.plan, self.node, eid)
-                && self.plans.has_row_in_one(self.node, eid))
+        self.ranges.rank_of(eid) == 0
+            || (!holds(self.rows.plan(), self.rows.node(), eid) && self.rows.has_in_one(eid))
     }
 
     fn stretch_end(&self, eid: Eid) -> u16 {
-        rank_border(self.ranges, eid)
-            .min(self.plans.row_border(self.node, eid))
-            .min(held_border(self.plans.plan, self.node, eid))
+        self.ranges
+            .border(eid)
+            .min(self.rows.border(eid))
+            .min(held_border(self.rows.plan(), self.rows.node(), eid))
     }
 }
 

@@ -10,7 +10,7 @@ returns c =
     let plan = c.args.plan.now in
     let cert = c.args.certificate.now in
     let row = c.args.row.now in
-    first_of_row row (FallsBy plan c.args.node c.ranges_at.result.now c.ranges_at-2.result.now) (Falls plan cert c.args.node row) c.min.result (eid_number c.first_broken.result)
+    first_of_row row (FallsBy plan c.args.node c.ranges_in.result c.ranges_in-2.result) (Falls plan cert c.args.node row) c.min.result (eid_number c.first_broken.result)
     (λ e covers. grind (arith, common_steps)) (λ e low high. (omega arith, grind (arith, common_steps), grind (arith, common_steps)))
-    (fall_of_ranges plan cert c.args.node row c.ranges_at.result.now c.ranges_at-2.result.now c.ranges_at.ensures c.ranges_at-2.ensures)
+    (fall_of_ranges plan cert c.args.node row c.ranges_in.result c.ranges_in-2.result c.ranges_in.ensures c.ranges_in-2.ensures)
     (let P = c.from.ensures in rw c.from.ensures at c.first_broken.ensures)

@@ -1,6 +1,14 @@
+use Rattle.std.proofs.Common.{ℕ, ◌∙◌, subst}
+use Rattle.net_check.specs.declared.plans.Plans.{Plans}
 use Rattle.net_check.specs.TwoPlans.{tables_of}
-use Rattle.net_check.proofs.RowsInForce.{first_of_all_eids}
+use Rattle.net_check.specs.Faults.{eid_number}
+use Rattle.net_check.specs.Stretches.{IsLeastFailure}
+use Rattle.net_check.proofs.RowsInForce.{NeedsRankBy, first_of_all_eids}
 use Rattle.net_check.proofs.rules.superfluous.superfluous_rank.Goals as goal
 
 pub returns : goal.returns
-returns c = first_of_all_eids (tables_of c.args.plans.now) c.args.certificate.now c.args.node c.ranges_at.result.now c.first_broken.result c.requires c.ranges_at.ensures c.first_broken.ensures
+returns c =
+    let ranges = c.of-2.result in
+    let F : (Plans × ℕ) → Type 0 = λ v. IsLeastFailure (NeedsRankBy (tables_of v.0) v.1 ranges) 0 256 (eid_number c.first_broken.result) in
+    first_of_all_eids (tables_of c.args.plans.now) c.args.certificate.now c.args.node ranges c.first_broken.result c.requires (c.of-2.ensures ∙ c.ranges_at.ensures)
+    (subst F c.of.ensures c.first_broken.ensures)

@@ -6,6 +6,6 @@ use Rattle.net_check.proofs.rules.ranks.FallStretched.stretch_end.Goals as goal
 pub returns : goal.returns
 returns c =
     let fall = c.args.self.now in
-    fall_alike fall.plan.now fall.node fall.ranges.now fall.next_ranges.now c.args.eid.value c.rank_border.result c.rank_border-2.result c.held_border.result c.min-2.result
-    c.rank_border.ensures c.rank_border-2.ensures c.held_border.ensures
+    fall_alike fall.plan.now fall.node fall.ranges fall.next_ranges c.args.eid.value c.border.result c.border-2.result c.held_border.result c.min-2.result
+    c.border.ensures c.border-2.ensures c.held_border.ensures
     (grind (arith, common_steps)) (grind (arith, common_steps)) (grind (arith, common_steps)) (grind (arith, common_steps))

@@ -6,7 +6,7 @@ use Rattle.net_plan.specs.declared.terminus.Record.{Record}
 use Rattle.net_check.specs.Routing.{OfItem}
 use Rattle.net_check.specs.Repositories.{HasNewHandle}
 use Rattle.net_check.proofs.Handles.{handles_of, handle_of_record, has_one_more, is_new, is_not_new}
-use Rattle.net_check.proofs.rules.records.first_without_new_handle.Goals as goal
+use Rattle.net_check.proofs.rules.records.first_with_old_handle.Goals as goal
 
 pub returns-then-not-is_new : goal.returns-then-not-is_new
 returns-then-not-is_new c =

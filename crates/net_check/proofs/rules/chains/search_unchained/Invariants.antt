@@ -2,7 +2,7 @@ use Rattle.std.proofs.Common.{ℕ, ◌<◌}
 use Rattle.net_check.specs.Routing.{OfItem}
 use Rattle.net_check.specs.Repositories.{IsChained}
 use Rattle.net_check.proofs.Handles.{HasBefore, values}
-use Rattle.net_check.proofs.rules.chains.first_unchained.Given as goal
+use Rattle.net_check.proofs.rules.chains.search_unchained.Given as goal
 
 abbrev pub invariant-loop-j : goal.invariant-loop-j
 invariant-loop-j l = record {

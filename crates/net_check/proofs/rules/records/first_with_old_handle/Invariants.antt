@@ -2,7 +2,7 @@ use Rattle.std.proofs.Common.{ℕ, ◌<◌}
 use Rattle.net_check.specs.Routing.{OfItem}
 use Rattle.net_check.specs.Repositories.{HasNewHandle}
 use Rattle.net_check.proofs.Handles.{HasBefore, handles_of}
-use Rattle.net_check.proofs.rules.records.first_without_new_handle.Given as goal
+use Rattle.net_check.proofs.rules.records.first_with_old_handle.Given as goal
 
 abbrev pub invariant-loop-j : goal.invariant-loop-j
 invariant-loop-j l = record {

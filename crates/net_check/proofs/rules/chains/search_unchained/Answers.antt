@@ -6,8 +6,8 @@ use Rattle.net_plan.specs.declared.terminus.Record.{Record}
 use Rattle.net_check.specs.Routing.{OfItem}
 use Rattle.net_check.specs.Repositories.{IsChained}
 use Rattle.net_check.proofs.Handles.{values, value_of_place, has_one_more, missed, had, is_chained, not_given, not_new, not_led_on}
-use Rattle.net_check.proofs.rules.chains.first_unchained.Goals as goal
-use Rattle.net_check.proofs.rules.chains.first_unchained.Goals.{then-not-is_new-via-then-not-is_new, then-not-is_new-via-else-not-is_new+then-not-leads_on}
+use Rattle.net_check.proofs.rules.chains.search_unchained.Goals as goal
+use Rattle.net_check.proofs.rules.chains.search_unchained.Goals.{then-not-is_new-via-then-not-is_new, then-not-is_new-via-else-not-is_new+then-not-leads_on}
 
 pub returns-in_default : goal.returns-in_default
 returns-in_default c =

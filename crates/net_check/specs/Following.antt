@@ -1,0 +1,40 @@
+-- Rows and rank ranges that follow one another along the endpoint IDs.
+use Rattle.std.specs.Prelude.{◌≡◌, ℕ, ◌+◌, ◌<◌, ◌≤◌, List, Bool, length, slice_get, Some, option_map, IsTrue}
+use Rattle.net_plan.specs.declared.plan.Plan.{Plan}
+use Rattle.net_plan.specs.declared.nodes.Row.{Row}
+use Rattle.net_plan.specs.declared.certificate.RankRange.{RankRange}
+use Rattle.net_plan.specs.declared.certificate.Certificate.{Certificate}
+use Rattle.net_check.specs.declared.plans.Plans.{Plans}
+use Rattle.net_check.specs.Routing.{OfItem, rows_of}
+use Rattle.net_check.specs.Stretches.{ranges_of}
+
+-- each item ends before any later one begins
+abbrev pub Follow : {A : Type 0} → (A → ℕ) → (A → ℕ) → List A → Type 0
+Follow {A} first past items =
+    (i j : ℕ) (one other : A) → i < j → slice_get items i ≡ Some one → slice_get items j ≡ Some other
+    → past one ≤ first other
+
+abbrev pub RowsFollow : List Row → Type 0
+RowsFollow rows = Follow (λ row. row.first.value) (λ row. row.first.value + row.size) rows
+
+abbrev pub RangesFollow : List RankRange → Type 0
+RangesFollow ranges = Follow (λ range. range.first.value) (λ range. range.first.value + range.size) ranges
+
+-- so many of the items end by e, and the others past it
+pub record EndedBy {A : Type 0} (past : A → ℕ) (items : List A) (e count : ℕ) : Type 0 where
+  pub within : count ≤ length items
+  pub ended : (k : ℕ) → k < count → OfItem items k (λ x. past x ≤ e)
+  pub left : (k : ℕ) → count ≤ k → OfItem items k (λ x. e < past x)
+
+-- if it is told so, the rows of n follow one another
+abbrev pub DoRowsFollow : Plan → ℕ → Bool → Type 0
+DoRowsFollow plan n follow = IsTrue follow → RowsFollow (rows_of plan n)
+
+-- the same of the plan after, if there is one
+abbrev pub DoNewRowsFollow : Plans → ℕ → Bool → Type 0
+DoNewRowsFollow plans n follow =
+    (after : Plan) → option_map (λ a. a.now) plans.after ≡ Some after → DoRowsFollow after n follow
+
+-- lists of ranges, each as the certificate gives it to the node of its place
+abbrev pub AreRangesOf : Certificate → List (List RankRange) → Type 0
+AreRangesOf cert lists = (n : ℕ) → OfItem lists n (λ ranges. ranges ≡ ranges_of cert n)

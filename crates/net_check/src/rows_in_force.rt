@@ -1,0 +1,171 @@
+//! The rows of a node by each of the plans, ready for look-ups.
+ghost use Rattle.std.specs.Prelude.{◌≡◌, ◌+◌, ◌↔◌, IsTrue};
+ghost use Rattle.net_check.specs.Routing.{rows_of, HasRow};
+ghost use Rattle.net_check.specs.TwoPlans.{tables_of, HasRowEver};
+ghost use Rattle.net_check.specs.Stretches.{IsStretch};
+ghost use Rattle.net_check.specs.Following.{RowsFollow, EndedBy, DoRowsFollow};
+
+use crate::borders::row_border;
+use crate::lookup::{has_row, row_end, rows_at};
+use crate::plans::Plans;
+use mctp_transport::Eid;
+use net_plan::{Plan, Row};
+use std::marker::Model;
+
+/// The rows of a node by each of the plans. Where each row ends before the next one begins, that of an endpoint ID is found
+/// by halving.
+#[derive(Drop)]
+pub struct RowsInForce<'a> {
+    plans: &'a Plans<'a>,
+    node: usize,
+    follow: bool,
+    follow_after: bool,
+}
+
+impl<'a> Model for RowsInForce<'a> {
+    ghost use Rattle.std.specs.Prelude.{ℕ};
+    ghost use Rattle.net_check.specs.declared.plans.Plans.{Plans};
+    ghost use Rattle.net_check.specs.Following.{DoRowsFollow, DoNewRowsFollow};
+
+    ghost Value = { Plans × ℕ };
+
+    ghost view = { λ r. (r.plans.now, r.node) };
+
+    ghost invariant = { λ r. DoRowsFollow r.plans.now.plan.now r.node r.follow × DoNewRowsFollow r.plans.now r.node r.follow_after };
+}
+
+impl<'a> RowsInForce<'a> {
+    ghost use Rattle.net_check.specs.TwoPlans.{tables_of, HasRowEver};
+
+    /// The rows of the node.
+    pub fn of(plans: &'a Plans<'a>, node: usize) -> Self
+        ensures { result ≡ (plans.now, node) }
+    {
+        let follow_after = match plans.after {
+            Some(after) => rows_follow(rows_at(after, node)),
+            None => false,
+        };
+        RowsInForce {
+            plans,
+            node,
+            follow: rows_follow(rows_at(plans.plan, node)),
+            follow_after,
+        }
+    }
+
+    /// The plan; of a move, the one before it.
+    pub fn plan(&self) -> &'a Plan
+        ensures { result.now ≡ self.now.0.plan.now }
+    {
+        self.plans.plan
+    }
+
+    /// The node.
+    pub fn node(&self) -> usize
+        ensures { result ≡ self.now.1 }
+    {
+        self.node
+    }
+
+    /// Whether the node has a row for the endpoint ID in one of the plans.
+    pub fn has_in_one(&self, eid: Eid) -> bool
+        ensures { IsTrue result ↔ HasRowEver (tables_of self.now.0) self.now.1 eid.value }
+    {
+        let one = finds_row(self.plans.plan, self.node, self.follow, eid);
+        match self.plans.after {
+            Some(after) => one || finds_row(after, self.node, self.follow_after, eid),
+            None => one,
+        }
+    }
+
+    /// The end of a stretch from the endpoint ID on for which the node has rows or has none, in each plan for itself.
+    pub fn border(&self, eid: Eid) -> u16
+        ensures { IsStretch (HasRowEver (tables_of self.now.0) self.now.1) eid.value result }
+    {
+        let end = finds_border(self.plans.plan, self.node, self.follow, eid);
+        match self.plans.after {
+            Some(after) => end.min(finds_border(after, self.node, self.follow_after, eid)),
+            None => end,
+        }
+    }
+}
+
+/// Whether the node has a row for the endpoint ID: by halving, where its rows are known to follow one another.
+fn finds_row(plan: &Plan, node: usize, follow: bool, eid: Eid) -> bool
+    requires { DoRowsFollow plan.now node follow }
+    ensures { IsTrue result ↔ HasRow plan.now node eid.value }
+{
+    if follow {
+        has_row_by_halving(plan, node, eid)
+    } else {
+        has_row(plan, node, eid)
+    }
+}
+
+/// The end of a stretch from the endpoint ID on for which the node has rows, or has none: by halving, where its rows are
+/// known to follow one another.
+fn finds_border(plan: &Plan, node: usize, follow: bool, eid: Eid) -> u16
+    requires { DoRowsFollow plan.now node follow }
+    ensures { IsStretch (HasRow plan.now node) eid.value result }
+{
+    if follow {
+        border_by_halving(plan, node, eid)
+    } else {
+        row_border(plan, node, eid)
+    }
+}
+
+/// Whether each row ends before the next one begins.
+pub fn rows_follow(rows: &[Row]) -> bool
+    ensures { IsTrue result → RowsFollow rows.now }
+{
+    let mut end = 0;
+    for row in rows {
+        if u16::from(row.first.value) < end {
+            return false;
+        }
+        end = row_end(row);
+    }
+    true
+}
+
+/// How many of the rows end by the endpoint ID. They are found by halving.
+fn rows_ended_by(rows: &[Row], eid: Eid) -> usize
+    requires { RowsFollow rows.now }
+    ensures { EndedBy (λ row. row.first.value + row.size) rows.now eid.value result }
+{
+    rows.partition_point(|row| {
+        u16::from(row.first.value) + u16::from(row.size) <= u16::from(eid.value)
+    })
+}
+
+/// Whether the node's first row that ends past the endpoint ID covers it.
+fn has_row_by_halving(plan: &Plan, node: usize, eid: Eid) -> bool
+    requires { RowsFollow (rows_of plan.now node) }
+    ensures { IsTrue result ↔ HasRow plan.now node eid.value }
+{
+    let rows = rows_at(plan, node);
+    let ended = rows_ended_by(rows, eid);
+    if ended == rows.len() {
+        return false;
+    }
+    rows[ended].first.value <= eid.value
+}
+
+/// Where the node's first row that ends past the endpoint ID begins, if that lies further on, or else ends.
+fn border_by_halving(plan: &Plan, node: usize, eid: Eid) -> u16
+    requires { RowsFollow (rows_of plan.now node) }
+    ensures { IsStretch (HasRow plan.now node) eid.value result }
+{
+    let rows = rows_at(plan, node);
+    let ended = rows_ended_by(rows, eid);
+    if ended == rows.len() {
+        return 256;
+    }
+    let row = &rows[ended];
+    if row.first.value <= eid.value {
+        row_end(row).min(256)
+    } else {
+        u16::from(row.first.value)
+    }
+}
