@@ -1,0 +1,4 @@
+pub mod WayLaws
+pub mod Packets
+pub mod Tables
+pub mod Listing
