@@ -4,7 +4,7 @@ use Rattle.std.specs.Prelude.{slice_get, option_map, Any}
 use Rattle.std.proofs.lemmas.Option.{slice_get-map, slice_get-get_or, get_or_from_slice_get, slice_get_within}
 use Rattle.net_check.specs.Routing.{Holds}
 use Rattle.net_check.specs.TwoPlans.{Tables}
-use Rattle.net_check.specs.States.{unit}
+use Rattle.net_check.specs.States.{unit_of}
 use Rattle.net_check.specs.Events.{N01, N02, N03, N04, N05, N06, N07}
 use Rattle.net_check.specs.Walkers.{WalkerValue, WalkedState, BeginWalk, Begun, WalkRefusal, Also, N08, N09, N10, N11, N12, N13, IsThere, IsWalkRefused, IsFirstWalkRefusal, walk_refusal_number, with_walker, fresh_walker, five_packets}
 use Rattle.net_sim.specs.declared.network_walker.NetworkWalker.{NetworkWalker}
@@ -86,7 +86,7 @@ module _ (tables : Tables) (w : WalkedState) (node eid tag count : ℕ) where
           before N13 less is = is
 
       module _ (some : ¬ ((n : ℕ) → Holds tables.plan n eid → w.network.terminus n ≡ None)) where
-        pub begins_with_wrong_count : (count < 8) ⊎ (five_packets unit < count) → IsFirstWalkRefusal tables.plan w (BeginWalk node eid tag count) N10
+        pub begins_with_wrong_count : (count < 8) ⊎ (five_packets (unit_of tables.plan) < count) → IsFirstWalkRefusal tables.plan w (BeginWalk node eid tag count) N10
         begins_with_wrong_count wrong = (wrong, before)
           where
             before : (other : WalkRefusal) → walk_refusal_number other < 10 → ¬ IsWalkRefused tables.plan w (BeginWalk node eid tag count) other
@@ -104,7 +104,7 @@ module _ (tables : Tables) (w : WalkedState) (node eid tag count : ℕ) where
             before N12 less is = is
             before N13 less is = is
 
-        pub may_begin : 8 ≤ count → count ≤ five_packets unit → (why : WalkRefusal) → ¬ IsWalkRefused tables.plan w (BeginWalk node eid tag count) why
+        pub may_begin : 8 ≤ count → count ≤ five_packets (unit_of tables.plan) → (why : WalkRefusal) → ¬ IsWalkRefused tables.plan w (BeginWalk node eid tag count) why
         may_begin least most (Also N01) is = omega (arith, within, is)
         may_begin least most (Also N02) is = is
         may_begin least most (Also N03) is = is

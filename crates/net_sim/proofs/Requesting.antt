@@ -1,19 +1,24 @@
 -- A walker's request is one packet, which is put in at its node.
-use Rattle.std.proofs.Common.{◌≡◌, ℕ, ◌<◌, ◌≤◌, List, [], ◌∷◌, ◌++◌, length, map, refl, ap, arith}
+use Rattle.std.proofs.Common.{◌≡◌, ℕ, ◌<◌, ◌≤◌, List, [], ◌∷◌, ◌++◌, length, map, refl, ap, subst, arith}
 use Rattle.mctp_transport.specs.Frames.{Frame, KeyValue, IsFrame, frame_bytes}
 use Rattle.mctp_transport.specs.Cutting.{ArePacketsOf}
 use Rattle.mctp_transport.proofs.Sending.{few_packets, many_packets}
 use Rattle.net_check.specs.TwoPlans.{Tables}
-use Rattle.net_check.specs.States.{unit}
+use Rattle.net_check.specs.States.{unit_of}
+use Rattle.net_check.proofs.Units.{least_unit}
 use Rattle.net_check.specs.Events.{most_flights}
 use Rattle.net_sim.specs.Flights.{begun}
 use Rattle.net_sim.specs.Standing.{TrafficValue}
 use Rattle.net_sim.specs.Sending.{PutsOne}
 use Rattle.net_sim.proofs.Putting.{puts}
 
+-- packets of one unit are those of the same unit
+pub as_cut : {unit same : ℕ} {message : List ℕ} {d : ℕ} {key : KeyValue} {start : ℕ} {ps : List Frame} → unit ≡ same → ArePacketsOf unit message d key start ps → ArePacketsOf same message d key start ps
+as_cut {unit} {same} {message} {d} {key} {start} {ps} is are = subst (λ u. ArePacketsOf u message d key start ps) is are
+
 -- the packet of such a message fits its bits
-one_is_frame : (message : List ℕ) (d : ℕ) (key : KeyValue) (p : Frame) → ArePacketsOf unit message d key 0 (p ∷ []) → d < 256 → key.source < 256 → key.tag < 8 → IsFrame unit p
-one_is_frame message d key p are small source tag =
+one_is_frame : (unit : ℕ) (message : List ℕ) (d : ℕ) (key : KeyValue) (p : Frame) → ArePacketsOf unit message d key 0 (p ∷ []) → d < 256 → key.source < 256 → key.tag < 8 → IsFrame unit p
+one_is_frame unit message d key p are small source tag =
     let of_key = are.of_key 0 p refl in
     let last = are.cut.last 0 p.payload refl (omega arith) in
     record {
@@ -28,14 +33,14 @@ one_is_frame message d key p are small source tag =
 
 pub puts_one : (tables : Tables) (v u : TrafficValue) (node number : ℕ) (message : List ℕ) (d : ℕ) (key : KeyValue) → node < length tables.plan.nodes.items
     → length v.flights ≤ most_flights → number ≡ length v.flights → 0 < length message → length message ≤ 64 → d < 256 → key.source < 256 → key.tag < 8
-    → (ps : List Frame) → ArePacketsOf unit message d key 0 ps → u.flights ≡ v.flights ++ map (begun node) ps → u.assemblers ≡ v.assemblers → u.termini ≡ v.termini
+    → (ps : List Frame) → ArePacketsOf (unit_of tables.plan) message d key 0 ps → u.flights ≡ v.flights ++ map (begun node) ps → u.assemblers ≡ v.assemblers → u.termini ≡ v.termini
     → u.switched ≡ v.switched → PutsOne tables v node message d key number u
 puts_one tables v u node number message d key within few is some most small source tag [] are flights assemblers termini switched =
-    absurd (omega (arith, some, many_packets unit message d key 0 [] are))
+    absurd (omega (arith, some, many_packets (unit_of tables.plan) message d key 0 [] are))
 puts_one tables v u node number message d key within few is some most small source tag (p ∷ q ∷ ps) are flights assemblers termini switched =
-    absurd (omega (arith, few_packets unit 1 message d key 0 (p ∷ q ∷ ps) are (omega (arith, most))))
+    absurd (omega (arith, few_packets (unit_of tables.plan) 1 message d key 0 (p ∷ q ∷ ps) are (omega (arith, most, least_unit tables.plan))))
 puts_one tables v u node number message d key within few is some most small source tag (p ∷ []) are flights assemblers termini switched =
-    let lawful : IsFrame unit p = one_is_frame message d key p are small source tag in
+    let lawful : IsFrame (unit_of tables.plan) p = one_is_frame (unit_of tables.plan) message d key p are small source tag in
     record {
       packet = p;
       bytes = frame_bytes p;

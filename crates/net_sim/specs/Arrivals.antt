@@ -7,7 +7,8 @@ use Rattle.net_check.specs.States.{NetworkState, Flight, destination}
 use Rattle.net_check.specs.Events.{Move, Refusal, IsRefused}
 
 -- The move isn't refused. The flight is at this node, which holds its destination, and its packet is of this key.
-pub record Arrives (tables : Tables) (w : NetworkState) (number : ℕ) (keep : Bool) (node : ℕ) (key : KeyValue) : Type 0 where
+pub record Arrives (tables : Tables) (w : NetworkState) (number : ℕ) (keep : Bool) (node : ℕ)
+    (key : KeyValue) : Type 0 where
   pub flight : Flight
   pub there : w.flight number ≡ Some flight
   pub at : flight.node ≡ node

@@ -1,5 +1,6 @@
 -- The devices of a plan while an assignment is carried out, and what they reply.
-use Rattle.std.specs.Prelude.{◌≡◌, ◌↔◌, ℕ, List, [], ◌∷◌, length, map, slice_get, slice_set, Option, Some, None, option_map, IsSomeAnd}
+use Rattle.std.specs.Prelude.{◌≡◌, ◌↔◌, ℕ, List, [], ◌∷◌, length, map, slice_get}
+use Rattle.std.specs.Prelude.{slice_set, Option, Some, None, option_map, IsSomeAnd}
 use Rattle.net_plan.specs.declared.plan.Plan.{Plan}
 use Rattle.net_plan.specs.declared.nodes.Kind.{Kind}
 use Rattle.net_plan.specs.declared.nodes.Kind.TheVariants as planned
@@ -53,9 +54,10 @@ starting node (Some owner) = empty node
 abbrev pub devices_at_start : Plan → List DeviceValue
 devices_at_start plan = map (λ node. starting node node.owner) plan.nodes.items
 
--- The device that is asked replies to the request's bytes, which come over the request's bus, with its routing table; the
--- others stay as they are.
-pub record IsReplied (tables : ℕ → List EntryValue) (before : List DeviceValue) (asked : AssignmentValue) (reply : Option (List ℕ))
+-- The device that is asked replies to the request's bytes, which come over the request's bus, with its
+-- routing table; the others stay as they are.
+pub record IsReplied (tables : ℕ → List EntryValue) (before : List DeviceValue) (asked : AssignmentValue)
+    (reply : Option (List ℕ))
     (after : List DeviceValue) : Type 0 where
   pub device : DeviceValue
   pub stands : slice_get before asked.node ≡ Some device
@@ -64,22 +66,26 @@ pub record IsReplied (tables : ℕ → List EntryValue) (before : List DeviceVal
   pub becomes : after ≡ slice_set before asked.node new
 
 -- the requests of the list are replied to so, one after another
-abbrev pub AssignRun : (ℕ → List EntryValue) → List DeviceValue → List AssignmentValue → List (Option (List ℕ)) → List DeviceValue → Type 0
+abbrev pub AssignRun : (ℕ → List EntryValue) → List DeviceValue → List AssignmentValue → List (Option (List ℕ))
+    → List DeviceValue → Type 0
 AssignRun tables before [] [] after = after ≡ before
 AssignRun tables before (asked ∷ list) (reply ∷ replies) after =
-    (between : List DeviceValue) × IsReplied tables before asked reply between × AssignRun tables between list replies after
+    (between : List DeviceValue) × IsReplied tables before asked reply between
+    × AssignRun tables between list replies after
 AssignRun tables before [] (reply ∷ replies) after = ⊥
 AssignRun tables before (asked ∷ list) [] after = ⊥
 
 -- the answer accepts what was asked: its status says so, and it tells the EID or the pool that was given
 abbrev pub AcceptsCommand : CommandValue → AnswerValue → Type 0
 AcceptsCommand (SetsEid operation reserved eid) (EidSet status present size) = (status.second ≡ 0) × (present ≡ eid)
-AcceptsCommand (AllocatesEids operation reserved size first) (PoolTold status held from) = (status.acceptance ≡ 0) × (held ≡ size) × (from ≡ first)
+AcceptsCommand (AllocatesEids operation reserved size first) (PoolTold status held from) =
+    (status.acceptance ≡ 0) × (held ≡ size) × (from ≡ first)
 AcceptsCommand _ _ = ⊥
 
 -- there is a reply, and it is a response with such an answer
 abbrev pub IsAccepted : AssignmentValue → Option (List ℕ) → Type 0
-IsAccepted asked reply = IsSomeAnd reply (λ bytes. (r : ResponseValue) × SpellsResponse r bytes × AcceptsCommand asked.body.command r.answer)
+IsAccepted asked reply =
+    IsSomeAnd reply (λ bytes. (r : ResponseValue) × SpellsResponse r bytes × AcceptsCommand asked.body.command r.answer)
 
 -- each request's reply is one
 abbrev pub AreAccepted : List AssignmentValue → List (Option (List ℕ)) → Type 0
@@ -103,27 +109,32 @@ HasInPool d e = IsSomeAnd d.pool (λ held. IsWithin held.first held.size e)
 -- the device holds the node's EID and pool, if it has one
 pub record HoldsPlanned (node : Node) (d : DeviceValue) : Type 0 where
   pub eid : HoldsEid d node.eid.value
-  pub pool : option_map {U = ℕ × ℕ} (λ held. (held.first, held.size)) d.pool ≡ option_map {U = ℕ × ℕ} (λ pool. (pool.first.value, pool.size)) node.pool
+  pub pool : option_map {U = ℕ × ℕ} (λ held. (held.first, held.size)) d.pool
+      ≡ option_map {U = ℕ × ℕ} (λ pool. (pool.first.value, pool.size)) node.pool
 
 -- What the devices of a plan hold once all is assigned.
 pub record AreAssigned (plan : Plan) (devices : List DeviceValue) : Type 0 where
   -- each device holds what is planned
-  pub planned : (n : ℕ) (node : Node) → node_at plan n ≡ Some node → (d : DeviceValue) × (slice_get devices n ≡ Some d) × HoldsPlanned node d
+  pub planned : (n : ℕ) (node : Node) → node_at plan n ≡ Some node
+      → (d : DeviceValue) × (slice_get devices n ≡ Some d) × HoldsPlanned node d
   pub as_many : length devices ≡ length plan.nodes.items
   -- no EID is held twice
-  pub distinct : (m n e : ℕ) (c d : DeviceValue) → slice_get devices m ≡ Some c → slice_get devices n ≡ Some d → HoldsEid c e → HoldsEid d e → m ≡ n
+  pub distinct : (m n e : ℕ) (c d : DeviceValue) → slice_get devices m ≡ Some c → slice_get devices n ≡ Some d
+      → HoldsEid c e → HoldsEid d e → m ≡ n
   -- an EID that is held lies in a device's pool exactly where its holder is behind that device
-  pub pools : (b n e : ℕ) (c d : DeviceValue) → slice_get devices b ≡ Some c → slice_get devices n ≡ Some d → HoldsEid d e
-      → (HasInPool c e ↔ IsBehind plan n b)
+  pub pools : (b n e : ℕ) (c d : DeviceValue) → slice_get devices b ≡ Some c → slice_get devices n ≡ Some d
+      → HoldsEid d e → (HasInPool c e ↔ IsBehind plan n b)
 
 -- the list can be carried out, whatever the routing tables
 unfoldable pub CanBeCarriedOut : Plan → List AssignmentValue → Type 0
 CanBeCarriedOut plan list = (tables : ℕ → List EntryValue)
-    → (replies : List (Option (List ℕ))) × (after : List DeviceValue) × AssignRun tables (devices_at_start plan) list replies after
+    → (replies : List (Option (List ℕ))) × (after : List DeviceValue)
+    × AssignRun tables (devices_at_start plan) list replies after
 
 -- however the list is carried out, each request is accepted
 unfoldable pub IsAcceptedThroughout : Plan → List AssignmentValue → Type 0
-IsAcceptedThroughout plan list = (tables : ℕ → List EntryValue) (replies : List (Option (List ℕ))) (after : List DeviceValue)
+IsAcceptedThroughout plan list =
+    (tables : ℕ → List EntryValue) (replies : List (Option (List ℕ))) (after : List DeviceValue)
     → AssignRun tables (devices_at_start plan) list replies after → AreAccepted list replies
 
 -- once it is carried out, all is assigned

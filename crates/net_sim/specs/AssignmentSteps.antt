@@ -7,7 +7,8 @@ use Rattle.net_sim.specs.Assignments.{AssignmentValue, IsOwned, AsksInOrder}
 
 -- n is owned, and of a lower level than this, or of this level and before the place
 unfoldable pub IsAskedUpTo : Plan → Certificate → ℕ → ℕ → ℕ → Type 0
-IsAskedUpTo plan cert reached place n = IsOwned plan n × ((level plan cert n < reached) ⊎ ((level plan cert n ≡ reached) × (n < place)))
+IsAskedUpTo plan cert reached place n =
+    IsOwned plan n × ((level plan cert n < reached) ⊎ ((level plan cert n ≡ reached) × (n < place)))
 
 -- those are asked, and no others
 abbrev pub HasAskedUpTo : Plan → Certificate → ℕ → ℕ → List AssignmentValue → Type 0

@@ -1,5 +1,6 @@
 -- The requests that give the owned nodes of a plan their endpoint IDs and pools.
-use Rattle.std.specs.Prelude.{◌≡◌, ◌⊎◌, ◌↔◌, ◌==◌, ℕ, ◌<◌, Bool, false, List, [], ◌∷◌, Option, Some, None, option_map, option_and_then, find, AllPairs, Contains}
+use Rattle.std.specs.Prelude.{◌≡◌, ◌⊎◌, ◌↔◌, ◌==◌, ℕ, ◌<◌, Bool, false, List, [], ◌∷◌, Option}
+use Rattle.std.specs.Prelude.{Some, None, option_map, option_and_then, find, AllPairs, Contains}
 use Rattle.std.specs.List.{list_any, flat_map}
 use Rattle.net_plan.specs.declared.plan.Plan.{Plan}
 use Rattle.net_plan.specs.declared.certificate.Certificate.{Certificate}
@@ -38,7 +39,8 @@ is_on_bus plan n bus = list_any (λ port. port.bus == bus) (ports_of plan n)
 
 -- the bus of the node's lowest port whose bus the owner shares
 abbrev pub shared_bus : Plan → Node → ℕ → Option ℕ
-shared_bus plan node owner = option_map (λ port. port.bus) (find (λ port. is_on_bus plan owner port.bus) node.ports.items)
+shared_bus plan node owner =
+    option_map (λ port. port.bus) (find (λ port. is_on_bus plan owner port.bus) node.ports.items)
 
 -- the request for a pool, if there is one
 abbrev pub pool_requests : ℕ → ℕ → Option Pool → List AssignmentValue
@@ -47,7 +49,8 @@ pool_requests n bus (Some pool) = record { bus = bus; node = n; body = allocates
 
 -- what the node at a place is asked over a bus: to take its EID, then its pool
 abbrev pub requests_over : ℕ → Node → ℕ → List AssignmentValue
-requests_over n node bus = record { bus = bus; node = n; body = sets_eid node.eid.value } ∷ pool_requests n bus node.pool
+requests_over n node bus =
+    record { bus = bus; node = n; body = sets_eid node.eid.value } ∷ pool_requests n bus node.pool
 
 -- the same over the bus that there is, if there is one
 abbrev pub requests_by : ℕ → Node → Option ℕ → List AssignmentValue
@@ -68,10 +71,12 @@ IsOwned plan n = (owner : ℕ) × IsOwnedBy plan n owner
 
 -- m is asked before n: its level is lower, or the same, and it stands earlier in the plan
 unfoldable pub IsAskedBefore : Plan → Certificate → ℕ → ℕ → Type 0
-IsAskedBefore plan cert m n = (level plan cert m < level plan cert n) ⊎ ((level plan cert m ≡ level plan cert n) × (m < n))
+IsAskedBefore plan cert m n =
+    (level plan cert m < level plan cert n) ⊎ ((level plan cert m ≡ level plan cert n) × (m < n))
 
 -- The list has the requests to each of these nodes once, in the order of levels and places, and no others.
-pub record AsksInOrder (plan : Plan) (cert : Certificate) (Who : ℕ → Type 0) (list : List AssignmentValue) : Type 0 where
+pub record AsksInOrder (plan : Plan) (cert : Certificate) (Who : ℕ → Type 0)
+    (list : List AssignmentValue) : Type 0 where
   pub nodes : List ℕ
   pub each : (n : ℕ) → Contains nodes n ↔ Who n
   pub ordered : AllPairs (IsAskedBefore plan cert) nodes

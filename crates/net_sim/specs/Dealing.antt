@@ -45,6 +45,7 @@ at_rest plan termini = record {
 abbrev pub planned_termini : Plan → Certificate → List TerminusState
 planned_termini plan cert = filter_map (terminus_at_start plan cert) (range_with_len 0 (length plan.nodes.items))
 
--- an assembler as each node has one at the start: of 16 slots, for messages of at most 4096 bytes, that was given nothing
+-- an assembler as each node has one at the start: of 16 slots, for messages of at most 4096 bytes, that was given
+-- nothing
 abbrev pub IsIdleAssembler : Assembler → Type 0
 IsIdleAssembler a = (assembler_slots a ≡ 16) × (assembler_limit a ≡ 4096) × StandsFor a []

@@ -15,7 +15,8 @@ abbrev pub waiting_value : Waiting → WaitingMessage
 waiting_value m = record { key = key_value m.key; bytes = m.bytes.items }
 
 -- the terminus ID and the records by the termini's own meaning
-abbrev pub desk_state : {X : Type 0} {R : X → Type 0} → (Desk X R → ℕ) → (Desk X R → List Entry) → Desk X R → TerminusState
+abbrev pub desk_state : {X : Type 0} {R : X → Type 0} → (Desk X R → ℕ) → (Desk X R → List Entry) → Desk X R
+    → TerminusState
 desk_state tid records d = record { tid = tid d; records = records d; waiting = map waiting_value d.waiting.items }
 
 -- where there is a terminus, one message more can wait without growing
@@ -32,9 +33,10 @@ abbrev pub IsIdle : Option TerminusState → Type 0
 IsIdle None = Unit {0}
 IsIdle (Some t) = t.waiting ≡ []
 
--- The oldest message that waits, of this key, is taken off, and this is the terminus's answer to it, which may change the
--- terminus ID.
-pub record AnswersOldest (old : Option TerminusState) (key : KeyValue) (answer : Option (List ℕ)) (new : Option TerminusState) : Type 0 where
+-- The oldest message that waits, of this key, is taken off, and this is the terminus's answer to
+-- it, which may change the terminus ID.
+pub record AnswersOldest (old : Option TerminusState) (key : KeyValue) (answer : Option (List ℕ))
+    (new : Option TerminusState) : Type 0 where
   pub terminus : TerminusState
   pub oldest : WaitingMessage
   pub rest : List WaitingMessage

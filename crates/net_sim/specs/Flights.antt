@@ -1,5 +1,6 @@
 -- The flights that a network holds, each under its number.
-use Rattle.std.specs.Prelude.{ℕ, ◌-◌, ◌==◌, if◌then◌else◌, List, [], ◌∷◌, map, length, slice_get, Option, Some, None, option_map, option_and_then, vec_capacity}
+use Rattle.std.specs.Prelude.{ℕ, ◌-◌, ◌==◌, if◌then◌else◌, List, [], ◌∷◌, map, length, slice_get}
+use Rattle.std.specs.Prelude.{Option, Some, None, option_map, option_and_then, vec_capacity}
 use Rattle.std.specs.List.{range_with_len}
 use Rattle.mctp_transport.specs.Frames.{Frame}
 use Rattle.mctp_transport.specs.Packets.{packet_frame}
@@ -18,7 +19,8 @@ kept (slot ∷ slots) number = if slot.number == number then slot.flight else ke
 
 -- number by number, from 0 to the last that was given, the flight that is there
 abbrev pub slots_of : Flights → List (Option state.Flight)
-slots_of flights = map (λ number. option_map flight_value (kept flights.slots.items number)) (range_with_len 0 flights.next)
+slots_of flights =
+    map (λ number. option_map flight_value (kept flights.slots.items number)) (range_with_len 0 flights.next)
 
 -- the flight of a number
 abbrev pub flight_at : List (Option state.Flight) → ℕ → Option state.Flight

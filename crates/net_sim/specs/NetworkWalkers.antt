@@ -15,16 +15,26 @@ use Rattle.net_check.specs.Walkers.{WalkerValue, Handed, answering_key, ended_af
 use Rattle.net_sim.specs.declared.network_walker.NetworkWalker.{NetworkWalker}
 
 abbrev pub walker_value : NetworkWalker → WalkerValue
-walker_value w = record { node = w.node; eid = w.eid.value; tag = w.tag.value; walk = state_of w.walker; ids = ids_of w.ids; ended = w.ended }
+walker_value w =
+    record {
+      node = w.node;
+      eid = w.eid.value;
+      tag = w.tag.value;
+      walk = state_of w.walker;
+      ids = ids_of w.ids;
+      ended = w.ended;
+    }
 
--- The walker takes the message, and memory suffices. The ID of the outstanding request is free again where the message is
--- its answer.
-pub record HasTakenMessage (old : WalkerValue) (message : List ℕ) (result : Result Step WalkFault) (new : WalkerValue) : Type 0 where
+-- The walker takes the message, and memory suffices. The ID of the outstanding request is free
+-- again where the message is its answer.
+pub record HasTakenMessage (old : WalkerValue) (message : List ℕ) (result : Result Step WalkFault)
+    (new : WalkerValue) : Type 0 where
   pub walk : WalkState
   pub ids : IdSet
   pub takes : Takes old.walk message result walk
   pub memory : result ≢ Err OutOfMemory
-  pub given_back : MatchResult result (λ step. (id : ℕ) × (old.walk.waiting ≡ Some id) × TakesBack old.ids id ids) (λ fault. ids ≡ old.ids)
+  pub given_back : MatchResult result (λ step. (id : ℕ) × (old.walk.waiting ≡ Some id) × TakesBack old.ids id ids)
+      (λ fault. ids ≡ old.ids)
   pub is : new ≡ record old { walk = walk; ids = ids; ended = ended_after old.ended result }
 
 -- it is at this node, and asks this endpoint ID under this tag
@@ -56,7 +66,8 @@ pub record TellsRequest (old : WalkerValue) (request : List ℕ) (new : WalkerVa
 -- The walker of this number takes the message that the outcome tells. Where it tells none, the walker stays as it is.
 abbrev pub HandsOver : WalkerValue → ℕ → OutcomeValue → Option Handed → WalkerValue → Type 0
 HandsOver old number outcome None new =
-    (new ≡ old) × ((flight node : ℕ) (key : KeyValue) (message : List ℕ) → outcome ≢ Entered flight node key (Whole message))
+    (new ≡ old)
+    × ((flight node : ℕ) (key : KeyValue) (message : List ℕ) → outcome ≢ Entered flight node key (Whole message))
 HandsOver old number outcome (Some handed) new =
     (handed.number ≡ number) × (flight : ℕ) × (node : ℕ) × (key : KeyValue) × (message : List ℕ)
     × (outcome ≡ Entered flight node key (Whole message)) × HasTakenMessage old message handed.result new

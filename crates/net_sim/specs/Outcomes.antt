@@ -4,13 +4,15 @@ use Rattle.mctp_transport.specs.Packets.{key_value}
 use Rattle.net_plan.specs.declared.event.Event.{Event}
 use Rattle.net_plan.specs.declared.event.Event.TheVariants as event
 use Rattle.net_check.specs.Events.{Put, Move, Lose, Expire, AnswerAt, Switch}
-use Rattle.net_check.specs.Walkers.{WalkedEvent, Happening, BeginWalk, Ask, TellWalk, WalkedOutcome, Happened, Begun, Asked, ToldWalk, WalkRefused}
+use Rattle.net_check.specs.Walkers.{WalkedEvent, Happening, BeginWalk, Ask, TellWalk}
+use Rattle.net_check.specs.Walkers.{WalkedOutcome, Happened, Begun, Asked, ToldWalk, WalkRefused}
 use Rattle.net_check.specs.Walkers as value
 use Rattle.net_sim.specs.declared.handed.Handed.{Handed}
 use Rattle.net_sim.specs.declared.standing.Standing.{Standing}
 use Rattle.net_sim.specs.declared.standing.Standing.TheVariants.{Open, Done, Ended}
 use Rattle.net_sim.specs.declared.walk_refusal.WalkRefusal.{WalkRefusal}
-use Rattle.net_sim.specs.declared.walk_refusal.WalkRefusal.TheVariants.{Shared, WalkerThere, NoTerminusThere, WrongCount, NoWalker, Unsettled, WalkOver}
+use Rattle.net_sim.specs.declared.walk_refusal.WalkRefusal.TheVariants.{Shared, WalkerThere, NoTerminusThere}
+use Rattle.net_sim.specs.declared.walk_refusal.WalkRefusal.TheVariants.{WrongCount, NoWalker, Unsettled, WalkOver}
 use Rattle.net_sim.specs.declared.outcome.Outcome.{Outcome}
 use Rattle.net_sim.specs.declared.outcome.Outcome.TheVariants as outcome
 use Rattle.net_sim.specs.Effects.{effect_value, refusal_value, refusal_code}

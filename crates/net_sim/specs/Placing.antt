@@ -7,4 +7,6 @@ use Rattle.net_check.specs.States.{Flight, destination}
 
 -- the flight is at a node of the plan, within its certified hops
 abbrev pub IsPlaced : Plan → Certificate → Flight → Type 0
-IsPlaced plan cert f = (f.node < length plan.nodes.items) × (f.hops + rank cert f.node (destination f) ≤ rank cert f.origin (destination f))
+IsPlaced plan cert f =
+    (f.node < length plan.nodes.items)
+    × (f.hops + rank cert f.node (destination f) ≤ rank cert f.origin (destination f))

@@ -4,7 +4,8 @@ use Rattle.net_plan.specs.declared.plan.Plan.{Plan}
 use Rattle.net_check.specs.Routing.{Holds}
 use Rattle.net_check.specs.TwoPlans.{Tables}
 use Rattle.net_check.specs.States.{NetworkState}
-use Rattle.net_check.specs.Walkers.{WalkerValue, WalkedState, WalkedEvent, WalkRefusal, N12, N13, MustWait, IsOver, AreSettled, IsWalkRefused, IsFirstWalkRefusal, asking_key}
+use Rattle.net_check.specs.Walkers.{WalkerValue, WalkedState, WalkedEvent, WalkRefusal, N12, N13, MustWait}
+use Rattle.net_check.specs.Walkers.{IsOver, AreSettled, IsWalkRefused, IsFirstWalkRefusal, asking_key}
 use Rattle.net_sim.specs.Standing.{TrafficValue}
 use Rattle.net_sim.specs.NetworkWalkers.{TellsRequest}
 use Rattle.net_sim.specs.Sending.{PutsOne}
@@ -25,9 +26,10 @@ MayNotAsk plan w walker N12 = MustWait plan w walker
 MayNotAsk plan w walker N13 = IsOver walker
 MayNotAsk plan w walker _ = ⊥
 
--- The walker's request is told, and put in at its node as one packet under the key of its requests, as the flight of this
--- number.
-pub record PutsRequest (tables : Tables) (old : TrafficValue) (walker : WalkerValue) (number : ℕ) (new : TrafficValue) (next : WalkerValue) : Type 0 where
+-- The walker's request is told, and put in at its node as one packet under the key of its
+-- requests, as the flight of this number.
+pub record PutsRequest (tables : Tables) (old : TrafficValue) (walker : WalkerValue) (number : ℕ) (new : TrafficValue)
+    (next : WalkerValue) : Type 0 where
   pub own : ℕ
   pub request : List ℕ
   pub holds : Holds tables.plan walker.node own

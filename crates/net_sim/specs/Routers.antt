@@ -1,5 +1,6 @@
 -- Routing tables of a network's nodes, and what going on by them keeps.
-use Rattle.std.specs.Prelude.{◌≡◌, ◌≢◌, ◌⊎◌, ℕ, ◌<◌, List, length, map, slice_get, Bool, true, false, Option, Some, None, unwrap_or}
+use Rattle.std.specs.Prelude.{◌≡◌, ◌≢◌, ◌⊎◌, ℕ, ◌<◌, List, length, map, slice_get}
+use Rattle.std.specs.Prelude.{Bool, true, false, Option, Some, None, unwrap_or}
 use Rattle.mctp_bridge.specs.declared.row.Row as bridge
 use Rattle.mctp_bridge.specs.declared.decision.Decision.{Decision}
 use Rattle.mctp_bridge.specs.declared.decision.Decision.TheVariants.{Here, Drop, Forward}
@@ -36,7 +37,8 @@ HasLawfulRows plan = (n : ℕ) (node : Node) → slice_get plan.nodes.items n �
 -- so many nodes of the plan have a table that routes as their rows do
 pub record AreTabled (plan : Plan) (count : ℕ) (tables : List (List bridge.Row)) : Type 0 where
   pub as_many : length tables ≡ count
-  pub same : (n : ℕ) (table : List bridge.Row) → slice_get tables n ≡ Some table → HasSameRoutes (map table_row (rows_of plan n)) table
+  pub same : (n : ℕ) (table : List bridge.Row) → slice_get tables n ≡ Some table
+      → HasSameRoutes (map table_row (rows_of plan n)) table
 
 -- where there is a plan after, as many tables that route as its rows do; else none
 abbrev pub AreTabledAfter : Plan → Option Plan → List (List bridge.Row) → Type 0
@@ -45,7 +47,8 @@ AreTabledAfter plan (Some after) tables = AreTabled after (length plan.nodes.ite
 
 -- The tables are accepted. Each node has a table that routes as its rows before a switch do; and where there is a plan
 -- after, one for those after it, and a mark.
-pub record RoutesAs (tables : Tables) (cert : Certificate) (old new : List (List bridge.Row)) (switched : List Bool) : Type 0 where
+pub record RoutesAs (tables : Tables) (cert : Certificate) (old new : List (List bridge.Row))
+    (switched : List Bool) : Type 0 where
   pub accepted : IsAccepted tables cert
   pub before : AreTabled tables.plan (length tables.plan.nodes.items) old
   pub after : AreTabledAfter tables.plan tables.after new

@@ -11,9 +11,10 @@ use Rattle.net_check.specs.Events.{Put, OutcomeValue, Answered, PutIn}
 use Rattle.net_sim.specs.Flights.{begun}
 use Rattle.net_sim.specs.Standing.{TrafficValue, Plays}
 
--- The packets of the answer to a message of this key are put in at the node, which holds the key's source, as the flights
--- that the outcome tells.
-pub record Sends (plan : Plan) (node : ℕ) (asked : KeyValue) (answer : List ℕ) (old : List (Option Flight)) (outcome : OutcomeValue) (new : List (Option Flight)) : Type 0 where
+-- The packets of the answer to a message of this key are put in at the node, which holds the key's source,
+-- as the flights that the outcome tells.
+pub record Sends (plan : Plan) (node : ℕ) (asked : KeyValue) (answer : List ℕ) (old : List (Option Flight))
+    (outcome : OutcomeValue) (new : List (Option Flight)) : Type 0 where
   pub eid : ℕ
   pub packets : List Frame
   pub first : ℕ
@@ -26,7 +27,8 @@ pub record Sends (plan : Plan) (node : ℕ) (asked : KeyValue) (answer : List �
   pub flights : new ≡ old ++ map (begun node) packets
 
 -- The message is one packet, and that packet's bytes are put in at the node, as the flight of this number.
-pub record PutsOne (tables : Tables) (old : TrafficValue) (node : ℕ) (message : List ℕ) (destination : ℕ) (key : KeyValue) (number : ℕ) (new : TrafficValue) : Type 0 where
+pub record PutsOne (tables : Tables) (old : TrafficValue) (node : ℕ) (message : List ℕ) (destination : ℕ)
+    (key : KeyValue) (number : ℕ) (new : TrafficValue) : Type 0 where
   pub packet : Frame
   pub bytes : List ℕ
   pub cut : ArePacketsOf (unit_of tables.plan) message destination key 0 (packet ∷ [])

@@ -15,7 +15,8 @@ abbrev pub traffic_checked : {X : Type 0} {R : X → Type 0} → Traffic X R →
 traffic_checked network = (network.router.tables, network.router.certificate)
 
 -- by the terminus IDs and the records that the termini mean
-abbrev pub traffic_value : {X : Type 0} {R : X → Type 0} → (Desk X R → ℕ) → (Desk X R → List Entry) → Traffic X R → TrafficValue
+abbrev pub traffic_value : {X : Type 0} {R : X → Type 0} → (Desk X R → ℕ) → (Desk X R → List Entry) → Traffic X R
+    → TrafficValue
 traffic_value tid records network = record {
   flights = slots_of network.flights;
   assemblers = network.assemblers.items;

@@ -2,7 +2,8 @@
 use Rattle.std.specs.Prelude.{◌≡◌, ℕ, ◌+◌, List, length, slice_get, None}
 use Rattle.net_check.specs.TwoPlans.{Tables}
 use Rattle.net_check.specs.States.{NetworkState}
-use Rattle.net_check.specs.Walkers.{WalkerValue, WalkedState, WalkedEvent, Happening, BeginWalk, Ask, TellWalk, WalkedOutcome, WalkRefusal, IsWalkRefused}
+use Rattle.net_check.specs.Walkers.{WalkerValue, WalkedState, WalkedEvent, Happening, BeginWalk}
+use Rattle.net_check.specs.Walkers.{Ask, TellWalk, WalkedOutcome, WalkRefusal, IsWalkRefused}
 use Rattle.net_check.specs.WalkedRuns.{WalkedStep}
 use Rattle.net_sim.specs.Standing.{TrafficValue, StandsFor, MayWant}
 
@@ -30,10 +31,12 @@ WalkedPlays tables old event outcome new = (w : WalkedState) → StandsForWalked
 -- the event isn't refused, and takes room: one that does in the network, a walk that begins, or a request
 abbrev pub WalkedMayWant : Tables → WalkedState → WalkedEvent → Type 0
 WalkedMayWant tables w (Happening event) = MayWant tables w.network event
-WalkedMayWant tables w (BeginWalk node eid tag count) = (why : WalkRefusal) → ¬ IsWalkRefused tables.plan w (BeginWalk node eid tag count) why
+WalkedMayWant tables w (BeginWalk node eid tag count) =
+    (why : WalkRefusal) → ¬ IsWalkRefused tables.plan w (BeginWalk node eid tag count) why
 WalkedMayWant tables w (Ask k) = (why : WalkRefusal) → ¬ IsWalkRefused tables.plan w (Ask k) why
 WalkedMayWant tables w (TellWalk k) = ⊥
 
 -- Memory ran out at the event, which may take some, and the network stands for the states that it stood for.
 abbrev pub WalkedWants : Tables → NetworkValue → WalkedEvent → NetworkValue → Type 0
-WalkedWants tables old event new = (w : WalkedState) → StandsForWalked old w → StandsForWalked new w × WalkedMayWant tables w event
+WalkedWants tables old event new =
+    (w : WalkedState) → StandsForWalked old w → StandsForWalked new w × WalkedMayWant tables w event

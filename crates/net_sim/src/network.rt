@@ -38,7 +38,7 @@ pub struct Network<'a> {
 
 impl<'a> Network<'a> {
     ghost use Rattle.net_check.specs.TwoPlans.{one_plan, moving};
-    ghost use Rattle.net_check.specs.States.{at_start};
+    ghost use Rattle.net_check.specs.States.{at_start, unit_of};
     ghost use Rattle.net_check.specs.Walkers.{WalkerValue, WalkedState};
     ghost use Rattle.net_sim.specs.Accepted.{tables_of, certificate_of};
     ghost use Rattle.net_sim.specs.Outcomes.{outcome_value, event_value};
@@ -135,7 +135,7 @@ impl<'a> Network<'a> {
             (network_value (λ d. tid d.terminus) (λ d. records d.terminus) self.new)) }
         // Where one message at a time is sent under a key to a destination, of five packets at most, what is told of it is
         // that message.
-        ensures exact { IfOk result (λ played. PlaysAsSent 64 (checked_of self.old).0
+        ensures exact { IfOk result (λ played. PlaysAsSent (unit_of (checked_of self.old).0.plan) (checked_of self.old).0
             (network_value (λ d. tid d.terminus) (λ d. records d.terminus) self.old)
             (take (length played.outcomes.items) (map event_value events.now)) (map outcome_value played.outcomes.items)
             (network_value (λ d. tid d.terminus) (λ d. records d.terminus) self.new)) }

@@ -3,7 +3,7 @@ ghost use Rattle.std.specs.Prelude.{◌≡◌, ◌≢◌, ℕ, All, ◌+◌, ◌
 ghost use Rattle.mctp_transport.specs.declared.assembler.Assembler.{Assembler};
 ghost use Rattle.mctp_transport.specs.Assembly.{assembler_slots, assembler_limit};
 ghost use Rattle.mctp_transport.specs.Packets.{key_value};
-ghost use Rattle.net_check.specs.States.{Flight};
+ghost use Rattle.net_check.specs.States.{Flight, unit_of};
 ghost use Rattle.net_check.specs.Ranks.{rank};
 ghost use Rattle.net_sim.specs.Flights.{slots_of, flight_at, flight_value, begun, room_of};
 ghost use Rattle.net_sim.specs.Placing.{IsPlaced};
@@ -19,7 +19,7 @@ use crate::refusal::Refusal;
 use crate::router::Router;
 use arrayvec::ArrayVec;
 use mctp_bridge::Decision;
-use mctp_transport::{Assembler, Eid, Key, PacketView, Packets, Seq, Wire};
+use mctp_transport::{Assembler, Eid, Key, PacketView, Packets, Seq};
 use net_plan::Plan;
 use pdr_repository::Terminus;
 use std::alloc::{AllocError, Global};
@@ -58,7 +58,7 @@ impl<'a> Traffic<'a> {
     ghost use Rattle.net_sim.specs.Dealing.{resting, at_rest, planned_termini};
     ghost use Rattle.net_sim.specs.Sending.{Sends, PutsOne};
     ghost use Rattle.net_sim.specs.Arrivals.{Arrives};
-    ghost use Rattle.mctp_transport.specs.Frames.{KeyValue};
+    ghost use Rattle.mctp_transport.specs.Frames.{KeyValue, IsUnit};
     ghost use Rattle.net_check.specs.States.{NetworkState};
     ghost use Rattle.net_check.specs.Routing.{Holds};
     ghost use Rattle.net_check.specs.ExactMessages.{IsSettled};
@@ -169,7 +169,7 @@ impl<'a> Traffic<'a> {
         if !self.has_node(node) {
             return Ok(Effect::Refused(Refusal::NoNode));
         }
-        let Ok(packet) = PacketView::read(bytes) else {
+        let Ok(packet) = PacketView::read_within(bytes, self.unit()) else {
             return Ok(Effect::Refused(Refusal::NoPacket));
         };
         if self.left() < 1 {
@@ -194,6 +194,14 @@ impl<'a> Traffic<'a> {
         }
         let was_open = self.assemblers[node].expire(key);
         Effect::Expired { node, was_open }
+    }
+
+    /// The transmission unit, in bytes.
+    fn unit(&self) -> usize
+        ensures unit { result ≡ unit_of self.now.router.tables.plan }
+        ensures bounds { IsUnit result }
+    {
+        usize::from(self.router.plan().unit)
     }
 
     /// Whether there is such a node.
@@ -452,7 +460,8 @@ impl<'a> Traffic<'a> {
             (traffic_value (λ d. tid d.terminus) (λ d. records d.terminus) self.new) }
     {
         let number = self.flights.next_number() as u32;
-        self.put_all(node, Packets::of(message, destination, key, Seq::new(0)));
+        let packets = Packets::within(self.unit(), message, destination, key, Seq::new(0));
+        self.put_all(node, packets);
         number
     }
 
@@ -474,7 +483,8 @@ impl<'a> Traffic<'a> {
             owner: false,
         };
         let first = self.flights.next_number();
-        self.put_all(node, Packets::of(answer, asked.source, key, Seq::new(0)));
+        let packets = Packets::within(self.unit(), answer, asked.source, key, Seq::new(0));
+        self.put_all(node, packets);
         let last = self.flights.next_number() - 1;
         Effect::Answered {
             node,

@@ -13,9 +13,6 @@ use std::alloc::AllocError;
 /// The fewest bytes that a request may ask for.
 const LEAST_COUNT: u16 = 8;
 
-/// The most payload bytes of a packet.
-const UNIT: u16 = 64;
-
 impl<'a> Network<'a> {
     ghost use Rattle.net_check.specs.Walkers.{WalkedState, BeginWalk};
     ghost use Rattle.net_sim.specs.Requests.{WhyNot};
@@ -68,7 +65,7 @@ impl<'a> Network<'a> {
         if self.traffic.no_terminus_holds(eid) {
             return Some(WalkRefusal::NoTerminusThere);
         }
-        if count < LEAST_COUNT || five_packets(UNIT) < count {
+        if count < LEAST_COUNT || five_packets(self.traffic.plan().unit) < count {
             return Some(WalkRefusal::WrongCount);
         }
         None

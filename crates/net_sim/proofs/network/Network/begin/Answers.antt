@@ -1,5 +1,7 @@
-use Rattle.std.proofs.Common.{◌∷◌, ◌++◌, [], List, map, ap, ◌∙◌, arith}
+use Rattle.std.proofs.Common.{◌∷◌, ◌++◌, ◌<◌, [], ℕ, List, All, length, map, ap, sym, subst, ◌∙◌, arith}
 use Rattle.std.proofs.lemmas.List.{length-map, map-append}
+use Rattle.std.proofs.lemmas.List.Elements.{All-push}
+use Rattle.net_check.specs.Walkers.{WalkerValue}
 use Rattle.net_sim.specs.declared.network_walker.NetworkWalker.{NetworkWalker}
 use Rattle.net_sim.specs.NetworkWalkers.{walker_value}
 use Rattle.net_sim.proofs.Begins.{begins}
@@ -14,3 +16,16 @@ returns-clause-plays g c =
     (omega (arith, c.len.ensures, c.push_reserved.ensures.len, c.reserve.ensures.len, now.walkers.ok.0, length-map items walker_value)) c.in_ok-walker.ensures
     (ap (map walker_value) (c.push_reserved.ensures.items ∙ ap (λ (ws : List NetworkWalker). ws ++ walker ∷ []) c.reserve.ensures.items)
     ∙ map-append walker_value items (walker ∷ []))
+
+-- the walkers that were there stand at nodes of the plan, and so does the new one
+pub invariant_of-self-2 : goal.invariant_of-self-2
+invariant_of-self-2 g c =
+    let items = c.args.self.now.walkers.items in
+    let walker = c.in_ok-walker.walker in
+    let count = length c.args.self.now.traffic.router.tables.plan.nodes.items in
+    record {
+      placed = subst (All (λ (w : NetworkWalker). w.node < count))
+          (sym (c.push_reserved.ensures.items ∙ ap (λ (ws : List NetworkWalker). ws ++ walker ∷ []) c.reserve.ensures.items))
+          (All-push (λ (w : NetworkWalker). w.node < count) items walker c.args.self.now.placed
+          (subst (λ (n : ℕ). n < count) (sym (ap (λ (w : WalkerValue). w.node) c.in_ok-walker.ensures)) c.in_default.ensures.node));
+    }

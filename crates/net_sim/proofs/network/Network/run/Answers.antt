@@ -1,4 +1,5 @@
 use Rattle.std.proofs.Common.{refl, ◌∙◌, ap, arith}
+use Rattle.net_check.specs.States.{unit_of}
 use Rattle.net_sim.specs.Networks.{checked_of}
 use Rattle.net_sim.proofs.PlayedRuns.{played_start, played_plays, played_next, stopped_plays, stopped_after}
 use Rattle.net_sim.proofs.AsSent.{plays_as_sent}
@@ -32,7 +33,7 @@ returns-in-Err-clause-plays g c =
     _ _ _ _ c.loop-event.invariant.1 c.in-Err.ensures.plays
 
 pub returns-in-Err-clause-exact : goal.returns-in-Err-clause-exact
-returns-in-Err-clause-exact g c = plays_as_sent 64 (checked_of c.args.self.now).0 _ _ _ _ (returns-in-Err-clause-plays g c)
+returns-in-Err-clause-exact g c = plays_as_sent (unit_of (checked_of c.args.self.now).0.plan) (checked_of c.args.self.now).0 _ _ _ _ (returns-in-Err-clause-plays g c)
 
 pub returns-in-Err-clause-walks : goal.returns-in-Err-clause-walks
 returns-in-Err-clause-walks g c =
@@ -51,7 +52,7 @@ pub returns-clause-plays : goal.returns-clause-plays
 returns-clause-plays g c = played_plays (checked_of c.args.self.now).0 _ _ c.args.events.now c.loop-event.event-index _ c.loop-event.invariant.1
 
 pub returns-clause-exact : goal.returns-clause-exact
-returns-clause-exact g c = plays_as_sent 64 (checked_of c.args.self.now).0 _ _ _ _ (returns-clause-plays g c)
+returns-clause-exact g c = plays_as_sent (unit_of (checked_of c.args.self.now).0.plan) (checked_of c.args.self.now).0 _ _ _ _ (returns-clause-plays g c)
 
 pub returns-clause-walks : goal.returns-clause-walks
 returns-clause-walks g c = plays_walks (checked_of c.args.self.now).0 (checked_of c.args.self.now).1 _ _ _ _ c.plan-plan.ensures.accepted (returns-clause-plays g c)

@@ -1,4 +1,5 @@
-use Rattle.std.proofs.Common.{◌≡◌, ℕ, None, refl, inl, inr, arith}
+use Rattle.std.proofs.Common.{◌≡◌, ℕ, None, refl, ap, inl, inr, arith}
+use Rattle.net_plan.specs.declared.plan.Plan.{Plan}
 use Rattle.net_check.specs.Routing.{Holds}
 use Rattle.net_check.specs.Walkers.{IsThere}
 use Rattle.net_sim.proofs.Begins.{is_there, is_among, begins_twice, begins_without_terminus, begins_with_wrong_count, may_begin}
@@ -32,7 +33,7 @@ returns-then-count-lt-LEAST_COUNT-clause-first g c = λ w s.
     begins_with_wrong_count now.traffic.router.tables w c.args.node c.args.eid.value c.args.tag.value c.args.count (c.has_node.ensures.0 c.if-not-has_node.false) new some
     (elim c.then-count-lt-LEAST_COUNT.branch [
       | then-count-lt-LEAST_COUNT-via-then-count-lt-LEAST_COUNT b ↦ inl (omega (arith, b.if-count-lt-LEAST_COUNT.true))
-      | then-count-lt-LEAST_COUNT-via-else-count-lt-LEAST_COUNT+then-five_packets-count b ↦ inr (omega (arith, b.five_packets.ensures.count, b.if-five_packets-count.true))
+      | then-count-lt-LEAST_COUNT-via-else-count-lt-LEAST_COUNT+then-five_packets-count b ↦ inr (omega (arith, b.five_packets.ensures.count, ap (λ (p : Plan). p.unit) b.plan.ensures.plan, b.if-five_packets-count.true))
     ])
 
 pub returns-clause-first : goal.returns-clause-first
@@ -45,4 +46,4 @@ returns-clause-first g c = λ w s.
     let told = (c.no_terminus_holds.ensures w.network s.network).1 none in
     absurd (cc (told, c.if-no_terminus_holds.false))) in
     may_begin now.traffic.router.tables w c.args.node c.args.eid.value c.args.tag.value c.args.count (c.has_node.ensures.0 c.if-not-has_node.false) new some
-    (omega (arith, c.if-count-lt-LEAST_COUNT.false)) (omega (arith, c.five_packets.ensures.count, c.if-five_packets-count.false))
+    (omega (arith, c.if-count-lt-LEAST_COUNT.false)) (omega (arith, c.five_packets.ensures.count, ap (λ (p : Plan). p.unit) c.plan.ensures.plan, c.if-five_packets-count.false))

@@ -6,16 +6,19 @@ use Rattle.mctp_transport.proofs.Sending.{few_packets}
 use Rattle.net_sim.proofs.Slots.{same_means}
 use Rattle.net_sim.proofs.Changes.{same_marks}
 use Rattle.net_sim.proofs.Requesting.{puts_one}
+use Rattle.net_check.specs.States.{unit_of}
+use Rattle.net_check.proofs.Units.{least_unit}
+use Rattle.net_sim.proofs.Requesting.{as_cut}
 use Rattle.net_sim.proofs.traffic.Traffic.put_one.Goals as goal
 
 pub put_all-requires-clause-few : goal.put_all-requires-clause-few
 put_all-requires-clause-few g c =
-    let count : length (frames_left c.of.result) ≤ 1 = few_packets 64 1 c.args.message.now _ _ _ (frames_left c.of.result) c.of.ensures (omega (arith, c.requires.most)) in
+    let count : length (frames_left c.within-packets.result) ≤ 1 = few_packets (unit_of c.args.self.now.router.tables.plan) 1 c.args.message.now _ _ _ (frames_left c.within-packets.result) (as_cut c.unit.ensures.unit c.within-packets.ensures) (omega (arith, c.requires.most, least_unit c.args.self.now.router.tables.plan)) in
     omega (arith, c.requires.few, count)
 
 pub put_all-requires-clause-room : goal.put_all-requires-clause-room
 put_all-requires-clause-room g c =
-    let count : length (frames_left c.of.result) ≤ 1 = few_packets 64 1 c.args.message.now _ _ _ (frames_left c.of.result) c.of.ensures (omega (arith, c.requires.most)) in
+    let count : length (frames_left c.within-packets.result) ≤ 1 = few_packets (unit_of c.args.self.now.router.tables.plan) 1 c.args.message.now _ _ _ (frames_left c.within-packets.result) (as_cut c.unit.ensures.unit c.within-packets.ensures) (omega (arith, c.requires.most, least_unit c.args.self.now.router.tables.plan)) in
     omega (arith, c.requires.room, count)
 
 pub returns-clause-puts : goal.returns-clause-puts
@@ -23,6 +26,6 @@ returns-clause-puts g c =
     let now = c.args.self.now in
     let key = key_value c.args.key in
     puts_one now.router.tables _ _ c.args.node c.next_number-number.result c.args.message.now c.args.destination.value key c.requires.node c.requires.few c.next_number-number.ensures.next
-    c.requires.some c.requires.most c.args.destination.in_range c.args.key.source.in_range c.args.key.tag.in_range (frames_left c.of.result)
-    (subst (λ n. ArePacketsOf 64 c.args.message.now c.args.destination.value key n (frames_left c.of.result)) c.new.ensures c.of.ensures)
+    c.requires.some c.requires.most c.args.destination.in_range c.args.key.source.in_range c.args.key.tag.in_range (frames_left c.within-packets.result)
+    (subst (λ n. ArePacketsOf (unit_of now.router.tables.plan) c.args.message.now c.args.destination.value key n (frames_left c.within-packets.result)) c.new.ensures (as_cut c.unit.ensures.unit c.within-packets.ensures))
     c.put_all.ensures.flights c.put_all.ensures.assemblers (same_means _ _ _ c.put_all.ensures.desks) (same_marks _ _ c.put_all.ensures.router)

@@ -8,22 +8,25 @@ use Rattle.net_plan.specs.declared.plan.Plan.{Plan}
 use Rattle.net_plan.specs.declared.nodes.Node.{Node}
 use Rattle.net_sim.specs.Flights.{slots_of}
 use Rattle.net_sim.proofs.Packing.{begun_length}
+use Rattle.net_check.specs.States.{unit_of}
+use Rattle.net_check.proofs.Units.{least_unit}
+use Rattle.net_sim.proofs.Requesting.{as_cut}
 use Rattle.net_sim.proofs.traffic.Traffic.send.Goals as goal
 
 pub put_all-requires-clause-few : goal.put_all-requires-clause-few
 put_all-requires-clause-few g c =
-    let count : length (frames_left c.of.result) ≤ 64 = few_packets 64 64 c.args.answer.now _ _ _ (frames_left c.of.result) c.of.ensures (omega (arith, c.requires.most)) in
+    let count : length (frames_left c.within-packets.result) ≤ 64 = few_packets (unit_of c.args.self.now.router.tables.plan) 64 c.args.answer.now _ _ _ (frames_left c.within-packets.result) (as_cut c.unit.ensures.unit c.within-packets.ensures) (omega (arith, c.requires.most, least_unit c.args.self.now.router.tables.plan)) in
     omega (arith, c.requires.few, count)
 
 pub put_all-requires-clause-room : goal.put_all-requires-clause-room
 put_all-requires-clause-room g c =
-    let count : length (frames_left c.of.result) ≤ 64 = few_packets 64 64 c.args.answer.now _ _ _ (frames_left c.of.result) c.of.ensures (omega (arith, c.requires.most)) in
+    let count : length (frames_left c.within-packets.result) ≤ 64 = few_packets (unit_of c.args.self.now.router.tables.plan) 64 c.args.answer.now _ _ _ (frames_left c.within-packets.result) (as_cut c.unit.ensures.unit c.within-packets.ensures) (omega (arith, c.requires.most, least_unit c.args.self.now.router.tables.plan)) in
     omega (arith, c.requires.room, count)
 
 pub overflow_cast-result-2 : goal.overflow_cast-result-2
 overflow_cast-result-2 g c =
-    let ps = frames_left c.of.result in
-    let count : length ps ≤ 64 = few_packets 64 64 c.args.answer.now _ _ _ ps c.of.ensures (omega (arith, c.requires.most)) in
+    let ps = frames_left c.within-packets.result in
+    let count : length ps ≤ 64 = few_packets (unit_of c.args.self.now.router.tables.plan) 64 c.args.answer.now _ _ _ ps (as_cut c.unit.ensures.unit c.within-packets.ensures) (omega (arith, c.requires.most, least_unit c.args.self.now.router.tables.plan)) in
     let long : length (slots_of c.put_all.new.self.flights) ≡ length (slots_of c.args.self.now.flights) + length ps = ap length c.put_all.ensures.flights ∙ begun_length (slots_of c.args.self.now.flights) c.args.node ps in
     omega (arith, c.requires.few, count, long, c.next_number-last.ensures.next)
 
@@ -31,7 +34,7 @@ pub returns-clause-sends : goal.returns-clause-sends
 returns-clause-sends g c =
     let now = c.args.self.now in
     let plan : Plan = now.router.tables.plan in
-    let ps = frames_left c.of.result in
+    let ps = frames_left c.within-packets.result in
     let long : length (slots_of c.put_all.new.self.flights) ≡ length (slots_of now.flights) + length ps = ap length c.put_all.ensures.flights ∙ begun_length (slots_of now.flights) c.args.node ps in
     let eid = c.index.result.now.eid.value in
     let within : c.args.node < length c.plan.result.now.nodes.items = subst (λ (p : Plan). c.args.node < length p.nodes.items) (sym c.plan.ensures.plan) c.requires.node in
@@ -43,7 +46,7 @@ returns-clause-sends g c =
       first = c.next_number-first.result;
       last = c.next_number-last.result - 1;
       holds = ap (option_map (λ (n : Node). n.eid.value)) here;
-      are = subst (λ n. ArePacketsOf 64 c.args.answer.now c.args.asked.source.value (record { source = eid; tag = c.args.asked.tag.value; owner = false }) n ps) c.new.ensures c.of.ensures;
+      are = subst (λ n. ArePacketsOf (unit_of now.router.tables.plan) c.args.answer.now c.args.asked.source.value (record { source = eid; tag = c.args.asked.tag.value; owner = false }) n ps) c.new.ensures (as_cut c.unit.ensures.unit c.within-packets.ensures);
       tells = refl;
       begins = c.next_number-first.ensures.next;
       ends = omega (arith, long, c.next_number-last.ensures.next, c.next_number-last.ensures.some);
