@@ -3,8 +3,8 @@
 
 use net_plan::Counted;
 use plan_commands::{
-    Command, FileAtPath, Refused, Status, refuse, run_assign, run_certify, run_check, run_move,
-    run_show, run_walk, simulate, simulate_move, words,
+    Command, FileAtPath, Refused, Status, parse_command, refuse, run_assign, run_certify,
+    run_check, run_move, run_show, run_walk, simulate, simulate_move,
 };
 use std::env;
 use std::process::ExitCode;
@@ -22,7 +22,7 @@ fn run(rt: &HostRuntime) -> Status {
         Ok(list) => list,
         Err(refused) => return refuse(alloc, refused, &mut errors),
     };
-    match words(alloc, list.as_slice()) {
+    match parse_command(alloc, list.as_slice()) {
         Ok(Command::Check { plan, certificate }) => run_check(
             alloc,
             &mut Counted::new(FileAtPath::new(rt, plan)),

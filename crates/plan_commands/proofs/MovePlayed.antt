@@ -1,5 +1,5 @@
 -- What the end of a run of `simmove` tells of the files that were given.
-use Rattle.std.proofs.Common.{◌≡◌, ◌+◌, ◌⊎◌, List, length, Result, Ok, Err, refl, sym, subst, inl, inr}
+use Rattle.std.proofs.Common.{◌≡◌, ◌⊎◌, List, length, Result, Ok, Err, refl, sym, subst, inl, inr}
 use Rattle.std.specs.Prelude.{IfOk, IfErr}
 use Rattle.net_check.specs.declared.move_error.MoveError.{MoveError}
 use Rattle.net_check.specs.MoveFaults.{NamesFirstMoveFault}
@@ -8,9 +8,6 @@ use Rattle.net_plan.specs.declared.certificate.Certificate.{Certificate}
 use Rattle.net_plan.specs.declared.event.Event.{Event}
 use Rattle.net_plan.specs.declared.plan.Plan.{Plan}
 use Rattle.net_plan.specs.declared.error.PlanError.{PlanError}
-use Rattle.net_plan.specs.PlanValues.{plan_value}
-use Rattle.net_plan.specs.TextFaults.{error_count}
-use Rattle.net_plan.specs.Unread.{GaveNoEvents}
 use Rattle.plan_commands.specs.declared.refused.Input.{Input}
 use Rattle.plan_commands.specs.declared.refused.Input.TheVariants as input
 use Rattle.plan_commands.specs.declared.refused.Refused.{Refused}
@@ -20,10 +17,9 @@ use Rattle.plan_commands.specs.declared.status.Status.TheVariants as status
 use Rattle.plan_commands.specs.Answers.{Stream, Fails, BreaksOff, FailsToPrint}
 use Rattle.plan_commands.specs.Moving.{IsMoveGiven, IsMoveErrorText, PrintsMoveError, IsUnreadInMove, IsMoveUnread}
 use Rattle.plan_commands.specs.MoveSimulating.{IsPlayGiven, TellsMovedInPart, IsPlayAnswer, IsUnreadInPlay, IsPlayUnread, IsUnplayedFor, SimulatesMoveFiles}
-use Rattle.plan_commands.specs.Simulating.{EndsShowing, AreLinesAtMost, ShowsOutcomes, ShowsAtMost}
-use Rattle.plan_commands.specs.Statuses.{refused_at}
+use Rattle.plan_commands.specs.Simulating.{EndsShowing, AreUnreadEvents, AreEventsUnread, AreLinesAtMost, ShowsOutcomes, ShowsAtMost}
 use Rattle.plan_commands.proofs.Causes.{unread_also, unread_among, unwritten_among}
-use Rattle.plan_commands.proofs.Telling.{refusal_at, breaks_off_also, untouched_also}
+use Rattle.plan_commands.proofs.Telling.{breaks_off_also, untouched_also}
 
 -- the plans or the certificate were not read
 pub inputs_unread : (why : Refused) (befores afters certificates happenings : Stream) → IsMoveUnread why befores afters certificates
@@ -38,12 +34,17 @@ inputs_unread why befores afters certificates happenings h =
     also input.Events cause h = absurd h
 
 -- the events were not read
-pub move_events_unread : (e : PlanError) (before after : Plan) (certificate : Certificate) (befores afters certificates happenings : Stream)
-    → IsMoveGiven befores afters certificates before after certificate → GaveNoEvents (plan_value before) happenings.before happenings.after e
-    → happenings.failures_after ≡ happenings.failures_before + error_count e → IsPlayUnread (refused_at input.Events e) befores afters certificates happenings
-move_events_unread e before after certificate befores afters certificates happenings given gave counted =
-    refusal_at (λ why. IsPlayUnread why befores afters certificates happenings) (GaveNoEvents (plan_value before)) happenings input.Events e gave counted tt
-    (λ cause nothing. (before, after, certificate, given, nothing))
+pub move_events_unread : (before after : Plan) (certificate : Certificate) (why : Refused) (befores afters certificates happenings : Stream)
+    → IsMoveGiven befores afters certificates before after certificate → AreEventsUnread why before happenings
+    → IsPlayUnread why befores afters certificates happenings
+move_events_unread before after certificate why befores afters certificates happenings given h =
+    unread_also (λ unread cause. AreUnreadEvents before unread cause happenings) (λ unread cause. IsUnreadInPlay unread cause befores afters certificates happenings)
+    why also h
+  where
+    also : (unread : Input) (cause : PlanError) → AreUnreadEvents before unread cause happenings → IsUnreadInPlay unread cause befores afters certificates happenings
+    also input.Plan cause h = absurd h
+    also input.Certificate cause h = absurd h
+    also input.Events cause h = (before, after, certificate, given, h)
 
 -- where the inputs were not read, nothing is played
 pub play_unread : (why : Refused) (befores afters certificates happenings output : Stream) → IsPlayUnread why befores afters certificates happenings

@@ -24,12 +24,13 @@ use Rattle.net_sim.specs.WalkedStanding.{NetworkValue, StandsForWalked}
 use Rattle.net_sim.specs.Walks.{HaveWalked, PlaysWalks}
 use Rattle.plan_commands.specs.declared.refused.Refused.{Refused}
 use Rattle.plan_commands.specs.declared.refused.Refused.TheVariants as refused
+use Rattle.plan_commands.specs.declared.refused.Input.{Input}
 use Rattle.plan_commands.specs.declared.refused.Input.TheVariants as input
 use Rattle.plan_commands.specs.declared.status.Status.{Status}
 use Rattle.plan_commands.specs.declared.status.Status.TheVariants as status
 use Rattle.plan_commands.specs.Answers.{Stream, Fails, BreaksOff, AreGiven, IsErrorText, PrintsFault, FailsToPrint}
 use Rattle.plan_commands.specs.Statuses.{refused_at}
-use Rattle.plan_commands.proofs.Causes.{unread_among, unwritten_among}
+use Rattle.plan_commands.proofs.Causes.{unread_also, unread_among, unwritten_among}
 use Rattle.plan_commands.proofs.Telling.{refusal_at, breaks_off_also, untouched_also}
 use Rattle.net_check.specs.declared.check_error.CheckError.{CheckError}
 use Rattle.net_check.specs.declared.check_error.CheckError.TheVariants as check_error
@@ -41,7 +42,7 @@ use Rattle.net_plan.specs.PlanValues.{plan_value}
 use Rattle.net_plan.specs.TextFaults.{error_count}
 use Rattle.net_plan.specs.Unread.{GaveNoEvents}
 use Rattle.plan_commands.specs.OutcomeLines.{outcome_line, lines_from, outcome_lines}
-use Rattle.plan_commands.specs.Simulating.{IsRunText, ShowsRun, ShowsBeginning, ShowsWalks, ShowsBegunWalks, IsWalksText, ShowsAllOr, EndsShowing, AreFirstLines, AreIdle, SimulatesAtRest, AreLinesAtMost, ShowsLines, ShowsOutcomes, ShowsAtMost, GaveEvents, TellsBeginning, IsSimAnswer, IsUnreadAmong, AreUnreadAmong, IsUnsimulatedFor, SimulatesFiles}
+use Rattle.plan_commands.specs.Simulating.{IsRunText, ShowsRun, ShowsBeginning, ShowsWalks, ShowsBegunWalks, IsWalksText, ShowsAllOr, EndsShowing, AreFirstLines, AreIdle, SimulatesAtRest, AreLinesAtMost, ShowsLines, ShowsOutcomes, ShowsAtMost, GaveEvents, TellsBeginning, IsSimAnswer, AreUnreadEvents, AreEventsUnread, IsUnreadAmong, AreUnreadAmong, IsUnsimulatedFor, SimulatesFiles}
 
 -- ---- lines
 
@@ -337,12 +338,23 @@ at_rest_in tables tables' cert cert' events events' ended output same same_cert 
 
 -- ---- files
 
-pub events_unread : (e : PlanError) (plan : Plan) (cert : Certificate) (plans certificates happenings : Stream) → AreGiven plans certificates plan cert
-    → GaveNoEvents (plan_value plan) happenings.before happenings.after e → happenings.failures_after ≡ happenings.failures_before + error_count e
-    → AreUnreadAmong (refused_at input.Events e) plans certificates happenings
-events_unread e plan cert plans certificates happenings given gave counted =
-    refusal_at (λ why. AreUnreadAmong why plans certificates happenings) (GaveNoEvents (plan_value plan)) happenings input.Events e gave counted tt
-    (λ cause nothing. (plan, cert, given, nothing))
+-- of events at the nodes of a plan, so that the refusal has its cause
+pub no_events : (e : PlanError) (plan : Plan) (happenings : Stream) → GaveNoEvents (plan_value plan) happenings.before happenings.after e
+    → happenings.failures_after ≡ happenings.failures_before + error_count e → AreEventsUnread (refused_at input.Events e) plan happenings
+no_events e plan happenings gave counted =
+    refusal_at (λ why. AreEventsUnread why plan happenings) (GaveNoEvents (plan_value plan)) happenings input.Events e gave counted tt
+    (λ cause nothing. nothing)
+
+-- the plan and the certificate were given, and the events were not read
+pub events_unread : (plan : Plan) (cert : Certificate) (why : Refused) (plans certificates happenings : Stream) → AreGiven plans certificates plan cert
+    → AreEventsUnread why plan happenings → AreUnreadAmong why plans certificates happenings
+events_unread plan cert why plans certificates happenings given h =
+    unread_also (λ unread cause. AreUnreadEvents plan unread cause happenings) (λ unread cause. IsUnreadAmong unread cause plans certificates happenings) why also h
+  where
+    also : (unread : Input) (cause : PlanError) → AreUnreadEvents plan unread cause happenings → IsUnreadAmong unread cause plans certificates happenings
+    also input.Plan cause h = absurd h
+    also input.Certificate cause h = absurd h
+    also input.Events cause h = (plan, cert, given, h)
 
 -- where the inputs were not read, nothing is simulated
 pub files_unread : (why : Refused) (plans certificates happenings output : Stream) → AreUnreadAmong why plans certificates happenings

@@ -18,8 +18,9 @@ use Rattle.plan_commands.specs.declared.status.Status.{Status}
 use Rattle.plan_commands.specs.declared.status.Status.TheVariants as status
 use Rattle.std.specs.Cow.{cow_str_bytes}
 use Rattle.std.specs.Io.KnownBytes.{Appends}
-use Rattle.plan_commands.specs.Answers.{Stream, BreaksOff, GavePlan, GaveNothing, AreUnread, IsErrorText, PrintsFault}
+use Rattle.plan_commands.specs.Answers.{Stream, BreaksOff, GavePlan, GaveNothing, IsUnread, AreUnread, IsUnreadCertificate, IsCertificateUnread, IsErrorText, PrintsFault}
 use Rattle.plan_commands.specs.Statuses.{refused_at}
+use Rattle.plan_commands.proofs.Causes.{unread_also}
 
 -- of a refusal that an error leads to, what holds of no memory and of each cause of an unreadable input
 pub refusal_at : (Is : Refused → Type 0) (GaveNone : Option (List ℕ) → Option (List ℕ) → PlanError → Type 0) (stream : Stream) (unread : Input) (e : PlanError)
@@ -37,12 +38,23 @@ refusal_at Is GaveNone stream unread error.BadHex gave counted memory is = is er
 refusal_at Is GaveNone stream unread error.OverLimit gave counted memory is = is error.OverLimit gave
 refusal_at Is GaveNone stream unread error.Doubled gave counted memory is = is error.Doubled gave
 
-pub certificate_unread : (e : PlanError) (p : Plan) (plans certificates : Stream) → GavePlan plans p
-    → GaveNoCertificate (plan_value p) certificates.before certificates.after e
-    → certificates.failures_after ≡ certificates.failures_before + error_count e → AreUnread (refused_at input.Certificate e) plans certificates
-certificate_unread e p plans certificates given gave counted =
-    refusal_at (λ why. AreUnread why plans certificates) (GaveNoCertificate (plan_value p)) certificates input.Certificate e gave counted tt
-    (λ cause nothing. (p, given, nothing))
+-- of a plan's certificate, so that the refusal has its cause
+pub no_certificate : (e : PlanError) (p : Plan) (certificates : Stream) → GaveNoCertificate (plan_value p) certificates.before certificates.after e
+    → certificates.failures_after ≡ certificates.failures_before + error_count e → IsCertificateUnread (refused_at input.Certificate e) p certificates
+no_certificate e p certificates gave counted =
+    refusal_at (λ why. IsCertificateUnread why p certificates) (GaveNoCertificate (plan_value p)) certificates input.Certificate e gave counted tt
+    (λ cause nothing. nothing)
+
+-- the plan was given, and its certificate was not read
+pub certificate_unread : (p : Plan) (why : Refused) (plans certificates : Stream) → GavePlan plans p → IsCertificateUnread why p certificates
+    → AreUnread why plans certificates
+certificate_unread p why plans certificates given h =
+    unread_also (λ unread cause. IsUnreadCertificate p unread cause certificates) (λ unread cause. IsUnread unread cause plans certificates) why also h
+  where
+    also : (unread : Input) (cause : PlanError) → IsUnreadCertificate p unread cause certificates → IsUnread unread cause plans certificates
+    also input.Plan cause h = absurd h
+    also input.Certificate cause h = (p, given, h)
+    also input.Events cause h = absurd h
 
 -- an output that failed after a beginning of one text failed after a beginning of any answer that the text is
 pub breaks_off_also : (P Q : List ℕ → Type 0) (output : Stream) → ((text : List ℕ) → P text → Q text) → BreaksOff P output → BreaksOff Q output

@@ -25,7 +25,8 @@ use Rattle.plan_commands.specs.declared.status.Status.TheVariants as status
 use Rattle.plan_commands.specs.Lines.{fault_text}
 use Rattle.plan_commands.specs.Statuses.{status_of, HasCause, yes_line}
 
--- a stream before a call and after it: the bytes that a source has yet to give or a sink was given, and how often it failed
+-- a stream before a call and after it: the bytes that a source has yet to give or a sink was given, and how often it
+-- failed
 pub record Stream : Type 0 where
   pub before : Option (List ℕ)
   pub after : Option (List ℕ)
@@ -33,7 +34,8 @@ pub record Stream : Type 0 where
   pub failures_after : ℕ
 
 abbrev pub stream : Option (List ℕ) → ℕ → Option (List ℕ) → ℕ → Stream
-stream before failures_before after failures_after = record { before = before; after = after; failures_before = failures_before; failures_after = failures_after }
+stream before failures_before after failures_after =
+    record { before = before; after = after; failures_before = failures_before; failures_after = failures_after }
 
 -- the stream failed once
 abbrev pub Fails : Stream → Type 0
@@ -52,10 +54,12 @@ GavePlan stream plan = Gave 16777216 stream.before stream.after (λ text. Stands
 
 -- the source gave the text of the plan's certificate
 abbrev pub GaveCertificate : Plan → Stream → Certificate → Type 0
-GaveCertificate plan stream certificate = Gave 16777216 stream.before stream.after (λ text. StandsFor (IsCertificateOf (plan_value plan)) text (certificate_value certificate))
+GaveCertificate plan stream certificate =
+    Gave 16777216 stream.before stream.after
+    (λ text. StandsFor (IsCertificateOf (plan_value plan)) text (certificate_value certificate))
 
--- Why a source gave nothing, by the error: it failed, it gave too many bytes, it gave no JSON, or JSON at whose first fault the
--- reader stops. Want of memory is no such cause.
+-- Why a source gave nothing, by the error: it failed, it gave too many bytes, it gave no JSON, or JSON at whose first
+-- fault the reader stops. Want of memory is no such cause.
 abbrev pub GaveNothing : (Option (List ℕ) → Option (List ℕ) → PlanError → Type 0) → Stream → PlanError → Type 0
 GaveNothing GaveNone stream error.Device = Fails stream
 GaveNothing GaveNone stream error.OutOfMemory = ⊥
@@ -85,12 +89,14 @@ TellsFault plans certificates output = (plan : Plan) × (certificate : Certifica
 
 -- the text is the line of the first fault of the plan and the certificate
 abbrev pub IsFaultText : Plan → Certificate → List ℕ → Type 0
-IsFaultText plan certificate text = (fault : Fault) × IsFirstFault plan certificate (place_of fault) × (text ≡ fault_text plan fault)
+IsFaultText plan certificate text =
+    (fault : Fault) × IsFirstFault plan certificate (place_of fault) × (text ≡ fault_text plan fault)
 
--- The text answers for the plan and the certificate that were given: it is told of them where every rule holds of them, or it is
--- the line of their first fault.
+-- The text answers for the plan and the certificate that were given: it is told of them where every rule holds of them,
+-- or it is the line of their first fault.
 abbrev pub IsAnswerOf : (Plan → Certificate → List ℕ → Type 0) → Stream → Stream → List ℕ → Type 0
-IsAnswerOf IsTold plans certificates text = (plan : Plan) × (certificate : Certificate) × AreGiven plans certificates plan certificate
+IsAnswerOf IsTold plans certificates text =
+    (plan : Plan) × (certificate : Certificate) × AreGiven plans certificates plan certificate
     × ((Accepts plan certificate × IsTold plan certificate text) ⊎ IsFaultText plan certificate text)
 
 -- the text is the line of the fault that an error of `check` names
@@ -100,7 +106,8 @@ IsErrorText plan check_error.OutOfMemory text = ⊥
 
 -- the output was given the line of the fault that an error of `check` names
 abbrev pub PrintsFault : Plan → CheckError → Status → Stream → Type 0
-PrintsFault plan (check_error.Fault fault) ended output = (ended ≡ status.Fault) × Appends output.before output.after (fault_text plan fault)
+PrintsFault plan (check_error.Fault fault) ended output =
+    (ended ≡ status.Fault) × Appends output.before output.after (fault_text plan fault)
 PrintsFault plan check_error.OutOfMemory ended output = ⊥
 
 -- a line was not written: the output failed, or memory ran out
@@ -117,6 +124,18 @@ IsUnreadPlan input.Events cause plans = ⊥
 abbrev pub IsPlanUnread : Refused → Stream → Type 0
 IsPlanUnread why plans = HasCause (λ unread cause. IsUnreadPlan unread cause plans) ⊥ ⊥ ⊥ ⊥ why
 
+-- why an input, which is the certificate of the plan, can't be read
+abbrev pub IsUnreadCertificate : Plan → Input → PlanError → Stream → Type 0
+IsUnreadCertificate plan input.Plan cause certificates = ⊥
+IsUnreadCertificate plan input.Certificate cause certificates =
+    GaveNothing (GaveNoCertificate (plan_value plan)) certificates cause
+IsUnreadCertificate plan input.Events cause certificates = ⊥
+
+-- why the certificate of the plan was not read
+abbrev pub IsCertificateUnread : Refused → Plan → Stream → Type 0
+IsCertificateUnread why plan certificates =
+    HasCause (λ unread cause. IsUnreadCertificate plan unread cause certificates) ⊥ ⊥ ⊥ ⊥ why
+
 -- why an input can't be read; a certificate is read only where the plan was given
 abbrev pub IsUnread : Input → PlanError → Stream → Stream → Type 0
 IsUnread input.Plan cause plans certificates = GaveNothing GaveNoPlan plans cause
@@ -130,9 +149,11 @@ AreUnread why plans certificates = HasCause (λ unread cause. IsUnread unread ca
 
 -- why there is no answer: the inputs were not read, or the output failed
 abbrev pub IsRefusedFor : Refused → Stream → Stream → Stream → Type 0
-IsRefusedFor why plans certificates output = HasCause (λ unread cause. IsUnread unread cause plans certificates) ⊥ ⊥ ⊥ (Fails output) why
+IsRefusedFor why plans certificates output =
+    HasCause (λ unread cause. IsUnread unread cause plans certificates) ⊥ ⊥ ⊥ (Fails output) why
 
--- what the end of a run says of what the sources gave and what was written, where such a text is told of an accepted plan
+-- what the end of a run says of what the sources gave and what was written, where such a text is told of an accepted
+-- plan
 abbrev pub Tells : (Plan → Certificate → List ℕ → Type 0) → Status → Stream → Stream → Stream → Type 0
 Tells IsTold status.Yes plans certificates output = TellsOf IsTold plans certificates output
 Tells IsTold status.Fault plans certificates output = TellsFault plans certificates output

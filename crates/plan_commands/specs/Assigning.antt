@@ -1,5 +1,6 @@
 -- What `assign` prints of an accepted plan.
-use Rattle.std.specs.Prelude.{◌≡◌, ℕ, ◌<◌, List, length, ◌++◌, All, Option, option_map, slice_get, string_bytes, unwrap_or, codes}
+use Rattle.std.specs.Prelude.{◌≡◌, ℕ, ◌<◌, List, length, ◌++◌, All, Option}
+use Rattle.std.specs.Prelude.{option_map, slice_get, string_bytes, unwrap_or, codes}
 use Rattle.std.specs.List.{flat_map}
 use Rattle.hex.specs.Hex.{encode_lower}
 use Rattle.mctp_control.specs.Requests.{request_bytes}
@@ -19,7 +20,8 @@ bus_name_or_dash plan bus = unwrap_or (bus_name_of plan bus) (codes "-")
 
 -- the names of a request's bus and node, and its bytes in hex
 abbrev pub assignment_text : Plan → AssignmentValue → List ℕ
-assignment_text plan asked = bus_name_or_dash plan asked.bus ++ (codes " " ++ (name_or_dash plan asked.node ++ (codes " "
+assignment_text plan asked =
+    bus_name_or_dash plan asked.bus ++ (codes " " ++ (name_or_dash plan asked.node ++ (codes " "
     ++ (encode_lower (request_bytes asked.body) ++ codes "\n"))))
 
 -- a line for each request, in their order
@@ -30,8 +32,8 @@ assignment_lines plan list = flat_map (assignment_text plan) list
 abbrev pub IsNamed : Plan → AssignmentValue → Type 0
 IsNamed plan asked = (asked.bus < length plan.buses.items) × (asked.node < length plan.nodes.items)
 
--- The text is the lines of the requests that give each owned node its endpoint ID and pool. They can be carried out; however
--- they are replied to, each is accepted, and all is assigned then.
+-- The text is the lines of the requests that give each owned node its endpoint ID and pool. They can be carried out;
+-- however they are replied to, each is accepted, and all is assigned then.
 pub record IsAssignmentText (plan : Plan) (certificate : Certificate) (text : List ℕ) : Type 0 where
   pub list : List AssignmentValue
   pub listed : IsAssignmentOf plan certificate list

@@ -19,8 +19,9 @@ use Rattle.plan_commands.specs.Answers.{Stream, GavePlan, IsUnreadPlan, Fails}
 use Rattle.plan_commands.specs.Lines.{obstacle_text}
 use Rattle.plan_commands.specs.Statuses.{status_of, HasCause}
 
--- Every rule holds of the plan and the certificate; the certificate gives each level, place and rank as the plan has them; and
--- the text is the certificate's, read for the plan it stands for the certificate, and it has at most 2,097,152 bytes.
+-- Every rule holds of the plan and the certificate; the certificate gives each level, place and rank as
+-- the plan has them; and the text is the certificate's, read for the plan it stands for the
+-- certificate, and it has at most 2,097,152 bytes.
 pub record IsCertifiedBy (plan : Plan) (certificate : Certificate) (text : List ℕ) : Type 0 where
   pub accepted : Accepts plan certificate
   pub exact : IsExact plan certificate
@@ -29,7 +30,8 @@ pub record IsCertifiedBy (plan : Plan) (certificate : Certificate) (text : List 
   pub reads_back : StandsFor (IsCertificateOf (plan_value plan)) text (certificate_value certificate)
   pub short : length text ≤ 2097152
 
--- The text tells what comes first, in the order of the rules, of what rules certificates of the plan out, and there is none.
+-- The text tells what comes first, in the order of the rules, of what rules certificates of the plan out, and there is
+-- none.
 pub record IsRuledOutBy (plan : Plan) (obstacle : CertifyError) (text : List ℕ) : Type 0 where
   pub first : NamesObstacle plan obstacle
   pub none : HasNoCertificate plan
@@ -45,15 +47,19 @@ abbrev pub TellsObstacle : Stream → Stream → Type 0
 TellsObstacle plans output = (plan : Plan) × (obstacle : CertifyError) × (text : List ℕ)
     × GavePlan plans plan × IsRuledOutBy plan obstacle text × Appends output.before output.after text
 
--- the text answers for the plan that was given: it is that of a certificate of it, or the line of what rules certificates of it out
+-- the text answers for the plan that was given: it is that of a certificate of it, or the line of what rules
+-- certificates of it out
 abbrev pub IsCertifyAnswer : Stream → List ℕ → Type 0
 IsCertifyAnswer plans text = (plan : Plan) × GavePlan plans plan
-    × (((certificate : Certificate) × IsCertifiedBy plan certificate text) ⊎ ((obstacle : CertifyError) × IsRuledOutBy plan obstacle text))
+    × (((certificate : Certificate) × IsCertifiedBy plan certificate text)
+    ⊎ ((obstacle : CertifyError) × IsRuledOutBy plan obstacle text))
 
 -- so it does, in a run that ends so
 abbrev pub CertifiesSo : Stream → Status → List ℕ → Type 0
-CertifiesSo plans status.Yes text = (plan : Plan) × (certificate : Certificate) × GavePlan plans plan × IsCertifiedBy plan certificate text
-CertifiesSo plans status.Fault text = (plan : Plan) × (obstacle : CertifyError) × GavePlan plans plan × IsRuledOutBy plan obstacle text
+CertifiesSo plans status.Yes text =
+    (plan : Plan) × (certificate : Certificate) × GavePlan plans plan × IsCertifiedBy plan certificate text
+CertifiesSo plans status.Fault text =
+    (plan : Plan) × (obstacle : CertifyError) × GavePlan plans plan × IsRuledOutBy plan obstacle text
 CertifiesSo plans status.Unreadable text = ⊥
 CertifiesSo plans status.NoMemory text = ⊥
 
@@ -65,5 +71,6 @@ IsUncertifiedFor why plans output = HasCause (λ unread cause. IsUnreadPlan unre
 abbrev pub Certifies : Status → Stream → Stream → Type 0
 Certifies status.Yes plans output = TellsCertificate plans output
 Certifies status.Fault plans output = TellsObstacle plans output
-Certifies status.Unreadable plans output = (why : Refused) × (status_of why ≡ status.Unreadable) × IsUncertifiedFor why plans output
+Certifies status.Unreadable plans output =
+    (why : Refused) × (status_of why ≡ status.Unreadable) × IsUncertifiedFor why plans output
 Certifies status.NoMemory plans output = ⊤

@@ -9,7 +9,8 @@ use Rattle.plan_commands.specs.declared.refused.Refused.{Refused}
 use Rattle.plan_commands.specs.declared.refused.Refused.TheVariants.{TooMuch, NoMemory}
 use Rattle.plan_commands.specs.Walking.{bytes_of}
 
--- The walker stands for these exchanges, which are a walk. It has taken an answer for each, and it has the program's limits.
+-- The walker stands for these exchanges, which are a walk. It has taken an answer for each, and it has the program's
+-- limits.
 pub record IsUnderWay (records : List Entry) (count : ℕ) (w : WalkState) (xs : List Exchange) : Type 0 where
   pub walk : Walk records count xs
   pub stands : StandsFor w xs
@@ -19,7 +20,8 @@ pub record IsUnderWay (records : List Entry) (count : ℕ) (w : WalkState) (xs :
   pub taken : w.taken ≡ length xs
 
 -- The walk is finished, or it is one exchange further.
-pub record IsFurther (records : List Entry) (count : ℕ) (xs : List Exchange) (step : Step) (new : WalkState) : Type 0 where
+pub record IsFurther (records : List Entry) (count : ℕ) (xs : List Exchange) (step : Step)
+    (new : WalkState) : Type 0 where
   pub exchanges : List Exchange
   pub under_way : IsUnderWay records count new exchanges
   pub done : step ≡ Done → IsFinished count exchanges
@@ -32,7 +34,8 @@ EndsEarlyFor records refused = (refused ≡ NoMemory) ⊎ ((refused ≡ TooMuch)
 -- what an exchange leads to, of each walk that is under way
 abbrev pub Goes : List Entry → WalkState → Result Step Refused → WalkState → Type 0
 Goes records old result new =
-    (count : ℕ) (xs : List Exchange) → IsUnderWay records count old xs → MatchResult result (λ step. IsFurther records count xs step new) (EndsEarlyFor records)
+    (count : ℕ) (xs : List Exchange) → IsUnderWay records count old xs
+    → MatchResult result (λ step. IsFurther records count xs step new) (EndsEarlyFor records)
 
 -- the walker has collected all records by place, by as many requests as they have parts
 abbrev pub HasCollected : List Entry → ℕ → WalkState → Type 0

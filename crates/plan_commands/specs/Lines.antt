@@ -33,7 +33,8 @@ names_text plan nodes = flat_map (λ node. codes " " ++ name_or_dash plan node) 
 -- the rule's code, the node's name, the entry and the endpoint ID
 abbrev pub fault_text : Plan → Fault → List ℕ
 fault_text plan fault = codes "fault " ++ (code_of fault.rule ++ (codes " node " ++ (name_or_dash plan fault.node
-    ++ (codes " entry " ++ (number_or_dash fault.entry ++ (codes " eid " ++ (number_or_dash (eid_number fault.eid) ++ codes "\n")))))))
+    ++ (codes " entry " ++ (number_or_dash fault.entry
+    ++ (codes " eid " ++ (number_or_dash (eid_number fault.eid) ++ codes "\n")))))))
 
 -- the nodes of an owner loop
 abbrev pub owner_loop_text : Plan → List ℕ → List ℕ
@@ -41,7 +42,8 @@ owner_loop_text plan nodes = codes "owner loop nodes" ++ (names_text plan nodes 
 
 -- an endpoint ID that goes round, and the nodes of its loop
 abbrev pub loop_text : Plan → ℕ → List ℕ → List ℕ
-loop_text plan eid nodes = codes "loop eid " ++ (decimal eid ++ (codes " nodes" ++ (names_text plan nodes ++ codes "\n")))
+loop_text plan eid nodes =
+    codes "loop eid " ++ (decimal eid ++ (codes " nodes" ++ (names_text plan nodes ++ codes "\n")))
 
 -- the node of a bad chain, what is wrong with the chain, and the record at which it is
 abbrev pub chain_text : Plan → ℕ → ChainFault → List ℕ

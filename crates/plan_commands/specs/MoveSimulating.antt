@@ -20,43 +20,54 @@ use Rattle.plan_commands.specs.Simulating.{SimulatesAtRest, AreLinesAtMost, Show
 use Rattle.plan_commands.specs.Statuses.{status_of, HasCause}
 
 -- the sources gave the plans, the certificate, and the events at the nodes of the plan before
-pub record IsPlayGiven (befores afters certificates happenings : Stream) (before after : Plan) (certificate : Certificate) (events : List Event) : Type 0 where
+pub record IsPlayGiven (befores afters certificates happenings : Stream) (before after : Plan)
+    (certificate : Certificate) (events : List Event) : Type 0 where
   pub inputs : IsMoveGiven befores afters certificates before after certificate
   pub events_text : GaveEvents before happenings events
 
--- Every rule of a move holds of the plans and the certificate that were given, and the output was given an outcome's line for each
--- of the events that were given.
+-- Every rule of a move holds of the plans and the certificate that were given, and the output was given an outcome's
+-- line for each of the events that were given.
 abbrev pub TellsMoved : Stream → Stream → Stream → Stream → Stream → Type 0
-TellsMoved befores afters certificates happenings output = (before : Plan) × (after : Plan) × (certificate : Certificate) × (events : List Event)
-    × IsPlayGiven befores afters certificates happenings before after certificate events × AcceptsMove before after certificate
-    × ShowsOutcomes before (length events) output
+TellsMoved befores afters certificates happenings output =
+    (before : Plan) × (after : Plan) × (certificate : Certificate) × (events : List Event)
+    × IsPlayGiven befores afters certificates happenings before after certificate events
+    × AcceptsMove before after certificate × ShowsOutcomes before (length events) output
 
 -- so it is of a beginning of the events
 abbrev pub TellsMovedInPart : Stream → Stream → Stream → Stream → Stream → Type 0
-TellsMovedInPart befores afters certificates happenings output = (before : Plan) × (after : Plan) × (certificate : Certificate) × (events : List Event)
-    × IsPlayGiven befores afters certificates happenings before after certificate events × AcceptsMove before after certificate
-    × ShowsAtMost before (length events) output
+TellsMovedInPart befores afters certificates happenings output =
+    (before : Plan) × (after : Plan) × (certificate : Certificate) × (events : List Event)
+    × IsPlayGiven befores afters certificates happenings before after certificate events
+    × AcceptsMove before after certificate × ShowsAtMost before (length events) output
 
 -- Every rule of a move holds of the plans and the certificate that were given, and what was written is what comes of
 -- the events that were given, in runs of the move from rest over some termini.
 abbrev pub TellsMovedRun : Status → Stream → Stream → Stream → Stream → Stream → Type 0
-TellsMovedRun ended befores afters certificates happenings output = (before : Plan) × (after : Plan) × (certificate : Certificate) × (events : List Event)
-    × IsPlayGiven befores afters certificates happenings before after certificate events × AcceptsMove before after certificate
+TellsMovedRun ended befores afters certificates happenings output =
+    (before : Plan) × (after : Plan) × (certificate : Certificate) × (events : List Event)
+    × IsPlayGiven befores afters certificates happenings before after certificate events
+    × AcceptsMove before after certificate
     × SimulatesAtRest (moving before after) certificate (map event_value events) ended output
 
--- The text answers for the files that were given: where every rule of a move holds it is an outcome's line for each event of a
--- beginning of them, else the line of the first fault.
+-- The text answers for the files that were given: where every rule of a move holds it is an outcome's line for each
+-- event of a beginning of them, else the line of the first fault.
 abbrev pub IsPlayAnswer : Stream → Stream → Stream → Stream → List ℕ → Type 0
-IsPlayAnswer befores afters certificates happenings text = (before : Plan) × (after : Plan) × (certificate : Certificate) × (events : List Event)
+IsPlayAnswer befores afters certificates happenings text =
+    (before : Plan) × (after : Plan) × (certificate : Certificate) × (events : List Event)
     × IsPlayGiven befores afters certificates happenings before after certificate events
-    × ((AcceptsMove before after certificate × AreLinesAtMost before (length events) text) ⊎ IsMoveFaultText before after certificate text)
+    × ((AcceptsMove before after certificate × AreLinesAtMost before (length events) text)
+    ⊎ IsMoveFaultText before after certificate text)
 
 -- why an input can't be read; each is read only where those before it were given
 abbrev pub IsUnreadInPlay : Input → PlanError → Stream → Stream → Stream → Stream → Type 0
-IsUnreadInPlay input.Plan cause befores afters certificates happenings = IsUnreadInMove input.Plan cause befores afters certificates
-IsUnreadInPlay input.Certificate cause befores afters certificates happenings = IsUnreadInMove input.Certificate cause befores afters certificates
-IsUnreadInPlay input.Events cause befores afters certificates happenings = (before : Plan) × (after : Plan) × (certificate : Certificate)
-    × IsMoveGiven befores afters certificates before after certificate × GaveNothing (GaveNoEvents (plan_value before)) happenings cause
+IsUnreadInPlay input.Plan cause befores afters certificates happenings =
+    IsUnreadInMove input.Plan cause befores afters certificates
+IsUnreadInPlay input.Certificate cause befores afters certificates happenings =
+    IsUnreadInMove input.Certificate cause befores afters certificates
+IsUnreadInPlay input.Events cause befores afters certificates happenings =
+    (before : Plan) × (after : Plan) × (certificate : Certificate)
+    × IsMoveGiven befores afters certificates before after certificate
+    × GaveNothing (GaveNoEvents (plan_value before)) happenings cause
 
 -- why the inputs were not read
 abbrev pub IsPlayUnread : Refused → Stream → Stream → Stream → Stream → Type 0
@@ -66,12 +77,16 @@ IsPlayUnread why befores afters certificates happenings =
 -- why there is no answer: the inputs were not read, or the output failed
 abbrev pub IsUnplayedFor : Refused → Stream → Stream → Stream → Stream → Stream → Type 0
 IsUnplayedFor why befores afters certificates happenings output =
-    HasCause (λ unread cause. IsUnreadInPlay unread cause befores afters certificates happenings) ⊥ ⊥ ⊥ (Fails output) why
+    HasCause (λ unread cause. IsUnreadInPlay unread cause befores afters certificates happenings) ⊥ ⊥ ⊥
+    (Fails output) why
 
 -- what the end of a run says of what the sources gave and what was written
 abbrev pub SimulatesMoveFiles : Status → Stream → Stream → Stream → Stream → Stream → Type 0
-SimulatesMoveFiles status.Yes befores afters certificates happenings output = TellsMoved befores afters certificates happenings output
-SimulatesMoveFiles status.Fault befores afters certificates happenings output = TellsMoveFault befores afters certificates output
-SimulatesMoveFiles status.Unreadable befores afters certificates happenings output = (why : Refused) × (status_of why ≡ status.Unreadable)
+SimulatesMoveFiles status.Yes befores afters certificates happenings output =
+    TellsMoved befores afters certificates happenings output
+SimulatesMoveFiles status.Fault befores afters certificates happenings output =
+    TellsMoveFault befores afters certificates output
+SimulatesMoveFiles status.Unreadable befores afters certificates happenings output =
+    (why : Refused) × (status_of why ≡ status.Unreadable)
     × IsUnplayedFor why befores afters certificates happenings output
 SimulatesMoveFiles status.NoMemory befores afters certificates happenings output = ⊤

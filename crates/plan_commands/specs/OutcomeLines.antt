@@ -1,5 +1,6 @@
 -- The lines that tell what comes of events.
-use Rattle.std.specs.Prelude.{ℕ, ◌+◌, List, [], ◌∷◌, ◌++◌, Bool, true, false, Option, Some, None, unwrap_or, Result, Ok, Err, codes}
+use Rattle.std.specs.Prelude.{ℕ, ◌+◌, List, [], ◌∷◌, ◌++◌, Bool, true, false}
+use Rattle.std.specs.Prelude.{Option, Some, None, unwrap_or, Result, Ok, Err, codes}
 use Rattle.std.specs.Fmt.{decimal}
 use Rattle.hex.specs.Hex.{encode_lower}
 use Rattle.mctp_transport.specs.Causes.{cause_code}
@@ -10,8 +11,10 @@ use Rattle.pdr_repository.specs.declared.walk_fault.Step.TheVariants.{More, Reco
 use Rattle.pdr_repository.specs.declared.walk_fault.WalkFault.{WalkFault}
 use Rattle.pdr_repository.specs.Faults.{code_of}
 use Rattle.net_plan.specs.declared.plan.Plan.{Plan}
-use Rattle.net_check.specs.Events.{OutcomeValue, PutIn, Moved, Entered, Stopped, Lost, Expired, Answered, Silent, Switched, Refused, Refusal, N01, N02, N03, N04, N05, N06, N07}
-use Rattle.net_check.specs.Walkers.{WalkedOutcome, Happened, Begun, Asked, ToldWalk, WalkRefused, WalkRefusal, Also, N08, N09, N10, N11, N12, N13, Handed, Standing, Open, Finished, EndedBy}
+use Rattle.net_check.specs.Events.{OutcomeValue, PutIn, Moved, Entered, Stopped, Lost, Expired, Answered}
+use Rattle.net_check.specs.Events.{Silent, Switched, Refused, Refusal, N01, N02, N03, N04, N05, N06, N07}
+use Rattle.net_check.specs.Walkers.{WalkedOutcome, Happened, Begun, Asked, ToldWalk, WalkRefused, WalkRefusal}
+use Rattle.net_check.specs.Walkers.{Also, N08, N09, N10, N11, N12, N13, Handed, Standing, Open, Finished, EndedBy}
 use Rattle.plan_commands.specs.Lines.{name_or_dash}
 
 -- the code of a cause for which an event is refused
@@ -42,12 +45,16 @@ entered_text plan number node (Dropped why) = codes "dropped " ++ (decimal numbe
 -- what an event does to the packets
 abbrev pub effect_text : Plan → OutcomeValue → List ℕ
 effect_text plan (PutIn number node) = codes "put " ++ (decimal number ++ (codes " at " ++ name_or_dash plan node))
-effect_text plan (Moved number node hops) = codes "moved " ++ (decimal number ++ (codes " to " ++ (name_or_dash plan node ++ (codes " hops " ++ decimal hops))))
+effect_text plan (Moved number node hops) =
+    codes "moved " ++ (decimal number ++ (codes " to " ++ (name_or_dash plan node ++ (codes " hops " ++ decimal hops))))
 effect_text plan (Entered number node key answer) = entered_text plan number node answer
 effect_text plan (Stopped number why) = codes "dropped " ++ (decimal number ++ (codes " " ++ obstacle_code why))
 effect_text plan (Lost number) = codes "lost " ++ decimal number
-effect_text plan (Expired node was_open) = codes "expired " ++ (name_or_dash plan node ++ (codes " " ++ open_text was_open))
-effect_text plan (Answered node first last) = codes "answered " ++ (name_or_dash plan node ++ (codes " flights " ++ (decimal first ++ (codes " to " ++ decimal last))))
+effect_text plan (Expired node was_open) =
+    codes "expired " ++ (name_or_dash plan node ++ (codes " " ++ open_text was_open))
+effect_text plan (Answered node first last) =
+    codes "answered " ++ (name_or_dash plan node ++ (codes " flights " ++ (decimal first
+    ++ (codes " to " ++ decimal last))))
 effect_text plan (Silent node) = codes "silent " ++ name_or_dash plan node
 effect_text plan (Switched node) = codes "switched " ++ name_or_dash plan node
 effect_text plan (Refused why) = codes "refused " ++ refusal_text why
@@ -89,7 +96,9 @@ abbrev pub outcome_text : Plan → WalkedOutcome → List ℕ
 outcome_text plan (Happened effect handed) = effect_text plan effect ++ handed_text handed
 outcome_text plan (Begun walker) = codes "walker " ++ decimal walker
 outcome_text plan (Asked walker flight) = codes "asked " ++ (decimal walker ++ (codes " flight " ++ decimal flight))
-outcome_text plan (ToldWalk walker records standing) = codes "collected " ++ (decimal walker ++ (codes " records " ++ (decimal records ++ (codes " " ++ standing_text standing))))
+outcome_text plan (ToldWalk walker records standing) =
+    codes "collected " ++ (decimal walker ++ (codes " records " ++ (decimal records
+    ++ (codes " " ++ standing_text standing))))
 outcome_text plan (WalkRefused why) = codes "refused " ++ walk_refusal_text why
 
 -- the line of what comes of the event of a number

@@ -33,14 +33,18 @@ abbrev pub IsNoPacketFor : PacketError → List ℕ → Type 0
 IsNoPacketFor packet.Short bytes = refusals.IsShort bytes
 IsNoPacketFor packet.Empty bytes = ¬ refusals.IsShort bytes × refusals.IsEmpty bytes
 IsNoPacketFor packet.Long bytes = refusals.IsLong 64 bytes
-IsNoPacketFor packet.Version bytes = ¬ refusals.IsShort bytes × ¬ refusals.IsEmpty bytes × ¬ refusals.IsLong 64 bytes × refusals.HasOtherVersion bytes
+IsNoPacketFor packet.Version bytes =
+    ¬ refusals.IsShort bytes × ¬ refusals.IsEmpty bytes × ¬ refusals.IsLong 64 bytes × refusals.HasOtherVersion bytes
 
 -- the text tells what the bytes are of the kind, or the code of the cause for which they are none
 abbrev pub IsShown : Status → Kind → List ℕ → List ℕ → Type 0
 IsShown status.Yes kind.Packet bytes text = (f : Frame) × Spelled 64 f bytes × (text ≡ packet_bytes f)
-IsShown status.Yes kind.Record bytes text = (r : record_of.RecordValue) × record_of.Spelled r bytes × (text ≡ record_text_bytes r)
-IsShown status.Fault kind.Packet bytes text = (e : PacketError) × IsNoPacketFor e bytes × (text ≡ refused_bytes (refusals.code_of e))
-IsShown status.Fault kind.Record bytes text = (e : RecordError) × IsFault e bytes × (text ≡ refused_bytes (records.code_of e))
+IsShown status.Yes kind.Record bytes text =
+    (r : record_of.RecordValue) × record_of.Spelled r bytes × (text ≡ record_text_bytes r)
+IsShown status.Fault kind.Packet bytes text =
+    (e : PacketError) × IsNoPacketFor e bytes × (text ≡ refused_bytes (refusals.code_of e))
+IsShown status.Fault kind.Record bytes text =
+    (e : RecordError) × IsFault e bytes × (text ≡ refused_bytes (records.code_of e))
 IsShown status.Unreadable asked bytes text = ⊥
 IsShown status.NoMemory asked bytes text = ⊥
 
@@ -54,7 +58,9 @@ ShowsSo asked hex ended text = (bytes : List ℕ) × IsDecoded hex bytes × IsSh
 
 -- the output was given the text of the bytes that the hex text is
 abbrev pub TellsOf : Status → Kind → List ℕ → Stream → Type 0
-TellsOf ended asked hex output = (bytes : List ℕ) × (text : List ℕ) × IsDecoded hex bytes × IsShown ended asked bytes text × Appends output.before output.after text
+TellsOf ended asked hex output =
+    (bytes : List ℕ) × (text : List ℕ) × IsDecoded hex bytes × IsShown ended asked bytes text
+    × Appends output.before output.after text
 
 -- what the end of a run says of the hex text and of what was written
 abbrev pub Shows : Status → Kind → List ℕ → Stream → Type 0

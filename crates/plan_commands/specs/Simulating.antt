@@ -25,7 +25,8 @@ use Rattle.plan_commands.specs.declared.refused.Refused.{Refused}
 use Rattle.plan_commands.specs.declared.refused.Refused.TheVariants as refused
 use Rattle.plan_commands.specs.declared.status.Status.{Status}
 use Rattle.plan_commands.specs.declared.status.Status.TheVariants as status
-use Rattle.plan_commands.specs.Answers.{Stream, Fails, BreaksOff, AreGiven, GaveNothing, IsUnread, IsFaultText, TellsFault}
+use Rattle.plan_commands.specs.Answers.{Stream, Fails, BreaksOff, AreGiven}
+use Rattle.plan_commands.specs.Answers.{GaveNothing, IsUnread, IsFaultText, TellsFault}
 use Rattle.plan_commands.specs.OutcomeLines.{outcome_lines}
 use Rattle.plan_commands.specs.Statuses.{status_of, HasCause}
 
@@ -50,7 +51,8 @@ pub record IsRunText (tables : Tables) (w : WalkedState) (events : List WalkedEv
 
 -- The run that is shown is one from the start, in which the walkers have walked.
 abbrev pub ShowsWalks : Tables → Certificate → List WalkedEvent → Stream → Type 0
-ShowsWalks tables cert events output = (shown : ShowsRun tables (walked_at_start tables.plan cert) events output) × HaveWalked tables cert shown.turns
+ShowsWalks tables cert events output =
+    (shown : ShowsRun tables (walked_at_start tables.plan cert) events output) × HaveWalked tables cert shown.turns
 
 -- so it is of a beginning of the events
 abbrev pub ShowsBegunWalks : Tables → Certificate → List WalkedEvent → Stream → Type 0
@@ -58,7 +60,8 @@ ShowsBegunWalks tables cert events output = (played : ℕ) × ShowsWalks tables 
 
 -- The text is the lines of what comes of a beginning of the events, in such a run.
 abbrev pub IsWalksText : Tables → Certificate → List WalkedEvent → List ℕ → Type 0
-IsWalksText tables cert events text = (told : IsRunText tables (walked_at_start tables.plan cert) events text) × HaveWalked tables cert told.turns
+IsWalksText tables cert events text =
+    (told : IsRunText tables (walked_at_start tables.plan cert) events text) × HaveWalked tables cert told.turns
 
 -- All is shown; or the output failed after a beginning of such a text; or memory ran out, and then a part is shown.
 abbrev pub ShowsAllOr : {T : Type 0} → Result T Refused → (part all : Type 0) → (List ℕ → Type 0) → Stream → Type 0
@@ -77,12 +80,14 @@ EndsShowing status.NoMemory part all IsText output = part
 -- what the end of a run says of the events, in runs by these tables from the state, and of what was written
 abbrev pub SimulatesFrom : Tables → WalkedState → List WalkedEvent → Status → Stream → Type 0
 SimulatesFrom tables w events ended output =
-    EndsShowing ended (ShowsBeginning tables w events output) (ShowsRun tables w events output) (IsRunText tables w events) output
+    EndsShowing ended (ShowsBeginning tables w events output) (ShowsRun tables w events output)
+    (IsRunText tables w events) output
 
 -- so it is from the start, in runs in which the walkers have walked
 abbrev pub SimulatesBy : Tables → Certificate → List WalkedEvent → Status → Stream → Type 0
 SimulatesBy tables cert events ended output =
-    EndsShowing ended (ShowsBegunWalks tables cert events output) (ShowsWalks tables cert events output) (IsWalksText tables cert events) output
+    EndsShowing ended (ShowsBegunWalks tables cert events output) (ShowsWalks tables cert events output)
+    (IsWalksText tables cert events) output
 
 -- so it is at a checked plan
 abbrev pub Simulates : Plan → Certificate → List WalkedEvent → Status → Stream → Type 0
@@ -108,11 +113,14 @@ AreFirstLines plan outcomes text = (count : ℕ) × (text ≡ outcome_lines plan
 
 -- the text is the lines of some outcomes, so many at most
 abbrev pub AreLinesAtMost : Plan → ℕ → List ℕ → Type 0
-AreLinesAtMost plan count text = (outcomes : List WalkedOutcome) × (length outcomes ≤ count) × (text ≡ outcome_lines plan outcomes)
+AreLinesAtMost plan count text =
+    (outcomes : List WalkedOutcome) × (length outcomes ≤ count) × (text ≡ outcome_lines plan outcomes)
 
 -- the output was given the lines of some outcomes, so many
 abbrev pub ShowsOutcomes : Plan → ℕ → Stream → Type 0
-ShowsOutcomes plan count output = (outcomes : List WalkedOutcome) × (length outcomes ≡ count) × Appends output.before output.after (outcome_lines plan outcomes)
+ShowsOutcomes plan count output =
+    (outcomes : List WalkedOutcome) × (length outcomes ≡ count)
+    × Appends output.before output.after (outcome_lines plan outcomes)
 
 -- so many at most
 abbrev pub ShowsAtMost : Plan → ℕ → Stream → Type 0
@@ -120,46 +128,63 @@ ShowsAtMost plan count output = (shown : ℕ) × (shown ≤ count) × ShowsOutco
 
 -- the source gave the events at the nodes of the plan
 abbrev pub GaveEvents : Plan → Stream → List Event → Type 0
-GaveEvents plan stream events = Gave 16777216 stream.before stream.after (λ text. StandsFor (AreEventsOf (plan_value plan)) text (map event_entry events))
+GaveEvents plan stream events =
+    Gave 16777216 stream.before stream.after
+    (λ text. StandsFor (AreEventsOf (plan_value plan)) text (map event_entry events))
 
--- Every rule holds of the plan and the certificate that were given, and the output was given an outcome's line for each of the
--- events that were given.
+-- Every rule holds of the plan and the certificate that were given, and the output was given an outcome's line
+-- for each of the events that were given.
 abbrev pub TellsOutcomes : Stream → Stream → Stream → Stream → Type 0
 TellsOutcomes plans certificates happenings output = (plan : Plan) × (certificate : Certificate) × (events : List Event)
     × AreGiven plans certificates plan certificate × GaveEvents plan happenings events × Accepts plan certificate
     × ShowsOutcomes plan (length events) output
 
--- Every rule holds of the plan and the certificate that were given, and the output was given an outcome's line for each event of
--- a beginning of those that were given.
+-- Every rule holds of the plan and the certificate that were given, and the output was given an outcome's line for each
+-- event of a beginning of those that were given.
 abbrev pub TellsBeginning : Stream → Stream → Stream → Stream → Type 0
-TellsBeginning plans certificates happenings output = (plan : Plan) × (certificate : Certificate) × (events : List Event)
+TellsBeginning plans certificates happenings output =
+    (plan : Plan) × (certificate : Certificate) × (events : List Event)
     × AreGiven plans certificates plan certificate × GaveEvents plan happenings events × Accepts plan certificate
     × ShowsAtMost plan (length events) output
 
 -- Every rule holds of the plan and the certificate that were given, and what was written is what comes of the events
 -- that were given, in runs of the plan from rest over some termini.
 abbrev pub TellsRun : Status → Stream → Stream → Stream → Stream → Type 0
-TellsRun ended plans certificates happenings output = (plan : Plan) × (certificate : Certificate) × (events : List Event)
+TellsRun ended plans certificates happenings output =
+    (plan : Plan) × (certificate : Certificate) × (events : List Event)
     × AreGiven plans certificates plan certificate × GaveEvents plan happenings events × Accepts plan certificate
     × SimulatesAtRest (one_plan plan) certificate (map event_value events) ended output
 
--- The text answers for the plan, the certificate and the events that were given: where every rule holds it is an outcome's line for
--- each event of a beginning of them, else the line of the first fault.
+-- The text answers for the plan, the certificate and the events that were given: where every rule holds it is an
+-- outcome's line for each event of a beginning of them, else the line of the first fault.
 abbrev pub IsSimAnswer : Stream → Stream → Stream → List ℕ → Type 0
 IsSimAnswer plans certificates happenings text = (plan : Plan) × (certificate : Certificate) × (events : List Event)
     × AreGiven plans certificates plan certificate × GaveEvents plan happenings events
     × ((Accepts plan certificate × AreLinesAtMost plan (length events) text) ⊎ IsFaultText plan certificate text)
 
+-- why an input, which is the events at the nodes of the plan, can't be read
+abbrev pub AreUnreadEvents : Plan → Input → PlanError → Stream → Type 0
+AreUnreadEvents plan input.Plan cause happenings = ⊥
+AreUnreadEvents plan input.Certificate cause happenings = ⊥
+AreUnreadEvents plan input.Events cause happenings = GaveNothing (GaveNoEvents (plan_value plan)) happenings cause
+
+-- why the events at the nodes of the plan were not read
+abbrev pub AreEventsUnread : Refused → Plan → Stream → Type 0
+AreEventsUnread why plan happenings =
+    HasCause (λ unread cause. AreUnreadEvents plan unread cause happenings) ⊥ ⊥ ⊥ ⊥ why
+
 -- why an input can't be read; the events are read only where the plan and the certificate were given
 abbrev pub IsUnreadAmong : Input → PlanError → Stream → Stream → Stream → Type 0
 IsUnreadAmong input.Plan cause plans certificates happenings = IsUnread input.Plan cause plans certificates
-IsUnreadAmong input.Certificate cause plans certificates happenings = IsUnread input.Certificate cause plans certificates
+IsUnreadAmong input.Certificate cause plans certificates happenings =
+    IsUnread input.Certificate cause plans certificates
 IsUnreadAmong input.Events cause plans certificates happenings = (plan : Plan) × (certificate : Certificate)
     × AreGiven plans certificates plan certificate × GaveNothing (GaveNoEvents (plan_value plan)) happenings cause
 
 -- why the inputs were not read
 abbrev pub AreUnreadAmong : Refused → Stream → Stream → Stream → Type 0
-AreUnreadAmong why plans certificates happenings = HasCause (λ unread cause. IsUnreadAmong unread cause plans certificates happenings) ⊥ ⊥ ⊥ ⊥ why
+AreUnreadAmong why plans certificates happenings =
+    HasCause (λ unread cause. IsUnreadAmong unread cause plans certificates happenings) ⊥ ⊥ ⊥ ⊥ why
 
 -- why there is no answer: the inputs were not read, or the output failed
 abbrev pub IsUnsimulatedFor : Refused → Stream → Stream → Stream → Stream → Type 0
@@ -170,6 +195,6 @@ IsUnsimulatedFor why plans certificates happenings output =
 abbrev pub SimulatesFiles : Status → Stream → Stream → Stream → Stream → Type 0
 SimulatesFiles status.Yes plans certificates happenings output = TellsOutcomes plans certificates happenings output
 SimulatesFiles status.Fault plans certificates happenings output = TellsFault plans certificates output
-SimulatesFiles status.Unreadable plans certificates happenings output = (why : Refused) × (status_of why ≡ status.Unreadable)
-    × IsUnsimulatedFor why plans certificates happenings output
+SimulatesFiles status.Unreadable plans certificates happenings output =
+    (why : Refused) × (status_of why ≡ status.Unreadable) × IsUnsimulatedFor why plans certificates happenings output
 SimulatesFiles status.NoMemory plans certificates happenings output = ⊤

@@ -14,8 +14,8 @@ abbrev pub IsTold : Status → List ℕ → Status → Stream → Type 0
 IsTold due text ended output = ((ended ≡ due) × Appends output.before output.after text)
     ⊎ ((ended ≡ status.Unreadable) × Fails output × AppendsBeginning output.before output.after text)
 
--- The text answers for the plan and the certificate that were given, in a run that ends so: it is told of them, and every rule
--- holds of them, or it is the line of their first fault.
+-- The text answers for the plan and the certificate that were given, in a run that ends so: it is told of them, and
+-- every rule holds of them, or it is the line of their first fault.
 abbrev pub AnswersSo : (Plan → Certificate → List ℕ → Type 0) → Stream → Stream → Status → List ℕ → Type 0
 AnswersSo IsToldOf plans certificates status.Yes text = (plan : Plan) × (certificate : Certificate)
     × AreGiven plans certificates plan certificate × Accepts plan certificate × IsToldOf plan certificate text

@@ -33,35 +33,42 @@ HasTerminusNamed plan name = (n : ℕ) × IsTerminusNamed plan name n
 
 -- a record's handle, and how many bytes follow its header of ten bytes
 abbrev pub record_line : List ℕ → List ℕ
-record_line bytes = codes "record " ++ (decimal (handle_in bytes) ++ (codes " length " ++ (decimal (length bytes - 10) ++ codes "\n")))
+record_line bytes =
+    codes "record " ++ (decimal (handle_in bytes) ++ (codes " length " ++ (decimal (length bytes - 10) ++ codes "\n")))
 
 -- how many records there are, and how many requests they took
 abbrev pub count_line : ℕ → ℕ → List ℕ
-count_line records requests = codes "records " ++ (decimal records ++ (codes " requests " ++ (decimal requests ++ codes "\n")))
+count_line records requests =
+    codes "records " ++ (decimal records ++ (codes " requests " ++ (decimal requests ++ codes "\n")))
 
--- the line of each record by place, and the line of their number and of the requests for them, by parts of so many bytes
+-- the line of each record by place, and the line of their number and of the requests for them, by parts of so many
+-- bytes
 abbrev pub walk_text : ℕ → List Entry → List ℕ
-walk_text count records = flat_map record_line (bytes_by_place records) ++ count_line (length records) (exchanges count records)
+walk_text count records =
+    flat_map record_line (bytes_by_place records) ++ count_line (length records) (exchanges count records)
 
 -- the text is that of the records of the terminus of the node of this name
 abbrev pub IsWalkText : List ℕ → ℕ → Plan → Certificate → List ℕ → Type 0
-IsWalkText name count plan certificate text = (n : ℕ) × IsTerminusNamed plan name n × (text ≡ walk_text count (records_by_place plan certificate n))
+IsWalkText name count plan certificate text =
+    (n : ℕ) × IsTerminusNamed plan name n × (text ≡ walk_text count (records_by_place plan certificate n))
 
 -- how many bytes the records have
 abbrev pub bytes_of : List Entry → ℕ
 bytes_of records = sum_by length (bytes_by_place records)
 
--- the output was given the line of the first fault of the plan and the certificate that were given, where the plan has a terminus of the name
+-- the output was given the line of the first fault of the plan and the certificate that were given,
+-- where the plan has a terminus of the name
 abbrev pub TellsWalkFault : List ℕ → Stream → Stream → Stream → Type 0
 TellsWalkFault name plans certificates output = (plan : Plan) × (certificate : Certificate) × (fault : Fault)
-    × AreGiven plans certificates plan certificate × HasTerminusNamed plan name × IsFirstFault plan certificate (place_of fault)
-    × Appends output.before output.after (fault_text plan fault)
+    × AreGiven plans certificates plan certificate × HasTerminusNamed plan name
+    × IsFirstFault plan certificate (place_of fault) × Appends output.before output.after (fault_text plan fault)
 
--- The text answers so: it is that of the records of the terminus of the name, and every rule holds; or there is such a terminus, and
--- it is the line of the first fault.
+-- The text answers so: it is that of the records of the terminus of the name, and every rule holds; or there is such a
+-- terminus, and it is the line of the first fault.
 abbrev pub WalksSo : List ℕ → ℕ → Stream → Stream → Status → List ℕ → Type 0
 WalksSo name count plans certificates status.Yes text = (plan : Plan) × (certificate : Certificate)
-    × AreGiven plans certificates plan certificate × Accepts plan certificate × IsWalkText name count plan certificate text
+    × AreGiven plans certificates plan certificate × Accepts plan certificate
+    × IsWalkText name count plan certificate text
 WalksSo name count plans certificates status.Fault text = (plan : Plan) × (certificate : Certificate)
     × AreGiven plans certificates plan certificate × HasTerminusNamed plan name × IsFaultText plan certificate text
 WalksSo name count plans certificates status.Unreadable text = ⊥
@@ -83,7 +90,8 @@ abbrev pub IsUnwalkedFor : Refused → List ℕ → Stream → Stream → Type 0
 IsUnwalkedFor why name plans certificates = HasCause (λ unread cause. IsUnread unread cause plans certificates)
     (NamesNoTerminus name plans certificates) ⊥ (HasTooManyBytes name plans certificates) ⊥ why
 
--- why there is no answer: the inputs were not read, there is no such terminus, its records have too many bytes, or the output failed
+-- why there is no answer: the inputs were not read, there is no such terminus, its records have too many bytes, or the
+-- output failed
 abbrev pub IsNotWalkedFor : Refused → List ℕ → Stream → Stream → Stream → Type 0
 IsNotWalkedFor why name plans certificates output = HasCause (λ unread cause. IsUnread unread cause plans certificates)
     (NamesNoTerminus name plans certificates) ⊥ (HasTooManyBytes name plans certificates) (Fails output) why

@@ -28,13 +28,14 @@ pub enum Command<'a> {
         certificate: &'a str,
         events: &'a str,
     },
-    /// May the nodes of the plan in one file go over, in any order, to the rows of the plan in another, by one certificate?
+    /// May the nodes of the plan in one file go over, in any order, to the rows of the plan in another, by one
+    /// certificate?
     Move {
         before: &'a str,
         after: &'a str,
         certificate: &'a str,
     },
-    /// What comes of the events in a file while they do?
+    /// What comes of the events in a file while nodes go over from the rows of one plan to those of another?
     SimMove {
         before: &'a str,
         after: &'a str,
@@ -56,7 +57,7 @@ pub enum Command<'a> {
 }
 
 /// The command that a list of words stands for. The first word is the program's name.
-pub fn words<'a>(alloc: Global, list: &'a [String]) -> Result<Command<'a>, Refused> {
+pub fn parse_command<'a>(alloc: Global, list: &'a [String]) -> Result<Command<'a>, Refused> {
     let matches = grammar(alloc)?.try_get_matches_from(list)?;
     chosen(&matches).ok_or(Refused::Usage)
 }

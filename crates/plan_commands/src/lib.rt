@@ -8,12 +8,12 @@ mod refused;
 mod status;
 mod texts;
 
-pub use command_line::{Command, words};
+pub use command_line::{Command, parse_command};
+pub use commands::answer::refuse;
 pub use commands::assign::run_assign;
 pub use commands::certify::run_certify;
 pub use commands::check::run_check;
 pub use commands::moving::run_move;
-pub use commands::refuse;
 pub use commands::show::{Kind, run_show};
 pub use commands::sim::files::simulate;
 pub use commands::sim::moves::simulate_move;

@@ -20,7 +20,7 @@ pub enum Input {
 pub enum Refused {
     /// The words fit no command.
     Usage,
-    /// A file can't be read. The cause is not want of memory, which `NoMemory` tells.
+    /// A file can't be read, and the cause says why. Out of memory is no such cause: `NoMemory` tells it.
     Unreadable { input: Input, cause: PlanError },
     /// The plan has no node of the name with a terminus.
     UnknownNode,
@@ -73,7 +73,7 @@ impl From<AllocError> for Refused {
     }
 }
 
-/// Every error of the command line is usage, help among them, but for want of memory.
+/// Every error of the command line is usage, a call for help among them. Out of memory is `NoMemory`.
 impl From<clap::Error> for Refused {
     fn from(error: clap::Error) -> Refused {
         match error.kind() {
@@ -83,7 +83,7 @@ impl From<clap::Error> for Refused {
     }
 }
 
-/// The process's words can't be had where there is no memory for them, or where one of them is not UTF-8.
+/// The words that the process was started with can't be read: there is no memory for them, or one is not UTF-8.
 impl From<io::Error> for Refused {
     fn from(error: io::Error) -> Refused {
         match error.kind() {

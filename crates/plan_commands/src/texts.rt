@@ -32,7 +32,7 @@ pub fn fault_line(alloc: Global, plan: &Plan, fault: &Fault) -> Result<String, A
     format!(in alloc; "fault {rule} node {name} entry {entry} eid {eid}\n")
 }
 
-/// The answer where something rules certificates of a plan out. Want of memory does not, and has no answer.
+/// The line that says why a plan has no certificate. Out of memory is an error, and has no such line.
 pub fn obstacle_line(
     alloc: Global,
     plan: &Plan,

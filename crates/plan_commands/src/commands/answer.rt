@@ -1,20 +1,22 @@
 //! What a command answers, and how it is told.
-ghost use Rattle.std.specs.Prelude.{◌≡◌, ◌≢◌, ◌⊎◌, ◌<◌, ◌^◌, ◌-◌, IfOk, IfErr, OnErr, string_bytes};
+ghost use Rattle.std.specs.Prelude.{◌≡◌, ◌≢◌, ◌⊎◌, ◌+◌, ◌<◌, ◌^◌, ◌-◌, IfOk, IfErr, OnOk, OnErr, string_bytes};
 ghost use Rattle.std.specs.Cow.{cow_str_bytes};
+ghost use Rattle.std.specs.Io.KnownBytes.{Appends};
+ghost use Rattle.net_plan.specs.Stream.{AppendsBeginning};
+ghost use Rattle.plan_commands.specs.declared.refused.Refused.TheVariants.{Unwritten};
 ghost use Rattle.plan_commands.specs.declared.status.Status.TheVariants.{Yes, Fault, Unreadable, NoMemory};
 ghost use Rattle.plan_commands.specs.Answers.{stream};
 ghost use Rattle.plan_commands.specs.Statuses.{status_of, yes_line};
 ghost use Rattle.plan_commands.specs.Told.{IsTold};
 
-use crate::commands::{print, refuse};
 use crate::refused::Refused;
 use crate::status::Status;
-use crate::texts::YES;
-use net_plan::Sink;
-use std::alloc::Global;
+use crate::texts::{self, NO_MEMORY, YES};
+use net_plan::{Sink, write_whole};
+use std::alloc::{AllocError, Global};
 use std::borrow::CowStr;
 
-/// A text that answers, and how the run ends that tells it.
+/// The text of an answer, and how a run ends that tells it.
 #[derive(Drop)]
 pub struct Answer {
     pub status: Status,
@@ -24,7 +26,7 @@ pub struct Answer {
 }
 
 impl Answer {
-    /// That it is so.
+    /// The answer `yes`.
     pub fn yes() -> Answer
         ensures status { result.status ≡ Yes }
         ensures text { cow_str_bytes result.text ≡ yes_line }
@@ -35,7 +37,7 @@ impl Answer {
         }
     }
 
-    /// What was asked for.
+    /// The text that was asked for.
     pub fn found(text: String) -> Answer
         ensures status { result.status ≡ Yes }
         ensures text { cow_str_bytes result.text ≡ string_bytes text }
@@ -46,7 +48,7 @@ impl Answer {
         }
     }
 
-    /// What is wrong.
+    /// The text that says what is wrong.
     pub fn fault(text: String) -> Answer
         ensures status { result.status ≡ Fault }
         ensures text { cow_str_bytes result.text ≡ string_bytes text }
@@ -56,6 +58,33 @@ impl Answer {
             text: CowStr::Owned(text),
         }
     }
+}
+
+/// Says on `errors` why the program gives no answer, and how the run ends.
+pub fn refuse<E: Sink>(alloc: Global, refused: Refused, errors: &mut E) -> Status
+    requires { E.failures errors.old < 2 ^ 64 - 1 }
+    ensures status { (result ≡ status_of refused) ⊎ (result ≡ NoMemory) }
+    ensures unwritten { refused ≡ Unwritten → result ≡ Unreadable }
+{
+    let (line, status) = match texts::refusal_line(alloc, refused) {
+        Ok(line) => (line, refused.status()),
+        Err(AllocError) => (CowStr::Borrowed(NO_MEMORY), Status::NoMemory),
+    };
+    // Where standard error fails as well, only the status is left to tell it.
+    let _ = write_whole(errors, line.as_bytes());
+    status
+}
+
+/// Writes the line of an answer.
+pub fn print<O: Sink>(output: &mut O, line: &str) -> Result<(), Refused>
+    requires { O.failures output.old < 2 ^ 64 - 1 }
+    ensures written { OnOk result (Appends (O.contents output.old) (O.contents output.new) line.now) }
+    ensures unwritten { IfErr result (λ refused. refused ≡ Unwritten) }
+    ensures beginning { OnErr result (AppendsBeginning (O.contents output.old) (O.contents output.new) line.now) }
+    ensures fails { OnErr result (O.failures output.new ≡ O.failures output.old + 1) }
+    ensures kept { OnOk result (O.failures output.new ≡ O.failures output.old) }
+{
+    write_whole(output, line.as_bytes()).map_err(|_| Refused::Unwritten)
 }
 
 /// Tells the answer on `output`, or on `errors` why there is none or why it was not told.

@@ -7,7 +7,7 @@ ghost use Rattle.plan_commands.specs.Answers.{stream, AreUnread, BreaksOff, IsAn
 ghost use Rattle.plan_commands.specs.Assigning.{IsAssignmentText};
 
 use crate::commands::answer::{Answer, tell};
-use crate::commands::fault_answer;
+use crate::commands::faults::fault_answer;
 use crate::commands::inputs::read_inputs;
 use crate::refused::Refused;
 use crate::status::Status;
@@ -17,8 +17,8 @@ use net_plan::{Sink, Source};
 use net_sim::assign;
 use std::alloc::{AllocError, Global};
 
-/// Gives on `output` the requests that assign what a plan gives its nodes, where the certificate fits the plan. Where a file
-/// can't be read, says so on `errors`; of two such files, the plan is told and the certificate is not read.
+/// Gives on `output` the requests that assign what a plan gives its nodes, where the certificate fits the plan. Where a
+/// file can't be read, says so on `errors`; of two such files, the plan is told and the certificate is not read.
 pub fn run_assign<P: Source, C: Source, O: Sink, E: Sink>(
     alloc: Global,
     plan: &mut P,

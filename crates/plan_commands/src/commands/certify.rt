@@ -14,7 +14,7 @@ use net_check::certify;
 use net_plan::{Sink, Source, text_of_certificate};
 use std::alloc::Global;
 
-/// Gives on `output` the certificate of a plan, or what rules certificates out. Where the plan can't be read, says so on
+/// Gives on `output` the certificate of a plan, or says there why it has none. Where the plan can't be read, says so on
 /// `errors`.
 pub fn run_certify<P: Source, O: Sink, E: Sink>(
     alloc: Global,

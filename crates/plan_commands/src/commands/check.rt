@@ -6,7 +6,7 @@ ghost use Rattle.plan_commands.specs.Told.{AnswersSo};
 ghost use Rattle.plan_commands.specs.Answers.{stream, AreUnread, BreaksOff, IsAnswerOf, IsYes, Tells};
 
 use crate::commands::answer::{Answer, tell};
-use crate::commands::fault_answer;
+use crate::commands::faults::fault_answer;
 use crate::commands::inputs::read_inputs;
 use crate::refused::Refused;
 use crate::status::Status;
@@ -14,8 +14,8 @@ use net_check::check;
 use net_plan::{Sink, Source};
 use std::alloc::Global;
 
-/// Answers on `output` whether a certificate fits its plan. Where a file can't be read, says so on `errors`; of two such
-/// files, the plan is told and the certificate is not read.
+/// Answers on `output` whether a certificate fits its plan. Where a file can't be read, says so on `errors`; of two
+/// such files, the plan is told and the certificate is not read.
 pub fn run_check<P: Source, C: Source, O: Sink, E: Sink>(
     alloc: Global,
     plan: &mut P,

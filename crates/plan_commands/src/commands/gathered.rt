@@ -5,7 +5,7 @@ ghost use Rattle.net_plan.specs.Stream.{AppendsBeginning};
 ghost use Rattle.plan_commands.specs.declared.refused.Refused.TheVariants.{Unwritten};
 ghost use Rattle.plan_commands.specs.Gathering.{AppendsAllBut};
 
-use crate::commands::print;
+use crate::commands::answer::print;
 use crate::refused::Refused;
 use net_plan::Sink;
 use std::alloc::Global;
@@ -29,7 +29,8 @@ impl Gathered {
         }
     }
 
-    /// Adds a line, and writes all that wait where they are enough. Where there is no memory for it to wait, it is written.
+    /// Adds a line, and writes all that wait where they are enough. Where there is no memory for it to wait, it is
+    /// written.
     pub fn add<O: Sink>(&mut self, line: &str, output: &mut O) -> Result<(), Refused>
         requires { O.failures output.old < 2 ^ 64 - 1 }
         ensures added { OnOk result (AppendsAllBut (string_bytes self.new.lines) (O.contents output.old) (O.contents output.new)

@@ -1,10 +1,11 @@
 //! The files that commands read.
 ghost use Rattle.std.specs.Prelude.{◌≡◌, ◌<◌, ◌^◌, ◌-◌, IfOk, IfErr};
-ghost use Rattle.plan_commands.specs.Answers.{stream, GavePlan, IsPlanUnread, AreGiven, AreUnread};
+ghost use Rattle.plan_commands.specs.Answers.{stream, GavePlan, GaveCertificate, IsPlanUnread, IsCertificateUnread, AreGiven, AreUnread};
 ghost use Rattle.plan_commands.specs.Moving.{IsMoveGiven, IsMoveUnread};
+ghost use Rattle.plan_commands.specs.Simulating.{GaveEvents, AreEventsUnread};
 
 use crate::refused::{Input, Refused};
-use net_plan::{Certificate, Plan, Source, read_certificate, read_plan};
+use net_plan::{Certificate, Event, Plan, Source, read_certificate, read_events, read_plan};
 use std::alloc::Global;
 
 /// The plan that a source gives.
@@ -21,7 +22,46 @@ pub fn given_plan<P: Source>(alloc: Global, plan: &mut P) -> Result<Plan, Refuse
     }
 }
 
-/// The plan and its certificate. The certificate is read only where the plan reads.
+/// The certificate that a source gives for a plan.
+fn given_certificate<C: Source>(
+    alloc: Global,
+    plan: &Plan,
+    certificate: &mut C,
+) -> Result<Certificate, Refused>
+    requires { C.failures certificate.old < 2 ^ 64 - 1 }
+    ensures given { let certificates = stream (C.remaining certificate.old) (C.failures certificate.old)
+        (C.remaining certificate.new) (C.failures certificate.new) in
+        IfOk result (λ read. GaveCertificate plan.now certificates read) }
+    ensures unread { let certificates = stream (C.remaining certificate.old) (C.failures certificate.old)
+        (C.remaining certificate.new) (C.failures certificate.new) in
+        IfErr result (λ refused. IsCertificateUnread refused plan.now certificates) }
+{
+    match read_certificate(alloc, plan, certificate) {
+        Ok(certificate) => Ok(certificate),
+        Err(error) => Err(Refused::at_input(Input::Certificate, error)),
+    }
+}
+
+/// The events that a source gives at the nodes of a plan.
+pub fn given_events<V: Source>(
+    alloc: Global,
+    plan: &Plan,
+    events: &mut V,
+) -> Result<Vec<Event>, Refused>
+    requires { V.failures events.old < 2 ^ 64 - 1 }
+    ensures given { let happenings = stream (V.remaining events.old) (V.failures events.old) (V.remaining events.new) (V.failures events.new) in
+        IfOk result (λ read. GaveEvents plan.now happenings read.items) }
+    ensures unread { let happenings = stream (V.remaining events.old) (V.failures events.old) (V.remaining events.new) (V.failures events.new) in
+        IfErr result (λ refused. AreEventsUnread refused plan.now happenings) }
+{
+    match read_events(alloc, plan, events) {
+        Ok(events) => Ok(events),
+        Err(error) => Err(Refused::at_input(Input::Events, error)),
+    }
+}
+
+/// The plan and its certificate. The certificate is read only where the plan could be read.
+#[tactic(auto, using(crate::proofs::Telling::certificate_unread))]
 pub fn read_inputs<P: Source, C: Source>(
     alloc: Global,
     plan: &mut P,
@@ -39,14 +79,12 @@ pub fn read_inputs<P: Source, C: Source>(
         IfErr result (λ refused. AreUnread refused plans certificates) }
 {
     let plan = given_plan(alloc, plan)?;
-    match read_certificate(alloc, &plan, certificate) {
-        Ok(certificate) => Ok((plan, certificate)),
-        Err(error) => Err(Refused::at_input(Input::Certificate, error)),
-    }
+    let certificate = given_certificate(alloc, &plan, certificate)?;
+    Ok((plan, certificate))
 }
 
-/// The plans of a move and their certificate. Each is read only where those before it read; the certificate is read for the plan
-/// before.
+/// The plans of a move and their certificate. Each is read only where those before it could be read; the certificate is
+/// read for the plan before.
 #[tactic(auto, using(crate::proofs::Moved::before_unread))]
 pub fn read_move<P: Source, Q: Source, C: Source>(
     alloc: Global,
@@ -70,8 +108,6 @@ pub fn read_move<P: Source, Q: Source, C: Source>(
 {
     let before = given_plan(alloc, before)?;
     let after = given_plan(alloc, after)?;
-    match read_certificate(alloc, &before, certificate) {
-        Ok(certificate) => Ok((before, after, certificate)),
-        Err(error) => Err(Refused::at_input(Input::Certificate, error)),
-    }
+    let certificate = given_certificate(alloc, &before, certificate)?;
+    Ok((before, after, certificate))
 }

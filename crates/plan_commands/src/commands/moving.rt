@@ -6,9 +6,8 @@ ghost use Rattle.plan_commands.specs.declared.status.Status.TheVariants.{Yes, Fa
 ghost use Rattle.plan_commands.specs.Answers.{stream, BreaksOff, FailsToPrint};
 ghost use Rattle.plan_commands.specs.Moving.{AnswersMoveSo, IsMoveAnswer, IsMoveErrorText, PrintsMoveError, IsMoveUnread, EndsMove};
 
-use crate::commands::answer::{Answer, tell};
+use crate::commands::answer::{Answer, print, tell};
 use crate::commands::inputs::read_move;
-use crate::commands::print;
 use crate::refused::Refused;
 use crate::status::Status;
 use crate::texts::moves::move_error_line;
@@ -16,9 +15,9 @@ use net_check::{MoveError, check_move};
 use net_plan::{Plan, Sink, Source};
 use std::alloc::Global;
 
-/// Answers on `output` whether the nodes of the plan before may switch, one after another in any order, to the rows of the plan
-/// after, with one certificate for both. Where a file can't be read, says so on `errors`; of several the first is told, and those
-/// after it are not read.
+/// Answers on `output` whether the nodes of the plan before may switch, one after another in any order, to the rows of
+/// the plan after, with one certificate for both. Where a file can't be read, says so on `errors`; of several the first
+/// is told, and those after it are not read.
 pub fn run_move<P: Source, Q: Source, C: Source, O: Sink, E: Sink>(
     alloc: Global,
     before: &mut P,

@@ -16,8 +16,8 @@ pub mod files;
 pub mod moves;
 pub mod termini;
 
+use crate::commands::answer::refuse;
 use crate::commands::gathered::Gathered;
-use crate::commands::refuse;
 use crate::refused::Refused;
 use crate::status::Status;
 use crate::texts::outcomes::outcome_line;
@@ -27,10 +27,12 @@ use net_sim::{Network, Outcome, Played};
 use pdr_repository::Terminus;
 use std::alloc::Global;
 
-/// Plays events in the network of a checked plan, and gives on `output` what comes of each. The termini are one for each node
-/// that has one (`net_sim::planned_termini_count`), in the plan's order; the outcomes are those of a run from rest over them,
-/// and where they are as planned, of a run from the start, in which each walker to whose keys no other put comes collects
-/// the planned records. Where memory runs out, the lines of what was played before are out, and `errors` says so.
+/// Plays events in the network of a checked plan, and gives on `output` what comes of each.
+///
+/// The termini are one for each node that has one (`net_sim::planned_termini_count`), in the plan's order. The outcomes
+/// are those of a run from rest over these termini. Where the termini are as planned, it is a run from the start. In it
+/// a walker collects the planned records, where nobody else puts packets in under its keys. Where memory runs out, the
+/// lines of what was played before are out, and `errors` says so.
 pub fn run_sim<O: Sink, E: Sink>(
     alloc: Global,
     checked: Checked,
@@ -88,10 +90,12 @@ fn answer_sim<O: Sink>(
     tell_played(alloc, plan, &played, output)
 }
 
-/// Plays events in the network of a checked move, and gives on `output` what comes of each. The termini are those of the plan
-/// before, one for each node that has one, in its order; the outcomes are those of a run from rest over them, and where
-/// they are as planned, of a run from the start, in which each walker to whose keys no other put comes collects the planned
-/// records. Where memory runs out, the lines of what was played before are out, and `errors` says so.
+/// Plays events in the network of a checked move, and gives on `output` what comes of each.
+///
+/// The termini are those of the plan before: one for each node that has one, in its order. The outcomes are those of a
+/// run from rest over these termini. Where the termini are as planned, it is a run from the start. In it a walker
+/// collects the planned records, where nobody else puts packets in under its keys. Where memory runs out, the lines of
+/// what was played before are out, and `errors` says so.
 pub fn run_simmove<O: Sink, E: Sink>(
     alloc: Global,
     checked: CheckedMove,

@@ -14,7 +14,7 @@ mod ordering;
 mod texts;
 
 use crate::commands::answer::{Answer, tell};
-use crate::commands::fault_answer;
+use crate::commands::faults::fault_answer;
 use crate::commands::inputs::read_inputs;
 use crate::refused::Refused;
 use crate::status::Status;
@@ -47,8 +47,8 @@ impl PartSize {
     }
 }
 
-/// Tells on `output` which records a walk over the terminus of the node of this name collects, by parts of so many bytes.
-/// Where a file can't be read, or then where no node of the name has a terminus, says so on `errors`.
+/// Tells on `output` which records a walk over the terminus of the node of this name collects, by parts of so many
+/// bytes. Where a file can't be read, or then where no node of the name has a terminus, says so on `errors`.
 pub fn run_walk<P: Source, C: Source, O: Sink, E: Sink>(
     alloc: Global,
     plan: &mut P,

@@ -7,8 +7,8 @@ use net_check::{MoveError, MoveFault};
 use net_plan::Plan;
 use std::alloc::{AllocError, Global};
 
-/// The answer where a move from one plan to another is not accepted. Nodes have their names in the plan before. Want of memory
-/// has no answer.
+/// The line that says why a move from one plan to another is not accepted, with the nodes' names in the plan before.
+/// Out of memory is an error, and has no such line.
 pub fn move_error_line(
     alloc: Global,
     before: &Plan,

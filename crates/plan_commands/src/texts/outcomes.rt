@@ -83,7 +83,7 @@ fn standing_word(standing: Standing) -> &'static str
     }
 }
 
-/// The code of a fault of a walk, or a dash for want of memory, which has none.
+/// The code of a fault of a walk. Out of memory has none, and gets a dash.
 fn fault_word(fault: WalkFault) -> &'static str
     ensures { result.now ≡ walk_fault_text fault }
 {

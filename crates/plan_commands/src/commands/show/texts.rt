@@ -60,14 +60,14 @@ fn tag_words(alloc: Global, packet: &PacketView) -> Result<String, AllocError>
 }
 
 /// A record's header, and in a second line its body.
-pub fn record_text(alloc: Global, record: &Record) -> Result<String, AllocError>
-    ensures { IfOk result (λ text. string_bytes text ≡ record_text_bytes (record_value record.now)) }
+pub fn record_text(alloc: Global, shown: &Record) -> Result<String, AllocError>
+    ensures { IfOk result (λ text. string_bytes text ≡ record_text_bytes (record_value shown.now)) }
 {
-    let handle = record.handle;
-    let record_type = record.body.record_type();
-    let change = record.change;
-    let length = record.body.len();
-    let body = body_text(alloc, &record.body)?;
+    let handle = shown.handle;
+    let record_type = shown.body.record_type();
+    let change = shown.change;
+    let length = shown.body.len();
+    let body = body_text(alloc, &shown.body)?;
     format!(in alloc;
         "record handle {handle} type {record_type} change {change} length {length}\n{body}"
     )

@@ -7,19 +7,20 @@ ghost use Rattle.net_sim.specs.Outcomes.{event_value};
 ghost use Rattle.plan_commands.specs.Answers.{stream, BreaksOff, AreGiven};
 ghost use Rattle.plan_commands.specs.Simulating.{EndsShowing, SimulatesAtRest, AreLinesAtMost, ShowsAtMost, ShowsOutcomes, GaveEvents, TellsBeginning, TellsRun, IsSimAnswer, AreUnreadAmong, IsUnsimulatedFor, SimulatesFiles};
 
-use crate::commands::inputs::read_inputs;
+use crate::commands::answer::refuse;
+use crate::commands::faults::print_fault;
+use crate::commands::inputs::{given_events, read_inputs};
 use crate::commands::sim::run_sim;
 use crate::commands::sim::termini::planned_termini;
-use crate::commands::{print_fault, refuse};
-use crate::refused::{Input, Refused};
+use crate::refused::Refused;
 use crate::status::Status;
 use net_check::{Checked, check};
-use net_plan::{Certificate, Event, Plan, Sink, Source, read_events};
+use net_plan::{Certificate, Event, Plan, Sink, Source};
 use pdr_repository::Terminus;
 use std::alloc::{AllocError, Global};
 
-/// Gives on `output` what comes of the events of a file in the network of a plan with its certificate, or the fault for which
-/// they are not accepted. Of files that can't be read the first is told on `errors`.
+/// Gives on `output` what comes of the events of a file in the network of a plan with its certificate, or the fault for
+/// which they are not accepted. Of files that can't be read the first is told on `errors`.
 pub fn simulate<P: Source, C: Source, V: Source, O: Sink, E: Sink>(
     alloc: Global,
     plan: &mut P,
@@ -137,7 +138,7 @@ fn answer_files<P: Source, C: Source, V: Source, O: Sink, E: Sink>(
     }
 }
 
-/// The plan, its certificate and the events. Each is read only where those before it read.
+/// The plan, its certificate and the events. Each is read only where those before it could be read.
 fn read_files<P: Source, C: Source, V: Source>(
     alloc: Global,
     plan: &mut P,
@@ -160,10 +161,8 @@ fn read_files<P: Source, C: Source, V: Source>(
         IfErr result (λ why. AreUnreadAmong why plans certificates happenings) }
 {
     let (plan, certificate) = read_inputs(alloc, plan, certificate)?;
-    match read_events(alloc, &plan, events) {
-        Ok(events) => Ok((plan, certificate, events)),
-        Err(error) => Err(Refused::at_input(Input::Events, error)),
-    }
+    let events = given_events(alloc, &plan, events)?;
+    Ok((plan, certificate, events))
 }
 
 /// Plays events in the network of a checked plan, with the termini that are planned.

@@ -8,20 +8,21 @@ ghost use Rattle.plan_commands.specs.Answers.{stream, BreaksOff};
 ghost use Rattle.plan_commands.specs.MoveSimulating.{IsPlayGiven, TellsMovedInPart, TellsMovedRun, IsPlayAnswer, IsPlayUnread, IsUnplayedFor, SimulatesMoveFiles};
 ghost use Rattle.plan_commands.specs.Simulating.{EndsShowing, SimulatesAtRest, AreLinesAtMost, ShowsAtMost, ShowsOutcomes};
 
-use crate::commands::inputs::read_move;
+use crate::commands::answer::refuse;
+use crate::commands::inputs::{given_events, read_move};
 use crate::commands::moving::print_move_error;
-use crate::commands::refuse;
 use crate::commands::sim::run_simmove;
 use crate::commands::sim::termini::planned_termini;
-use crate::refused::{Input, Refused};
+use crate::refused::Refused;
 use crate::status::Status;
 use net_check::{CheckedMove, check_move};
-use net_plan::{Certificate, Event, Plan, Sink, Source, read_events};
+use net_plan::{Certificate, Event, Plan, Sink, Source};
 use pdr_repository::Terminus;
 use std::alloc::{AllocError, Global};
 
-/// Gives on `output` what comes of the events of a file in the network of the plan before, whose nodes may switch to the rows of
-/// the plan after, or the fault for which the move is not accepted. Of files that can't be read the first is told on `errors`.
+/// Gives on `output` what comes of the events of a file in the network of the plan before, whose nodes may switch to
+/// the rows of the plan after, or the fault for which the move is not accepted. Of files that can't be read the first
+/// is told on `errors`.
 pub fn simulate_move<P: Source, Q: Source, C: Source, V: Source, O: Sink, E: Sink>(
     alloc: Global,
     before: &mut P,
@@ -161,8 +162,8 @@ fn answer_move_files<P: Source, Q: Source, C: Source, V: Source, O: Sink, E: Sin
     }
 }
 
-/// The plans, their certificate and the events. Each is read only where those before it read; the certificate and the events are
-/// read for the plan before.
+/// The plans, their certificate and the events. Each is read only where those before it could be read; the certificate
+/// and the events are read for the plan before.
 #[tactic(auto, using(crate::proofs::MovePlayed::inputs_unread))]
 fn read_move_files<P: Source, Q: Source, C: Source, V: Source>(
     alloc: Global,
@@ -189,10 +190,8 @@ fn read_move_files<P: Source, Q: Source, C: Source, V: Source>(
         IfErr result (λ why. IsPlayUnread why befores afters certificates happenings) }
 {
     let (before, after, certificate) = read_move(alloc, before, after, certificate)?;
-    match read_events(alloc, &before, events) {
-        Ok(events) => Ok((before, after, certificate, events)),
-        Err(error) => Err(Refused::at_input(Input::Events, error)),
-    }
+    let events = given_events(alloc, &before, events)?;
+    Ok((before, after, certificate, events))
 }
 
 /// Plays events in the network of a checked move, with the termini that are planned.

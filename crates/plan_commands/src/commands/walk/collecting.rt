@@ -16,7 +16,8 @@ use std::alloc::Global;
 /// The most bytes that a walk collects.
 const MAX_BYTES: usize = 16_777_216;
 
-/// Collects all records of a terminus, part by part. The walker that is given back has taken the answer to each request.
+/// Collects all records of a terminus, part by part. The walker that is given back has taken the answer to each
+/// request.
 pub fn collect(
     alloc: Global,
     terminus: &mut ListTerminus,

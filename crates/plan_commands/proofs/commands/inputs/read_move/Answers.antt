@@ -8,8 +8,9 @@ returns-in_err-after-clause-unread g c =
     let ended : c.from_residual-in_err-after.result ≡ Err failed.field-0.0 = search rules in
     rw ended (after_unread c.in_ok-before.before failed.field-0.0 _ _ _ c.in_ok-before.ensures.given failed.ensures.unread)
 
-pub returns-in-Err-clause-unread : goal.returns-in-Err-clause-unread
-returns-in-Err-clause-unread g c =
-    let facts = c.in-Err.ensures in
-    rw c.at_input.ensures (move_certificate_unread c.in-Err.error c.in_ok-before.before c.in_ok-after.after _ _ _ c.in_ok-before.ensures.given
-    c.in_ok-after.ensures.given facts.refused facts.counts)
+pub returns-in_err-certificate-clause-unread : goal.returns-in_err-certificate-clause-unread
+returns-in_err-certificate-clause-unread g c =
+    let failed = c.in_err-certificate in
+    let ended : c.from_residual-in_err-certificate.result ≡ Err failed.field-0.0 = search rules in
+    rw ended (move_certificate_unread c.in_ok-before.before c.in_ok-after.after failed.field-0.0 _ _ _
+    c.in_ok-before.ensures.given c.in_ok-after.ensures.given failed.ensures.unread)

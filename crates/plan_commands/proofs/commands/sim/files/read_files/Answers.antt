@@ -1,7 +1,10 @@
+use Rattle.std.proofs.Common.{rules, ◌≡◌, Err}
 use Rattle.plan_commands.proofs.Simulated.{events_unread}
 use Rattle.plan_commands.proofs.commands.sim.files.read_files.Goals as goal
 
-pub returns-in-Err-clause-unread : goal.returns-in-Err-clause-unread
-returns-in-Err-clause-unread g c =
-    let facts = c.in-Err.ensures in
-    rw c.at_input.ensures (events_unread c.in-Err.error c.in_ok-plan.plan c.in_ok-plan.certificate _ _ _ c.in_ok-plan.ensures.given facts.refused facts.counts)
+pub returns-in_err-events-clause-unread : goal.returns-in_err-events-clause-unread
+returns-in_err-events-clause-unread g c =
+    let failed = c.in_err-events in
+    let read = c.in_ok-plan in
+    let ended : c.from_residual-in_err-events.result ≡ Err failed.field-0.0 = search rules in
+    rw ended (events_unread read.plan read.certificate failed.field-0.0 _ _ _ read.ensures.given failed.ensures.unread)

@@ -1,8 +1,10 @@
+use Rattle.std.proofs.Common.{rules, ◌≡◌, Err}
 use Rattle.plan_commands.proofs.MovePlayed.{move_events_unread}
 use Rattle.plan_commands.proofs.commands.sim.moves.read_move_files.Goals as goal
 
-pub returns-in-Err-clause-unread : goal.returns-in-Err-clause-unread
-returns-in-Err-clause-unread g c =
-    let facts = c.in-Err.ensures in
+pub returns-in_err-events-clause-unread : goal.returns-in_err-events-clause-unread
+returns-in_err-events-clause-unread g c =
+    let failed = c.in_err-events in
     let read = c.in_ok-before in
-    rw c.at_input.ensures (move_events_unread c.in-Err.error read.before read.after read.certificate _ _ _ _ read.ensures.given facts.refused facts.counts)
+    let ended : c.from_residual-in_err-events.result ≡ Err failed.field-0.0 = search rules in
+    rw ended (move_events_unread read.before read.after read.certificate failed.field-0.0 _ _ _ _ read.ensures.given failed.ensures.unread)

@@ -2,7 +2,7 @@ use Rattle.std.proofs.Common.{rules, ◌≡◌, Err, inl}
 use Rattle.std.specs.Cow.{cow_str_bytes}
 use Rattle.plan_commands.specs.Answers.{stream}
 use Rattle.plan_commands.proofs.Telling.{prints_fault}
-use Rattle.plan_commands.proofs.commands.print_fault.Goals as goal
+use Rattle.plan_commands.proofs.commands.faults.print_fault.Goals as goal
 
 pub returns-in_err-print-clause-untouched : goal.returns-in_err-print-clause-untouched
 returns-in_err-print-clause-untouched g c =
