@@ -9,6 +9,7 @@ mod assign;
 mod bridges;
 mod moves;
 mod network_walks;
+mod paths;
 mod riser;
 mod show;
 mod sim;

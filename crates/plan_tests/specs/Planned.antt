@@ -7,7 +7,8 @@ use Rattle.net_check.specs.Repositories.{terminus_of}
 use Rattle.net_check.specs.WalkedRuns.{WalkedTurn, WalkedRun}
 
 -- The events with these outcomes are the turns of a run of the plan from its start.
-pub record IsRunFromStart (plan : Plan) (cert : Certificate) (events : List WalkedEvent) (outcomes : List WalkedOutcome) : Type 0 where
+pub record IsRunFromStart (plan : Plan) (cert : Certificate) (events : List WalkedEvent)
+    (outcomes : List WalkedOutcome) : Type 0 where
   pub turns : List WalkedTurn
   pub events_are : map (λ (t : WalkedTurn). t.event) turns ≡ events
   pub outcomes_are : map (λ (t : WalkedTurn). t.outcome) turns ≡ outcomes

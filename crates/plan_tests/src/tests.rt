@@ -31,6 +31,8 @@ mod switches;
 mod switching;
 mod telling;
 mod termini;
+mod unit_runs;
+mod units;
 mod walk_events;
 mod walkers;
 mod walks;

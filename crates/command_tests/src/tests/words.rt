@@ -1,6 +1,6 @@
 //! Which words are which command.
 
-use plan_commands::{Command, Kind, PartSize, Refused, words};
+use plan_commands::{Command, Kind, PartSize, Refused, parse_command};
 use std::process::Abort;
 use std::test::Fail;
 
@@ -39,7 +39,7 @@ fn gives_the_command_or_usage(rt: HostRuntime) -> Result<(), Fail> {
         certificate: "c",
         events: "d",
     };
-    let rows: [(&[&str], Result<Command, Refused>); 28] = [
+    let rows: [(&[&str], Result<Command, Refused>); 46] = [
         (&["mctpplan", "move", "a", "b", "c"], Ok(moving)),
         (&["mctpplan", "move", "a", "b"], Err(Refused::Usage)),
         (
@@ -74,6 +74,30 @@ fn gives_the_command_or_usage(rt: HostRuntime) -> Result<(), Fail> {
         (&["mctpplan", "--help"], Err(Refused::Usage)),
         (&["mctpplan", "help"], Err(Refused::Usage)),
         (&["mctpplan", "chequer", "a", "b"], Err(Refused::Usage)),
+        (&["mctpplan", "help", "check"], Err(Refused::Usage)),
+        (&["mctpplan", "check", "--help"], Err(Refused::Usage)),
+        (&["mctpplan", "-h"], Err(Refused::Usage)),
+        (&["mctpplan", "--version"], Err(Refused::Usage)),
+        (&["mctpplan", "-V"], Err(Refused::Usage)),
+        (&["mctpplan", "Check", "a", "b"], Err(Refused::Usage)),
+        (&["mctpplan", "che", "a", "b"], Err(Refused::Usage)),
+        (&["mctpplan", "", "a", "b"], Err(Refused::Usage)),
+        (&["mctpplan", "a", "b", "check"], Err(Refused::Usage)),
+        (&["mctpplan", "check", "a", "--", "b"], Ok(check)),
+        (&["mctpplan", "check", "--", "a", "b"], Ok(check)),
+        (&["mctpplan", "check", "a", "-b"], Err(Refused::Usage)),
+        (
+            &["mctpplan", "check", "a", "--plan", "b"],
+            Err(Refused::Usage),
+        ),
+        (
+            &["mctpplan", "simmove", "a", "b", "c", "d", "e"],
+            Err(Refused::Usage),
+        ),
+        (&["mctpplan", "walk", "a", "b", "nic"], Err(Refused::Usage)),
+        (&["mctpplan", "walk", "a", "b", "16"], Err(Refused::Usage)),
+        (&["mctpplan", "show", "01"], Err(Refused::Usage)),
+        (&["mctpplan", "show", "", "01"], Err(Refused::Usage)),
     ];
     for (given, wanted) in rows {
         expect_words(&rt, given, wanted)?;
@@ -91,7 +115,11 @@ fn expect_words(
     for word in given {
         list.push(String::from_str(rt.alloc(), word)?)?;
     }
-    assert_eq!(rt; words(rt.alloc(), list.as_slice()), wanted, "at {given:?}");
+    assert_eq!(rt;
+        parse_command(rt.alloc(), list.as_slice()),
+        wanted,
+        "at {given:?}"
+    );
     Ok(())
 }
 

@@ -1,5 +1,5 @@
 //! Packets fed one after another.
-use mctp_transport::{Assembler, Eid, Fed, Key, PacketView, Packets, Seq, Tag, Why, Wire};
+use mctp_transport::{Assembler, Eid, Fed, Key, PacketView, Packets, Seq, Tag, Why};
 use std::process::Abort;
 use std::test::Fail;
 

@@ -1,12 +1,12 @@
 //! Messages that are cut, as the bytes of their packets.
 ghost use Rattle.std.specs.Prelude.{◌<◌, ◌≤◌, length};
 
-use mctp_transport::{Eid, HEADER_LENGTH, Key, MAX_MESSAGE, Packets, Seq, Tag, UNIT, Wire};
+use mctp_transport::{Eid, HEADER_LENGTH, Key, MAX_MESSAGE, MAX_UNIT, Packets, Seq, Tag};
 use std::process::Abort;
 use std::test::Fail;
 
 /// Tag 1 of source 8, which owns it.
-fn key() -> Key {
+pub(crate) fn key() -> Key {
     Key {
         source: Eid::new(8),
         tag: Tag::new(1),
@@ -23,15 +23,15 @@ fn cut(message: &[u8]) -> Packets<'_>
 }
 
 /// The flag byte of the next packet, written, and how many payload bytes come after it.
-fn next_written(packets: &mut Packets) -> Option<(u8, usize)> {
+pub(crate) fn next_written(packets: &mut Packets) -> Option<(u8, usize)> {
     let packet = packets.next()?;
-    let mut out = [0; HEADER_LENGTH + UNIT];
+    let mut out = [0; HEADER_LENGTH + MAX_UNIT];
     let len = packet.put(&mut out);
     Some((out[3], len - HEADER_LENGTH))
 }
 
 /// Wants packets of these flag bytes and payload lengths, and none after them.
-fn expect_packets(rt: &impl Abort, mut packets: Packets, wanted: &[(u8, usize)]) {
+pub(crate) fn expect_packets(rt: &impl Abort, mut packets: Packets, wanted: &[(u8, usize)]) {
     for row in wanted {
         assert_eq!(rt; next_written(&mut packets), Some(*row));
     }
@@ -54,7 +54,7 @@ fn writes_a_packet(rt: HostRuntime) -> Result<(), Fail> {
     };
     let mut packets = Packets::of(&message, Eid::new(10), key, Seq::new(0));
     let packet = packets.next().ok_or("no packet")?;
-    let mut out = [0xEE; HEADER_LENGTH + UNIT];
+    let mut out = [0xEE; HEADER_LENGTH + MAX_UNIT];
     let len = packet.put(&mut out);
     let want = [0x01, 0x0A, 0x08, 0xCB, 0x01, 0x80, 0x00, 0x02];
     assert_eq!(rt; &out[..len], want.as_slice());

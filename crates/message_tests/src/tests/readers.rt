@@ -64,6 +64,7 @@ fn a_reader_asks_a_bridge_twice_for_ten_entries(rt: HostRuntime) -> Result<(), F
     ];
     expect_answers(&rt, &mut reader, &turns);
     assert!(rt; reader.entries() == table.as_slice());
+    assert_eq!(rt; reader.taken(), 2);
     Ok(())
 }
 
@@ -102,6 +103,7 @@ fn a_reader_that_failed_keeps_its_entries(rt: HostRuntime) -> Result<(), Fail> {
         ];
         expect_answers(&rt, &mut reader, &turns);
         assert_eq!(rt; reader.entries().len(), 8);
+        assert_eq!(rt; reader.taken(), 2);
     }
     Ok(())
 }
@@ -137,6 +139,60 @@ fn a_reader_takes_247_entries_and_no_more(rt: HostRuntime) -> Result<(), Fail> {
         expect_240(&rt, &mut reader);
         expect_answers(&rt, &mut reader, turns);
         assert_eq!(rt; reader.entries().len(), count);
+    }
+    Ok(())
+}
+
+/// Wants the reader to take an answer with one entry, and more announced, so many times.
+fn expect_ones(rt: &impl Abort, reader: &mut EntryReader, count: usize) {
+    let mut one = ONE;
+    one[4] = 8;
+    for _ in 0..count {
+        reader.next_request(InstanceId::new(0));
+        assert_eq!(rt; reader.take(&one), Ok(false));
+    }
+}
+
+#[test]
+fn a_reader_takes_248_answers_and_no_more(rt: HostRuntime) -> Result<(), Fail> {
+    let asks = Turn::Asks(InstanceId::new(0), Some([0x00, 0x80, 0x0a, 0x08]));
+    let end: &[u8] = &[0, 0, 10, 0, 255, 0];
+    let empty: &[u8] = &[0, 0, 10, 0, 8, 0];
+    let rows: [(&[Turn], usize); 4] = [
+        (&[Turn::Takes(&ONE, Err(ReadFault::NotAsked))], 247),
+        (
+            &[
+                asks,
+                Turn::Takes(end, Ok(true)),
+                Turn::Takes(end, Err(ReadFault::NotAsked)),
+            ],
+            248,
+        ),
+        (
+            &[
+                asks,
+                Turn::Takes(empty, Err(ReadFault::NoEntry)),
+                Turn::Takes(empty, Err(ReadFault::FailedBefore)),
+            ],
+            248,
+        ),
+        (
+            &[
+                asks,
+                Turn::Takes(&[0, 1, 10, 0, 255, 0], Err(ReadFault::NotAsked)),
+                Turn::Takes(&ONE, Err(ReadFault::TooMany)),
+                Turn::Takes(&ONE, Err(ReadFault::FailedBefore)),
+                Turn::Asks(InstanceId::new(0), None),
+            ],
+            248,
+        ),
+    ];
+    for (turns, count) in rows {
+        let mut reader = EntryReader::new(rt.alloc())?;
+        assert_eq!(rt; reader.taken(), 0);
+        expect_ones(&rt, &mut reader, 247);
+        expect_answers(&rt, &mut reader, turns);
+        assert_eq!(rt; reader.taken(), count);
     }
     Ok(())
 }

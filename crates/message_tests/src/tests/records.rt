@@ -4,22 +4,22 @@ use mctp_transport::{Wire, round_trip};
 use pdr_record::{Body, Entity, RangeFieldFormat, Record, SensorDataSize, TerminusLocator};
 use std::test::Fail;
 
-const TERMINUS: &[u8] =
+pub(crate) const TERMINUS: &[u8] =
     b"\x01\x00\x00\x00\x01\x01\x00\x00\x09\x00\x01\x00\x01\x01\x00\x00\x01\x01\x0a";
 
-const STATE: &[u8] =
+pub(crate) const STATE: &[u8] =
     b"\x02\x00\x00\x00\x01\x04\x00\x00\x11\x00\x01\x00\x05\x00\x21\x00\x01\x00\x00\x00\x00\x00\x01\x01\x00\x01\x06";
 
-const ASSOCIATION: &[u8] =
+pub(crate) const ASSOCIATION: &[u8] =
     b"\x03\x00\x00\x00\x01\x0f\x00\x00\x10\x00\x64\x00\x00\x2d\x00\x01\x00\x00\x00\x01\x2f\x00\x01\x00\x64\x00";
 
-const OTHER: &[u8] = b"\x04\x00\x00\x00\x01\xc8\x01\x00\x02\x00\xaa\xbb";
+pub(crate) const OTHER: &[u8] = b"\x04\x00\x00\x00\x01\xc8\x01\x00\x02\x00\xaa\xbb";
 
 const EMPTY: &[u8] = b"\x05\x00\x00\x00\x01\xc8\x00\x00\x00\x00";
 
 /// The record of a numeric sensor with codes for the data size and the range field format, and so many body bytes,
 /// at most 100.
-fn numeric(bytes: &mut [u8; 110], data_size: u8, format: u8, length: u8) -> &[u8] {
+pub(crate) fn numeric(bytes: &mut [u8; 110], data_size: u8, format: u8, length: u8) -> &[u8] {
     let length = length.min(100);
     *bytes = [0; 110];
     bytes[0] = 6;
@@ -36,7 +36,7 @@ fn numeric(bytes: &mut [u8; 110], data_size: u8, format: u8, length: u8) -> &[u8
     &bytes[..10 + usize::from(length)]
 }
 
-fn code(bytes: &[u8]) -> &'static str {
+pub(crate) fn code(bytes: &[u8]) -> &'static str {
     let refused = Record::read(bytes).err();
     refused.map_or("read", |error| error.code())
 }

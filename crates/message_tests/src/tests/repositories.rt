@@ -6,7 +6,7 @@ use std::alloc::{AllocError, Global};
 use std::process::Abort;
 use std::test::Fail;
 
-const LOCATOR: [u8; 19] = [
+pub(crate) const LOCATOR: [u8; 19] = [
     0x01, 0x00, 0x00, 0x00, 0x01, 0x01, 0x00, 0x00, 0x09, 0x00, 0x01, 0x00, 0x01, 0x01, 0x00, 0x00,
     0x01, 0x01, 0x0a,
 ];
@@ -45,7 +45,7 @@ pub(crate) fn block_over(
 }
 
 /// The one record.
-fn one_record(alloc: Global) -> Result<Vec<(u32, Vec<u8>)>, AllocError> {
+pub(crate) fn one_record(alloc: Global) -> Result<Vec<(u32, Vec<u8>)>, AllocError> {
     let mut bytes = Vec::new(alloc);
     bytes.extend_from_slice(&LOCATOR)?;
     let mut records = Vec::new(alloc);

@@ -1,7 +1,7 @@
 //! Messages of several packets from host to ssd in the riser network.
 use super::playing::{Scenario, play_on};
 use super::riser::{HOST, SSD};
-use mctp_transport::{Eid, Key, MAX_MESSAGE, Packets, Seq, Tag, Why, Wire};
+use mctp_transport::{Eid, HEADER_LENGTH, Key, MAX_MESSAGE, MAX_UNIT, Packets, Seq, Tag, Why};
 use net_plan::Event;
 use net_sim::{Effect, Network, Outcome};
 use std::alloc::{AllocError, Global};
@@ -53,7 +53,7 @@ fn written(alloc: Global, message: &[u8]) -> Result<Vec<Vec<u8>>, Fail> {
     }
     let mut written = Vec::new(alloc);
     for packet in Packets::of(message, Eid::new(18), key(), Seq::new(0)) {
-        let mut out = [0; 68];
+        let mut out = [0; HEADER_LENGTH + MAX_UNIT];
         let count = packet.put(&mut out);
         written.push(out[..count].to_vec(alloc)?)?;
     }

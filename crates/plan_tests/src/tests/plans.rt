@@ -63,7 +63,7 @@ fn is_the_nic(node: &Node) -> bool {
 }
 
 /// Whether a plan has two buses, of which the second is the riser's lower one, and four nodes, of which the first has no owner.
-fn is_the_riser_network(plan: &Plan) -> bool {
+pub(super) fn is_the_riser_network(plan: &Plan) -> bool {
     plan.buses.len() == 2
         && plan.buses[1].name.text.as_str() == "b1"
         && plan.buses[1].binding == 1
@@ -89,7 +89,7 @@ const TEXTS: &[(&str, Option<PlanError>)] = &[
     (r#"{"format":1}"#, Some(PlanError::MissingKey)),
     (
         r#"{"format":2,"buses":[],"nodes":[]}"#,
-        Some(PlanError::OutOfRange),
+        Some(PlanError::MissingKey),
     ),
     (
         r#"{"format":1,"buses":[],"nodes":[],"x":0}"#,

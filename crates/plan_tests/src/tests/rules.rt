@@ -53,7 +53,7 @@ fn what_was_checked_is_kept(rt: HostRuntime) -> Result<(), Fail> {
 #[test]
 fn nothing_is_accepted(rt: HostRuntime) -> Result<(), Fail> {
     let alloc = rt.alloc();
-    let plan = Plan::of(Vec::new(alloc), Vec::new(alloc)).ok_or("no lawful plan")?;
+    let plan = Plan::of(64, Vec::new(alloc), Vec::new(alloc)).ok_or("no lawful plan")?;
     let certificate = Certificate {
         levels: Vec::new(alloc),
         places: Vec::new(alloc),

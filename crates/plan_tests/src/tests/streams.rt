@@ -109,10 +109,10 @@ fn reads_one_byte_a_call(rt: HostRuntime) -> Result<(), Fail> {
     Ok(())
 }
 
-/// The first and the second call, that of the last byte, and that which would tell the end.
+/// Each call, up to that which would tell the end. The failure is one that std's own loops try again.
 #[test]
 fn tells_a_failure_in_a_plan(rt: HostRuntime) -> Result<(), Fail> {
-    for fails_at in [1, 2, riser::PLAN.len(), riser::PLAN.len() + 1] {
+    for fails_at in 1..=riser::PLAN.len() + 1 {
         let error = plan_error(rt.alloc(), fails_at);
         assert_eq!(rt; error, Some(PlanError::Device), "at {fails_at}");
     }
@@ -122,7 +122,7 @@ fn tells_a_failure_in_a_plan(rt: HostRuntime) -> Result<(), Fail> {
 #[test]
 fn tells_a_failure_in_a_certificate(rt: HostRuntime) -> Result<(), Fail> {
     let plan = plan_of_text(rt.alloc(), riser::PLAN.as_bytes())?;
-    for fails_at in [1, riser::CERTIFICATE.len() + 1] {
+    for fails_at in 1..=riser::CERTIFICATE.len() + 1 {
         let error = certificate_error(rt.alloc(), &plan, fails_at);
         assert_eq!(rt; error, Some(PlanError::Device), "at {fails_at}");
     }
@@ -132,7 +132,7 @@ fn tells_a_failure_in_a_certificate(rt: HostRuntime) -> Result<(), Fail> {
 #[test]
 fn tells_a_failure_in_events(rt: HostRuntime) -> Result<(), Fail> {
     let plan = plan_of_text(rt.alloc(), riser::PLAN.as_bytes())?;
-    for fails_at in [1, riser::EVENTS.len() + 1] {
+    for fails_at in 1..=riser::EVENTS.len() + 1 {
         let error = events_error(rt.alloc(), &plan, fails_at);
         assert_eq!(rt; error, Some(PlanError::Device), "at {fails_at}");
     }
@@ -215,9 +215,36 @@ fn is_written(alloc: Global, plan: &Plan, certificate: &Certificate, fails_at: u
 fn writes_a_certificate_or_its_beginning(rt: HostRuntime) -> Result<(), Fail> {
     let plan = plan_of_text(rt.alloc(), riser::PLAN.as_bytes())?;
     let certificate = certificate_of_text(rt.alloc(), &plan, riser::CERTIFICATE.as_bytes())?;
-    for fails_at in [0, 1, 2, riser::CERTIFICATE.len()] {
+    for fails_at in 0..=riser::CERTIFICATE.len() {
         let is_written = is_written(rt.alloc(), &plan, &certificate, fails_at);
         assert!(rt; is_written, "at {fails_at}");
     }
+    Ok(())
+}
+
+/// A writer that takes nothing, and counts how often it is asked to.
+#[derive(Drop)]
+struct Full {
+    calls: usize,
+}
+
+impl Write for Full {
+    fn write(&mut self, _buf: &[u8]) -> io::Result<usize> {
+        self.calls = self.calls.saturating_add(1);
+        Ok(0)
+    }
+
+    fn flush(&mut self) -> io::Result<()> {
+        Ok(())
+    }
+}
+
+#[test]
+fn a_writer_that_takes_nothing_has_failed(rt: HostRuntime) -> Result<(), Fail> {
+    let plan = plan_of_text(rt.alloc(), riser::PLAN.as_bytes())?;
+    let certificate = certificate_of_text(rt.alloc(), &plan, riser::CERTIFICATE.as_bytes())?;
+    let mut sink = Counted::new(Full { calls: 0 });
+    let written = write_certificate(rt.alloc(), &plan, &certificate, &mut sink);
+    assert_eq!(rt; (written, sink.inner().calls), (Err(PlanError::Device), 1));
     Ok(())
 }

@@ -1,0 +1,50 @@
+//! What stands in damaged bytes, and how messages are damaged: cut at each length, and each byte in turn at 00 and at
+//! FF.
+use std::alloc::{AllocError, Global};
+
+/// The message, its beginnings, and the message with each byte in turn at 00 and at FF.
+pub(crate) fn damaged(alloc: Global, message: &[u8]) -> Result<Vec<Vec<u8>>, AllocError> {
+    let mut all = Vec::new(alloc);
+    for length in 0..=message.len() {
+        let mut bytes = Vec::new(alloc);
+        bytes.extend_from_slice(&message[..length])?;
+        all.push(bytes)?;
+    }
+    for place in 0..message.len() {
+        for value in [0x00, 0xff] {
+            let mut bytes = Vec::new(alloc);
+            bytes.extend_from_slice(&message[..place])?;
+            bytes.push(value)?;
+            bytes.extend_from_slice(&message[place + 1..])?;
+            all.push(bytes)?;
+        }
+    }
+    Ok(all)
+}
+
+/// The byte at a place, 0 past the end.
+pub(crate) fn byte(bytes: &[u8], place: usize) -> u8 {
+    bytes.get(place).copied().unwrap_or(0)
+}
+
+/// The number in two bytes from a place on, its lowest byte first.
+pub(crate) fn number16(bytes: &[u8], place: usize) -> usize {
+    let high = usize::from(byte(bytes, place.saturating_add(1)));
+    usize::from(byte(bytes, place)).saturating_add(high.saturating_mul(256))
+}
+
+/// The number in four bytes from a place on, its lowest byte first.
+pub(crate) fn number32(bytes: &[u8], place: usize) -> usize {
+    let high = number16(bytes, place.saturating_add(2));
+    number16(bytes, place).saturating_add(high.saturating_mul(65536))
+}
+
+/// The code of the first cause that applies, and "read" where none does.
+pub(crate) fn first(causes: &[(&'static str, bool)]) -> &'static str {
+    for (code, applies) in causes {
+        if *applies {
+            return code;
+        }
+    }
+    "read"
+}
