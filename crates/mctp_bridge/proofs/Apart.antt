@@ -1,4 +1,5 @@
--- Rows that lie apart still do in another order, and in the order of their first endpoint IDs each lies below all later ones.
+-- Rows that lie apart still do in another order, and in the order of their first endpoint IDs each lies below all later
+-- ones.
 use Rattle.std.proofs.Common.{◌≡◌, ◌≢◌, ℕ, ◌+◌, ◌<◌, ◌≤◌, List, length, get_or, cond, refl, ap, ◌∙◌, inl, inr, arith}
 use Rattle.std.proofs.Math.Dec.{eqb}
 use Rattle.std.proofs.lemmas.Bool.Decides.{nat_tests, eqb_tells}

@@ -17,7 +17,7 @@ IsFirstAt rows place P = AreLawful (take place rows) × IsAt rows place P
 abbrev pub IsFirstOverlap : List Row → Row → ℕ → Type 0
 IsFirstOverlap rows row place = IsAt rows place (λ other. ¬ AreApart row other) × All (AreApart row) (take place rows)
 
--- The first row that is not lawful or shares an EID with an earlier one, and its first cause. Want of memory is told of
+-- The first row that is not lawful or shares an EID with an earlier one, and its first cause. Out of memory is told of
 -- lawful rows only.
 abbrev pub IsFirstFault : List Row → TableFault → Type 0
 IsFirstFault rows (Empty place) = IsFirstAt rows place IsEmpty
@@ -26,7 +26,7 @@ IsFirstFault rows (Overlap place earlier) =
     IsFirstAt rows place (λ row. ¬ IsEmpty row × ¬ IsOutside row × IsFirstOverlap (take place rows) row earlier)
 IsFirstFault rows Memory = AreLawful rows
 
--- the code that users see; want of memory has none
+-- the code that users see; out of memory has none
 abbrev pub table_code : TableFault → Option (List ℕ)
 table_code (Empty place) = Some (codes "B01")
 table_code (Outside place) = Some (codes "B02")

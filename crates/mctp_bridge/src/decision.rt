@@ -64,8 +64,8 @@ impl Obstacle {
     }
 }
 
-/// What the node does with a packet of this header: it takes it where it holds the destination; else it drops it where the
-/// destination can't be held, or where it is no bridge and the packet isn't its own, or where it has no row for the
+/// What the node does with a packet of this header: it takes it where it holds the destination; else it drops it where
+/// the destination can't be held, or where it is no bridge and the packet isn't its own, or where it has no row for the
 /// destination; else it sends it along that row's hop.
 pub fn decide(node: &Node, progress: Progress, header: &Header) -> Decision
     ensures { IsDecided node.now.eid.value node.now.kind node.now.table.now progress header.now.destination.value result }

@@ -17,7 +17,8 @@ pub const MAX_TAKEN: usize = 248;
 const NO_MORE: u8 = 0xff;
 
 /// A reader of a bridge's routing table (DSP0236, Get Routing Table Entries): it asks for the entries from a handle on,
-/// takes the answer, and goes on with the handle that the answer gives. It takes memory when it is made, and none later.
+/// takes the answer, and goes on with the handle that the answer gives. It takes memory when it is made, and none
+/// later.
 #[derive(Debug, Drop)]
 pub struct EntryReader {
     entries: Vec<RouteEntry>,
@@ -75,8 +76,8 @@ impl EntryReader {
         }
     }
 
-    /// Takes the bytes of an answer: true where the table is complete with it. However long the peer answers, 248 answers
-    /// are taken at most.
+    /// Takes the bytes of an answer: true where the table is complete with it. However long the peer answers, 248
+    /// answers are taken at most.
     pub fn take(&mut self, answer: &[u8]) -> Result<bool, ReadFault>
         ensures takes { Takes (reader_state self.old) answer.now result (reader_state self.new) }
         ensures memory { reader_memory self.new ≡ reader_memory self.old }

@@ -5,7 +5,7 @@ ghost use Rattle.mctp_bridge.specs.Rows.{IsTable};
 ghost use Rattle.mctp_bridge.specs.Pieces.{PieceValue, ArePieces};
 ghost use Rattle.mctp_bridge.specs.Reads.{EveryReadingCollects, AsksWhatIsDue, EveryReplyIsTaken};
 
-/// A table makes one list of pieces of an interval.
+/// A table cuts an interval into one list of pieces only.
 pub fn one_list_of_pieces()
     ensures { (rows : List Row) (first last : ℕ) (pieces others : List PieceValue) → IsTable rows
         → ArePieces rows first last pieces → ArePieces rows first last others → pieces ≡ others }
@@ -21,8 +21,8 @@ pub fn asks_what_is_due()
     ensures { AsksWhatIsDue }
 {}
 
-/// A bridge replies to each request of an entry reader. The reader takes the reply without a fault, and has the whole table
-/// with the last.
+/// A bridge replies to each request of an entry reader. The reader takes the reply without a fault, and has the whole
+/// table with the last.
 pub fn every_reply_is_taken()
     ensures { EveryReplyIsTaken }
 {}

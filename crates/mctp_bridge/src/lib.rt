@@ -1,5 +1,5 @@
-//! What an MCTP bridge decides by (DSP0236): its routing table, where it sends a packet, and the routing table entries that
-//! tell others of it.
+//! What an MCTP bridge decides by (DSP0236): its routing table, where it sends a packet, and the routing table entries
+//! that tell others of it.
 #![tactic(auto)]
 
 mod decision;

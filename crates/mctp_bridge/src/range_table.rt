@@ -15,8 +15,8 @@ use mctp_transport::Eid;
 use std::alloc::{AllocError, Global};
 use std::marker::Model;
 
-/// A lawful routing table: its rows in the order of their first endpoint IDs. Each row covers an endpoint ID, all that it
-/// covers can be held, and no two rows share one.
+/// A lawful routing table: its rows in the order of their first endpoint IDs. Each row covers an endpoint ID, all that
+/// it covers can be held, and no two rows share one.
 #[derive(Debug, Drop)]
 pub struct RangeTable {
     rows: Vec<Row>,
@@ -54,8 +54,8 @@ impl RangeTable {
         next_in(&self.rows, eid)
     }
 
-    /// The interval from `first` to `last`, both included, in pieces: one for each row that covers some of it, cut to it,
-    /// and one for each gap that no row covers.
+    /// The interval from `first` to `last`, both included, in pieces: one for each row that covers some of it, cut to
+    /// it, and one for each gap that no row covers.
     pub fn pieces(&self, first: Eid, last: Eid) -> Pieces<'_>
         requires { first.value ≤ last.value }
         ensures { ArePieces self.now first.value last.value result }

@@ -4,8 +4,8 @@ ghost use Rattle.std.specs.Prelude.{◌≡◌};
 use std::error::Error;
 use std::fmt;
 
-/// Why an answer brings an entry reader no further. They are tested in the order E05, E02 (nothing asked), E01, E02 (another
-/// instance ID), E03, E04.
+/// Why an answer brings an entry reader no further. They are tested in the order E05, E02 (nothing asked), E01, E02
+/// (another instance ID), E03, E04.
 #[derive(Clone, Copy, Debug, PartialEq, Eq)]
 pub enum ReadFault {
     /// E01: the bytes are no success answer of Get Routing Table Entries. The reader has failed.

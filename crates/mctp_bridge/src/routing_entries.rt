@@ -26,9 +26,10 @@ pub struct Neighbor<'a> {
 
 /// The entries of a table, row after row. A neighbor is given for each row, in the table's order.
 ///
-/// A row to an endpoint gives one entry of kind `Endpoint`. A row to a bridge is cut before the bridge's own endpoint ID, if
-/// that lies in it: what comes before gives an entry of kind `Range`, and what begins with it one of kind `Bridge` where
-/// it is alone, else `BridgeAndRange`. Any other row gives one entry of kind `Range`. No entry is static.
+/// A row to an endpoint gives one entry of kind `Endpoint`. A row to a bridge is cut before the bridge's own endpoint
+/// ID, if that lies in it: what comes before gives an entry of kind `Range`, and what begins with it one of kind
+/// `Bridge` where it is alone, else `BridgeAndRange`. Any other row gives one entry of kind `Range`. No entry is
+/// static.
 pub fn route_entries(
     alloc: Global,
     table: &RangeTable,

@@ -4,7 +4,8 @@ use std::alloc::AllocError;
 use std::error::Error;
 use std::fmt;
 
-/// Why rows make no routing table. The first row with a fault is told, by its place, and of its faults the first of these.
+/// Why rows make no routing table. The first row with a fault is told, by its place, and of its faults the first of
+/// these.
 #[derive(Clone, Copy, Debug, PartialEq, Eq)]
 pub enum TableFault {
     /// B01: the row covers no endpoint ID.
@@ -32,7 +33,7 @@ impl TableFault {
     ghost use Rattle.std.specs.Prelude.{◌≡◌, option_map};
     ghost use Rattle.mctp_bridge.specs.RowFaults.{table_code};
 
-    /// The code that users see, as `B01`; none for want of memory.
+    /// The code that users see, as `B01`; none where memory ran out.
     pub fn code(self) -> Option<&'static str>
         ensures { option_map (λ code. code.now) result ≡ table_code self }
     {

@@ -87,8 +87,8 @@ CommandReplies d bus table (AllocatesEids operation reserved size first) content
 CommandReplies d bus table (GetsEntries handle) content new = EntriesReplies table handle content × (new ≡ d)
 
 -- The device replies to the body that comes over the bus, with this routing table, and is new afterwards: not at all
--- to what wants no response; with code 5 to a command that it doesn't support; with code 3 to a wrong length; else as
--- the request's command asks for.
+-- to what asks for no response; with code 5 to a command that it doesn't support; with code 3 to a wrong length; else
+-- as the request's command asks for.
 pub record Replies (d : DeviceValue) (bus : ℕ) (table : List EntryValue) (body : List ℕ) (reply : Option (List ℕ))
     (new : DeviceValue) : Type 0 where
   pub silent : ¬ IsAsked body → (reply ≡ None) × (new ≡ d)

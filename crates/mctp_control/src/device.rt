@@ -64,7 +64,7 @@ impl Device {
         }
     }
 
-    /// A bridge that holds no EID and wants a pool of so many EIDs.
+    /// A bridge that holds no EID and wants a pool of `wants` EIDs.
     pub fn bridge(wants: u8) -> Self
         ensures { device_value result ≡ record { kind = DeviceKind.Bridge; eid = None; wants = wants; pool = None } }
     {
@@ -76,8 +76,8 @@ impl Device {
         }
     }
 
-    /// A device that was configured with an EID in 8 to 254 and, a bridge alone, with a pool, and wants that pool's size.
-    /// No bus gave them, so set and allocate are rejected, and force is accepted.
+    /// A device that was configured with an EID in 8 to 254. A bridge may have been configured with a pool as well, and
+    /// wants a pool of that size. No bus gave them, so set and allocate are rejected, and force is accepted.
     pub fn configured(kind: DeviceKind, eid: Eid, pool: Option<EidRange>) -> Self
         requires assignable { IsAssignable eid.value }
         requires pool { kind ≡ DeviceKind.Endpoint → pool ≡ None }
@@ -246,8 +246,10 @@ impl Device {
     }
 
     /// What the device answers to the body of a control message that comes over the bus, with the entries of its
-    /// routing table in order. None, and nothing changed, where the body has fewer than 3 bytes, byte 0 is not 0x00,
-    /// the Rq bit is clear or the D bit set: it asks for no response. The table has at most 254 entries.
+    /// routing table in order. The table has at most 254 entries.
+    ///
+    /// The answer is None, and nothing has changed, where the body asks for no response: it has fewer than 3 bytes,
+    /// byte 0 is not 0x00, the Rq bit is clear or the D bit set.
     pub fn answer(
         &mut self,
         bus: u8,

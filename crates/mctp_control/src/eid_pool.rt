@@ -16,7 +16,7 @@ impl EidPool {
     ghost use Rattle.mctp_control.specs.Ranges.{IsAssignableRange};
     ghost use Rattle.mctp_control.specs.Pools.{pool_value, IsOut, IsFree, IsFreeRun, IsLowestFree, IsLowestRun, GoesOut, ComesBack};
 
-    /// A pool of so many EIDs from this one on, none of which is out. `EidRange::of` says whether they can be a pool.
+    /// A pool of `size` EIDs from `first` on, none of which is out. `EidRange::of` says whether they can be a pool.
     pub fn new(first: Eid, size: u8) -> Self
         requires { IsAssignableRange first.value size }
         ensures first { (pool_value result).first ≡ first.value }
@@ -38,7 +38,7 @@ impl EidPool {
         self.take_block(1)
     }
 
-    /// Gives out the lowest run of so many free EIDs, if there is one, and answers its first EID.
+    /// Gives out the lowest run of `count` free EIDs, if there is one, and answers the first of them.
     pub fn take_block(&mut self, count: u8) -> Option<Eid>
         requires { 0 < count }
         ensures some { IfSome result (λ eid. IsLowestRun (pool_value self.old) count eid.value × GoesOut (pool_value self.old) (pool_value self.new) eid.value count) }

@@ -17,7 +17,7 @@ pub struct EidRange {
 impl EidRange {
     ghost use Rattle.mctp_control.specs.Ranges.{IsAssignableRange, IsWithin};
 
-    /// So many EIDs from this one on; None where there are none, or one of them is not in 8 to 254.
+    /// `size` EIDs from `first` on. None where `size` is 0, or one of them is not in 8 to 254.
     pub fn of(first: Eid, size: u8) -> Option<Self>
         ensures some { IfSome result (λ r. (r.first.value ≡ first.value) × (r.size ≡ size)) }
         ensures none { (result ≡ None) ↔ ¬ IsAssignableRange first.value size }

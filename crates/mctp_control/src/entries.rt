@@ -42,7 +42,7 @@ fn first_entry(bytes: &[u8]) -> Option<(RouteEntry, &[u8])>
 impl Entries {
     ghost use Rattle.mctp_control.specs.EntriesValue.{entries_of};
 
-    /// So many entries that the bytes are, all of them.
+    /// The `count` entries that the bytes are, all of them.
     pub(crate) fn read(count: u8, bytes: &[u8]) -> Option<Self>
         requires { length bytes.now ≤ 58 }
         ensures some { IfSome result (λ v. SpellsEntries (entries_of v) bytes.now × (length (entries_of v) ≡ count)) }

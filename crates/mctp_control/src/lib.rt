@@ -1,5 +1,5 @@
-//! MCTP control messages (DSP0236, "MCTP control messages"): the four commands that give out endpoint IDs and routes, the devices
-//! that answer them, and pools of endpoint IDs.
+//! MCTP control messages (DSP0236, "MCTP control messages"): the four commands that give out endpoint IDs and routes,
+//! the devices that answer them, and pools of endpoint IDs.
 #![tactic(auto)]
 
 mod control_error;

@@ -1,4 +1,5 @@
-//! The operations of requests (DSP0236, "Set Endpoint ID" and "Allocate Endpoint IDs"): the first byte after the command.
+//! The operations of requests (DSP0236, "Set Endpoint ID" and "Allocate Endpoint IDs"): the first byte after the
+//! command.
 ghost use Rattle.std.specs.Prelude.{◌≡◌, ◌<◌};
 
 /// What Set Endpoint ID does: bits 1 and 0 of its first byte.

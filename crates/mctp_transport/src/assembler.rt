@@ -38,7 +38,7 @@ pub enum Fed<'a> {
 /// packet of its key is dropped, another first packet of its key comes, or its time is up.
 ///
 /// The contracts speak of histories, the lists of all packets and all expiries that an assembler may have been
-/// given: `StandsFor` says which histories fit what it holds, and each answer is told by what a history says.
+/// given. `StandsFor` says which histories fit what it holds, and each answer follows from such a history.
 #[derive(Debug, Drop)]
 pub struct Assembler {
     slots: Vec<Option<OpenMessage>>,
@@ -103,9 +103,9 @@ impl Assembler {
 
     /// Takes a packet in. Its destination isn't looked at, and no memory is taken.
     ///
-    /// A whole message is lent until the next call. The bytes of a packet that is a message by itself are the
-    /// packet's own, and it needs no slot. A packet that starts a message ends an open one of its key first, also
-    /// where it is dropped itself.
+    /// A whole message is lent until the next call. A packet that is a message by itself needs no slot, and its own
+    /// bytes are lent. A packet that starts a message first ends an open one of its key, even where it is dropped
+    /// itself.
     pub fn feed<'a>(&'a mut self, packet: PacketView<'a>) -> Fed<'a>
         ensures* ends { sem 𝓛 (EndsAs self.entry (Feeds self.old (frame_of packet.entry) (answer_of result))) }
         ensures hears { (h : History) → StandsFor self.old h

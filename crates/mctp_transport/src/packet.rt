@@ -16,9 +16,9 @@ pub const BASELINE_UNIT: usize = 64;
 /// The largest transmission unit, in payload bytes.
 pub const MAX_UNIT: usize = 1024;
 
-/// A packet's header of four bytes (DSP0236, section 8.1): byte 0 has the reserved bits (7 to 4) and the header version,
-/// which is 1 and not kept; byte 1 is the destination, byte 2 the source; byte 3 has SOM (bit 7), EOM (6), the sequence
-/// number (5 and 4), the tag owner (3) and the tag (2 to 0).
+/// A packet's header of four bytes (DSP0236, section 8.1): byte 0 has the reserved bits (7 to 4) and the header
+/// version, which is 1 and not kept; byte 1 is the destination, byte 2 the source; byte 3 has SOM (bit 7), EOM (6), the
+/// sequence number (5 and 4), the tag owner (3) and the tag (2 to 0).
 #[derive(Clone, Copy, Debug, PartialEq, Eq)]
 pub struct Header {
     pub reserved: Reserved,
@@ -145,7 +145,7 @@ impl<'a> PacketView<'a> {
         len
     }
 
-    /// What the packet's message is told by.
+    /// The key of the packet's message.
     pub fn key(&self) -> Key
         ensures { key_value result ≡ key_of (frame_of self.now) }
     {

@@ -23,7 +23,8 @@ none_placed zero j o is = absurd (none-some o is)
 none_placed (suc n) zero o is = sym (same_Some None o is)
 none_placed (suc n) (suc j) o is = none_placed n j o is
 
--- Places given to the records that are fewer than so many moves from the end; the next to get one are those with the next handle.
+-- Places given to the records that are fewer than so many moves from the end; the next to get one are those with the
+-- next handle.
 pub record AreFromTheEndBelow (records : List Record) (count next : ℕ) (places : List (Option ℕ)) : Type 0 where
   pub long : length places ≡ length records
   pub given : (j place : ℕ) → slice_get places j ≡ Some (Some place) → (d : ℕ) × (place + 1 + d ≡ length records) × EndsAfter (IsFollowedBy records) j d

@@ -1,5 +1,5 @@
--- One exchange, from a network at rest to a network at rest: the walker asks, its request and the answer are moved until they
--- have come, and it takes the answer.
+-- One exchange, from a network at rest to a network at rest: the walker asks, its request and the answer are moved
+-- until they have come, and it takes the answer.
 use Rattle.std.proofs.Common.{◌≡◌, ◌≢◌, ℕ, ◌+◌, ◌<◌, ◌≤◌, not, ◌&&◌, nat_eq, true, false, List, [], ◌∷◌, ◌++◌, length, Option, Some, None, Ok, Err, refl, sym, ap, ◌∙◌, inl, inr, arith}
 use Rattle.std.specs.Prelude.{All, sum_by}
 use Rattle.std.proofs.lemmas.Bool.{cases_order}

@@ -1,5 +1,5 @@
--- The packets of a message come one after another at a node where no key is open: all but the last open its key, and with
--- the last the message comes, and no key is open again.
+-- The packets of a message come one after another at a node where no key is open: all but the last open its key, and
+-- with the last the message comes, and no key is open again.
 use Rattle.std.proofs.Common.{◌≡◌, ◌≢◌, ℕ, ◌+◌, ◌≤◌, true, false, List, [], ◌∷◌, ◌++◌, length, refl, sym, ap, ◌∙◌, subst, inl, inr, arith, length-append}
 use Rattle.std.proofs.lemmas.List.Elements.{All-head}
 use Rattle.mctp_transport.specs.Frames.{Frame, KeyValue, key_of}

@@ -30,7 +30,7 @@ pub record EndedBy {A : Type 0} (past : A → ℕ) (items : List A) (e count : �
 abbrev pub DoRowsFollow : Plan → ℕ → Bool → Type 0
 DoRowsFollow plan n follow = IsTrue follow → RowsFollow (rows_of plan n)
 
--- the same of the plan after, if there is one
+-- if it is told so, the rows of n follow one another in the plan after, if there is one
 abbrev pub DoNewRowsFollow : Plans → ℕ → Bool → Type 0
 DoNewRowsFollow plans n follow =
     (after : Plan) → option_map (λ a. a.now) plans.after ≡ Some after → DoRowsFollow after n follow

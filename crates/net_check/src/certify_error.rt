@@ -16,8 +16,7 @@ pub enum CertifyError {
     /// What is for this endpoint ID goes round (C10): the nodes from the first one on a circle, along their rows, back
     /// to itself, so that the first stands there twice. It is the least endpoint ID that goes round.
     Loop(Eid, Vec<usize>),
-    /// The next handles of the records of this node's terminus, the first such, do not lead through all of them once
-    /// (C14).
+    /// This node is the first whose terminus has records that the next handles do not lead through once each (C14).
     BadChain(usize, ChainFault),
     /// Memory ran out.
     OutOfMemory,

@@ -10,7 +10,8 @@ use mctp_transport::Eid;
 pub enum MoveRule {
     /// A rule of one plan and its certificate.
     OfPlan(Rule),
-    /// What another node holds a row leads to its holder, or to a bridge that has a row for it in both plans.
+    /// A row leads an endpoint ID that another node holds to a node that holds it, or to a bridge with a row for it in
+    /// both plans.
     M02,
     /// The certificate gives no level or place that the old plan has no use for, and no rank that neither plan has a
     /// use for.

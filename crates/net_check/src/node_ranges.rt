@@ -11,8 +11,8 @@ use net_plan::{Certificate, RankRange};
 use std::alloc::{AllocError, Global};
 use std::marker::Model;
 
-/// The ranges that give a node its ranks. Where each ends before the next one begins, as a text's and those of `certify` do,
-/// a rank is found by halving.
+/// The ranges that give a node its ranks. Where each ends before the next one begins, as a text's and those of
+/// `certify` do, a rank is found by halving.
 #[derive(Drop)]
 pub struct NodeRanges<'a> {
     ranges: &'a [RankRange],

@@ -12,8 +12,8 @@ use mctp_transport::Eid;
 use net_plan::{Plan, Row};
 use std::marker::Model;
 
-/// The rows of a node by each of the plans. Where each row ends before the next one begins, that of an endpoint ID is found
-/// by halving.
+/// The rows of a node by each of the plans. Where each row ends before the next one begins, that of an endpoint ID is
+/// found by halving.
 #[derive(Drop)]
 pub struct RowsInForce<'a> {
     plans: &'a Plans<'a>,
@@ -102,8 +102,8 @@ fn finds_row(plan: &Plan, node: usize, follow: bool, eid: Eid) -> bool
     }
 }
 
-/// The end of a stretch from the endpoint ID on for which the node has rows, or has none: by halving, where its rows are
-/// known to follow one another.
+/// The end of a stretch from the endpoint ID on for which the node has rows, or has none: by halving, where its rows
+/// are known to follow one another.
 fn finds_border(plan: &Plan, node: usize, follow: bool, eid: Eid) -> u16
     requires { DoRowsFollow plan.now node follow }
     ensures { IsStretch (HasRow plan.now node) eid.value result }

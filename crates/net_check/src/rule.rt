@@ -20,15 +20,15 @@ pub enum Rule {
     C06,
     /// A node's owner is a bridge that shares a bus with it, and is of a lower level.
     C07,
-    /// An owned node's endpoint ID lies in its owner's pool, and no node's lies in a pool of a bridge of the same
-    /// owner.
+    /// An owned node's endpoint ID lies in its owner's pool, and no node's endpoint ID lies in the pool of a bridge
+    /// with the same owner.
     C08,
-    /// Only a bridge has a pool, which is not empty, lies in 8 to 254 and in the pool of the bridge's owner, and apart
-    /// from those of earlier nodes of the same owner.
+    /// Only a bridge has a pool. The pool is not empty, lies in 8 to 254 and in the pool of the bridge's owner, and
+    /// shares nothing with the pools of earlier nodes of the same owner.
     C09,
     /// Along a row, the certified rank of each endpoint ID that the node does not hold falls.
     C10,
-    /// What another node holds a row leads to its holder, or to a bridge that has a row for it.
+    /// A row leads an endpoint ID that another node holds to a node that holds it, or to a bridge with a row for it.
     C11,
     /// A terminus has records, each with a handle that is not 0 and no earlier record's.
     C12,

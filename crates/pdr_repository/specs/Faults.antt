@@ -69,7 +69,7 @@ Judges room records before r p fault =
     (First (IsTooMuch room p) (fault ≡ Some TooMuch)
     (fault ≡ None))))))
 
--- the code that users see; want of memory has none
+-- the code that users see; out of memory has none
 abbrev pub code_of : WalkFault → Option (List ℕ)
 code_of FailedBefore = Some (codes "G11")
 code_of NotAsked = Some (codes "G03")

@@ -33,7 +33,8 @@ pub record IsLawful (records : List Entry) : Type 0 where
   pub handles : (i : ℕ) (e : Entry) → slice_get records i ≡ Some e → e.handle ≢ 0
   pub spelled : (i : ℕ) (e : Entry) → slice_get records i ≡ Some e → IsRecordOf e.handle e.bytes
 
--- the same of one place: the handle isn't 0 and no earlier record's, and the bytes are those of a record of that handle
+-- the record at a place is lawful: its handle isn't 0 and no earlier record's, and its bytes are those of a record of
+-- that handle
 abbrev pub IsLawfulAt : List Entry → ℕ → Type 0
 IsLawfulAt records place =
     (e : Entry) → slice_get records place ≡ Some e

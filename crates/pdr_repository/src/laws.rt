@@ -6,17 +6,17 @@ ghost use Rattle.pdr_repository.specs.LentParts.{OneLentPart};
 ghost use Rattle.pdr_repository.specs.Walks.{CollectsOnce, EveryWalkCollects};
 ghost use Rattle.pdr_repository.specs.Walkers.{EveryRequestIsAnswered};
 
-/// A list of bytes has one check byte.
+/// A list of bytes has one check byte only.
 pub fn one_check_byte()
     ensures { (bytes : List ℕ) (a b : ℕ) → IsCrc bytes a → IsCrc bytes b → a ≡ b }
 {}
 
-/// A request for a part of a record has one answer.
+/// Over a lawful list a request for a part of a record has one answer only.
 pub fn one_answer()
     ensures { OneAnswer }
 {}
 
-/// Over a lawful list a handle, an offset and a count have one part, or none.
+/// Over a lawful list one answer only is right when a part is lent: one part, or none.
 pub fn one_lent_part()
     ensures { OneLentPart }
 {}

@@ -18,7 +18,7 @@ pub trait Terminus: Drop {
     /// Writes the answer to the bytes of a request into `out` and says true. Where they are no PLDM request that is to
     /// be answered it says false, leaves `out` empty and changes nothing. It takes no memory.
     ///
-    /// Known are SetTID, GetTID and GetPLDMTypes (DSP0240) and GetPDR (DSP0248). Only SetTID changes the TID, and
+    /// It knows SetTID, GetTID and GetPLDMTypes (DSP0240) and GetPDR (DSP0248). Only SetTID changes the TID, and
     /// nothing changes the records.
     fn answer(&mut self, request: &[u8], out: &mut ArrayVec<u8, MAX_ANSWER>) -> bool
         ensures answered { Answers (tid self.old) (records self.old) request.now (answer_of result out.new.items) (tid self.new) }

@@ -17,8 +17,8 @@ pub enum Step {
 
 /// Why an answer was not taken. Where several causes apply, the first of these is answered.
 ///
-/// After G03 and want of memory the walker is as before. After any other fault it has failed, and it keeps the records
-/// that it had collected.
+/// After G03, G11 and out of memory the walker is as it was. After any other fault it has failed, and it keeps the
+/// records that it had collected.
 #[derive(Clone, Copy, Debug, PartialEq, Eq)]
 pub enum WalkFault {
     /// G11: the walker had failed before.
@@ -51,7 +51,7 @@ pub enum WalkFault {
 impl WalkFault {
     ghost use Rattle.pdr_repository.specs.Faults.{code_of};
 
-    /// The code that users see, as `G01`. Want of memory has none.
+    /// The code that users see, as `G01`. Out of memory has none.
     pub fn code(self) -> Option<&'static str>
         ensures { option_map (λ text. text.now) result ≡ code_of self }
     {

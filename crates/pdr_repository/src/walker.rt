@@ -261,8 +261,8 @@ impl Walker {
         }
     }
 
-    /// Makes room, so that the next `take` wants no memory, whatever bytes it is given: for a record more, and for as
-    /// many bytes of the record under way as are asked for. Where memory was refused, the walker stands for the same.
+    /// Makes room for one more record, and for as many bytes of the record under way as are asked for. So the next
+    /// `take` doesn't run out of memory, whatever bytes it is given. Where memory was refused, the walk is as before.
     pub fn reserve(&mut self) -> Result<(), AllocError>
         ensures state { state_of self.new ≡ state_of self.old }
         ensures room { OnOk result (HasRoom self.new) }
@@ -272,10 +272,10 @@ impl Walker {
         self.under_way.reserve(usize::from(self.count))
     }
 
-    /// Takes the bytes of an answer to the outstanding request. Want of memory is answered only where the room did not
+    /// Takes the bytes of an answer to the outstanding request. Out of memory is answered only where the room did not
     /// suffice for the part that they bring.
     ///
-    /// Against the answers of a terminus over a lawful list there is no fault but G09 and want of memory.
+    /// A terminus over a lawful list answers so that there is no fault but G09 and out of memory.
     pub fn take(&mut self, answer: &[u8]) -> Result<Step, WalkFault>
         ensures takes { Takes (state_of self.old) answer.now result (state_of self.new) }
         ensures tells { Tells result (state_of self.old) (state_of self.new) }

@@ -1,5 +1,5 @@
--- The commands that set and tell a terminus ID, and that which tells the PLDM types, with their answers (DSP0240,
--- messaging control and discovery).
+-- The commands that set a terminus ID, tell it, and tell the PLDM types, with their answers (DSP0240, messaging control
+-- and discovery).
 use Rattle.std.specs.Prelude.{◌≡◌, ℕ, ◌<◌, ◌≤◌, ◌/◌, ◌%◌, ◌^◌, List, [], ◌∷◌, length, slice_index}
 use Rattle.pldm_message.specs.declared.command.Command.TheVariants as command
 use Rattle.pldm_message.specs.Messages.{RequestMessage, AnswerMessage, IsRequest, IsAnswer, request_bytes, answer_bytes}

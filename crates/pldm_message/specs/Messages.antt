@@ -8,13 +8,13 @@ use Rattle.pldm_message.specs.declared.command.Command.{Command}
 use Rattle.pldm_message.specs.Commands.{type_of, command_byte}
 use Rattle.pldm_message.specs.Headers.{HeaderValue, header_bytes}
 
--- what a request's header says beside its command
+-- what a request's header says besides its command
 pub record RequestHeadValue : Type 0 where
   pub kind : RequestKind
   pub reserved : Bool
   pub instance : ℕ
 
--- what an answer's header says beside its command
+-- what an answer's header says besides its command
 pub record AnswerHeadValue : Type 0 where
   pub reserved : Bool
   pub instance : ℕ

@@ -68,7 +68,7 @@ pub record IsChecked (tail : List ℕ) (count flag : ℕ) (bytes : List ℕ) (cr
 abbrev pub part_length : List ℕ → ℕ
 part_length bytes = 11 + little_number 2 (drop 9 bytes) + check_length (slice_index bytes 8)
 
--- the same of an answer with completion code 0
+-- how long an answer with completion code 0 is, by the part in it
 abbrev pub part_answer_length : List ℕ → ℕ
 part_answer_length bytes = 5 + part_length (drop 5 bytes)
 

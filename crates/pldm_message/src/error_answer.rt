@@ -10,11 +10,11 @@ use crate::pldm_error::PldmError;
 use mctp_transport::Wire;
 
 /// The answer to a request that is not carried out, whatever its command is: the header and a completion code other
-/// than 0, 5 bytes (DSP0240, PLDM message fields). The commands that have messages here say the same by their own
-/// answers.
+/// than 0, 5 bytes (DSP0240, PLDM message fields). Where a command has an answer of its own here, that one can say the
+/// same.
 #[derive(Clone, Copy, Debug, PartialEq, Eq)]
 pub struct ErrorAnswer {
-    /// A response's.
+    /// The header, which is that of a response.
     pub header: PldmHeader,
     pub code: ErrorCode,
     pub ghost response: { header.kind ≡ kind.Response },
@@ -38,7 +38,8 @@ impl<'a> Wire<'a> for ErrorAnswer {
 
     ghost spelling = { error_answer_bytes };
 
-    /// The answer that the bytes are, all of them. A success has the wrong length here, since its own is its command's.
+    /// The answer that the bytes are, all of them. A success has the wrong length here: what follows its code depends
+    /// on the command.
     #[tactic(auto, using(crate::specs::ErrorAnswerLaws::one_error_answer))]
     fn read(bytes: &'a [u8]) -> Result<Self, PldmError>
         ensures ok { IfOk result (λ a. Spells IsErrorAnswer error_answer_bytes (error_answer a) bytes.now) }

@@ -1,4 +1,4 @@
-//! What the headers of requests and answers say beside their command, and the fronts of both.
+//! What the headers of requests and answers say besides their command, and the fronts of both.
 ghost use Rattle.std.specs.Prelude.{◌≡◌, ◌≤◌, ◌++◌, ◌∷◌, [], length, drop};
 
 use crate::command::Command;
@@ -12,7 +12,7 @@ use mctp_transport::Wire;
 /// The bytes of an answer up to its completion code, which is the last of them.
 pub const OUTCOME_LENGTH: usize = HEADER_LENGTH + 1;
 
-/// What a request's header says beside its command.
+/// What a request's header says besides its command.
 #[derive(Clone, Copy, Debug, PartialEq, Eq)]
 pub struct RequestHead {
     pub kind: RequestKind,
@@ -31,7 +31,7 @@ impl RequestHead {
     ghost use Rattle.pldm_message.specs.Heads.{request_head, request_of};
     ghost use Rattle.pldm_message.specs.Faults.{IsRequestOf, WantedFault};
 
-    /// Of a request that is to be answered, with the reserved bit clear.
+    /// The head of a request that is to be answered, with the reserved bit clear.
     pub fn new(instance: InstanceId) -> Self
         ensures { request_head result ≡ record { kind = RequestKind.Request; reserved = false; instance = instance.value } }
     {
@@ -87,7 +87,7 @@ impl RequestHead {
     }
 }
 
-/// What an answer's header says beside its command.
+/// What an answer's header says besides its command.
 #[derive(Clone, Copy, Debug, PartialEq, Eq)]
 pub struct AnswerHead {
     /// The header's reserved bit, as it was read.
@@ -105,7 +105,7 @@ impl AnswerHead {
     ghost use Rattle.pldm_message.specs.Heads.{answer_head, answer_of};
     ghost use Rattle.pldm_message.specs.Faults.{IsAnswerOf, MessageFault, answer_length};
 
-    /// The answer's head to a request with this instance ID, with the reserved bit clear.
+    /// The head of the answer to a request with this instance ID, with the reserved bit clear.
     pub fn new(instance: InstanceId) -> Self
         ensures { answer_head result ≡ record { reserved = false; instance = instance.value } }
     {

@@ -42,7 +42,7 @@ pub struct PldmHeader {
     pub reserved: bool,
     pub instance: InstanceId,
     pub pldm_type: PldmType,
-    /// Any byte. Which commands there are, depends on the PLDM type.
+    /// The command: any byte. Which commands there are depends on the PLDM type.
     pub command: u8,
     pub ghost in_range: { command < 256 },
 }
@@ -126,7 +126,7 @@ impl<'a> Wire<'a> for PldmHeader {
 
     ghost spelling = { header_bytes };
 
-    /// The header that the four bytes are. L04 is answered for more bytes, behind the causes of `front`.
+    /// The header that the four bytes are. Else the first cause of `front`, and L04 where there are more bytes.
     fn read(bytes: &'a [u8]) -> Result<Self, PldmError>
         ensures ok { IfOk result (λ h. Spells IsHeader header_bytes (header_value h) bytes.now) }
         ensures all { (m : HeaderValue) → Spells IsHeader header_bytes m bytes.now → IsOkAnd result (λ h. header_value h ≡ m) }

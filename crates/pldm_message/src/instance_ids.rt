@@ -4,7 +4,7 @@ ghost use Rattle.std.specs.Prelude.{◌≡◌, ◌<◌};
 use crate::instance::InstanceId;
 
 /// Which instance IDs a requester has given to requests that are under way, and which one it gave last (DSP0240, PLDM
-/// message fields). No ID is given twice before it was given back. Takes no memory.
+/// message fields). No ID is given again before it was given back. None of the calls takes memory.
 #[derive(Clone, Debug, Drop)]
 pub struct InstanceIds {
     out: [bool; 32],
@@ -16,7 +16,7 @@ impl InstanceIds {
     ghost use Rattle.pldm_message.specs.InstanceIds.{AreAllOut, IsNextFree, Gives, TakesBack, first_place};
     ghost use Rattle.pldm_message.specs.InstanceIdValues.{ids_of};
 
-    /// No ID is out, and none was given.
+    /// IDs of which none is out and none was given.
     pub fn new() -> Self
         ensures out { (id : ℕ) → (ids_of result).out id ≡ false }
         ensures last { (ids_of result).last ≡ None }
@@ -40,7 +40,7 @@ impl InstanceIds {
         Some(id)
     }
 
-    /// Takes an ID back, and says whether it was out. Where the next one is looked for does not change.
+    /// Takes an ID back, and says whether it was out. The next search still begins after the last ID given.
     pub fn give_back(&mut self, id: InstanceId) -> bool
         ensures was_out { result ≡ (ids_of self.old).out id.value }
         ensures back { TakesBack (ids_of self.old) id.value (ids_of self.new) }

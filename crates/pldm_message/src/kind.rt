@@ -39,7 +39,7 @@ pub enum RequestKind {
 impl RequestKind {
     ghost use Rattle.pldm_message.specs.Messages.{message_kind};
 
-    /// The same of a message that may be a response too.
+    /// The kind of the message: a request or a datagram.
     pub fn message_kind(self) -> MessageKind
         ensures { result ≡ message_kind self }
     {

@@ -4,7 +4,7 @@ ghost use Rattle.pldm_message.specs.declared.command.Command.{Command};
 ghost use Rattle.pldm_message.specs.declared.pldm_error.PldmError.{PldmError};
 ghost use Rattle.pldm_message.specs.Faults.{MessageFault, IsRequestOf, IsAnswerOf};
 
-/// Of each bytes there is one first fault at most, whether they are read as a request or as an answer.
+/// Any bytes have one first fault at most, whether they are read as a request or as an answer.
 #[tactic(auto, using(crate::proofs::FirstFaults::same_fault))]
 pub fn one_fault()
     ensures request { (c : Command) (long : ℕ) (bytes : List ℕ) (e f : Option PldmError) → MessageFault (IsRequestOf c bytes) long bytes e → MessageFault (IsRequestOf c bytes) long bytes f → e ≡ f }

@@ -17,12 +17,12 @@ const PART_NUMBERS: usize = 11;
 /// one check byte only where the flag is 4; numbers have their lowest byte first (DSP0248, GetPDR).
 #[derive(Clone, Copy, Debug)]
 pub struct PdrPart<'a> {
-    /// 0 behind the last record.
+    /// The handle of the record after this one, 0 where there is none.
     pub next_record: u32,
-    /// 0 behind the last part.
+    /// The handle of the record's next part, 0 where there is none.
     pub next_transfer: u32,
     pub flag: TransferFlag,
-    /// Fewer than 65536 bytes.
+    /// The bytes of the record, fewer than 65536.
     pub bytes: &'a [u8],
     /// The check byte over the whole record, where the flag is 4 and only there.
     pub check: Option<u8>,

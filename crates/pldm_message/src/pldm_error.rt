@@ -15,7 +15,7 @@ pub enum PldmError {
     Version,
     /// L05: Rq 0 with D 1, a pair that is reserved.
     ReservedKind,
-    /// L06: another PLDM type or command, or a response in place of a request or the other way round.
+    /// L06: another PLDM type or command, a response in place of a request, or a request in place of a response.
     OtherMessage,
     /// L04: more or fewer bytes than the message has.
     Length,

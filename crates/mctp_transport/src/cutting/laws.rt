@@ -4,7 +4,7 @@ ghost use Rattle.mctp_transport.specs.Frames.{Frame, KeyValue};
 ghost use Rattle.mctp_transport.specs.Messages.{Joined};
 ghost use Rattle.mctp_transport.specs.Cutting.{IsCut, ArePacketsOf};
 
-/// There is one way to cut a message, and one list of packets for it.
+/// A message is cut in one way only, and its cut makes one list of packets only.
 pub fn one_cut()
     ensures payloads { (unit : ℕ) (message : List ℕ) (ps qs : List (List ℕ))
         → IsCut unit message ps → IsCut unit message qs → ps ≡ qs }

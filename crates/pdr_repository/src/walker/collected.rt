@@ -7,8 +7,8 @@ ghost use Rattle.pdr_repository.specs.Handles.{AreHandlesOf};
 use super::pieces::handle_of;
 use std::alloc::{AllocError, Global};
 
-/// Records by place, and beside them their handles in ascending order, so that a handle is found by halving. The list of
-/// handles has at least as much room as that of the records.
+/// Records by place, and beside them their handles in ascending order, so that a handle is found by halving. The list
+/// of handles has at least as much room as that of the records.
 #[derive(Debug, Drop)]
 pub(crate) struct Collected {
     pub(crate) records: Vec<Vec<u8>>,
