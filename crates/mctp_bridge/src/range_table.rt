@@ -31,8 +31,8 @@ impl Model for RangeTable {
 }
 
 impl RangeTable {
-    /// The table of these rows. It answers the first fault of the rows in their order; `TableFault::Memory` only where
-    /// they have none.
+    /// The table of these rows. Where they have faults, the first one in their order is answered; `TableFault::Memory`
+    /// only where they have none.
     pub fn build(alloc: Global, rows: &[Row]) -> Result<Self, TableFault>
         ensures lawful { OnOk result (AreLawful rows.now) }
         ensures same { IfOk result (λ table. IsPermutation rows.now table) }

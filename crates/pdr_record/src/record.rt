@@ -49,10 +49,12 @@ impl<'a> Wire<'a> for Record<'a> {
 
     ghost spelling = { record_bytes };
 
-    /// The record that the bytes are, all of them; what it lends are slices of these. Else the first cause is answered
-    /// of these, in this order: D01 for fewer than 10 bytes, D02 for a header version other than 1, D03 for a data
-    /// length that is not the number of bytes behind the header, then by the body's fields in their order D04 where the
-    /// bytes end before a field does and D06 for a code that is not supported, and D05 for bytes behind the last field.
+    /// The record that the bytes are, all of them. What it lends are slices of these bytes.
+    ///
+    /// Else the first cause is answered, in this order: D01 for fewer than 10 bytes, D02 for a header version other than
+    /// 1, D03 for a data length that is not the number of bytes behind the header; then, by the body's fields in their
+    /// order, D04 where the bytes end before a field does and D06 for a code that is not supported; at last D05 for
+    /// bytes behind the last field.
     fn read(bytes: &'a [u8]) -> Result<Self, RecordError>
         ensures ok { IfOk result (λ r. Spells IsRecord record_bytes (record_value r) bytes.now) }
         ensures all { (m : RecordValue) → Spells IsRecord record_bytes m bytes.now → IsOkAnd result (λ r. record_value r ≡ m) }
