@@ -13,7 +13,7 @@ pub data Answer : Type 0 where
   Held : Answer
   Dropped : Why → Answer
 
--- a packet that starts nothing, of an open key, and what is said of the packets since the start
+-- the packet starts nothing, its key is open, and the packets since the key's last start have the property
 abbrev pub GoesOn : ℕ → ℕ → History → Frame → (List Frame → Type 0) → Type 0
 GoesOn slots limit history p P = (p.som ≡ false) × IsOpen slots limit history (key_of p)
     × ((ps : List Frame) × ArePackets (last_of history (key_of p)) ps × P ps)

@@ -14,7 +14,7 @@ pub data Input : Type 0 where
 abbrev pub History : Type 0
 History = List Input
 
--- what is said of each packet that arrived
+-- each packet that arrived has the property
 abbrev pub EachArrival : (Frame → Type 0) → History → Type 0
 EachArrival P [] = Unit {0}
 EachArrival P (Arrived p ∷ is) = P p × EachArrival P is

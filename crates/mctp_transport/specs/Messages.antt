@@ -6,23 +6,23 @@ use Rattle.mctp_transport.specs.Frames.{Frame, key_of}
 abbrev pub payloads_of : List Frame → List ℕ
 payloads_of ps = flat_map (λ p. p.payload) ps
 
--- what is said of each packet by its place in the list
+-- each packet has the property, at its place in the list
 abbrev pub EachPacket : List Frame → (ℕ → Frame → Type 0) → Type 0
 EachPacket ps P = (i : ℕ) (p : Frame) → slice_get ps i ≡ Some p → P i p
 
--- what is said of each packet and the one after it
+-- each packet and the one after it are so related
 abbrev pub EachNext : List Frame → (Frame → Frame → Type 0) → Type 0
 EachNext ps R = (i : ℕ) (p q : Frame) → slice_get ps i ≡ Some p → slice_get ps (i + 1) ≡ Some q → R p q
 
--- what is said of the first packet and each packet of the list
+-- the first packet and each packet of the list, at its place, are so related
 abbrev pub FirstAndEach : List Frame → (ℕ → Frame → Frame → Type 0) → Type 0
 FirstAndEach ps R = (i : ℕ) (p q : Frame) → slice_get ps 0 ≡ Some p → slice_get ps i ≡ Some q → R i p q
 
--- what is said of the first packet
+-- the first packet has the property
 abbrev pub AtFirst : List Frame → (Frame → Type 0) → Type 0
 AtFirst ps P = (p : Frame) → slice_get ps 0 ≡ Some p → P p
 
--- what is said of the last packet
+-- the last packet has the property
 abbrev pub AtLast : List Frame → (Frame → Type 0) → Type 0
 AtLast ps P = (i : ℕ) (p : Frame) → i + 1 ≡ length ps → slice_get ps i ≡ Some p → P p
 
