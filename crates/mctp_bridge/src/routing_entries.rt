@@ -93,7 +93,7 @@ fn push_bridge_entries(
     Ok(())
 }
 
-/// The kind of an entry of so many endpoint IDs that begins with the bridge's own.
+/// The kind of an entry of `size` endpoint IDs that begins with the bridge's own.
 fn kind_of_own(size: u8) -> EntryKind
     ensures { result ≡ own_kind size }
 {
@@ -104,7 +104,7 @@ fn kind_of_own(size: u8) -> EntryKind
     }
 }
 
-/// An entry of so many endpoint IDs along the row's hop.
+/// An entry of `size` endpoint IDs along the row's hop.
 fn run(row: &Row, next: &Neighbor, first: Eid, size: u8, kind: EntryKind) -> RouteEntry
     requires address { length next.now.address.now ≤ 8 }
     requires port { row.now.hop.port < 32 }

@@ -61,7 +61,7 @@ impl EidPool {
         was_out
     }
 
-    /// The first EID of the lowest run of so many free ones.
+    /// The first EID of the lowest run of `count` free ones.
     fn lowest_run(&self, count: u8) -> Option<Eid>
         requires { 0 < count }
         ensures some { IfSome result (λ eid. IsLowestRun (pool_value self.now) count eid.value) }

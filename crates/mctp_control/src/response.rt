@@ -136,7 +136,7 @@ impl Answer {
         }
     }
 
-    /// A part of a table: so many entries, which are all of the bytes.
+    /// A part of a table: `count` entries, which are all of the bytes.
     fn table(next: u8, count: u8, bytes: &[u8]) -> Result<Self, ControlError>
         ensures ok { IfOk result (λ v. IsAnswer (answer_value v) × (10 ∷ 0 ∷ next ∷ count ∷ bytes.now ≡ answer_bytes (answer_value v))) }
         ensures all { (m : AnswerValue) → IsAnswer m → 10 ∷ 0 ∷ next ∷ count ∷ bytes.now ≡ answer_bytes m → IsOkAnd result (λ v. answer_value v ≡ m) }

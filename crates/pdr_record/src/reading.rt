@@ -50,7 +50,7 @@ impl<'a> FieldReader<'a> {
         u32_of(self.bytes(4))
     }
 
-    /// So many bytes as they are.
+    /// `count` bytes as they are.
     pub fn bytes(&mut self, count: usize) -> &'a [u8]
         requires { count ≤ length self.old.rest.now }
         ensures count { length result.now ≡ count }

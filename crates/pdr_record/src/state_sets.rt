@@ -44,7 +44,7 @@ impl<'a> StateSets<'a> {
         Ok(state_sets)
     }
 
-    /// So many state sets at the front of the bytes, and the bytes behind them.
+    /// `count` state sets at the front of the bytes, and the bytes behind them.
     fn at_front(count: u8, bytes: &'a [u8]) -> Option<(StateSets<'a>, &'a [u8])>
         ensures field { IfSome result (λ parts. bytes.now ≡ followed (state_sets_fields (state_sets_value parts.0)) parts.1.now) }
         ensures count { IfSome result (λ parts. length (state_sets_value parts.0) ≡ count) }
@@ -126,7 +126,7 @@ impl<'a> Iterator for StateSetsIter<'a> {
     }
 }
 
-/// What follows so many state sets.
+/// What follows `count` state sets.
 fn rest_after(count: u8, bytes: &[u8]) -> Option<&[u8]>
     ensures { bytes_after result ≡ after_state_sets count bytes.now }
 {

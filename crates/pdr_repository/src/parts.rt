@@ -28,7 +28,7 @@ pub fn five_packets(unit: u16) -> u16
     (5 * unit - AROUND_PART).min(MAX_PART)
 }
 
-/// The bytes from an offset on: so many, or all that are left if they are fewer.
+/// The bytes from an offset on: `count` of them, or all that are left if they are fewer.
 pub(crate) fn cut(bytes: &[u8], offset: usize, count: usize) -> &[u8]
     requires { offset ≤ length bytes.now }
     ensures { result.now ≡ take (min count (length bytes.now - offset)) (drop offset bytes.now) }

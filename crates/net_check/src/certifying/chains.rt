@@ -166,7 +166,7 @@ fn places_from_the_end(
     Ok(places)
 }
 
-/// So many records without a place.
+/// `count` records without a place.
 fn no_places(alloc: Global, count: usize) -> Result<Vec<Option<usize>>, AllocError>
     ensures { IfOk result (λ places. places.items ≡ replicate count None) }
 {

@@ -8,7 +8,7 @@ use mctp_transport::Eid;
 use net_plan::{NodeRanks, RankRange};
 use std::alloc::{AllocError, Global};
 
-/// No ranges for each of so many nodes.
+/// No ranges for each of `count` nodes.
 pub fn no_ranges(alloc: Global, count: usize) -> Result<Vec<NodeRanks>, AllocError>
     ensures { IfOk result (λ given. AreNone count given.items) }
 {
@@ -72,7 +72,7 @@ fn precedes(range: &RankRange, eid: Eid, rank: u8) -> bool
     range.rank == rank && range_end(range) == u16::from(eid.value)
 }
 
-/// The range with so many endpoint IDs more at its end.
+/// The range with `more` endpoint IDs added at its end.
 fn longer(range: RankRange, more: u8) -> RankRange
     requires { range.first.value + range.size + more ≤ 255 }
     ensures first { result.first.value ≡ range.first.value }

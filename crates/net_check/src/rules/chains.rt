@@ -79,7 +79,7 @@ fn handles_in_order(
     Ok(Some(handles))
 }
 
-/// So many places without a handle.
+/// `count` places without a handle.
 fn no_handles(alloc: Global, count: usize) -> Result<Vec<Option<u32>>, AllocError>
     ensures { IfOk result (λ handles. handles.items ≡ replicate count None) }
 {
@@ -157,7 +157,7 @@ fn handles_by_place(
         .collect(alloc)
 }
 
-/// Whether the place is one of so many, and the next handle stands at the following place, or is 0 after the last one.
+/// Whether the place is below `count`, and the next handle stands at the following place, or is 0 after the last one.
 fn leads_on(handles: &BTreeSet<(u16, u32)>, count: usize, place: u16, next: u32) -> bool
     requires { place < 4096 }
     ensures { IsTrue result ↔ ((place < count) × (IsTrue (contains by_place_and_handle handles.now (place + 1, next)) ⊎ ((place + 1 ≡ count) × (next ≡ 0)))) }
