@@ -130,7 +130,7 @@ const RECORD_READ: [Row; 8] = [
     ),
 ];
 
-const LISTS: [&[Row]; 5] = [&TO_SSD, &AND_BACK, &COPIED_AND_LOST, &ENDS, &RECORD_READ];
+pub const LISTS: [&[Row]; 5] = [&TO_SSD, &AND_BACK, &COPIED_AND_LOST, &ENDS, &RECORD_READ];
 
 #[test]
 fn plays_step_by_step(rt: HostRuntime) -> Result<(), Fail> {
