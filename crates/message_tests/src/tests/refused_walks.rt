@@ -85,11 +85,8 @@ fn refused_walker_take(rt: HostRuntime) -> Result<(), Fail> {
     let mut walker = Walker::new(alloc, 20, 20, 1000)?;
     assert_eq!(rt; walk(alloc, &mut walker, &mut terminus), Ok(()));
     let wanted = records(alloc)?;
-    let are_equal = walker
-        .records()
-        .iter()
-        .zip(&wanted)
-        .all(|(record, wanted)| record.as_slice() == wanted.1.as_slice());
+    let are_equal = walker.records().iter().zip(&wanted).all(|(record, wanted)| record.as_slice()
+        == wanted.1.as_slice());
     assert!(rt; are_equal && (walker.records().len(), walker.taken()) == (20, 40));
     Ok(())
 }

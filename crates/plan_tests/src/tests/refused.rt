@@ -10,12 +10,10 @@ use super::riser::{CERTIFICATE, EVENTS, PLAN};
 use super::switching::{RANKS_OF_TWO_WAYS, TWO_WAYS};
 use super::{Changes, edited};
 use mctp_transport::Eid;
-use net_check::{
-    CertifyError, MoveError, MoveFault, MoveRule, Rule, certify, check, check_move,
-};
+use net_check::{CertifyError, MoveError, MoveFault, MoveRule, Rule, certify, check, check_move};
 use net_plan::{
-    Counted, Plan, PlanError, certificate_of_text, plan_of_text, read_certificate,
-    read_events, read_plan, write_certificate,
+    Counted, Plan, PlanError, certificate_of_text, plan_of_text, read_certificate, read_events,
+    read_plan, write_certificate,
 };
 use net_sim::assign;
 use std::alloc::{AllocError, Global};
@@ -45,7 +43,11 @@ fn is_plan(alloc: Global, text: &str, wanted: Option<PlanError>) -> bool {
 
 /// A text with its format twice, which is told once all of it is read.
 fn doubled(alloc: Global, text: &str) -> Result<String, Fail> {
-    edited(alloc, text, &[(r#"{"format":1,"#, r#"{"format":1,"format":1,"#)])
+    edited(
+        alloc,
+        text,
+        &[(r#"{"format":1,"#, r#"{"format":1,"format":1,"#)],
+    )
 }
 
 #[test]
@@ -100,7 +102,12 @@ fn refused_read_events(rt: HostRuntime) -> Result<(), Fail> {
 }
 
 /// Whether the check finds this fault, or none.
-fn is_found(alloc: Global, plan: &Plan, text: &str, wanted: &Option<FaultAt>) -> Result<bool, Fail> {
+fn is_found(
+    alloc: Global,
+    plan: &Plan,
+    text: &str,
+    wanted: &Option<FaultAt>,
+) -> Result<bool, Fail> {
     let certificate = certificate_of_text(alloc, plan, text.as_bytes())?;
     set_mark(alloc, Mark::Begins);
     let found = found(alloc, plan, &certificate);
@@ -117,7 +124,11 @@ fn refused_check(rt: HostRuntime) -> Result<(), Fail> {
     let plan = plan_of_text(alloc, PLAN.as_bytes())?;
     assert!(rt; is_found(alloc, &plan, CERTIFICATE, &None)?);
     // nic's rank for host's endpoint ID is no higher than riser's
-    let text = edited(alloc, CERTIFICATE, &[(r#"[{"first":8,"rank":2"#, r#"[{"first":8,"rank":1"#)])?;
+    let text = edited(
+        alloc,
+        CERTIFICATE,
+        &[(r#"[{"first":8,"rank":2"#, r#"[{"first":8,"rank":1"#)],
+    )?;
     assert!(rt; is_found(alloc, &plan, &text, &Some((Rule::C10, 2, Some(0), Some(8))))?);
     Ok(())
 }

@@ -54,12 +54,19 @@ fn run(alloc: Global, network: &mut Network, events: &[Event]) -> Result<Vec<Out
     let played = network.run(events);
     set_mark(alloc, Mark::Ends);
     let mut outcomes = match played {
-        Ok(Played { outcomes, stopped: false }) => return Ok(outcomes),
+        Ok(
+            Played {
+                outcomes,
+                stopped: false,
+            },
+        ) => return Ok(outcomes),
         Ok(Played { outcomes, .. }) => outcomes,
         Err(_) => Vec::new(alloc),
     };
     set_mark(alloc, Mark::Lacked);
-    let left = events.get(outcomes.len()..).ok_or("more outcomes than events")?;
+    let left = events
+        .get(outcomes.len()..)
+        .ok_or("more outcomes than events")?;
     if left.is_empty() {
         return Err(Fail::new("it stopped at no event"));
     }
@@ -133,7 +140,9 @@ fn exchange(alloc: Global, network: &mut Network, number: u32) -> Result<(), All
 }
 
 /// How much data each of 20 records has.
-const TWENTY: [u16; 20] = [0, 1, 2, 3, 4, 5, 6, 7, 8, 9, 10, 11, 12, 13, 14, 15, 16, 17, 18, 19];
+const TWENTY: [u16; 20] = [
+    0, 1, 2, 3, 4, 5, 6, 7, 8, 9, 10, 11, 12, 13, 14, 15, 16, 17, 18, 19,
+];
 
 /// Each record comes with one exchange, and all are there at the end.
 #[test]
@@ -154,7 +163,13 @@ fn refused_step_over_20_records(rt: HostRuntime) -> Result<(), Fail> {
         exchange(alloc, &mut network, number)?;
     }
     let outcome = step(alloc, &mut network, &Event::Collected { walker: 1 })?;
-    expect_told(&rt, &plan, &outcome, "collected", "collected 1 records 20 done")?;
+    expect_told(
+        &rt,
+        &plan,
+        &outcome,
+        "collected",
+        "collected 1 records 20 done",
+    )?;
     assert!(rt; has_collected(&network, 1, &records_of(alloc, &TWENTY)?));
     Ok(())
 }
@@ -215,10 +230,7 @@ const SWITCHED: [Row; 9] = [
     (MOVE_1, "moved 1 to left hops 1"),
     (SWITCH_HOST, "switched host"),
     (MOVE_1, "moved 1 to x hops 2"),
-    (
-        MOVE_1,
-        "whole 1 at x source 8 tag 3 owner 1 bytes 01800002",
-    ),
+    (MOVE_1, "whole 1 at x source 8 tag 3 owner 1 bytes 01800002"),
     (GET_TID_OF_NIC, "put 2 at host"),
     (MOVE_2, "moved 2 to right hops 1"),
     (SWITCH_HOST, "refused N07"),
