@@ -7,10 +7,10 @@ use net_sim::{Assignment, assign};
 use std::test::Fail;
 
 /// A request by the names of its bus and its node, and its bytes.
-type Asked = (&'static str, &'static str, &'static [u8]);
+pub type Asked = (&'static str, &'static str, &'static [u8]);
 
 /// The requests in their order: the riser's endpoint ID 16 and its pool of 7 from 17 on, then 17 and 18.
-const WANTED: [Asked; 4] = [
+pub const WANTED: [Asked; 4] = [
     ("b0", "riser", &[0, 0x80, 0x01, 0, 0x10]),
     ("b0", "riser", &[0, 0x80, 0x08, 0, 0x07, 0x11]),
     ("b1", "nic", &[0, 0x80, 0x01, 0, 0x11]),
@@ -36,7 +36,7 @@ fn asks(plan: &Plan, assignment: &Assignment, wanted: &Asked) -> bool {
 }
 
 /// Whether a list has just these requests.
-fn asks_all(plan: &Plan, list: &[Assignment], wanted: &[Asked]) -> bool {
+pub fn asks_all(plan: &Plan, list: &[Assignment], wanted: &[Asked]) -> bool {
     for (assignment, wanted) in list.iter().zip(wanted) {
         if !asks(plan, assignment, wanted) {
             return false;

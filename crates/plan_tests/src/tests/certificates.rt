@@ -32,7 +32,7 @@ pub fn has_ranges(given: &NodeRanks, node: usize, wanted: &[(u8, u8, u8)]) -> bo
     given.node == node && given.ranges.len() == wanted.len()
 }
 
-fn is_the_riser_certificate(certificate: &Certificate) -> bool {
+pub fn is_the_riser_certificate(certificate: &Certificate) -> bool {
     has_levels(certificate, &[(1, 1), (2, 2), (3, 2)])
         && certificate.places.len() == 1
         && is_one_place(&certificate.places[0], 2)

@@ -24,7 +24,7 @@ fn are_moves(events: &[Event], of: u32) -> bool {
 }
 
 /// Whether the events are a request of host to nic that goes on three times, is answered, and whose answer does.
-fn are_the_riser_events(events: &[Event]) -> bool {
+pub fn are_the_riser_events(events: &[Event]) -> bool {
     events.len() == 8
         && is_put(&events[0], 0, &[1, 17, 8, 203, 1, 128, 0, 2])
         && are_moves(&events[1..4], 1)

@@ -1,6 +1,7 @@
 //! Networks that are played from texts. A row is an event, as its text stands in a list of events, and what comes of it.
 use super::boxes::network_of;
 use super::exact::{expect_two_of_six, expect_whole_or_nothing};
+use super::refused_networks;
 use super::riser::{CERTIFICATE, NIC, PLAN};
 use super::rows::expect_refusals;
 use super::telling::told;
@@ -81,6 +82,10 @@ pub enum Scenario<'a> {
     Steps(&'a [Row]),
     /// Rows' events as one list.
     Run(&'a [Row]),
+    /// Rows' events one by one, each asked again where memory ran out.
+    RefusedSteps(&'a [Row]),
+    /// Rows' events as one list, of which what is left is asked again where memory ran out.
+    RefusedRun(&'a [Row]),
     /// Messages of five packets, in all orders.
     FivePackets,
     /// Six packets, of which the first and the last come.
@@ -148,6 +153,8 @@ fn play(
     match scenario {
         Scenario::Steps(rows) => expect_steps(rt, plan, network, rows),
         Scenario::Run(rows) => expect_run(rt, plan, network, rows),
+        Scenario::RefusedSteps(rows) => refused_networks::expect_steps(rt, plan, network, rows),
+        Scenario::RefusedRun(rows) => refused_networks::expect_run(rt, plan, network, rows),
         Scenario::FivePackets => expect_whole_or_nothing(rt, network),
         Scenario::SixPackets => expect_two_of_six(rt, network),
         Scenario::BeyondThePlan => expect_refusals(rt, network),

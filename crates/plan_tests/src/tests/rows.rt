@@ -130,7 +130,166 @@ const RECORD_READ: [Row; 8] = [
     ),
 ];
 
-const LISTS: [&[Row]; 5] = [&TO_SSD, &AND_BACK, &COPIED_AND_LOST, &ENDS, &RECORD_READ];
+/// A peer begins a message under each key that it has, and ends none. Another's is dropped until the time of one is over.
+const SIXTEEN_OPEN: [Row; 37] = [
+    (
+        r#"{"do":"put","node":"ssd","bytes":"0112088000"}"#,
+        "put 1 at ssd",
+    ),
+    (
+        r#"{"do":"move","flight":1,"keep":false}"#,
+        "held 1 at ssd source 8 tag 0 owner 0",
+    ),
+    (
+        r#"{"do":"put","node":"ssd","bytes":"0112088100"}"#,
+        "put 2 at ssd",
+    ),
+    (
+        r#"{"do":"move","flight":2,"keep":false}"#,
+        "held 2 at ssd source 8 tag 1 owner 0",
+    ),
+    (
+        r#"{"do":"put","node":"ssd","bytes":"0112088200"}"#,
+        "put 3 at ssd",
+    ),
+    (
+        r#"{"do":"move","flight":3,"keep":false}"#,
+        "held 3 at ssd source 8 tag 2 owner 0",
+    ),
+    (
+        r#"{"do":"put","node":"ssd","bytes":"0112088300"}"#,
+        "put 4 at ssd",
+    ),
+    (
+        r#"{"do":"move","flight":4,"keep":false}"#,
+        "held 4 at ssd source 8 tag 3 owner 0",
+    ),
+    (
+        r#"{"do":"put","node":"ssd","bytes":"0112088400"}"#,
+        "put 5 at ssd",
+    ),
+    (
+        r#"{"do":"move","flight":5,"keep":false}"#,
+        "held 5 at ssd source 8 tag 4 owner 0",
+    ),
+    (
+        r#"{"do":"put","node":"ssd","bytes":"0112088500"}"#,
+        "put 6 at ssd",
+    ),
+    (
+        r#"{"do":"move","flight":6,"keep":false}"#,
+        "held 6 at ssd source 8 tag 5 owner 0",
+    ),
+    (
+        r#"{"do":"put","node":"ssd","bytes":"0112088600"}"#,
+        "put 7 at ssd",
+    ),
+    (
+        r#"{"do":"move","flight":7,"keep":false}"#,
+        "held 7 at ssd source 8 tag 6 owner 0",
+    ),
+    (
+        r#"{"do":"put","node":"ssd","bytes":"0112088700"}"#,
+        "put 8 at ssd",
+    ),
+    (
+        r#"{"do":"move","flight":8,"keep":false}"#,
+        "held 8 at ssd source 8 tag 7 owner 0",
+    ),
+    (
+        r#"{"do":"put","node":"ssd","bytes":"0112088800"}"#,
+        "put 9 at ssd",
+    ),
+    (
+        r#"{"do":"move","flight":9,"keep":false}"#,
+        "held 9 at ssd source 8 tag 0 owner 1",
+    ),
+    (
+        r#"{"do":"put","node":"ssd","bytes":"0112088900"}"#,
+        "put 10 at ssd",
+    ),
+    (
+        r#"{"do":"move","flight":10,"keep":false}"#,
+        "held 10 at ssd source 8 tag 1 owner 1",
+    ),
+    (
+        r#"{"do":"put","node":"ssd","bytes":"0112088a00"}"#,
+        "put 11 at ssd",
+    ),
+    (
+        r#"{"do":"move","flight":11,"keep":false}"#,
+        "held 11 at ssd source 8 tag 2 owner 1",
+    ),
+    (
+        r#"{"do":"put","node":"ssd","bytes":"0112088b00"}"#,
+        "put 12 at ssd",
+    ),
+    (
+        r#"{"do":"move","flight":12,"keep":false}"#,
+        "held 12 at ssd source 8 tag 3 owner 1",
+    ),
+    (
+        r#"{"do":"put","node":"ssd","bytes":"0112088c00"}"#,
+        "put 13 at ssd",
+    ),
+    (
+        r#"{"do":"move","flight":13,"keep":false}"#,
+        "held 13 at ssd source 8 tag 4 owner 1",
+    ),
+    (
+        r#"{"do":"put","node":"ssd","bytes":"0112088d00"}"#,
+        "put 14 at ssd",
+    ),
+    (
+        r#"{"do":"move","flight":14,"keep":false}"#,
+        "held 14 at ssd source 8 tag 5 owner 1",
+    ),
+    (
+        r#"{"do":"put","node":"ssd","bytes":"0112088e00"}"#,
+        "put 15 at ssd",
+    ),
+    (
+        r#"{"do":"move","flight":15,"keep":false}"#,
+        "held 15 at ssd source 8 tag 6 owner 1",
+    ),
+    (
+        r#"{"do":"put","node":"ssd","bytes":"0112088f00"}"#,
+        "put 16 at ssd",
+    ),
+    (
+        r#"{"do":"move","flight":16,"keep":false}"#,
+        "held 16 at ssd source 8 tag 7 owner 1",
+    ),
+    (
+        r#"{"do":"put","node":"ssd","bytes":"0112098800"}"#,
+        "put 17 at ssd",
+    ),
+    (
+        r#"{"do":"move","flight":17,"keep":false}"#,
+        "dropped 17 at ssd source 9 tag 0 owner 1 A05",
+    ),
+    (
+        r#"{"do":"expire","node":"ssd","source":8,"tag":0,"owner":1}"#,
+        "expired ssd open",
+    ),
+    (
+        r#"{"do":"put","node":"ssd","bytes":"0112098800"}"#,
+        "put 18 at ssd",
+    ),
+    (
+        r#"{"do":"move","flight":18,"keep":false}"#,
+        "held 18 at ssd source 9 tag 0 owner 1",
+    ),
+];
+
+pub const LISTS: [&[Row]; 6] = [
+    &TO_SSD,
+    &AND_BACK,
+    &COPIED_AND_LOST,
+    &ENDS,
+    &RECORD_READ,
+    &SIXTEEN_OPEN,
+];
 
 #[test]
 fn plays_step_by_step(rt: HostRuntime) -> Result<(), Fail> {

@@ -1,4 +1,7 @@
 //! Reading and writing piece by piece, and failures in mid-stream.
+use super::certificates::is_the_riser_certificate;
+use super::events::are_the_riser_events;
+use super::plans::is_the_riser_network;
 use super::riser;
 use net_plan::{
     Certificate, Counted, Failed, Plan, PlanError, Sink, certificate_of_text, plan_of_text,
@@ -104,8 +107,8 @@ fn reads_one_byte_a_call(rt: HostRuntime) -> Result<(), Fail> {
     let certificate = read_certificate(alloc, &plan, &mut source)?;
     let mut source = Counted::new(one_byte_a_call(riser::EVENTS, 0));
     let events = read_events(alloc, &plan, &mut source)?;
-    let lengths = (plan.nodes.len(), certificate.ranks.len(), events.len());
-    assert_eq!(rt; lengths, (4, 4, 8));
+    assert!(rt; is_the_riser_network(&plan));
+    assert!(rt; is_the_riser_certificate(&certificate) && are_the_riser_events(&events));
     Ok(())
 }
 

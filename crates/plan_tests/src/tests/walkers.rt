@@ -24,7 +24,7 @@ fn record_of(alloc: Global, handle: u32, data: u16) -> Result<Vec<u8>, AllocErro
 }
 
 /// Records with handles from 1 on, and how much data each one has.
-fn records_of(alloc: Global, sizes: &[u16]) -> Result<Vec<(u32, Vec<u8>)>, AllocError> {
+pub fn records_of(alloc: Global, sizes: &[u16]) -> Result<Vec<(u32, Vec<u8>)>, AllocError> {
     let mut records = Vec::new(alloc);
     let mut handle: u32 = 0;
     for data in sizes {
@@ -35,7 +35,7 @@ fn records_of(alloc: Global, sizes: &[u16]) -> Result<Vec<(u32, Vec<u8>)>, Alloc
 }
 
 /// The terminus of nic, over a list of such records.
-fn terminus_with(alloc: Global, sizes: &[u16]) -> Result<Vec<Box<dyn Terminus>>, Fail> {
+pub fn terminus_with(alloc: Global, sizes: &[u16]) -> Result<Vec<Box<dyn Terminus>>, Fail> {
     let records = records_of(alloc, sizes)?;
     if !is_lawful_list(&records) {
         return Err(Fail::new("no lawful list"));

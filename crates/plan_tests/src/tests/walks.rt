@@ -578,7 +578,7 @@ const REFUSED: [Row; 18] = [
     ),
 ];
 
-const LISTS: [&[Row]; 9] = [
+pub const LISTS: [&[Row]; 9] = [
     &IN_ONE_PART,
     &AFTER_A_LOST_FLIGHT,
     &A_LATE_ANSWER,

@@ -1,0 +1,266 @@
+//! Networks in which any growth of memory may be refused. An event that is asked again then has the outcome that it has
+//! with ample memory. `tools/refuse-growths` refuses the growths one after another.
+use super::boxes::{moving_network_of, network_of};
+use super::losing::has_collected;
+use super::marks::{Mark, set_mark};
+use super::playing::{
+    Row, Scenario, certificate_of, events_of, expect_played, expect_told, plan_of, play_on,
+};
+use super::riser::{CERTIFICATE, HOST, NIC, PLAN};
+use super::riser_events::{GET_TID_OF_NIC, MOVE_1, MOVE_2};
+use super::switching::{RANKS_OF_TWO_WAYS, TWO_WAYS};
+use super::walkers::{records_of, terminus_with};
+use super::{edited, playing, rows, walks};
+use mctp_transport::{Eid, Tag};
+use net_check::{Checked, CheckedMove, check, check_move};
+use net_plan::{Event, Plan};
+use net_sim::{Network, Outcome, Played, planned_termini_count};
+use pdr_repository::Terminus;
+use std::alloc::{AllocError, Global};
+use std::process::Abort;
+use std::test::Fail;
+
+/// The outcome of an event. Where memory ran out, the event is asked again.
+fn step(alloc: Global, network: &mut Network, event: &Event) -> Result<Outcome, AllocError> {
+    set_mark(alloc, Mark::Begins);
+    let outcome = network.step(event);
+    set_mark(alloc, Mark::Ends);
+    if outcome.is_ok() {
+        return outcome;
+    }
+    set_mark(alloc, Mark::Lacked);
+    network.step(event)
+}
+
+/// Plays the rows' events one by one, and wants what their rows say.
+pub fn expect_steps(
+    rt: &(impl Abort + AllocGlobal),
+    plan: &Plan,
+    network: &mut Network,
+    rows: &[Row],
+) -> Result<(), Fail> {
+    let events = events_of(rt.alloc(), plan, rows)?;
+    assert_eq!(rt; events.len(), rows.len());
+    for (event, (text, wanted)) in events.iter().zip(rows) {
+        let outcome = step(rt.alloc(), network, event)?;
+        expect_told(rt, plan, &outcome, text, wanted)?;
+    }
+    Ok(())
+}
+
+/// The outcomes of a list of events. Where memory ran out, what is left is asked again.
+fn run(alloc: Global, network: &mut Network, events: &[Event]) -> Result<Vec<Outcome>, Fail> {
+    set_mark(alloc, Mark::Begins);
+    let played = network.run(events);
+    set_mark(alloc, Mark::Ends);
+    let mut outcomes = match played {
+        Ok(
+            Played {
+                outcomes,
+                stopped: false,
+            },
+        ) => return Ok(outcomes),
+        Ok(Played { outcomes, .. }) => outcomes,
+        Err(_) => Vec::new(alloc),
+    };
+    set_mark(alloc, Mark::Lacked);
+    let left = events
+        .get(outcomes.len()..)
+        .ok_or("more outcomes than events")?;
+    if left.is_empty() {
+        return Err(Fail::new("it stopped at no event"));
+    }
+    for outcome in network.run(left)?.outcomes {
+        outcomes.push(outcome)?;
+    }
+    Ok(outcomes)
+}
+
+/// Plays the rows' events as one list, and wants what their rows say.
+pub fn expect_run(
+    rt: &(impl Abort + AllocGlobal),
+    plan: &Plan,
+    network: &mut Network,
+    rows: &[Row],
+) -> Result<(), Fail> {
+    let events = events_of(rt.alloc(), plan, rows)?;
+    let outcomes = run(rt.alloc(), network, &events)?;
+    let stopped = false;
+    expect_played(rt, plan, &Played { outcomes, stopped }, rows)
+}
+
+#[test]
+fn refused_step(rt: HostRuntime) -> Result<(), Fail> {
+    for rows in rows::LISTS {
+        play_on(&rt, Scenario::RefusedSteps(rows))?;
+    }
+    Ok(())
+}
+
+#[test]
+fn refused_step_of_walkers(rt: HostRuntime) -> Result<(), Fail> {
+    for rows in walks::LISTS {
+        play_on(&rt, Scenario::RefusedSteps(rows))?;
+    }
+    Ok(())
+}
+
+#[test]
+fn refused_run(rt: HostRuntime) -> Result<(), Fail> {
+    for rows in rows::LISTS {
+        play_on(&rt, Scenario::RefusedRun(rows))?;
+    }
+    Ok(())
+}
+
+#[test]
+fn refused_run_of_walkers(rt: HostRuntime) -> Result<(), Fail> {
+    for rows in walks::LISTS {
+        play_on(&rt, Scenario::RefusedRun(rows))?;
+    }
+    Ok(())
+}
+
+/// Carries a flight over the three steps from host to nic, or back.
+fn carry(alloc: Global, network: &mut Network, flight: u32) -> Result<(), AllocError> {
+    let keep = false;
+    for _ in 0..3 {
+        step(alloc, network, &Event::Move { flight, keep })?;
+    }
+    Ok(())
+}
+
+/// Asks for a record and carries the request and its answer, which are flights in turn.
+fn exchange(alloc: Global, network: &mut Network, number: u32) -> Result<(), AllocError> {
+    let request = number.saturating_mul(2).saturating_add(1);
+    step(alloc, network, &Event::Ask { walker: 1 })?;
+    carry(alloc, network, request)?;
+    step(alloc, network, &Event::Answer { node: NIC })?;
+    carry(alloc, network, request.saturating_add(1))
+}
+
+/// How much data each of 20 records has.
+const TWENTY: [u16; 20] = [
+    0, 1, 2, 3, 4, 5, 6, 7, 8, 9, 10, 11, 12, 13, 14, 15, 16, 17, 18, 19,
+];
+
+/// Each record comes with one exchange, and all are there at the end.
+#[test]
+fn refused_step_over_20_records(rt: HostRuntime) -> Result<(), Fail> {
+    let alloc = rt.alloc();
+    let plan = plan_of(alloc, PLAN)?;
+    let certificate = certificate_of(alloc, &plan, CERTIFICATE)?;
+    let checked = check(alloc, &plan, &certificate)?;
+    let mut network = network_of(alloc, checked, terminus_with(alloc, &TWENTY)?)?;
+    let walk = Event::Walk {
+        node: HOST,
+        eid: Eid::new(17),
+        tag: Tag::new(2),
+        count: 32,
+    };
+    step(alloc, &mut network, &walk)?;
+    for number in 0..20u32 {
+        exchange(alloc, &mut network, number)?;
+    }
+    let outcome = step(alloc, &mut network, &Event::Collected { walker: 1 })?;
+    expect_told(
+        &rt,
+        &plan,
+        &outcome,
+        "collected",
+        "collected 1 records 20 done",
+    )?;
+    assert!(rt; has_collected(&network, 1, &records_of(alloc, &TWENTY)?));
+    Ok(())
+}
+
+/// The network of a checked plan; none where memory ran out.
+fn new<'a>(
+    alloc: Global,
+    checked: Checked<'a>,
+    termini: Vec<Box<dyn Terminus>>,
+) -> Result<Option<Network<'a>>, Fail> {
+    if termini.len() != planned_termini_count(checked.plan()) {
+        return Err(Fail::new("not one terminus for each node that has one"));
+    }
+    set_mark(alloc, Mark::Begins);
+    let made = Network::new(alloc, checked, termini);
+    set_mark(alloc, Mark::Ends);
+    if made.is_err() {
+        set_mark(alloc, Mark::Lacked);
+    }
+    Ok(made.ok())
+}
+
+#[test]
+fn refused_network_new(rt: HostRuntime) -> Result<(), Fail> {
+    let alloc = rt.alloc();
+    let plan = plan_of(alloc, PLAN)?;
+    let certificate = certificate_of(alloc, &plan, CERTIFICATE)?;
+    let checked = check(alloc, &plan, &certificate)?;
+    match new(alloc, checked, terminus_with(alloc, &TWENTY)?)? {
+        Some(mut network) => playing::expect_steps(&rt, &plan, &mut network, &rows::AND_BACK),
+        None => Ok(()),
+    }
+}
+
+/// The network of a checked move; none where memory ran out.
+fn new_move<'a>(
+    alloc: Global,
+    checked: CheckedMove<'a>,
+    termini: Vec<Box<dyn Terminus>>,
+) -> Result<Option<Network<'a>>, Fail> {
+    if termini.len() != planned_termini_count(checked.before()) {
+        return Err(Fail::new("not one terminus for each node that has one"));
+    }
+    set_mark(alloc, Mark::Begins);
+    let made = Network::new_move(alloc, checked, termini);
+    set_mark(alloc, Mark::Ends);
+    if made.is_err() {
+        set_mark(alloc, Mark::Lacked);
+    }
+    Ok(made.ok())
+}
+
+const SWITCH_HOST: &str = r#"{"do":"switch","node":"host"}"#;
+
+/// Host switches while a request is on its way, and then sends another.
+const SWITCHED: [Row; 9] = [
+    (GET_TID_OF_NIC, "put 1 at host"),
+    (MOVE_1, "moved 1 to left hops 1"),
+    (SWITCH_HOST, "switched host"),
+    (MOVE_1, "moved 1 to x hops 2"),
+    (MOVE_1, "whole 1 at x source 8 tag 3 owner 1 bytes 01800002"),
+    (GET_TID_OF_NIC, "put 2 at host"),
+    (MOVE_2, "moved 2 to right hops 1"),
+    (SWITCH_HOST, "refused N07"),
+    (MOVE_2, "moved 2 to x hops 2"),
+];
+
+/// The plan in which host goes by right.
+fn by_right(alloc: Global) -> Result<Plan, Fail> {
+    let text = edited(alloc, TWO_WAYS, &[(r#""left"}]"#, r#""right"}]"#)])?;
+    plan_of(alloc, &text)
+}
+
+#[test]
+fn refused_new_move(rt: HostRuntime) -> Result<(), Fail> {
+    let alloc = rt.alloc();
+    let (before, after) = (plan_of(alloc, TWO_WAYS)?, by_right(alloc)?);
+    let certificate = certificate_of(alloc, &before, RANKS_OF_TWO_WAYS)?;
+    let checked = check_move(alloc, &before, &after, &certificate)?;
+    match new_move(alloc, checked, Vec::new(alloc))? {
+        Some(mut network) => playing::expect_steps(&rt, &before, &mut network, &SWITCHED),
+        None => Ok(()),
+    }
+}
+
+#[test]
+fn refused_step_of_switches(rt: HostRuntime) -> Result<(), Fail> {
+    let alloc = rt.alloc();
+    let (before, after) = (plan_of(alloc, TWO_WAYS)?, by_right(alloc)?);
+    let certificate = certificate_of(alloc, &before, RANKS_OF_TWO_WAYS)?;
+    let checked = check_move(alloc, &before, &after, &certificate)?;
+    let mut network = moving_network_of(alloc, checked, Vec::new(alloc))?;
+    expect_steps(&rt, &before, &mut network, &SWITCHED)
+}
