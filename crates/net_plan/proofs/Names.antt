@@ -1,5 +1,5 @@
 -- Names in a list, and their places.
-use Rattle.std.proofs.Common.{◌≡◌, ℕ, suc, ◌+◌, ◌<◌, ◌||◌, drop, drop-cons, unwrap_or, List, [], ◌∷◌, ◌++◌, length, map, take, get_or, Bool, true, false, cond, if◌then◌else◌, Option, Some, None, option_map, is_some, refl, sym, ap, ◌∙◌, arith, add-one, true≢false}
+use Rattle.std.proofs.Common.{◌≡◌, ℕ, suc, ◌+◌, ◌<◌, ◌||◌, drop, drop-cons, unwrap_or, List, [], ◌∷◌, ◌++◌, length, map, take, get_or, Bool, true, false, cond, if◌then◌else◌, Option, Some, None, option_map, is_some, not, refl, sym, ap, ◌∙◌, arith, add-one, true≢false}
 use Rattle.std.proofs.lemmas.List.{take_more, map-append, length-map, length-take-le}
 use Rattle.std.specs.Option.{option_or}
 use Rattle.std.specs.Str.{bytes_eq}
@@ -29,15 +29,6 @@ place_of-take f items i x q within is =
     let more : map f (take (i + 1) items) ≡ map f (take i items) ++ f x ∷ [] = ap (map f) (take_more items i x within ∙ ap (λ y. take i items ++ y ∷ []) (sym is)) ∙ map-append f (take i items) (x ∷ []) in
     ap (λ ns. place_of ns q) more ∙ place_of-push (map f (take i items)) (f x) q ∙ ap (λ n. option_or (place_of (map f (take i items)) q) (if bytes_eq q (f x) then Some n else None)) few
 
--- a name that has a place keeps it
-pub noted_before : (find : List ℕ → Option ℕ) (name : List ℕ) (place : ℕ) (q : List ℕ) → is_some (find name) ≡ true → find q ≡ option_or (find q) (if bytes_eq q name then Some place else None)
-noted_before find name place q there = by (find q) (bytes_eq q name) refl refl
-  where
-    by : (o : Option ℕ) (b : Bool) → find q ≡ o → bytes_eq q name ≡ b → o ≡ option_or o (cond b (Some place) None)
-    by (Some p) b e d = refl
-    by None false e d = refl
-    by None true e d = absurd (true≢false (sym there ∙ ap (λ s. is_some (find s)) (sym ((bytes_eq-Decides q name).0 d)) ∙ ap is_some e))
-
 swapped : (b : Bool) (a c : List ℕ) → bytes_eq a c ≡ b → bytes_eq c a ≡ b
 swapped true a c e = (bytes_eq-Decides c a).1 (sym ((bytes_eq-Decides a c).0 e))
 swapped false a c e = by (bytes_eq c a) refl
@@ -54,6 +45,16 @@ noted_now find after name place q none e = e ∙ by (bytes_eq name q) (find q) r
     by : (b : Bool) (o : Option ℕ) → bytes_eq name q ≡ b → find q ≡ o → cond b (Some place) o ≡ option_or o (if bytes_eq q name then Some place else None)
     by true None d h = rw (swapped true name q d) refl
     by true (Some p) d h = absurd (true≢false (sym (ap is_some h) ∙ ap (λ s. is_some (find s)) (sym ((bytes_eq-Decides name q).0 d)) ∙ none))
+    by false None d h = rw (swapped false name q d) refl
+    by false (Some p) d h = refl
+
+-- a name that has a place is given it back
+pub noted_again : (find between after : List ℕ → Option ℕ) (name : List ℕ) (place before : ℕ) (q : List ℕ) → Some before ≡ find name → between q ≡ cond (bytes_eq name q) (Some place) (find q)
+    → after q ≡ cond (bytes_eq name q) (Some before) (between q) → after q ≡ option_or (find q) (if bytes_eq q name then Some place else None)
+noted_again find between after name place before q had e again = again ∙ ap (cond (bytes_eq name q) (Some before)) e ∙ by (bytes_eq name q) (find q) refl refl
+  where
+    by : (b : Bool) (o : Option ℕ) → bytes_eq name q ≡ b → find q ≡ o → cond b (Some before) (cond b (Some place) o) ≡ option_or o (if bytes_eq q name then Some place else None)
+    by true o d h = rw (sym (had ∙ ap find ((bytes_eq-Decides name q).0 d) ∙ h)) refl
     by false None d h = rw (swapped false name q d) refl
     by false (Some p) d h = refl
 
@@ -76,6 +77,14 @@ place_of-among (n ∷ ns) q = by (bytes_eq q n) (place_of ns q) (place_of-among 
     by true o e = refl
     by false None e = e
     by false (Some p) e = e
+
+pub was_there : (new there : Bool) → new ≡ not there → new ≡ false → there ≡ true
+was_there new true is old = refl
+was_there new false is old = absurd (true≢false (sym is ∙ old))
+
+pub was_new : (new there : Bool) → new ≡ not there → new ≡ true → there ≡ false
+was_new new false is fresh = refl
+was_new new true is fresh = absurd (true≢false (sym fresh ∙ is))
 
 -- one more name is not new
 pub not_new : (seen : List (List ℕ)) (n : List ℕ) (ns : List (List ℕ)) → is_among seen n ≡ true → are_new seen (n ∷ ns) ≡ false

@@ -24,7 +24,7 @@ pub struct Places<'a> {
 }
 
 impl<'a> Places<'a> {
-    ghost use Rattle.std.specs.Prelude.{◌≡◌, ℕ, List, map, IfOk, OnOk, None, Some, is_some, if◌then◌else◌};
+    ghost use Rattle.std.specs.Prelude.{◌≡◌, ℕ, List, map, IfOk, OnOk, None, Some, is_some, not, if◌then◌else◌};
     ghost use Rattle.std.specs.Option.{option_or};
     ghost use Rattle.std.specs.Str.{bytes_eq};
     ghost use Rattle.net_plan.specs.Names.{place_among, place_of};
@@ -56,25 +56,31 @@ impl<'a> Places<'a> {
         }
     }
 
-    /// Gives a name a place, if it has none.
-    fn note(&mut self, name: &'a str, place: usize) -> Result<(), AllocError>
+    /// Gives a name a place, if it has none, and tells whether it had none. A name that has none is hashed once.
+    fn note(&mut self, name: &'a str, place: usize) -> Result<bool, AllocError>
+        ensures first { IfOk result (λ first. first ≡ not (is_some (noted self.old name.now))) }
         ensures noted { OnOk result ((q : List ℕ) → noted self.new q ≡ option_or (noted self.old q) (if bytes_eq q name.now then Some place else None)) }
         ensures count { OnOk result (self.new.count ≡ self.old.count) }
     {
-        if self.by_name.contains_key(name) {
-            return Ok(());
-        }
         match self.by_name.insert(name, place) {
-            Ok(_) => Ok(()),
+            Ok(None) => Ok(true),
+            Ok(Some(had)) => {
+                self.put_back(name, had)?;
+                Ok(false)
+            }
             Err(_) => Err(AllocError),
         }
     }
 
-    /// Whether a name has a place.
-    fn holds(&self, name: &str) -> bool
-        ensures { result ≡ is_some (noted self.now name.now) }
+    /// Gives a name back the place that it had.
+    fn put_back(&mut self, name: &'a str, place: usize) -> Result<(), AllocError>
+        ensures noted { OnOk result ((q : List ℕ) → noted self.new q ≡ (if bytes_eq name.now q then Some place else noted self.old q)) }
+        ensures count { OnOk result (self.new.count ≡ self.old.count) }
     {
-        self.by_name.contains_key(name)
+        match self.by_name.insert(name, place) {
+            Ok(_) => Ok(()),
+            Err(_) => Err(AllocError),
+        }
     }
 
     /// The place of a name, if it has one.
@@ -108,11 +114,10 @@ pub fn names_differ<N: Naming>(
 {
     let mut places = Places::none(alloc, items.len());
     for (place, item) in items.iter().enumerate() {
-        let name = naming.name(item);
-        if places.holds(name) {
+        let is_new = places.note(naming.name(item), place)?;
+        if !is_new {
             return Ok(false);
         }
-        places.note(name, place)?;
     }
     Ok(true)
 }

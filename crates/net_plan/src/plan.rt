@@ -6,11 +6,11 @@ ghost use Rattle.net_plan.specs.Placed.{are_placed};
 use crate::nodes::{Bus, Node};
 use crate::references::are_placed;
 
-/// The transmission unit that all nodes support (DSP0236, the baseline transmission unit), in bytes.
-pub const BASELINE_UNIT: u16 = 64;
+/// The transmission unit of a plan that says none, in bytes, which all nodes support.
+pub const BASELINE_UNIT: u16 = mctp_transport::BASELINE_UNIT as u16;
 
 /// The largest transmission unit of a plan, in bytes.
-pub const LARGEST_UNIT: u16 = 1024;
+pub const LARGEST_UNIT: u16 = mctp_transport::MAX_UNIT as u16;
 
 /// A planned network. Its ports name its own buses; its rows and owners name its own nodes.
 #[derive(Debug, Drop)]

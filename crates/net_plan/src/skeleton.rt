@@ -334,29 +334,55 @@ fn placed(alloc: Global, nodes: &Places, parts: Vec<CutParts<'_>>) -> Option<Vec
     Some(list)
 }
 
-/// Rows that lead to nodes that have these places.
+/// Rows that lead to nodes that have these places. Rows that follow one another often lead to the same node, which is then
+/// looked up once.
 fn found_rows(alloc: Global, nodes: &Places, rows: Vec<NamedRow<'_>>) -> Option<Vec<Row>>
     ensures { IfSome result (λ v. map row_value v.items ≡ map (found_row (find_in nodes.now)) (map named_row rows.entry.items)) }
 {
     let mut list = Vec::new(alloc);
+    let mut last = None;
     let mut rest = rows.into_iter();
     'rows: while let Some(row) = rest.next() {
-        if list.push(found_row(nodes, &row)).is_err() {
+        let next = find_after(nodes, last, row.next);
+        last = Some(next);
+        if list.push(row_to(&row, next)).is_err() {
             return None;
         }
     }
     Some(list)
 }
 
-/// A row that leads to one of the nodes that have these places.
-fn found_row(nodes: &Places, row: &NamedRow<'_>) -> Row
-    ensures { row_value result ≡ found_row (find_in nodes.now) (named_row row.now) }
+/// A node's name that was looked up, and the node's place.
+#[derive(Clone, Copy)]
+struct FoundName<'t> {
+    name: &'t str,
+    place: usize,
+}
+
+/// Finds a name, unless it is the one that was found last.
+fn find_after<'t>(nodes: &Places, last: Option<FoundName<'t>>, name: &'t str) -> FoundName<'t>
+    requires { IfSome last (λ f. f.place ≡ find_in nodes.now f.name.now) }
+    ensures name { result.name.now ≡ name.now }
+    ensures place { result.place ≡ find_in nodes.now name.now }
+{
+    match last {
+        Some(found) if found.name == name => found,
+        _ => FoundName {
+            name,
+            place: nodes.find(name),
+        },
+    }
+}
+
+/// A row whose next node was found.
+fn row_to(row: &NamedRow<'_>, next: FoundName<'_>) -> Row
+    ensures { row_value result ≡ found_row (λ _. next.entry.place) (named_row row.now) }
 {
     Row {
         first: Eid::new(row.first),
         size: row.size,
         port: row.port,
-        next: nodes.find(row.next),
+        next: next.place,
     }
 }
 

@@ -1,5 +1,5 @@
 //! Where the bytes of a text come from, and where they go.
-ghost use Rattle.std.specs.Prelude.{◌≡◌, ℕ, ◌+◌, ◌^◌, ◌-◌, ◌<◌, ◌≤◌, List, length, take, drop, Option, IfOk, IfErr, OnOk, OnErr, vec_len};
+ghost use Rattle.std.specs.Prelude.{◌≡◌, ℕ, ◌+◌, ◌^◌, ◌-◌, ◌<◌, ◌≤◌, List, length, take, drop, Option, IfOk, IfErr, OnOk, OnErr, vec_len, vec_capacity};
 ghost use Rattle.std.specs.Io.{ReadsAtMost, WritesAtMost};
 ghost use Rattle.std.specs.Io.KnownBytes.{ReadConsumes, WriteAppends, Consumes, Appends, IsAtEnd};
 ghost use Rattle.net_plan.specs.Stream.{failure_count, TakesMoreThan, AppendsBeginning};
@@ -165,27 +165,28 @@ pub fn read_within<S: Source>(
     }
 }
 
-/// The least room for the bytes of a text.
-const FIRST_ROOM: usize = 4096;
+/// By how much a text grows at least. It doubles until it grows by `MOST_ROOM`, since what it grows by is filled first.
+const LEAST_ROOM: usize = 4096;
 
-/// Makes a text longer than what is filled of it, by zeros. It becomes twice as long, but no longer than a byte over the limit,
-/// by which it is known to be too long.
-fn make_room(text: &mut Vec<u8>, filled: usize, limit: usize) -> Result<(), TextFault>
-    requires { filled ≤ vec_len text.old }
+/// By how much a text grows at most.
+const MOST_ROOM: usize = 65_536;
+
+/// Makes a text longer than what is filled of it, by zeros, but no longer than a byte over the limit, by which it is known
+/// to be too long.
+fn make_room(text: &mut Vec<u8>, filled: usize, limit: usize) -> Result<(), AllocError>
+    requires front { filled ≤ vec_len text.old }
+    requires within { filled ≤ limit }
     ensures room { OnOk result (filled < vec_len text.new) }
     ensures front { OnOk result (take filled text.new.items ≡ take filled text.old.items) }
-    ensures fault { IfErr result (λ e. e ≡ TextFault.OutOfMemory) }
+    ensures full { OnErr result (vec_capacity text.old ≤ limit) }
 {
-    if filled < text.len() {
+    let len = text.as_slice().len();
+    if filled < len {
         return Ok(());
     }
-    let twice = filled.saturating_add(filled.max(FIRST_ROOM));
-    let longer = twice.min(limit.saturating_add(1));
-    if longer <= filled {
-        return Err(TextFault::OutOfMemory);
-    }
-    text.resize(longer, 0)?;
-    Ok(())
+    let more = filled.clamp(LEAST_ROOM, MOST_ROOM);
+    let most = (limit - filled).saturating_add(1);
+    text.resize(len + more.min(most), 0)
 }
 
 /// One pull, into a text's own memory from an index on.

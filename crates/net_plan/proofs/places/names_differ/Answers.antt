@@ -4,17 +4,17 @@ use Rattle.std.specs.Str.{bytes_eq}
 use Rattle.net_plan.specs.Json.{is_among}
 use Rattle.net_plan.specs.Names.{are_new}
 use Rattle.net_plan.specs.Places.{noted}
-use Rattle.net_plan.proofs.Names.{place_of-take, place_of-among, not_new, one_new, names_take, names_drop}
+use Rattle.net_plan.proofs.Names.{place_of-take, place_of-among, was_there, was_new, not_new, one_new, names_take, names_drop}
 use Rattle.net_plan.proofs.places.names_differ.Goals as goal
 
-pub returns-then-holds : goal.returns-then-holds
-returns-then-holds g c =
+pub returns-then-not-is_new : goal.returns-then-not-is_new
+returns-then-not-is_new g c =
     let f = g.N.Naming.name_of c.args.naming.now in
     let items = c.args.items.now in
     let i = c.loop-place.place in
     let x = c.index-items-place.result in
     let seen = map f (take i items) in
-    let among : is_among seen (f x) ≡ true = sym (place_of-among seen (f x)) ∙ ap is_some (sym (c.loop-place.invariant.0 (f x))) ∙ ap (λ q. is_some (noted c.loop-place.places q)) (sym c.name-name.ensures) ∙ sym c.holds.ensures ∙ c.if-holds.true in
+    let among : is_among seen (f x) ≡ true = sym (place_of-among seen (f x)) ∙ ap is_some (sym (c.loop-place.invariant.0 (f x))) ∙ ap (λ q. is_some (noted c.loop-place.places q)) (sym c.name.ensures) ∙ was_there _ _ c.in_ok-is_new.ensures.first c.if-not-is_new.true in
     sym (not_new seen (f x) (map f (drop (i + 1) items)) among) ∙ ap (are_new seen) (sym (names_drop f items i x (search rules) c.index-items-place.is)) ∙ c.loop-place.invariant.1
 
 pub loop-place-preserved : goal.loop-place-preserved
@@ -24,8 +24,8 @@ loop-place-preserved g c =
     let i = c.loop-place.place in
     let x = c.index-items-place.result in
     let seen = map f (take i items) in
-    let among : is_among seen (f x) ≡ false = sym (place_of-among seen (f x)) ∙ ap is_some (sym (c.loop-place.invariant.0 (f x))) ∙ ap (λ q. is_some (noted c.loop-place.places q)) (sym c.name-name.ensures) ∙ sym c.holds.ensures ∙ c.if-holds.false in (
-      λ q. c.in_ok-note.ensures.noted q ∙ ap (λ name. option_or (noted c.loop-place.places q) (if bytes_eq q name then Some i else None)) c.name-name.ensures ∙ ap (λ o. option_or o (if bytes_eq q (f x) then Some i else None)) (c.loop-place.invariant.0 q)
+    let among : is_among seen (f x) ≡ false = sym (place_of-among seen (f x)) ∙ ap is_some (sym (c.loop-place.invariant.0 (f x))) ∙ ap (λ q. is_some (noted c.loop-place.places q)) (sym c.name.ensures) ∙ was_new _ _ c.in_ok-is_new.ensures.first c.if-not-is_new.false in (
+      λ q. c.in_ok-is_new.ensures.noted q ∙ ap (λ name. option_or (noted c.loop-place.places q) (if bytes_eq q name then Some i else None)) c.name.ensures ∙ ap (λ o. option_or o (if bytes_eq q (f x) then Some i else None)) (c.loop-place.invariant.0 q)
           ∙ sym (place_of-take f items i x q (search rules) c.index-items-place.is),
       ap (λ names. are_new names (map f (drop (i + 1) items))) (names_take f items i x (search rules) c.index-items-place.is) ∙ sym (one_new seen (f x) (map f (drop (i + 1) items)) among)
           ∙ ap (are_new seen) (sym (names_drop f items i x (search rules) c.index-items-place.is)) ∙ c.loop-place.invariant.1,
