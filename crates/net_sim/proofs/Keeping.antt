@@ -1,6 +1,6 @@
 -- The flights that are kept by number: what finds one, and what a push, a write and a sweep do to all of them.
-use Rattle.std.proofs.Common.{◌≡◌, ◌≢◌, ℕ, zero, suc, ◌+◌, ◌<◌, ◌≤◌, true, false, Bool, cond, not, eqb, List, [], ◌∷◌, ◌++◌, length, map, get_or, All, Option, Some, None, option_map, option_and_then, is_some, is_none, refl, sym, ap, ◌∙◌, subst, inl, inr, arith}
-use Rattle.std.specs.Prelude.{slice_set, ◌==◌, if◌then◌else◌, AllPairs}
+use Rattle.std.proofs.Common.{Bor, ◌≡◌, ◌≢◌, ℕ, zero, suc, ◌+◌, ◌<◌, ◌≤◌, true, false, Bool, cond, not, eqb, List, [], ◌∷◌, ◌++◌, length, map, get_or, All, Option, Some, None, option_map, option_and_then, is_some, is_none, refl, sym, ap, ◌∙◌, subst, inl, inr, arith}
+use Rattle.std.specs.Prelude.{slice_set, ◌==◌, if◌then◌else◌, AllPairs, IfSome, option_copied}
 use Rattle.std.specs.List.{range_with_len, filter, count_by, HoldsAt}
 use Rattle.std.specs.List.Sorted.{IsSortedByKey, IsNonDecreasingBy, IsPartitionPoint}
 use Rattle.std.specs.Int.{from_bool}
@@ -253,6 +253,16 @@ some_means (Some f) = refl
 
 pub is_filled : (o : Option Flight) → is_some (option_map flight_value o) ≡ true → o ≢ None
 is_filled o some none = absurd (cc (some, none))
+
+-- a flight that is lent means what it means
+pub lent_value : (r : Option (Bor Flight)) → option_map (λ (f : Bor Flight). flight_value f.now) r ≡ option_map flight_value (option_copied r)
+lent_value None = refl
+lent_value (Some f) = refl
+
+-- a flight's hops are those of its meaning
+pub few_hops : (o : Option Flight) → IfSome (option_map flight_value o) (λ f. f.hops < 255) → IfSome o (λ f. f.hops < 255)
+few_hops None few = tt
+few_hops (Some f) few = few
 
 -- where halving finds a slot, it has the number, and where it finds none, none has it
 module _ (slots read : List Slot) (n place : ℕ) (same : read ≡ slots) where

@@ -11,6 +11,7 @@ pub mod Deciding
 pub mod Tabled
 pub mod Slots
 pub mod Keeping
+pub mod Rooms
 pub mod Changes
 pub mod Losing
 pub mod Switching

@@ -1,16 +1,16 @@
 -- The flights that a network holds, each under its number.
-use Rattle.std.specs.Prelude.{ℕ, ◌-◌, ◌==◌, if◌then◌else◌, List, [], ◌∷◌, map, length, slice_get}
+use Rattle.std.specs.Prelude.{ℕ, ◌+◌, ◌-◌, ◌==◌, if◌then◌else◌, List, [], ◌∷◌, map, length, slice_get}
 use Rattle.std.specs.Prelude.{Option, Some, None, option_map, option_and_then, vec_capacity}
 use Rattle.std.specs.List.{range_with_len}
 use Rattle.mctp_transport.specs.Frames.{Frame}
-use Rattle.mctp_transport.specs.Packets.{packet_frame}
 use Rattle.net_check.specs.States as state
+use Rattle.net_sim.specs.KeptPackets.{kept_frame}
 use Rattle.net_sim.specs.declared.flights.Flight.{Flight}
 use Rattle.net_sim.specs.declared.flights.Slot.{Slot}
 use Rattle.net_sim.specs.declared.flights.Flights.{Flights}
 
 abbrev pub flight_value : Flight → state.Flight
-flight_value f = record { packet = packet_frame f.packet; origin = f.origin; node = f.node; hops = f.hops }
+flight_value f = record { packet = kept_frame f.packet; origin = f.origin; node = f.node; hops = f.hops }
 
 -- the flight that is kept under a number
 abbrev pub kept : List Slot → ℕ → Option Flight
@@ -25,6 +25,10 @@ slots_of flights =
 -- the flight of a number
 abbrev pub flight_at : List (Option state.Flight) → ℕ → Option state.Flight
 flight_at slots number = option_and_then (λ f. f) (slice_get slots number)
+
+-- a flight one hop further, at this node
+abbrev pub gone_on : ℕ → state.Flight → state.Flight
+gone_on node f = record f { node = node; hops = f.hops + 1 }
 
 -- how many numbers more can be given without growing
 abbrev pub room_of : Flights → ℕ

@@ -5,13 +5,15 @@ ghost use Rattle.mctp_transport.specs.Packets.{key_value};
 ghost use Rattle.net_sim.specs.Settling.{IsTo, IsNotTo};
 ghost use Rattle.std.proofs.Props.{props};
 
-use mctp_transport::{Eid, Key, Packet, PacketView};
+use crate::kept_packet::KeptPacket;
+use crate::payload::room_for_payload;
+use mctp_transport::{Eid, Key, PacketView};
 use std::alloc::{AllocError, Global};
 
 /// A packet on its way.
 #[derive(Debug, Drop)]
 pub struct Flight {
-    pub packet: Packet,
+    pub packet: KeptPacket,
     /// The node where it was put in.
     pub origin: usize,
     /// The node where it is.
@@ -22,30 +24,34 @@ pub struct Flight {
 
 impl Flight {
     ghost use Rattle.mctp_transport.specs.Packets.{frame_of};
-    ghost use Rattle.net_sim.specs.Flights.{flight_value};
+    ghost use Rattle.net_sim.specs.Flights.{flight_value, gone_on};
+    ghost use Rattle.net_sim.specs.Payloads.{IsRoomFor};
 
-    /// A flight of this packet that begins at a node.
-    pub fn put_in(node: usize, packet: PacketView) -> Flight
+    /// A flight of this packet that begins at a node. A long payload is copied into the room.
+    pub fn put_in(node: usize, packet: PacketView, room: Vec<u8>) -> Flight
+        requires { IsRoomFor (length packet.payload.now) room }
         ensures { flight_value result ≡ record { packet = frame_of packet.entry; origin = node; node = node; hops = 0 } }
     {
         Flight {
-            packet: Packet::of(packet),
+            packet: KeptPacket::of(packet, room),
             origin: node,
             node,
             hops: 0,
         }
     }
 
-    /// The same flight.
-    fn copy(&self) -> Flight
-        ensures { flight_value result ≡ flight_value self.now }
+    /// The same flight, with a packet of its own.
+    pub fn copy(&self, alloc: Global) -> Result<Flight, AllocError>
+        ensures { IfOk result (λ copy. flight_value copy ≡ flight_value self.now) }
     {
-        Flight {
-            packet: Packet::of(self.packet.view()),
+        let packet = self.packet.view();
+        let room = room_for_payload(alloc, packet.payload.len())?;
+        Ok(Flight {
+            packet: KeptPacket::of(packet, room),
             origin: self.origin,
             node: self.node,
             hops: self.hops,
-        }
+        })
     }
 
     /// Whether its packet is of the key and goes to the endpoint ID.
@@ -55,16 +61,13 @@ impl Flight {
         self.packet.header.destination == eid && is_same_key(self.packet.view().key(), key)
     }
 
-    /// The flight one hop further, at this node.
-    pub fn moved(self, node: usize) -> Flight
-        requires { self.hops < 255 }
-        ensures { flight_value result ≡ record (flight_value self) { node = node; hops = self.hops + 1 } }
+    /// Moves it one hop further, to this node. Its packet stays where it is.
+    pub fn go_on(&mut self, node: usize)
+        requires { self.old.hops < 255 }
+        ensures { flight_value self.new ≡ gone_on node (flight_value self.old) }
     {
-        Flight {
-            node,
-            hops: self.hops + 1,
-            ..self
-        }
+        self.node = node;
+        self.hops += 1;
     }
 }
 
@@ -76,7 +79,18 @@ struct Slot {
 }
 
 impl Slot {
-    ghost use Rattle.net_sim.specs.Flights.{flight_value};
+    ghost use Rattle.net_sim.specs.Flights.{flight_value, gone_on};
+
+    /// Moves its flight on to a node, where there is one.
+    fn go_on(&mut self, node: usize)
+        requires { IfSome self.old.flight (λ f. f.hops < 255) }
+        ensures number { self.new.number ≡ self.old.number }
+        ensures flight { option_map flight_value self.new.flight ≡ option_map (gone_on node) (option_map flight_value self.old.flight) }
+    {
+        if let Some(flight) = &mut self.flight {
+            flight.go_on(node);
+        }
+    }
 
     /// Whether there is no flight of the key to the endpoint ID in it.
     fn is_not_to(&self, key: Key, eid: Eid) -> bool
@@ -108,7 +122,7 @@ pub struct Flights {
 
 impl Flights {
     ghost use Rattle.net_check.specs.Events.{most_flights};
-    ghost use Rattle.net_sim.specs.Flights.{flight_value, slots_of, flight_at, room_of};
+    ghost use Rattle.net_sim.specs.Flights.{flight_value, slots_of, flight_at, gone_on, room_of};
 
     /// No flights, and none made.
     pub fn new(alloc: Global) -> Result<Self, AllocError>
@@ -141,13 +155,12 @@ impl Flights {
         }
     }
 
-    /// The flight of this number, with a packet of its own.
-    pub fn get(&self, number: u32) -> Option<Flight>
-        ensures { option_map flight_value result ≡ flight_at (slots_of self.now) number }
+    /// The flight of this number.
+    pub fn get(&self, number: u32) -> Option<&Flight>
+        ensures { option_map (λ f. flight_value f.now) result ≡ flight_at (slots_of self.now) number }
     {
         let place = self.place_of(number)?;
-        let flight = self.slots[place].flight.as_ref()?;
-        Some(flight.copy())
+        self.slots[place].flight.as_ref()
     }
 
     /// Whether there is a flight of this number.
@@ -204,15 +217,27 @@ impl Flights {
         self.next += 1;
     }
 
-    /// Puts this flight in the place of one, or none.
-    pub fn set(&mut self, number: u32, flight: Option<Flight>)
+    /// Takes the flight of this number out, which ends it.
+    pub fn end(&mut self, number: u32) -> Option<Flight>
         requires { is_some (flight_at (slots_of self.old) number) ≡ true }
-        ensures slots { slots_of self.new ≡ slice_set (slots_of self.old) number (option_map flight_value flight) }
+        ensures flight { option_map flight_value result ≡ flight_at (slots_of self.old) number }
+        ensures slots { slots_of self.new ≡ slice_set (slots_of self.old) number None }
+        ensures room { room_of self.new ≡ room_of self.old }
+    {
+        let place = self.place_of(number)?;
+        self.empty += 1;
+        self.slots[place].flight.take()
+    }
+
+    /// Moves the flight of this number one hop further, to a node.
+    pub fn go_on(&mut self, number: u32, node: usize)
+        requires there { is_some (flight_at (slots_of self.old) number) ≡ true }
+        requires few { IfSome (flight_at (slots_of self.old) number) (λ f. f.hops < 255) }
+        ensures slots { slots_of self.new ≡ slice_set (slots_of self.old) number (option_map (gone_on node) (flight_at (slots_of self.old) number)) }
         ensures room { room_of self.new ≡ room_of self.old }
     {
         if let Some(place) = self.place_of(number) {
-            self.empty += usize::from(flight.is_none());
-            self.slots[place] = Slot { number, flight };
+            self.slots[place].go_on(node);
         }
     }
 }

@@ -1,12 +1,13 @@
 //! A packet that has come to its node, and the room that this takes.
 ghost use Rattle.std.specs.Prelude.{◌≡◌, ◌≤◌, [], vec_capacity, IfOk};
-ghost use Rattle.mctp_transport.specs.Packets.{packet_frame};
 ghost use Rattle.mctp_transport.specs.Histories.{History, Arrived, after};
 ghost use Rattle.mctp_transport.specs.Hearing.{Hears};
 ghost use Rattle.mctp_transport.specs.Assembly.{StandsFor, assembler_slots, assembler_limit};
+ghost use Rattle.net_sim.specs.KeptPackets.{kept_frame};
 ghost use Rattle.net_sim.specs.Receiving.{receipt_value};
 
-use mctp_transport::{Assembler, Fed, MAX_MESSAGE, Packet, Why};
+use crate::kept_packet::KeptPacket;
+use mctp_transport::{Assembler, Fed, MAX_MESSAGE, Why};
 use std::alloc::{AllocError, Global};
 
 /// What an assembler made of a packet.
@@ -27,15 +28,15 @@ pub fn room_for_message(alloc: Global) -> Result<Vec<u8>, AllocError>
 }
 
 /// Feeds a packet to an assembler. A message that comes is copied into the room.
-pub fn feed(assembler: &mut Assembler, packet: &Packet, mut room: Vec<u8>) -> Receipt
+pub fn feed(assembler: &mut Assembler, packet: &KeptPacket, mut room: Vec<u8>) -> Receipt
     requires empty { room.items ≡ [] }
     requires room { assembler_limit assembler.old ≤ vec_capacity room }
     ensures slots { assembler_slots assembler.new ≡ assembler_slots assembler.old }
     ensures limit { assembler_limit assembler.new ≡ assembler_limit assembler.old }
     ensures hears { (h : History) → StandsFor assembler.old h
-        → Hears (assembler_slots assembler.old) (assembler_limit assembler.old) h (packet_frame packet.now) (receipt_value result) }
+        → Hears (assembler_slots assembler.old) (assembler_limit assembler.old) h (kept_frame packet.now) (receipt_value result) }
     ensures stands { (h : History) → StandsFor assembler.old h
-        → StandsFor assembler.new (after h (Arrived (packet_frame packet.now))) }
+        → StandsFor assembler.new (after h (Arrived (kept_frame packet.now))) }
 {
     match assembler.feed(packet.view()) {
         Fed::Whole(message) => {

@@ -1,11 +1,12 @@
 //! The packets of a network, and what they come to.
-ghost use Rattle.std.specs.Prelude.{◌≡◌, ◌≢◌, ℕ, All, ◌+◌, ◌-◌, ◌<◌, ◌≤◌, ◌↔◌, ◌++◌, ◌∷◌, [], IsTrue, IfSome, MatchResult, MatchOption, None, IfOk, OnOk, OnErr, take, vec_capacity, length, map, option_map, slice_get, slice_set, is_some, Some, false, true};
+ghost use Rattle.std.specs.Prelude.{◌≡◌, ◌≢◌, ℕ, All, ◌+◌, ◌*◌, ◌-◌, ◌<◌, ◌≤◌, ◌↔◌, ◌++◌, ◌∷◌, [], IsTrue, IfSome, MatchResult, MatchOption, None, IfOk, OnOk, OnErr, take, vec_capacity, length, map, option_map, slice_get, slice_set, is_some, Some, false, true};
 ghost use Rattle.mctp_transport.specs.declared.assembler.Assembler.{Assembler};
 ghost use Rattle.mctp_transport.specs.Assembly.{assembler_slots, assembler_limit};
 ghost use Rattle.mctp_transport.specs.Packets.{key_value};
 ghost use Rattle.net_check.specs.States.{Flight, unit_of};
 ghost use Rattle.net_check.specs.Ranks.{rank};
-ghost use Rattle.net_sim.specs.Flights.{slots_of, flight_at, flight_value, begun, room_of};
+ghost use Rattle.net_sim.specs.Flights.{slots_of, flight_at, flight_value, begun, gone_on, room_of};
+ghost use Rattle.net_sim.specs.Payloads.{IsRoomFor, HaveRooms};
 ghost use Rattle.net_sim.specs.Placing.{IsPlaced};
 
 use crate::accepted::Accepted;
@@ -14,6 +15,7 @@ use crate::dealing::deal;
 use crate::desk::{Desk, answer_at, idle_at, none_waits_at, reserve_at, wait_at};
 use crate::effect::Effect;
 use crate::flights::{Flight, Flights};
+use crate::payload::{room_for_payload, rooms_for_answer, take_room};
 use crate::receiving::{Receipt, feed, room_for_message};
 use crate::refusal::Refusal;
 use crate::router::Router;
@@ -126,16 +128,42 @@ impl<'a> Traffic<'a> {
         self.flights.reserve(count)
     }
 
-    /// Puts this flight in the place of the one of this number, or none.
-    fn set(&mut self, number: u32, flight: Option<Flight>)
-        requires number { is_some (flight_at (slots_of self.old.flights) number) ≡ true }
-        requires placed { IfSome flight (λ f. IsPlaced self.old.router.tables.plan self.old.router.certificate (flight_value f)) }
-        ensures flights { slots_of self.new.flights ≡ slice_set (slots_of self.old.flights) number (option_map flight_value flight) }
+    /// Makes room for a flight more, and for a payload of so many bytes, which is handed out.
+    fn room_for_flight(&mut self, count: usize) -> Result<Vec<u8>, AllocError>
+        ensures flights { slots_of self.new.flights ≡ slots_of self.old.flights }
+        ensures room { OnOk result (0 < room_of self.new.flights) }
+        ensures router { self.new.router ≡ self.old.router }
+        ensures assemblers { self.new.assemblers.items ≡ self.old.assemblers.items }
+        ensures desks { self.new.desks.items ≡ self.old.desks.items }
+        ensures payload { IfOk result (IsRoomFor count) }
+    {
+        self.reserve(1)?;
+        room_for_payload(self.alloc, count)
+    }
+
+    /// Takes the flight of this number out, which ends it.
+    fn end(&mut self, number: u32) -> Option<Flight>
+        requires { is_some (flight_at (slots_of self.old.flights) number) ≡ true }
+        ensures flight { option_map flight_value result ≡ flight_at (slots_of self.old.flights) number }
+        ensures flights { slots_of self.new.flights ≡ slice_set (slots_of self.old.flights) number None }
         ensures router { self.new.router ≡ self.old.router }
         ensures assemblers { self.new.assemblers.items ≡ self.old.assemblers.items }
         ensures desks { self.new.desks.items ≡ self.old.desks.items }
     {
-        self.flights.set(number, flight);
+        self.flights.end(number)
+    }
+
+    /// Moves the flight of this number one hop further, to a node.
+    fn go_on(&mut self, number: u32, node: usize)
+        requires there { is_some (flight_at (slots_of self.old.flights) number) ≡ true }
+        requires few { IfSome (flight_at (slots_of self.old.flights) number) (λ f. f.hops < 255) }
+        requires placed { IfSome (flight_at (slots_of self.old.flights) number) (λ f. IsPlaced self.old.router.tables.plan self.old.router.certificate (gone_on node f)) }
+        ensures flights { slots_of self.new.flights ≡ slice_set (slots_of self.old.flights) number (option_map (gone_on node) (flight_at (slots_of self.old.flights) number)) }
+        ensures router { self.new.router ≡ self.old.router }
+        ensures assemblers { self.new.assemblers.items ≡ self.old.assemblers.items }
+        ensures desks { self.new.desks.items ≡ self.old.desks.items }
+    {
+        self.flights.go_on(number, node);
     }
 
     /// Gives the next number to this flight, or to none that stays.
@@ -175,10 +203,10 @@ impl<'a> Traffic<'a> {
         if self.left() < 1 {
             return Ok(Effect::Refused(Refusal::NoNumbers));
         }
-        if self.reserve(1).is_err() {
+        let Ok(room) = self.room_for_flight(packet.payload.len()) else {
             return Err(AllocError);
-        }
-        let number = self.add(Some(Flight::put_in(node, packet)));
+        };
+        let number = self.add(Some(Flight::put_in(node, packet, room)));
         Ok(Effect::PutIn { number, node })
     }
 
@@ -366,20 +394,22 @@ impl<'a> Traffic<'a> {
         let Some(flight) = self.flights.get(number) else {
             return Ok(Effect::Refused(Refusal::NoFlight));
         };
-        match self.router.decide(&flight) {
+        match self.router.decide(flight) {
             Decision::Here => {
-                let room = self.room_at(flight.node)?;
-                self.set(number, None);
+                let node = flight.node;
+                let room = self.room_at(node)?;
+                let Some(flight) = self.end(number) else {
+                    unreachable!();
+                };
                 Ok(self.receive(number, &flight, room))
             }
             Decision::Drop(why) => {
-                self.set(number, None);
+                let _ = self.end(number);
                 Ok(Effect::Stopped { number, why })
             }
             Decision::Forward(hop) => {
-                let moved = flight.moved(hop.next);
-                let hops = moved.hops;
-                self.set(number, Some(moved));
+                let hops = flight.hops + 1;
+                self.go_on(number, hop.next);
                 Ok(Effect::Moved {
                     number,
                     node: hop.next,
@@ -406,23 +436,26 @@ impl<'a> Traffic<'a> {
         if self.left() < 1 {
             return Ok(Effect::Refused(Refusal::NoNumbers));
         }
+        let Ok(mut copy) = flight.copy(self.alloc) else {
+            return Err(AllocError);
+        };
         if self.reserve(1).is_err() {
             return Err(AllocError);
         }
-        match self.router.decide(&flight) {
+        match self.router.decide(&copy) {
             Decision::Here => {
-                let room = self.room_at(flight.node)?;
+                let room = self.room_at(copy.node)?;
                 let number = self.add(None);
-                Ok(self.receive(number, &flight, room))
+                Ok(self.receive(number, &copy, room))
             }
             Decision::Drop(why) => {
                 let number = self.add(None);
                 Ok(Effect::Stopped { number, why })
             }
             Decision::Forward(hop) => {
-                let moved = flight.moved(hop.next);
-                let hops = moved.hops;
-                let number = self.add(Some(moved));
+                copy.go_on(hop.next);
+                let hops = copy.hops;
+                let number = self.add(Some(copy));
                 Ok(Effect::Moved {
                     number,
                     node: hop.next,
@@ -432,18 +465,20 @@ impl<'a> Traffic<'a> {
         }
     }
 
-    /// Puts packets in at a node, one after another.
-    fn put_all(&mut self, node: usize, packets: Packets)
+    /// Puts packets in at a node, one after another. Their long payloads are copied into the rooms.
+    fn put_all(&mut self, node: usize, packets: Packets, mut rooms: Vec<Vec<u8>>)
         requires node { node < length self.old.router.tables.plan.nodes.items }
         requires few { length (slots_of self.old.flights) + length (frames_left packets) ≤ most_flights + 1 }
         requires room { length (frames_left packets) ≤ room_of self.old.flights }
+        requires rooms { HaveRooms (frames_left packets) rooms.items }
         ensures flights { slots_of self.new.flights ≡ slots_of self.old.flights ++ map (begun node) (frames_left packets.entry) }
         ensures router { self.new.router ≡ self.old.router }
         ensures assemblers { self.new.assemblers.items ≡ self.old.assemblers.items }
         ensures desks { self.new.desks.items ≡ self.old.desks.items }
     {
         for packet in packets {
-            self.add(Some(Flight::put_in(node, packet)));
+            let room = take_room(self.alloc, &mut rooms);
+            self.add(Some(Flight::put_in(node, packet, room)));
         }
     }
 
@@ -461,15 +496,18 @@ impl<'a> Traffic<'a> {
     {
         let number = self.flights.next_number() as u32;
         let packets = Packets::within(self.unit(), message, destination, key, Seq::new(0));
-        self.put_all(node, packets);
+        self.put_all(node, packets, Vec::new(self.alloc));
         number
     }
 
-    /// Puts the packets of an answer in at a node, to where a message of this key came from.
-    fn send(&mut self, node: usize, asked: Key, answer: &[u8]) -> Effect
+    /// Puts the packets of an answer in at a node, to where a message of this key came from. Their long payloads are
+    /// copied into the rooms.
+    fn send(&mut self, node: usize, asked: Key, answer: &[u8], rooms: Vec<Vec<u8>>) -> Effect
         requires node { node < length self.old.router.tables.plan.nodes.items }
         requires few { length (slots_of self.old.flights) + 64 ≤ most_flights + 1 }
         requires room { 64 ≤ room_of self.old.flights }
+        requires enough { 64 < unit_of self.old.router.tables.plan → 4096 ≤ length rooms.items * unit_of self.old.router.tables.plan }
+        requires rooms { All (IsRoomFor (unit_of self.old.router.tables.plan)) rooms.items }
         requires some { 0 < length answer.now }
         requires most { length answer.now ≤ 4096 }
         ensures sends { Sends self.old.router.tables.plan node (key_value asked) answer.now (slots_of self.old.flights) (effect_value result) (slots_of self.new.flights) }
@@ -484,7 +522,7 @@ impl<'a> Traffic<'a> {
         };
         let first = self.flights.next_number();
         let packets = Packets::within(self.unit(), answer, asked.source, key, Seq::new(0));
-        self.put_all(node, packets);
+        self.put_all(node, packets, rooms);
         let last = self.flights.next_number() - 1;
         Effect::Answered {
             node,
@@ -513,6 +551,9 @@ impl<'a> Traffic<'a> {
         if self.left() < 64 {
             return Ok(Effect::Refused(Refusal::NoNumbers));
         }
+        let Ok(rooms) = rooms_for_answer(self.alloc, self.unit()) else {
+            return Err(AllocError);
+        };
         if self.reserve(64).is_err() {
             return Err(AllocError);
         }
@@ -523,7 +564,7 @@ impl<'a> Traffic<'a> {
         if !asked.answered {
             return Ok(Effect::Silent { node });
         }
-        Ok(self.send(node, asked.key, &out))
+        Ok(self.send(node, asked.key, &out, rooms))
     }
 
     /// Lets a node go by its new rows from now on.
@@ -553,7 +594,7 @@ impl<'a> Traffic<'a> {
         if !self.flights.has(number) {
             return Effect::Refused(Refusal::NoFlight);
         }
-        self.set(number, None);
+        let _ = self.end(number);
         Effect::Lost { number }
     }
 

@@ -8,4 +8,4 @@ returns-then-left-lt1 g c = λ w s node key.
     none_arrives_full c.args.self.now.router.tables _ c.args.number (omega (arith, c.left.ensures, c.if-left-lt1.true)) w s c.args.keep c.if-keep.true node key
 
 pub eid_at-requires : goal.eid_at-requires
-eid_at-requires g c = (c.args.self.now.placed c.args.number (flight_value c.in_ok-flight.flight) (sym c.in_ok-flight.ensures)).0
+eid_at-requires g c = (c.args.self.now.placed c.args.number (flight_value c.in_ok-flight.flight.now) (sym c.in_ok-flight.ensures)).0

@@ -14,19 +14,19 @@ returns-then-left-lt1-clause-plays g c =
     put_no_number now.router.tables _ c.args.node c.args.bytes.now (frame_of c.in-Ok.packet) (c.has_node.ensures.0 c.if-not-has_node.false) (subst (λ u. Spelled u (frame_of c.in-Ok.packet) c.args.bytes.now) c.unit.ensures.unit c.in-Ok.ensures.ok)
     (omega (arith, c.left.ensures, c.if-left-lt1.true))
 
-pub returns-then-is_err-clause-plays : goal.returns-then-is_err-clause-plays
-returns-then-is_err-clause-plays g c =
+pub returns-in_default-room_for_flight-clause-plays : goal.returns-in_default-room_for_flight-clause-plays
+returns-in_default-room_for_flight-clause-plays g c =
     let now = c.args.self.now in
     put_wants now.router.tables _ c.args.node c.args.bytes.now _ (frame_of c.in-Ok.packet) (c.has_node.ensures.0 c.if-not-has_node.false) (subst (λ u. Spelled u (frame_of c.in-Ok.packet) c.args.bytes.now) c.unit.ensures.unit c.in-Ok.ensures.ok)
-    (omega (arith, c.left.ensures, c.if-left-lt1.false)) c.reserve.ensures.flights c.reserve.ensures.assemblers (same_means _ _ _ c.reserve.ensures.desks)
-    (same_marks _ _ c.reserve.ensures.router)
+    (omega (arith, c.left.ensures, c.if-left-lt1.false)) c.room_for_flight.ensures.flights c.room_for_flight.ensures.assemblers (same_means _ _ _ c.room_for_flight.ensures.desks)
+    (same_marks _ _ c.room_for_flight.ensures.router)
 
 pub returns-clause-plays : goal.returns-clause-plays
 returns-clause-plays g c =
     let now = c.args.self.now in
     puts now.router.tables _ c.args.node c.args.bytes.now _ (frame_of c.in-Ok.packet) c.add-number.result (c.has_node.ensures.0 c.if-not-has_node.false) (subst (λ u. Spelled u (frame_of c.in-Ok.packet) c.args.bytes.now) c.unit.ensures.unit c.in-Ok.ensures.ok)
-    (omega (arith, c.left.ensures, c.if-left-lt1.false)) (c.add-number.ensures.number ∙ ap length c.reserve.ensures.flights)
-    (c.add-number.ensures.flights ∙ (ap (λ (fs : List (Option Flight)). fs ++ Some (flight_value c.put_in.result) ∷ []) c.reserve.ensures.flights
+    (omega (arith, c.left.ensures, c.if-left-lt1.false)) (c.add-number.ensures.number ∙ ap length c.room_for_flight.ensures.flights)
+    (c.add-number.ensures.flights ∙ (ap (λ (fs : List (Option Flight)). fs ++ Some (flight_value c.put_in.result) ∷ []) c.room_for_flight.ensures.flights
     ∙ ap (λ (f : Flight). slots_of now.flights ++ Some f ∷ []) c.put_in.ensures))
-    (c.add-number.ensures.assemblers ∙ c.reserve.ensures.assemblers) (same_means _ _ _ (c.add-number.ensures.desks ∙ c.reserve.ensures.desks))
-    (same_marks _ _ (c.add-number.ensures.router ∙ c.reserve.ensures.router))
+    (c.add-number.ensures.assemblers ∙ c.room_for_flight.ensures.assemblers) (same_means _ _ _ (c.add-number.ensures.desks ∙ c.room_for_flight.ensures.desks))
+    (same_marks _ _ (c.add-number.ensures.router ∙ c.room_for_flight.ensures.router))

@@ -4,6 +4,7 @@ use Rattle.mctp_transport.specs.PacketsLeft.{frames_left}
 use Rattle.mctp_transport.specs.Cutting.{ArePacketsOf}
 use Rattle.mctp_transport.proofs.Sending.{few_packets}
 use Rattle.net_sim.proofs.Slots.{same_means}
+use Rattle.net_sim.proofs.Rooms.{short_needs_none}
 use Rattle.net_sim.proofs.Changes.{same_marks}
 use Rattle.net_sim.proofs.Requesting.{puts_one}
 use Rattle.net_check.specs.States.{unit_of}
@@ -20,6 +21,10 @@ pub put_all-requires-clause-room : goal.put_all-requires-clause-room
 put_all-requires-clause-room g c =
     let count : length (frames_left c.within-packets.result) ≤ 1 = few_packets (unit_of c.args.self.now.router.tables.plan) 1 c.args.message.now _ _ _ (frames_left c.within-packets.result) (as_cut c.unit.ensures.unit c.within-packets.ensures) (omega (arith, c.requires.most, least_unit c.args.self.now.router.tables.plan)) in
     omega (arith, c.requires.room, count)
+
+pub put_all-requires-clause-rooms : goal.put_all-requires-clause-rooms
+put_all-requires-clause-rooms g c =
+    short_needs_none (unit_of c.args.self.now.router.tables.plan) c.args.message.now _ _ _ (frames_left c.within-packets.result) (as_cut c.unit.ensures.unit c.within-packets.ensures) _ c.requires.most
 
 pub returns-clause-puts : goal.returns-clause-puts
 returns-clause-puts g c =

@@ -8,6 +8,7 @@ use Rattle.net_plan.specs.declared.plan.Plan.{Plan}
 use Rattle.net_plan.specs.declared.nodes.Node.{Node}
 use Rattle.net_sim.specs.Flights.{slots_of}
 use Rattle.net_sim.proofs.Packing.{begun_length}
+use Rattle.net_sim.proofs.Rooms.{enough_rooms}
 use Rattle.net_check.specs.States.{unit_of}
 use Rattle.net_check.proofs.Units.{least_unit}
 use Rattle.net_sim.proofs.Requesting.{as_cut}
@@ -22,6 +23,11 @@ pub put_all-requires-clause-room : goal.put_all-requires-clause-room
 put_all-requires-clause-room g c =
     let count : length (frames_left c.within-packets.result) ≤ 64 = few_packets (unit_of c.args.self.now.router.tables.plan) 64 c.args.answer.now _ _ _ (frames_left c.within-packets.result) (as_cut c.unit.ensures.unit c.within-packets.ensures) (omega (arith, c.requires.most, least_unit c.args.self.now.router.tables.plan)) in
     omega (arith, c.requires.room, count)
+
+pub put_all-requires-clause-rooms : goal.put_all-requires-clause-rooms
+put_all-requires-clause-rooms g c =
+    enough_rooms (unit_of c.args.self.now.router.tables.plan) c.args.answer.now _ _ _ (frames_left c.within-packets.result) (as_cut c.unit.ensures.unit c.within-packets.ensures) c.args.rooms.items
+    4096 c.requires.most c.requires.enough c.requires.rooms
 
 pub overflow_cast-result-2 : goal.overflow_cast-result-2
 overflow_cast-result-2 g c =
