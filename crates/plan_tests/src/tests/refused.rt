@@ -16,7 +16,7 @@ use net_plan::{
     read_plan, write_certificate,
 };
 use net_sim::assign;
-use std::alloc::{AllocError, Global};
+use std::alloc::Global;
 use std::test::Fail;
 
 /// Tells by a mark that a call lacked memory. It was to answer so.
@@ -231,17 +231,13 @@ fn refused_assign(rt: HostRuntime) -> Result<(), Fail> {
     Ok(())
 }
 
-/// A sink with room for a certificate from the start.
-fn roomy(alloc: Global) -> Result<Counted<Vec<u8>>, AllocError> {
-    Ok(Counted::new(Vec::with_capacity(alloc, CERTIFICATE.len())?))
-}
-
+/// The sink has its room from the start.
 #[test]
 fn refused_write_certificate(rt: HostRuntime) -> Result<(), Fail> {
     let alloc = rt.alloc();
     let plan = plan_of_text(alloc, PLAN.as_bytes())?;
     let certificate = certificate_of_text(alloc, &plan, CERTIFICATE.as_bytes())?;
-    let mut sink = roomy(alloc)?;
+    let mut sink = Counted::new(Vec::with_capacity(alloc, CERTIFICATE.len())?);
     set_mark(alloc, Mark::Begins);
     let written = write_certificate(alloc, &plan, &certificate, &mut sink);
     set_mark(alloc, Mark::Ends);
