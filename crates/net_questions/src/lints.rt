@@ -1,0 +1,4 @@
+//! The tests of what looks wrong.
+pub mod ports;
+pub mod rows;
+pub mod termini;
