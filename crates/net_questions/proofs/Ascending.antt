@@ -1,13 +1,13 @@
 -- Lists of all that is so, in order, made one after another.
-use Rattle.std.proofs.Common.{◌≡◌, ℕ, zero, suc, ◌+◌, ◌<◌, ◌≤◌, List, [], ◌∷◌, ◌++◌, length, refl, sym, ap, ◌∙◌, subst, arith, inl, inr, ◌⊎◌, ◌↔◌, append-nil, append_assoc}
-use Rattle.std.specs.Prelude.{Contains, AllPairs, All, ⊤}
+use Rattle.std.proofs.Common.{◌≡◌, ℕ, zero, suc, ◌+◌, ◌<◌, List, [], ◌∷◌, ◌++◌, refl, sym, ap, ◌∙◌, subst, arith, inl, inr, ◌⊎◌, append-nil, append_assoc}
+use Rattle.std.specs.Prelude.{Contains, AllPairs}
 use Rattle.std.proofs.lemmas.Bool.{cases_lt}
 use Rattle.std.proofs.lemmas.List.Elements.{All-nil, All-append, All-contains_itself, Contains-append_left, Contains-append_right, Contains-append_cases}
 use Rattle.std.proofs.lemmas.List.Kept.{AllPairs-cons}
 use Rattle.net_plan.specs.declared.plan.Plan.{Plan}
 use Rattle.net_check.specs.Faults.{LessByFirstDifference}
 use Rattle.net_questions.specs.declared.finding.Finding.{Finding}
-use Rattle.net_questions.specs.Findings.{IsSo, key_of, ComesBefore, BeginsWith, Ascend, AreAll, Adds, IsUnder, AreFindings}
+use Rattle.net_questions.specs.Findings.{IsSo, key_of, ComesBefore, BeginsWith, Ascend, Adds, IsUnder}
 
 -- ks begins with p, and its next number is less than n
 abbrev pub NextBelow : List ℕ → ℕ → List ℕ → Type 0
@@ -78,10 +78,14 @@ only_one x y (zero, lt, is) = is
 only_one x y (suc k, lt, is) = absurd (omega (arith, lt))
 
 pub one : (P : Finding → Type 0) (x : Finding) (old : List Finding) → P x → ((y : Finding) → P y → x ≡ y) → Adds P old (old ++ x ∷ [])
-one P x old p alone = (x ∷ [], refl, record {
-  exact = λ y. (λ at. subst P (only_one x y at) p, λ q. (0, omega arith, alone y q));
-  ascend = (All-nil (λ y. ComesBefore x y), tt);
-})
+one P x old p alone = (
+  x ∷ [],
+  refl,
+  record {
+    exact = λ y. (λ at. subst P (only_one x y at) p, λ q. (0, omega arith, alone y q));
+    ascend = (All-nil (λ y. ComesBefore x y), tt);
+  },
+)
 
 pub alike : (P Q : Finding → Type 0) (old new : List Finding) → ((x : Finding) → P x → Q x) → ((x : Finding) → Q x → P x) → Adds P old new → Adds Q old new
 alike P Q old new to from (more, is, lists) = (more, is, record { exact = λ x. (λ at. to x ((lists.exact x).0 at), λ q. (lists.exact x).1 (from x q)); ascend = lists.ascend })
@@ -100,7 +104,7 @@ join P Q R old mid new before first second either (xs, is, lists) (ys, is', list
       λ r. elim (either x r) [
         | inl p ↦ Contains-append_left xs ys x ((lists.exact x).1 p)
         | inr q ↦ Contains-append_right xs ys x ((lists'.exact x).1 q)
-      ]
+      ],
     );
     ascend = ascends_join xs ys lists.ascend lists'.ascend (λ x y at bt. before x y ((lists.exact x).0 at) ((lists'.exact y).0 bt));
   },
@@ -116,7 +120,7 @@ module _ (plan : Plan) where
   pub more : (p : List ℕ) (n : ℕ) (old mid new : List Finding) → Adds (Below p n) old mid → Adds (IsUnder plan (p ++ n ∷ [])) mid new → Adds (Below p (n + 1)) old new
   more p n old mid new = join (Below p n) (IsUnder plan (p ++ n ∷ [])) (Below p (n + 1)) old mid new
       (λ x y is at. below_before p n (key_of x) (key_of y) is.1 at.1) (λ x is. (is.0, below_more p n (key_of x) is.1)) (λ x at. (at.0, at_below p n (key_of x) at.1))
-      (λ x is. elim (below_or_at p n (key_of x) is.1) [ | inl below ↦ inl (is.0, below) | inr at ↦ inr (is.0, at) ])
+      (λ x is. elim (below_or_at p n (key_of x) is.1) [ inl below ↦ inl (is.0, below) | inr at ↦ inr (is.0, at) ])
 
   pub all : (p : List ℕ) (n : ℕ) (old new : List Finding) → ((x : Finding) → IsSo plan x → BeginsWith p (key_of x) → NextBelow p n (key_of x)) → Adds (Below p n) old new → Adds (IsUnder plan p) old new
   all p n old new within = alike (Below p n) (IsUnder plan p) old new (λ x is. (is.0, begins p n (key_of x) is.1)) (λ x at. (at.0, within x at.0 at.1))

@@ -1,5 +1,5 @@
 -- What is found stands where it is looked for, and nothing else stands there.
-use Rattle.std.proofs.Common.{◌≡◌, ℕ, zero, suc, ◌+◌, ◌<◌, List, [], ◌∷◌, ◌++◌, length, get_or, Some, refl, sym, ◌∙◌, ap, subst, arith, inl, inr, ◌⊎◌, ◌≤◌}
+use Rattle.std.proofs.Common.{◌≡◌, ℕ, zero, suc, ◌<◌, List, [], ◌∷◌, ◌++◌, length, get_or, Some, refl, sym, ◌∙◌, ap, subst, arith, inl, inr, ◌⊎◌, ◌≤◌}
 use Rattle.std.proofs.Props.{props}
 use Rattle.std.specs.Prelude.{slice_get}
 use Rattle.std.proofs.lemmas.Bool.{cases_lt}
@@ -101,9 +101,14 @@ module _ (plan : Plan) (f : Finding) (so : IsSo plan f) where
 
   pub end_of_items : (c : Code) (n : ℕ) → BeginsWith (order_of c ∷ n ∷ []) (key_of f) → NextBelow (order_of c ∷ n ∷ []) (items_of plan c n) (key_of f)
   end_of_items c n at =
-      let Within : Code → ℕ → Type 0 = λ d k. (subject_of f).item < items_of plan d k in
-      (at.0, (at.1.0, subst (λ k. Within c k) (sym at.1.0)
-      (subst (λ d. Within d (subject_of f).node) (sym (one_order c (subject_of f).code at.0)) (item_within plan f so))))
+      let Within : Code → ℕ → Type 0 = λ d k. (subject_of f).item < items_of plan d k in (
+        at.0,
+        (
+          at.1.0,
+          subst (λ k. Within c k) (sym at.1.0)
+              (subst (λ d. Within d (subject_of f).node) (sym (one_order c (subject_of f).code at.0)) (item_within plan f so)),
+        ),
+      )
 
   pub end_of_others : (c : Code) (n i : ℕ) → BeginsWith (order_of c ∷ n ∷ i ∷ []) (key_of f) → NextBelow (order_of c ∷ n ∷ i ∷ []) (others_of plan c) (key_of f)
   end_of_others c n i at =
@@ -111,9 +116,20 @@ module _ (plan : Plan) (f : Finding) (so : IsSo plan f) where
 
   pub end_of_other_items : (c : Code) (n i m : ℕ) → BeginsWith (order_of c ∷ n ∷ i ∷ m ∷ []) (key_of f) → NextBelow (order_of c ∷ n ∷ i ∷ m ∷ []) (other_items_of plan c m) (key_of f)
   end_of_other_items c n i m at =
-      let Within : Code → ℕ → Type 0 = λ d k. (subject_of f).other_item < other_items_of plan d k in
-      (at.0, (at.1.0, (at.1.1.0, (at.1.1.1.0, subst (λ k. Within c k) (sym at.1.1.1.0)
-      (subst (λ d. Within d (subject_of f).other) (sym (one_order c (subject_of f).code at.0)) (other_item_within plan f so))))))
+      let Within : Code → ℕ → Type 0 = λ d k. (subject_of f).other_item < other_items_of plan d k in (
+        at.0,
+        (
+          at.1.0,
+          (
+            at.1.1.0,
+            (
+              at.1.1.1.0,
+              subst (λ k. Within c k) (sym at.1.1.1.0)
+                  (subst (λ d. Within d (subject_of f).other) (sym (one_order c (subject_of f).code at.0)) (other_item_within plan f so)),
+            ),
+          ),
+        ),
+      )
 
 -- ---- one finding of the same numbers
 

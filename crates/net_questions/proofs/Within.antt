@@ -1,5 +1,5 @@
 -- Of what a plan says something, that is in the plan.
-use Rattle.std.proofs.Common.{◌≡◌, ℕ, ◌<◌, ◌≤◌, length, Some, arith, inl, inr}
+use Rattle.std.proofs.Common.{◌≡◌, ℕ, ◌<◌, ◌≤◌, length, Some, inl, inr}
 use Rattle.std.specs.Prelude.{slice_get}
 use Rattle.std.proofs.lemmas.Bool.{cases_lt}
 use Rattle.std.proofs.lemmas.Option.{slice_get_past}
@@ -14,7 +14,7 @@ use Rattle.net_check.specs.Repositories.{terminus_of}
 use Rattle.net_questions.specs.Lint.{IsPort}
 
 by_past : (plan : Plan) (n : ℕ) → (length plan.nodes.items ≤ n → ⊥) → n < length plan.nodes.items
-by_past plan n not = elim (cases_lt n (length plan.nodes.items)) [ | inl lt ↦ lt | inr past ↦ absurd (not past) ]
+by_past plan n not = elim (cases_lt n (length plan.nodes.items)) [ inl lt ↦ lt | inr past ↦ absurd (not past) ]
 
 pub port_within : (plan : Plan) (n p : ℕ) (port : Port) → IsPort plan n p port → n < length plan.nodes.items
 port_within plan n p port is = by_past plan n (λ past. none past is)

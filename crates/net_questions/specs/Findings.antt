@@ -8,7 +8,8 @@ use Rattle.net_questions.specs.declared.code.Code.TheVariants as code
 use Rattle.net_questions.specs.declared.finding.Finding.{Finding}
 use Rattle.net_questions.specs.declared.finding.Finding.TheVariants.{SharedAddress, MissingAddress, SharedTid}
 use Rattle.net_questions.specs.declared.finding.Finding.TheVariants.{IdleRow, PoolEidNotLedOn, LonePort, Isolated}
-use Rattle.net_questions.specs.Lint.{ShareAddress, LacksAddress, ShareTid, HasIdleRow, LeavesHeld, IsAloneOnBus, IsIsolated}
+use Rattle.net_questions.specs.Lint.{ShareAddress, LacksAddress, IsAloneOnBus, ShareTid}
+use Rattle.net_questions.specs.Lint.{HasIdleRow, LeavesHeld, IsIsolated}
 
 -- the finding is so in the plan
 abbrev pub IsSo : Plan → Finding → Type 0

@@ -4,8 +4,8 @@ ghost use Rattle.net_questions.specs.Findings.{IsSo, AreFindings, Adds, IsUnder,
 
 use crate::code::{CODES, Code};
 use crate::finding::Finding;
-use crate::lookup::{ports_at, rows_at};
 use crate::lints::{ports, rows, termini};
+use crate::lookup::{ports_at, rows_at};
 use mctp_transport::Eid;
 use net_plan::Plan;
 use std::alloc::{AllocError, Global};
@@ -85,11 +85,7 @@ fn add_between(
 }
 
 /// Adds what may be found, if it is so.
-fn add_if_so(
-    findings: &mut Vec<Finding>,
-    plan: &Plan,
-    finding: Finding,
-) -> Result<(), AllocError>
+fn add_if_so(findings: &mut Vec<Finding>, plan: &Plan, finding: Finding) -> Result<(), AllocError>
     ensures { OnOk result (Adds (IsUnder plan.now (key_of finding)) findings.old.items findings.new.items) }
 {
     if is_so(plan, finding) {

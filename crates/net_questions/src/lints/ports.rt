@@ -6,13 +6,7 @@ use crate::lookup::{port_at, ports_at};
 use net_plan::{Plan, Port};
 
 /// Whether a port and a later one have one address on one bus.
-pub fn share_address(
-    plan: &Plan,
-    node: usize,
-    port: usize,
-    other: usize,
-    other_port: usize,
-) -> bool
+pub fn share_address(plan: &Plan, node: usize, port: usize, other: usize, other_port: usize) -> bool
     ensures { IsTrue result ↔ ShareAddress plan.now node port other other_port }
 {
     is_earlier(node, port, other, other_port)

@@ -1,4 +1,4 @@
-use Rattle.std.proofs.Common.{◌≡◌, length, [], ◌∷◌, subst, arith}
+use Rattle.std.proofs.Common.{◌≡◌, [], ◌∷◌, subst, arith}
 use Rattle.net_questions.specs.Findings.{Adds, order_of, other_items_of}
 use Rattle.net_questions.proofs.Ascending.{Below, start, more, all}
 use Rattle.net_questions.proofs.Bounds.{end_of_other_items}

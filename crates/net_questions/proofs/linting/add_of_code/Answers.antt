@@ -1,5 +1,5 @@
 use Rattle.std.proofs.Common.{◌≡◌, length, [], ◌∷◌, subst, arith}
-use Rattle.net_questions.specs.Findings.{Adds, order_of, IsUnder}
+use Rattle.net_questions.specs.Findings.{Adds, order_of}
 use Rattle.net_questions.proofs.Ascending.{Below, start, more, all}
 use Rattle.net_questions.proofs.Bounds.{end_of_nodes}
 use Rattle.net_questions.proofs.linting.add_of_code.Goals as goal
