@@ -7,8 +7,8 @@ use Rattle.net_questions.specs.declared.code.Code.{Code}
 use Rattle.net_questions.specs.declared.code.Code.TheVariants as code
 use Rattle.net_questions.specs.declared.finding.Finding.{Finding}
 use Rattle.net_questions.specs.declared.finding.Finding.TheVariants.{SharedAddress, MissingAddress, SharedTid}
-use Rattle.net_questions.specs.declared.finding.Finding.TheVariants.{IdleRow, PoolEidNotLedOn, LonePort, Isolated}
-use Rattle.net_questions.specs.Lint.{ShareAddress, LacksAddress, IsAloneOnBus, ShareTid}
+use Rattle.net_questions.specs.declared.finding.Finding.TheVariants.{MissingLocator, IdleRow, PoolEidNotLedOn, LonePort, Isolated}
+use Rattle.net_questions.specs.Lint.{ShareAddress, LacksAddress, IsAloneOnBus, ShareTid, LacksLocator}
 use Rattle.net_questions.specs.Lint.{HasIdleRow, LeavesHeld, IsIsolated}
 
 -- the finding is so in the plan
@@ -16,6 +16,7 @@ abbrev pub IsSo : Plan → Finding → Type 0
 IsSo plan (SharedAddress n p m q) = ShareAddress plan n p m q
 IsSo plan (MissingAddress n p) = LacksAddress plan n p
 IsSo plan (SharedTid n m) = ShareTid plan n m
+IsSo plan (MissingLocator n) = LacksLocator plan n
 IsSo plan (IdleRow n r) = HasIdleRow plan n r
 IsSo plan (PoolEidNotLedOn n eid) = LeavesHeld plan n eid.value
 IsSo plan (LonePort n p) = IsAloneOnBus plan n p
@@ -26,10 +27,11 @@ abbrev pub order_of : Code → ℕ
 order_of code.SharedAddress = 0
 order_of code.MissingAddress = 1
 order_of code.SharedTid = 2
-order_of code.IdleRow = 3
-order_of code.PoolEidNotLedOn = 4
-order_of code.LonePort = 5
-order_of code.Isolated = 6
+order_of code.MissingLocator = 3
+order_of code.IdleRow = 4
+order_of code.PoolEidNotLedOn = 5
+order_of code.LonePort = 6
+order_of code.Isolated = 7
 
 -- What a finding is about: its code; a node, and one of its ports, rows, records or EIDs; another node, and one of its
 -- ports or records. What is not spoken of is 0.
@@ -45,6 +47,7 @@ subject_of (SharedAddress n p m q) =
     record { code = code.SharedAddress; node = n; item = p; other = m; other_item = q }
 subject_of (MissingAddress n p) = record { code = code.MissingAddress; node = n; item = p; other = 0; other_item = 0 }
 subject_of (SharedTid n m) = record { code = code.SharedTid; node = n; item = 0; other = m; other_item = 0 }
+subject_of (MissingLocator n) = record { code = code.MissingLocator; node = n; item = 0; other = 0; other_item = 0 }
 subject_of (IdleRow n r) = record { code = code.IdleRow; node = n; item = r; other = 0; other_item = 0 }
 subject_of (PoolEidNotLedOn n eid) =
     record { code = code.PoolEidNotLedOn; node = n; item = eid.value; other = 0; other_item = 0 }
@@ -96,6 +99,7 @@ abbrev pub items_of : Plan → Code → ℕ → ℕ
 items_of plan code.SharedAddress n = length (ports_of plan n)
 items_of plan code.MissingAddress n = length (ports_of plan n)
 items_of plan code.SharedTid n = 1
+items_of plan code.MissingLocator n = 1
 items_of plan code.IdleRow n = length (rows_of plan n)
 items_of plan code.PoolEidNotLedOn n = 256
 items_of plan code.LonePort n = length (ports_of plan n)
@@ -106,6 +110,7 @@ abbrev pub others_of : Plan → Code → ℕ
 others_of plan code.SharedAddress = length plan.nodes.items
 others_of plan code.MissingAddress = 1
 others_of plan code.SharedTid = length plan.nodes.items
+others_of plan code.MissingLocator = 1
 others_of plan code.IdleRow = 1
 others_of plan code.PoolEidNotLedOn = 1
 others_of plan code.LonePort = 1
@@ -116,6 +121,7 @@ abbrev pub other_items_of : Plan → Code → ℕ → ℕ
 other_items_of plan code.SharedAddress m = length (ports_of plan m)
 other_items_of plan code.MissingAddress m = 1
 other_items_of plan code.SharedTid m = 1
+other_items_of plan code.MissingLocator m = 1
 other_items_of plan code.IdleRow m = 1
 other_items_of plan code.PoolEidNotLedOn m = 1
 other_items_of plan code.LonePort m = 1

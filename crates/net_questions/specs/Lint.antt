@@ -1,12 +1,14 @@
 -- What is lawful in a plan and still looks wrong.
-use Rattle.std.specs.Prelude.{◌≡◌, ◌≢◌, ◌⊎◌, ℕ, ◌<◌, [], Some, slice_get}
+use Rattle.std.specs.Prelude.{◌≡◌, ◌≢◌, ◌⊎◌, ℕ, ◌<◌, [], ◌∷◌, Some, slice_get}
 use Rattle.net_plan.specs.declared.plan.Plan.{Plan}
 use Rattle.net_plan.specs.declared.nodes.Port.{Port}
 use Rattle.net_plan.specs.declared.nodes.Row.{Row}
+use Rattle.net_plan.specs.declared.terminus.Record.{Record}
 use Rattle.net_plan.specs.declared.terminus.Terminus.{Terminus}
 use Rattle.net_check.specs.Routing.{ports_of, rows_of, IsBridge, Holds, Covers, HasRow}
 use Rattle.net_check.specs.Pools.{IsInPoolOf}
-use Rattle.net_check.specs.Repositories.{terminus_of}
+use Rattle.net_check.specs.Repositories.{terminus_of, records_of}
+use Rattle.net_check.specs.Locators.{IsEidLocator}
 
 -- ---- ports
 
@@ -87,6 +89,19 @@ HaveSharedTid plan n m = (t : Terminus) × (terminus_of plan n ≡ Some t) × Ha
 -- n and a later node m have termini of one terminus ID
 abbrev pub ShareTid : Plan → ℕ → ℕ → Type 0
 ShareTid plan n m = (n < m) × HaveSharedTid plan n m
+
+-- one of n's records is a valid locator of the TID and of e
+abbrev pub HasLocator : Plan → ℕ → ℕ → ℕ → Type 0
+HasLocator plan n tid e =
+    (j : ℕ) × (r : Record) × (slice_get (records_of plan n) j ≡ Some r) × IsEidLocator r.bytes.items tid (e ∷ [])
+
+-- n has no valid locator of the TID and of its EID
+abbrev pub IsUnlocated : Plan → ℕ → ℕ → Type 0
+IsUnlocated plan n tid = (e : ℕ) × Holds plan n e × ¬ HasLocator plan n tid e
+
+-- n has a terminus, and no valid locator of its own TID and EID
+abbrev pub LacksLocator : Plan → ℕ → Type 0
+LacksLocator plan n = (t : Terminus) × (terminus_of plan n ≡ Some t) × IsUnlocated plan n t.tid
 
 -- ---- rows
 

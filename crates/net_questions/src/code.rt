@@ -6,6 +6,7 @@ pub enum Code {
     SharedAddress,
     MissingAddress,
     SharedTid,
+    MissingLocator,
     IdleRow,
     PoolEidNotLedOn,
     LonePort,
@@ -13,10 +14,11 @@ pub enum Code {
 }
 
 /// The codes, in their order.
-pub const CODES: [Code; 7] = [
+pub const CODES: [Code; 8] = [
     Code::SharedAddress,
     Code::MissingAddress,
     Code::SharedTid,
+    Code::MissingLocator,
     Code::IdleRow,
     Code::PoolEidNotLedOn,
     Code::LonePort,

@@ -22,6 +22,10 @@ pub enum Finding {
         node: usize,
         other: usize,
     },
+    /// H04: a terminus has no valid locator of its own terminus ID and endpoint ID.
+    MissingLocator {
+        node: usize,
+    },
     /// H08: none of a row's endpoint IDs is held by a node or lies in a pool.
     IdleRow {
         node: usize,

@@ -4,7 +4,7 @@ ghost use Rattle.net_questions.specs.Findings.{IsSo, AreFindings, Adds, IsUnder,
 
 use crate::code::{CODES, Code};
 use crate::finding::Finding;
-use crate::lints::{ports, rows, termini};
+use crate::lints::{locators, ports, rows, termini};
 use crate::lookup::{ports_at, rows_at};
 use mctp_transport::Eid;
 use net_plan::Plan;
@@ -103,7 +103,7 @@ fn items(plan: &Plan, code: Code, node: usize) -> usize
         Code::SharedAddress | Code::MissingAddress | Code::LonePort => ports_at(plan, node).len(),
         Code::IdleRow => rows_at(plan, node).len(),
         Code::PoolEidNotLedOn => 256,
-        Code::SharedTid | Code::Isolated => 1,
+        Code::SharedTid | Code::MissingLocator | Code::Isolated => 1,
     }
 }
 
@@ -150,6 +150,7 @@ fn finding_at(
         },
         Code::MissingAddress => Finding::MissingAddress { node, port: item },
         Code::SharedTid => Finding::SharedTid { node, other },
+        Code::MissingLocator => Finding::MissingLocator { node },
         Code::IdleRow => Finding::IdleRow { node, row: item },
         Code::PoolEidNotLedOn => Finding::PoolEidNotLedOn {
             node,
@@ -173,6 +174,7 @@ fn is_so(plan: &Plan, finding: Finding) -> bool
         } => ports::share_address(plan, node, port, other, other_port),
         Finding::MissingAddress { node, port } => ports::lacks_address(plan, node, port),
         Finding::SharedTid { node, other } => termini::share_tid(plan, node, other),
+        Finding::MissingLocator { node } => locators::lacks_locator(plan, node),
         Finding::IdleRow { node, row } => rows::has_idle_row(plan, node, row),
         Finding::PoolEidNotLedOn { node, eid } => rows::leaves_held(plan, node, eid),
         Finding::LonePort { node, port } => ports::is_alone_on_bus(plan, node, port),

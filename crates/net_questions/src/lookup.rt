@@ -3,12 +3,12 @@ ghost use Rattle.std.specs.Prelude.{◌≡◌, ◌<◌, ◌↔◌, IsTrue, lengt
 ghost use Rattle.mctp_bridge.specs.Rows.{IsNext};
 ghost use Rattle.net_check.specs.Routing.{Holds, Covers, HasRow, IsBridge, ports_of, rows_of};
 ghost use Rattle.net_check.specs.Pools.{pool_of};
-ghost use Rattle.net_check.specs.Repositories.{terminus_of};
+ghost use Rattle.net_check.specs.Repositories.{terminus_of, records_of};
 ghost use Rattle.net_check.specs.Tables.{table_row};
 
 use mctp_bridge::Hop;
 use mctp_transport::Eid;
-use net_plan::{Kind, Plan, Pool, Port, Row, Terminus};
+use net_plan::{Kind, Plan, Pool, Port, Record, Row, Terminus};
 
 /// Whether there is such a node, and it is a bridge.
 pub fn is_bridge(plan: &Plan, node: usize) -> bool
@@ -112,4 +112,14 @@ pub fn terminus_at(plan: &Plan, node: usize) -> Option<&Terminus>
     ensures { option_map (λ t. t.now) result ≡ terminus_of plan.now node }
 {
     plan.nodes.get(node)?.terminus.as_ref()
+}
+
+/// The records of a node's terminus, none where it has no terminus.
+pub fn records_at(plan: &Plan, node: usize) -> &[Record]
+    ensures { result.now ≡ records_of plan.now node }
+{
+    match terminus_at(plan, node) {
+        Some(terminus) => &terminus.records,
+        None => &[],
+    }
 }
