@@ -1,13 +1,12 @@
 -- Along a run each flight stands on the way of its packet.
-use Rattle.std.proofs.Common.{◌≡◌, ◌⊎◌, ℕ, zero, suc, ◌+◌, ◌≤◌, Bool, true, false, List, [], ◌∷◌, ◌++◌, length, Some, refl, sym, ap, ◌∙◌, subst, inl, inr, arith, take}
+use Rattle.std.proofs.Common.{◌≡◌, ℕ, zero, suc, ◌+◌, ◌≤◌, Bool, true, false, List, [], ◌∷◌, ◌++◌, length, Some, refl, sym, ap, ◌∙◌, subst, inl, inr, arith, take}
 use Rattle.std.specs.Prelude.{slice_get}
 use Rattle.std.proofs.lemmas.List.{length_push}
 use Rattle.std.proofs.lemmas.Option.{same_Some, slice_get_within}
-use Rattle.mctp_transport.specs.Frames.{Frame, key_of}
+use Rattle.mctp_transport.specs.Frames.{Frame}
 use Rattle.mctp_bridge.specs.declared.row.Hop.{Hop}
-use Rattle.mctp_bridge.specs.declared.decision.Obstacle.{Obstacle}
 use Rattle.mctp_bridge.specs.declared.decision.Decision.{Decision}
-use Rattle.mctp_bridge.specs.declared.decision.Decision.TheVariants.{Here, Drop, Forward}
+use Rattle.mctp_bridge.specs.declared.decision.Decision.TheVariants.{Forward}
 use Rattle.net_plan.specs.declared.plan.Plan.{Plan}
 use Rattle.net_plan.specs.declared.certificate.Certificate.{Certificate}
 use Rattle.net_check.specs.Rules.{Accepts}
@@ -15,7 +14,7 @@ use Rattle.net_check.specs.RoutingLoops.{RowsAreApart}
 use Rattle.net_check.specs.States.{NetworkState, Flight, at_start, destination, without_flight, with_made}
 use Rattle.net_check.specs.TwoPlans.{one_plan}
 use Rattle.net_check.specs.Events.{EventValue, Move, OutcomeValue, PutIn, Moved, Entered, Stopped, Lost, Expired, Answered, Silent, Switched, Refused}
-use Rattle.net_check.specs.Networks.{Step as OneStep, IsDone, Moves, Happens}
+use Rattle.net_check.specs.Networks.{Step as OneStep, IsDone, Happens}
 use Rattle.net_check.specs.Deliveries.{is_refusal}
 use Rattle.net_check.specs.Runs.{Turn, RunFrom, Run, after_all, reached, PutsIn}
 use Rattle.net_check.proofs.Nexts.{HasMoved, IsNew, IsNext, step_is_next}

@@ -6,7 +6,6 @@ use Rattle.std.proofs.lemmas.List.{get_or-map, get_or-take, length-take, length-
 use Rattle.std.proofs.lemmas.Option.{slice_get_within, get_or_from_slice_get, slice_get_read, same_Some}
 use Rattle.mctp_transport.specs.Frames.{IsAssignable}
 use Rattle.mctp_bridge.specs.declared.row.Hop.{Hop}
-use Rattle.mctp_bridge.specs.declared.decision.Obstacle.{Obstacle}
 use Rattle.mctp_bridge.specs.declared.decision.Obstacle.TheVariants.{Unassignable, NoBridge, NoRow}
 use Rattle.mctp_bridge.specs.declared.decision.Decision.{Decision}
 use Rattle.mctp_bridge.specs.declared.decision.Decision.TheVariants.{Here, Drop, Forward}

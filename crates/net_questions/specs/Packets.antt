@@ -4,7 +4,7 @@ use Rattle.net_plan.specs.declared.plan.Plan.{Plan}
 use Rattle.net_plan.specs.declared.certificate.Certificate.{Certificate}
 use Rattle.mctp_transport.specs.Frames.{KeyValue}
 use Rattle.mctp_transport.specs.Hearing.{Answer}
-use Rattle.net_check.specs.States.{NetworkState, Flight, destination}
+use Rattle.net_check.specs.States.{Flight, destination}
 use Rattle.net_check.specs.Events.{OutcomeValue, Moved, Entered, Stopped, Move}
 use Rattle.net_check.specs.Deliveries.{is_refusal}
 use Rattle.net_check.specs.Runs.{Turn, Run, reached}

@@ -1,5 +1,3 @@
-use Rattle.net_check.specs.RoutingLoops.{AreNexts}
-use Rattle.std.proofs.Common.{length, List, Option, ℕ}
 use Rattle.net_questions.proofs.Tables.{hops_more}
 use Rattle.net_questions.proofs.hops.hops_to.Goals as goal
 

@@ -1,0 +1,57 @@
+-- Of what a plan says something, that is in the plan.
+use Rattle.std.proofs.Common.{◌≡◌, ℕ, ◌<◌, ◌≤◌, length, Some, inl, inr}
+use Rattle.std.specs.Prelude.{slice_get}
+use Rattle.std.proofs.lemmas.Bool.{cases_lt}
+use Rattle.std.proofs.lemmas.Option.{slice_get_past}
+use Rattle.net_plan.specs.declared.plan.Plan.{Plan}
+use Rattle.net_plan.specs.declared.nodes.Port.{Port}
+use Rattle.net_plan.specs.declared.nodes.Pool.{Pool}
+use Rattle.net_plan.specs.declared.nodes.Row.{Row}
+use Rattle.net_plan.specs.declared.terminus.Terminus.{Terminus}
+use Rattle.net_check.specs.Routing.{Holds, HasRow, IsBridge, rows_of}
+use Rattle.net_check.specs.Pools.{pool_of, IsInPoolOf}
+use Rattle.net_check.specs.Repositories.{terminus_of}
+use Rattle.net_questions.specs.Lint.{IsPort}
+
+by_past : (plan : Plan) (n : ℕ) → (length plan.nodes.items ≤ n → ⊥) → n < length plan.nodes.items
+by_past plan n not = elim (cases_lt n (length plan.nodes.items)) [ inl lt ↦ lt | inr past ↦ absurd (not past) ]
+
+pub port_within : (plan : Plan) (n p : ℕ) (port : Port) → IsPort plan n p port → n < length plan.nodes.items
+port_within plan n p port is = by_past plan n (λ past. none past is)
+  where
+    none : length plan.nodes.items ≤ n → IsPort plan n p port → ⊥
+    none past = rw (slice_get_past plan.nodes.items n past) (λ is. cc)
+
+pub row_within : (plan : Plan) (n r : ℕ) (row : Row) → slice_get (rows_of plan n) r ≡ Some row → n < length plan.nodes.items
+row_within plan n r row is = by_past plan n (λ past. none past is)
+  where
+    none : length plan.nodes.items ≤ n → slice_get (rows_of plan n) r ≡ Some row → ⊥
+    none past = rw (slice_get_past plan.nodes.items n past) (λ is. cc)
+
+pub has_row_within : (plan : Plan) (n e : ℕ) → HasRow plan n e → n < length plan.nodes.items
+has_row_within plan n e has = row_within plan n has.1.0 has.1.1 has.1.2
+
+pub terminus_within : (plan : Plan) (n : ℕ) (t : Terminus) → terminus_of plan n ≡ Some t → n < length plan.nodes.items
+terminus_within plan n t is = by_past plan n (λ past. none past is)
+  where
+    none : length plan.nodes.items ≤ n → terminus_of plan n ≡ Some t → ⊥
+    none past = rw (slice_get_past plan.nodes.items n past) (λ is. cc)
+
+pub holder_within : (plan : Plan) (n e : ℕ) → Holds plan n e → n < length plan.nodes.items
+holder_within plan n e is = by_past plan n (λ past. none past is)
+  where
+    none : length plan.nodes.items ≤ n → Holds plan n e → ⊥
+    none past = rw (slice_get_past plan.nodes.items n past) (λ is. cc)
+
+pub bridge_within : (plan : Plan) (n : ℕ) → IsBridge plan n → n < length plan.nodes.items
+bridge_within plan n is = by_past plan n (λ past. none past is)
+  where
+    none : length plan.nodes.items ≤ n → IsBridge plan n → ⊥
+    none past = rw (slice_get_past plan.nodes.items n past) (λ is. cc)
+
+pub pool_within : (plan : Plan) (n e : ℕ) → IsInPoolOf plan n e → n < length plan.nodes.items
+unfolding IsInPoolOf
+pool_within plan n e has = by_past plan n (λ past. none has.0 past has.1)
+  where
+    none : (pool : Pool) → length plan.nodes.items ≤ n → pool_of plan n ≡ Some pool → ⊥
+    none pool past = rw (slice_get_past plan.nodes.items n past) (λ is. cc)

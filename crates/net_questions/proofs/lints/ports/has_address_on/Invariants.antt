@@ -1,0 +1,7 @@
+use Rattle.std.proofs.Common.{ℕ, ◌<◌}
+use Rattle.net_check.specs.Routing.{OfItem}
+use Rattle.net_questions.specs.Lint.{IsAddressedOn}
+use Rattle.net_questions.proofs.lints.ports.has_address_on.Given as goal
+
+abbrev pub invariant-loop-port : goal.invariant-loop-port
+invariant-loop-port l = (k : ℕ) → k < l.port-index → OfItem l.ports k (λ b. ¬ IsAddressedOn l.bus b)

@@ -1,0 +1,135 @@
+-- What is lawful in a plan and still looks wrong.
+use Rattle.std.specs.Prelude.{◌≡◌, ◌≢◌, ◌⊎◌, ℕ, ◌<◌, [], ◌∷◌, Some, slice_get}
+use Rattle.net_plan.specs.declared.plan.Plan.{Plan}
+use Rattle.net_plan.specs.declared.nodes.Port.{Port}
+use Rattle.net_plan.specs.declared.nodes.Row.{Row}
+use Rattle.net_plan.specs.declared.terminus.Record.{Record}
+use Rattle.net_plan.specs.declared.terminus.Terminus.{Terminus}
+use Rattle.net_check.specs.Routing.{ports_of, rows_of, IsBridge, Holds, Covers, HasRow}
+use Rattle.net_check.specs.Pools.{IsInPoolOf}
+use Rattle.net_check.specs.Repositories.{terminus_of, records_of}
+use Rattle.net_check.specs.Locators.{IsEidLocator}
+
+-- ---- ports
+
+-- this is n's port p
+abbrev pub IsPort : Plan → ℕ → ℕ → Port → Type 0
+IsPort plan n p port = slice_get (ports_of plan n) p ≡ Some port
+
+-- n comes before m, or is m and p comes before q
+abbrev pub IsEarlier : ℕ → ℕ → ℕ → ℕ → Type 0
+IsEarlier n p m q = (n < m) ⊎ ((n ≡ m) × (p < q))
+
+-- both ports are on one bus and have one address, which isn't empty
+abbrev pub HaveOneAddress : Port → Port → Type 0
+HaveOneAddress a b = (a.bus ≡ b.bus) × (a.address.items ≡ b.address.items) × (a.address.items ≢ [])
+
+-- m has a port q that has the port's address, on its bus
+abbrev pub HasItsAddress : Plan → Port → ℕ → ℕ → Type 0
+HasItsAddress plan a m q = (b : Port) × IsPort plan m q b × HaveOneAddress a b
+
+-- n's port p and m's port q have one address on one bus
+abbrev pub HaveSharedAddress : Plan → ℕ → ℕ → ℕ → ℕ → Type 0
+HaveSharedAddress plan n p m q = (a : Port) × IsPort plan n p a × HasItsAddress plan a m q
+
+-- n's port p and a later port, m's port q, have one address on one bus
+abbrev pub ShareAddress : Plan → ℕ → ℕ → ℕ → ℕ → Type 0
+ShareAddress plan n p m q = IsEarlier n p m q × HaveSharedAddress plan n p m q
+
+-- the port is on the bus and has an address
+abbrev pub IsAddressedOn : ℕ → Port → Type 0
+IsAddressedOn bus b = (b.bus ≡ bus) × (b.address.items ≢ [])
+
+-- some port of m on the bus has an address
+abbrev pub HasAddressOn : Plan → ℕ → ℕ → Type 0
+HasAddressOn plan bus m = (q : ℕ) × (b : Port) × IsPort plan m q b × IsAddressedOn bus b
+
+-- some port on the bus has an address
+abbrev pub HasAddresses : Plan → ℕ → Type 0
+HasAddresses plan bus = (m : ℕ) × HasAddressOn plan bus m
+
+-- the port has an empty address, and some port on its bus has another
+abbrev pub IsWithoutAddress : Plan → Port → Type 0
+IsWithoutAddress plan a = (a.address.items ≡ []) × HasAddresses plan a.bus
+
+-- n's port p is such a port
+abbrev pub LacksAddress : Plan → ℕ → ℕ → Type 0
+LacksAddress plan n p = (a : Port) × IsPort plan n p a × IsWithoutAddress plan a
+
+-- m's port q is on the bus, and isn't n's port p
+abbrev pub IsOtherOn : ℕ → ℕ → ℕ → ℕ → ℕ → Port → Type 0
+IsOtherOn bus m n p q b = (b.bus ≡ bus) × ¬ ((m ≡ n) × (q ≡ p))
+
+-- some port of m is on the bus, and isn't n's port p
+abbrev pub HasOtherOn : Plan → ℕ → ℕ → ℕ → ℕ → Type 0
+HasOtherOn plan bus m n p = (q : ℕ) × (b : Port) × IsPort plan m q b × IsOtherOn bus m n p q b
+
+-- no other port than n's port p is on the bus
+abbrev pub IsOnlyPort : Plan → ℕ → ℕ → ℕ → Type 0
+IsOnlyPort plan bus n p = (m : ℕ) → ¬ HasOtherOn plan bus m n p
+
+-- no other port is on the bus of n's port p
+abbrev pub IsAloneOnBus : Plan → ℕ → ℕ → Type 0
+IsAloneOnBus plan n p = (a : Port) × IsPort plan n p a × IsOnlyPort plan a.bus n p
+
+-- ---- termini
+
+-- both termini have one terminus ID; 0 is none
+abbrev pub HaveOneTid : Terminus → Terminus → Type 0
+HaveOneTid t u = (t.tid ≡ u.tid) × (t.tid ≢ 0)
+
+-- m has a terminus of the terminus' ID
+abbrev pub HasItsTid : Plan → Terminus → ℕ → Type 0
+HasItsTid plan t m = (u : Terminus) × (terminus_of plan m ≡ Some u) × HaveOneTid t u
+
+-- n and m have termini of one terminus ID
+abbrev pub HaveSharedTid : Plan → ℕ → ℕ → Type 0
+HaveSharedTid plan n m = (t : Terminus) × (terminus_of plan n ≡ Some t) × HasItsTid plan t m
+
+-- n and a later node m have termini of one terminus ID
+abbrev pub ShareTid : Plan → ℕ → ℕ → Type 0
+ShareTid plan n m = (n < m) × HaveSharedTid plan n m
+
+-- one of n's records is a valid locator of the TID and of e
+abbrev pub HasLocator : Plan → ℕ → ℕ → ℕ → Type 0
+HasLocator plan n tid e =
+    (j : ℕ) × (r : Record) × (slice_get (records_of plan n) j ≡ Some r) × IsEidLocator r.bytes.items tid (e ∷ [])
+
+-- n has no valid locator of the TID and of its EID
+abbrev pub IsUnlocated : Plan → ℕ → ℕ → Type 0
+IsUnlocated plan n tid = (e : ℕ) × Holds plan n e × ¬ HasLocator plan n tid e
+
+-- n has a terminus, and no valid locator of its own TID and EID
+abbrev pub LacksLocator : Plan → ℕ → Type 0
+LacksLocator plan n = (t : Terminus) × (terminus_of plan n ≡ Some t) × IsUnlocated plan n t.tid
+
+-- ---- rows
+
+-- no node holds any of the row's EIDs, and none lies in a pool
+abbrev pub LeadsToNobody : Plan → Row → Type 0
+LeadsToNobody plan row = (e m : ℕ) → Covers row e → ¬ Holds plan m e × ¬ IsInPoolOf plan m e
+
+-- n's row r is such a row
+abbrev pub HasIdleRow : Plan → ℕ → ℕ → Type 0
+HasIdleRow plan n r = (row : Row) × (slice_get (rows_of plan n) r ≡ Some row) × LeadsToNobody plan row
+
+-- some node holds e
+abbrev pub IsHeld : Plan → ℕ → Type 0
+IsHeld plan e = (m : ℕ) × Holds plan m e
+
+-- the bridge n has e in its pool, another node holds e, and n has no row for it
+abbrev pub LeavesHeld : Plan → ℕ → ℕ → Type 0
+LeavesHeld plan n e =
+    IsBridge plan n × IsInPoolOf plan n e × IsHeld plan e × ¬ Holds plan n e × ¬ HasRow plan n e
+
+-- no node has a row for e
+abbrev pub NobodyHasRow : Plan → ℕ → Type 0
+NobodyHasRow plan e = (m : ℕ) → ¬ HasRow plan m e
+
+-- no node has a row for n's EID
+abbrev pub IsUnknown : Plan → ℕ → Type 0
+IsUnknown plan n = (e : ℕ) × Holds plan n e × NobodyHasRow plan e
+
+-- n has no rows, and no node has a row for its EID
+abbrev pub IsIsolated : Plan → ℕ → Type 0
+IsIsolated plan n = (rows_of plan n ≡ []) × IsUnknown plan n

@@ -1,0 +1,26 @@
+//! The codes of what looks wrong.
+
+/// What can look wrong, in the order in which it is looked for.
+#[derive(Clone, Copy, Debug, PartialEq, Eq)]
+pub enum Code {
+    SharedAddress,
+    MissingAddress,
+    SharedTid,
+    MissingLocator,
+    IdleRow,
+    PoolEidNotLedOn,
+    LonePort,
+    Isolated,
+}
+
+/// The codes, in their order.
+pub const CODES: [Code; 8] = [
+    Code::SharedAddress,
+    Code::MissingAddress,
+    Code::SharedTid,
+    Code::MissingLocator,
+    Code::IdleRow,
+    Code::PoolEidNotLedOn,
+    Code::LonePort,
+    Code::Isolated,
+];

@@ -1,0 +1,48 @@
+//! What is lawful in a plan, and still looks wrong.
+use mctp_transport::Eid;
+
+/// What looks wrong, and whom it is about. A node is told by its place in the plan's list; a port, a row or a record by
+/// its place in its node's list.
+#[derive(Clone, Copy, Debug, PartialEq, Eq)]
+pub enum Finding {
+    /// H01: two ports on one bus have one address. The second port comes later in the plan.
+    SharedAddress {
+        node: usize,
+        port: usize,
+        other: usize,
+        other_port: usize,
+    },
+    /// H02: a port has no address, and another on its bus has one.
+    MissingAddress {
+        node: usize,
+        port: usize,
+    },
+    /// H03: two termini have one terminus ID, which is not 0. The second node comes later in the plan.
+    SharedTid {
+        node: usize,
+        other: usize,
+    },
+    /// H04: a terminus has no valid locator of its own terminus ID and endpoint ID.
+    MissingLocator {
+        node: usize,
+    },
+    /// H08: none of a row's endpoint IDs is held by a node or lies in a pool.
+    IdleRow {
+        node: usize,
+        row: usize,
+    },
+    /// H09: an endpoint ID of a bridge's pool is held by another node, and the bridge has no row for it.
+    PoolEidNotLedOn {
+        node: usize,
+        eid: Eid,
+    },
+    /// H10: a port is the only one on its bus.
+    LonePort {
+        node: usize,
+        port: usize,
+    },
+    /// H12: a node has no rows, and no node has a row for its endpoint ID.
+    Isolated {
+        node: usize,
+    },
+}

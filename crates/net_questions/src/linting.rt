@@ -1,0 +1,183 @@
+//! All that is lawful in a plan and still looks wrong.
+ghost use Rattle.std.specs.Prelude.{◌<◌, ◌≡◌, ◌↔◌, [], ◌∷◌, IsTrue, IfOk, OnOk};
+ghost use Rattle.net_questions.specs.Findings.{IsSo, AreFindings, Adds, IsUnder, order_of, key_of, items_of, others_of, other_items_of};
+
+use crate::code::{CODES, Code};
+use crate::finding::Finding;
+use crate::lints::{locators, ports, rows, termini};
+use crate::lookup::{ports_at, rows_at};
+use mctp_transport::Eid;
+use net_plan::Plan;
+use std::alloc::{AllocError, Global};
+
+/// All that is lawful in the plan and still looks wrong, by the order of the codes, and then in plan order. The plan
+/// needs no check before.
+pub fn lint(alloc: Global, plan: &Plan) -> Result<Vec<Finding>, AllocError>
+    ensures { IfOk result (λ findings. AreFindings plan.now findings.items) }
+{
+    let mut findings = Vec::new(alloc);
+    for code in CODES {
+        add_of_code(&mut findings, plan, code)?;
+    }
+    Ok(findings)
+}
+
+/// Adds what a code finds.
+fn add_of_code(findings: &mut Vec<Finding>, plan: &Plan, code: Code) -> Result<(), AllocError>
+    ensures { OnOk result (Adds (IsUnder plan.now (order_of code ∷ [])) findings.old.items findings.new.items) }
+{
+    for node in 0..plan.nodes.len() {
+        add_at_node(findings, plan, code, node)?;
+    }
+    Ok(())
+}
+
+/// Adds what a code finds at a node.
+fn add_at_node(
+    findings: &mut Vec<Finding>,
+    plan: &Plan,
+    code: Code,
+    node: usize,
+) -> Result<(), AllocError>
+    ensures { OnOk result (Adds (IsUnder plan.now (order_of code ∷ node ∷ [])) findings.old.items findings.new.items) }
+{
+    for item in 0..items(plan, code, node) {
+        add_at_item(findings, plan, code, node, item)?;
+    }
+    Ok(())
+}
+
+/// Adds what a code finds at a node's item.
+fn add_at_item(
+    findings: &mut Vec<Finding>,
+    plan: &Plan,
+    code: Code,
+    node: usize,
+    item: usize,
+) -> Result<(), AllocError>
+    requires { item < items_of plan.now code node }
+    ensures { OnOk result (Adds (IsUnder plan.now (order_of code ∷ node ∷ item ∷ [])) findings.old.items findings.new.items) }
+{
+    for other in 0..others(plan, code) {
+        add_between(findings, plan, code, node, item, other)?;
+    }
+    Ok(())
+}
+
+/// Adds what a code finds at a node's item and another node.
+fn add_between(
+    findings: &mut Vec<Finding>,
+    plan: &Plan,
+    code: Code,
+    node: usize,
+    item: usize,
+    other: usize,
+) -> Result<(), AllocError>
+    requires item { item < items_of plan.now code node }
+    requires other { other < others_of plan.now code }
+    ensures { OnOk result (Adds (IsUnder plan.now (order_of code ∷ node ∷ item ∷ other ∷ [])) findings.old.items findings.new.items) }
+{
+    for other_item in 0..other_items(plan, code, other) {
+        let finding = finding_at(plan, code, node, item, other, other_item);
+        add_if_so(findings, plan, finding)?;
+    }
+    Ok(())
+}
+
+/// Adds what may be found, if it is so.
+fn add_if_so(findings: &mut Vec<Finding>, plan: &Plan, finding: Finding) -> Result<(), AllocError>
+    ensures { OnOk result (Adds (IsUnder plan.now (key_of finding)) findings.old.items findings.new.items) }
+{
+    if is_so(plan, finding) {
+        findings.push(finding)?;
+        return Ok(());
+    }
+    Ok(())
+}
+
+/// How many items of a node a code looks at, one where it speaks of none.
+fn items(plan: &Plan, code: Code, node: usize) -> usize
+    ensures { result ≡ items_of plan.now code node }
+{
+    match code {
+        Code::SharedAddress | Code::MissingAddress | Code::LonePort => ports_at(plan, node).len(),
+        Code::IdleRow => rows_at(plan, node).len(),
+        Code::PoolEidNotLedOn => 256,
+        Code::SharedTid | Code::MissingLocator | Code::Isolated => 1,
+    }
+}
+
+/// How many other nodes a code looks at, one where it speaks of none.
+fn others(plan: &Plan, code: Code) -> usize
+    ensures { result ≡ others_of plan.now code }
+{
+    match code {
+        Code::SharedAddress | Code::SharedTid => plan.nodes.len(),
+        _ => 1,
+    }
+}
+
+/// How many items of the other node a code looks at, one where it speaks of none.
+fn other_items(plan: &Plan, code: Code, other: usize) -> usize
+    ensures { result ≡ other_items_of plan.now code other }
+{
+    match code {
+        Code::SharedAddress => ports_at(plan, other).len(),
+        _ => 1,
+    }
+}
+
+/// What a code may find there.
+fn finding_at(
+    plan: &Plan,
+    code: Code,
+    node: usize,
+    item: usize,
+    other: usize,
+    other_item: usize,
+) -> Finding
+    requires item { item < items_of plan.now code node }
+    requires other { other < others_of plan.now code }
+    requires other_item { other_item < other_items_of plan.now code other }
+    ensures { key_of result ≡ order_of code ∷ node ∷ item ∷ other ∷ other_item ∷ [] }
+{
+    match code {
+        Code::SharedAddress => Finding::SharedAddress {
+            node,
+            port: item,
+            other,
+            other_port: other_item,
+        },
+        Code::MissingAddress => Finding::MissingAddress { node, port: item },
+        Code::SharedTid => Finding::SharedTid { node, other },
+        Code::MissingLocator => Finding::MissingLocator { node },
+        Code::IdleRow => Finding::IdleRow { node, row: item },
+        Code::PoolEidNotLedOn => Finding::PoolEidNotLedOn {
+            node,
+            eid: Eid::new(item as u8),
+        },
+        Code::LonePort => Finding::LonePort { node, port: item },
+        Code::Isolated => Finding::Isolated { node },
+    }
+}
+
+/// Whether the finding is so.
+fn is_so(plan: &Plan, finding: Finding) -> bool
+    ensures { IsTrue result ↔ IsSo plan.now finding }
+{
+    match finding {
+        Finding::SharedAddress {
+            node,
+            port,
+            other,
+            other_port,
+        } => ports::share_address(plan, node, port, other, other_port),
+        Finding::MissingAddress { node, port } => ports::lacks_address(plan, node, port),
+        Finding::SharedTid { node, other } => termini::share_tid(plan, node, other),
+        Finding::MissingLocator { node } => locators::lacks_locator(plan, node),
+        Finding::IdleRow { node, row } => rows::has_idle_row(plan, node, row),
+        Finding::PoolEidNotLedOn { node, eid } => rows::leaves_held(plan, node, eid),
+        Finding::LonePort { node, port } => ports::is_alone_on_bus(plan, node, port),
+        Finding::Isolated { node } => rows::is_isolated(plan, node),
+    }
+}

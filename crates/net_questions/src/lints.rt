@@ -1,0 +1,5 @@
+//! The tests of what looks wrong.
+pub mod locators;
+pub mod ports;
+pub mod rows;
+pub mod termini;
