@@ -1,5 +1,6 @@
 -- What `reach` prints of an accepted plan.
-use Rattle.std.specs.Prelude.{◌≡◌, ℕ, List, length, ◌++◌, ◌&&◌, Bool, Option, Some, None, is_some, is_none, count_by, codes}
+use Rattle.std.specs.Prelude.{◌≡◌, ℕ, List, length, ◌++◌, ◌&&◌, Bool}
+use Rattle.std.specs.Prelude.{Option, Some, None, is_some, is_none, count_by, codes}
 use Rattle.std.specs.Fmt.{decimal}
 use Rattle.std.specs.List.{flat_map}
 use Rattle.net_plan.specs.declared.plan.Plan.{Plan}
@@ -28,7 +29,8 @@ is_one_way pair = is_some pair.there && is_none pair.back
 
 -- how many pairs there are, how many have a way there, and how many of these have none back
 abbrev pub pairs_line : List Pair → List ℕ
-pairs_line pairs = codes "pairs " ++ (decimal (length pairs) ++ (codes " reached " ++ (decimal (count_by is_reached pairs)
+pairs_line pairs = codes "pairs " ++ (decimal (length pairs)
+    ++ (codes " reached " ++ (decimal (count_by is_reached pairs)
     ++ (codes " one-way " ++ (decimal (count_by is_one_way pairs) ++ codes "\n")))))
 
 -- a line for each pair, in their order, and one that counts them

@@ -99,15 +99,15 @@ abbrev pub IsTraceText : List ℕ → List ℕ → Plan → Certificate → List
 IsTraceText from to plan certificate text = (n e : ℕ) × IsFirstNamed plan from n × IsDestination plan to e
     × IsWayText plan certificate n e text
 
--- the output was given the line of the first fault of the plan and the certificate that were given, where the words name
--- a node and a destination
+-- the output was given the line of the first fault of the plan and the certificate that were given, where the words
+-- name a node and a destination
 abbrev pub TellsTraceFault : List ℕ → List ℕ → Stream → Stream → Stream → Type 0
 TellsTraceFault from to plans certificates output = (plan : Plan) × (certificate : Certificate) × (fault : Fault)
     × AreGiven plans certificates plan certificate × NameTheEnds from to plan
     × IsFirstFault plan certificate (place_of fault) × Appends output.before output.after (fault_text plan fault)
 
--- The text answers so: it is that of the way, and every rule holds; or the words name a node and a destination, and it is
--- the line of the first fault.
+-- The text answers so: it is that of the way, and every rule holds; or the words name a node and a destination, and it
+-- is the line of the first fault.
 abbrev pub TracesSo : List ℕ → List ℕ → Stream → Stream → Status → List ℕ → Type 0
 TracesSo from to plans certificates status.Yes text = (plan : Plan) × (certificate : Certificate)
     × AreGiven plans certificates plan certificate × Accepts plan certificate
