@@ -1,12 +1,14 @@
 -- What `reach` prints of an accepted plan.
-use Rattle.std.specs.Prelude.{◌≡◌, ℕ, List, length, ◌++◌, ◌&&◌, Bool}
+use Rattle.std.specs.Prelude.{◌≡◌, ◌↔◌, ℕ, List, length, ◌++◌, ◌&&◌, Bool}
 use Rattle.std.specs.Prelude.{Option, Some, None, is_some, is_none, count_by, codes}
 use Rattle.std.specs.Fmt.{decimal}
 use Rattle.std.specs.List.{flat_map}
 use Rattle.net_plan.specs.declared.plan.Plan.{Plan}
 use Rattle.net_plan.specs.declared.certificate.Certificate.{Certificate}
 use Rattle.net_questions.specs.declared.pair.Pair.{Pair}
-use Rattle.net_questions.specs.Reaching.{ArePairs}
+use Rattle.net_questions.specs.Packets.{KeepsToWays}
+use Rattle.net_questions.specs.Reaching.{ArePairs, Reaches}
+use Rattle.net_questions.specs.Ways.{ArrivesAfter}
 use Rattle.plan_commands.specs.Lines.{name_or_dash}
 
 -- how many hops lead there, or that no way does
@@ -38,8 +40,11 @@ abbrev pub reach_text : Plan → List Pair → List ℕ
 reach_text plan pairs = flat_map (pair_line plan) pairs ++ pairs_line pairs
 
 -- The text is the lines of each two different nodes of the plan, with the hops that lead from the one to the endpoint
--- ID of the other, and the line that counts them.
+-- ID of the other, and the line that counts them. A packet arrives after so many hops where as many moves along rows
+-- lead to the holder, and in every run of the network each packet keeps to its way.
 pub record IsReachText (plan : Plan) (certificate : Certificate) (text : List ℕ) : Type 0 where
   pub pairs : List Pair
   pub asked : ArePairs plan certificate pairs
+  pub arriving : (e n moves : ℕ) → Reaches plan e n moves ↔ ArrivesAfter plan e n moves
+  pub kept : KeepsToWays plan certificate
   pub written : text ≡ reach_text plan pairs

@@ -20,6 +20,7 @@ use Rattle.net_plan.specs.declared.certificate.Certificate.{Certificate}
 use Rattle.net_questions.specs.declared.step.Step.{Step}
 use Rattle.net_questions.specs.declared.way.End.{End}
 use Rattle.net_questions.specs.declared.way.End.TheVariants.{Arrives, Stops}
+use Rattle.net_questions.specs.Packets.{KeepsToWays}
 use Rattle.net_questions.specs.Ways.{IsWay}
 use Rattle.plan_commands.specs.declared.refused.Refused.{Refused}
 use Rattle.plan_commands.specs.declared.status.Status.{Status}
@@ -85,13 +86,15 @@ end_line plan hops last (Stops why) =
 abbrev pub trace_text : Plan → List Step → ℕ → End → List ℕ
 trace_text plan steps last end = steps_from plan 1 steps ++ end_line plan (length steps) last end
 
--- The text is the lines of the way of a packet for e that is put in at n. It has no more hops than the certified rank.
+-- The text is the lines of the way of a packet for e that is put in at n. It has no more hops than the certified rank,
+-- and in every run of the network each packet keeps to its way.
 pub record IsWayText (plan : Plan) (certificate : Certificate) (n e : ℕ) (text : List ℕ) : Type 0 where
   pub steps : List Step
   pub last : ℕ
   pub end : End
   pub way : IsWay plan e n steps last end
   pub within : length steps ≤ rank certificate n e
+  pub kept : KeepsToWays plan certificate
   pub written : text ≡ trace_text plan steps last end
 
 -- the text is that of the way from the first node of the one name to the destination that the other word names
