@@ -1,6 +1,6 @@
 -- What the end of `trace` says of the plan and the certificate that it read, and of what it wrote.
 use Rattle.std.specs.Prelude.{◌≡◌, ◌≤◌, ◌+◌, ◌==◌, ◌⊎◌, ℕ, List, [], ◌∷◌, ◌++◌, length, Option}
-use Rattle.std.specs.Prelude.{Some, None, true, option_map, slice_get, unwrap_or, find, codes, ⊤}
+use Rattle.std.specs.Prelude.{Some, None, true, option_map, slice_get, unwrap_or, find, codes, if◌then◌else◌, ⊤}
 use Rattle.std.specs.Fmt.{decimal}
 use Rattle.std.specs.Io.KnownBytes.{Appends}
 use Rattle.std.specs.Char.{is_ascii_digit}
@@ -61,8 +61,7 @@ address_on plan node None = []
 
 -- an address in hex, or a dash where it is empty
 abbrev pub address_text : List ℕ → List ℕ
-address_text [] = codes "-"
-address_text (byte ∷ bytes) = encode_lower (byte ∷ bytes)
+address_text address = if length address == 0 then codes "-" else encode_lower address
 
 -- a step's number, its node and port, the bus, the address of the next node there, and that node
 abbrev pub step_line : Plan → ℕ → Step → List ℕ

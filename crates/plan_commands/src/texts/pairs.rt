@@ -50,8 +50,12 @@ fn reached_among(pairs: &[Pair]) -> usize
 fn one_way_among(pairs: &[Pair]) -> usize
     ensures { result ≡ count_by is_one_way pairs.now }
 {
-    pairs
-        .iter()
-        .filter(|pair| pair.there.is_some() && pair.back.is_none())
-        .count()
+    pairs.iter().filter(|pair| is_one_way(pair)).count()
+}
+
+/// Whether the pair has a way there and none back.
+fn is_one_way(pair: &Pair) -> bool
+    ensures { result ≡ is_one_way pair.now }
+{
+    pair.there.is_some() && pair.back.is_none()
 }
