@@ -53,22 +53,30 @@ abbrev pub bus_text : Plan → Option ℕ → List ℕ
 bus_text plan (Some bus) = bus_name_or_dash plan bus
 bus_text plan None = codes "-"
 
+-- the address of the first of these ports that is on the bus; empty where none is
+abbrev pub first_address : List Port → ℕ → List ℕ
+first_address ports bus =
+    unwrap_or (option_map (λ (port : Port). port.address.items) (find (λ (port : Port). port.bus == bus) ports)) []
+
 -- the address of a node's first port on a bus; empty where it has none there
 abbrev pub address_on : Plan → ℕ → Option ℕ → List ℕ
-address_on plan node (Some bus) = unwrap_or
-    (option_map (λ (port : Port). port.address.items) (find (λ (port : Port). port.bus == bus) (ports_of plan node))) []
+address_on plan node (Some bus) = first_address (ports_of plan node) bus
 address_on plan node None = []
 
 -- an address in hex, or a dash where it is empty
 abbrev pub address_text : List ℕ → List ℕ
 address_text address = if length address == 0 then codes "-" else encode_lower address
 
--- a step's number, its node and port, the bus, the address of the next node there, and that node
+-- a hop's number, its node and port, the bus, the address of the next node there, and that node
+abbrev pub hop_text : ℕ → List ℕ → ℕ → (bus address next : List ℕ) → List ℕ
+hop_text number node port bus address next = decimal number ++ (codes " " ++ (node ++ (codes " port " ++ (decimal port
+    ++ (codes " bus " ++ (bus ++ (codes " address " ++ (address ++ (codes " to " ++ (next ++ codes "\n"))))))))))
+
+-- the line of the step of a number
 abbrev pub step_line : Plan → ℕ → Step → List ℕ
-step_line plan number step = decimal number ++ (codes " " ++ (name_or_dash plan step.node ++ (codes " port "
-    ++ (decimal step.hop.port ++ (codes " bus " ++ (bus_text plan (bus_of_step plan step)
-    ++ (codes " address " ++ (address_text (address_on plan step.hop.next (bus_of_step plan step))
-    ++ (codes " to " ++ (name_or_dash plan step.hop.next ++ codes "\n"))))))))))
+step_line plan number step = hop_text number (name_or_dash plan step.node) step.hop.port
+    (bus_text plan (bus_of_step plan step)) (address_text (address_on plan step.hop.next (bus_of_step plan step)))
+    (name_or_dash plan step.hop.next)
 
 -- the lines of steps, numbered from one number on
 abbrev pub steps_from : Plan → ℕ → List Step → List ℕ

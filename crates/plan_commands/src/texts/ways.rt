@@ -1,8 +1,7 @@
 //! What the command `trace` prints.
-ghost use Rattle.std.specs.Prelude.{◌≡◌, ◌==◌, [], find, length, option_map, unwrap_or, IfOk, string_bytes};
+ghost use Rattle.std.specs.Prelude.{◌≡◌, length, IfOk, string_bytes};
 ghost use Rattle.net_check.specs.Routing.{ports_of};
-ghost use Rattle.net_plan.specs.declared.nodes.Port.{Port};
-ghost use Rattle.plan_commands.specs.Tracing.{bus_of_step, bus_text, address_on, address_text, steps_from, step_line, end_line, trace_text};
+ghost use Rattle.plan_commands.specs.Tracing.{bus_of_step, bus_text, first_address, address_on, address_text, steps_from, hop_text, step_line, end_line, trace_text};
 
 use super::{bus_name_or_dash, name_or_dash};
 use net_plan::{Plan, Port};
@@ -39,12 +38,40 @@ fn step_line(
     ensures { IfOk result (λ line. string_bytes line ≡ step_line plan.now number step.now) }
 {
     let node = name_or_dash(plan, step.node);
-    let port = step.hop.port;
-    let bus = bus_of_step(plan, step);
-    let name = bus_text(plan, bus);
-    let address = address_text(alloc, address_on(plan, step.hop.next, bus))?;
+    let bus = bus_name_of_step(plan, step);
+    let address = address_of_step(alloc, plan, step)?;
     let next = name_or_dash(plan, step.hop.next);
-    format!(in alloc; "{number} {node} port {port} bus {name} address {address} to {next}\n")
+    hop_text(alloc, number, node, step.hop.port, bus, &address, next)
+}
+
+/// A hop's number, the names of its node, its bus and the next node, and the address of that one, in hex.
+fn hop_text(
+    alloc: Global,
+    number: usize,
+    node: &str,
+    port: u8,
+    bus: &str,
+    address: &str,
+    next: &str,
+) -> Result<String, AllocError>
+    ensures { IfOk result (λ text. string_bytes text ≡ hop_text number node.now port bus.now address.now next.now) }
+{
+    format!(in alloc; "{number} {node} port {port} bus {bus} address {address} to {next}\n")
+}
+
+/// The name of the bus over which a step goes, or a dash where there is none.
+fn bus_name_of_step<'a>(plan: &'a Plan, step: &Step) -> &'a str
+    ensures { result.now ≡ bus_text plan.now (bus_of_step plan.now step.now) }
+{
+    bus_text(plan, bus_of_step(plan, step))
+}
+
+/// The address to which a step goes, in hex, or a dash where it is empty.
+fn address_of_step(alloc: Global, plan: &Plan, step: &Step) -> Result<String, AllocError>
+    ensures { IfOk result (λ text. string_bytes text ≡ address_text (address_on plan.now step.now.hop.next (bus_of_step plan.now step.now))) }
+{
+    let address = address_on(plan, step.hop.next, bus_of_step(plan, step));
+    address_text(alloc, address)
 }
 
 /// How a way ends.
@@ -94,7 +121,7 @@ fn address_on(plan: &Plan, node: usize, bus: Option<usize>) -> &[u8]
 
 /// The address of the first of these ports that is on the bus; empty where none is.
 fn first_address(ports: &[Port], bus: usize) -> &[u8]
-    ensures { result.now ≡ unwrap_or (option_map (λ (port : Port). port.address.items) (find (λ (port : Port). port.bus == bus) ports.now)) [] }
+    ensures { result.now ≡ first_address ports.now bus }
 {
     ports
         .iter()
