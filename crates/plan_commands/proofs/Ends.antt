@@ -1,5 +1,5 @@
 -- What words name as the ends of a way.
-use Rattle.std.proofs.Common.{rules, ◌≡◌, ◌≢◌, ◌<◌, ◌≤◌, ◌^◌, ◌&&◌, ℕ, zero, suc, Bool, true, false, List, [], ◌∷◌, length, Option, Some, None, option_map, Result, Ok, Err, inl, inr, refl, sym, ◌∙◌, ap, subst, arith, string_bytes}
+use Rattle.std.proofs.Common.{rules, ◌≡◌, ◌≢◌, ◌<◌, ◌≤◌, ℕ, true, List, [], ◌∷◌, length, Option, Some, None, option_map, Err, inl, inr, sym, arith, string_bytes}
 use Rattle.std.specs.Prelude.{MatchOption}
 use Rattle.std.specs.Char.{is_ascii_digit}
 use Rattle.std.specs.List.{list_all}
@@ -7,7 +7,6 @@ use Rattle.std.specs.Str.Parse.{digits_value, ParsesUnsigned}
 use Rattle.std.proofs.lemmas.Option.{none-some}
 use Rattle.std.proofs.lemmas.Str.Parse.{IsNumeralModel, numerals_by_value, parse_digits}
 use Rattle.mctp_transport.specs.declared.address.Eid.{Eid}
-use Rattle.mctp_transport.specs.Frames.{IsAssignable}
 use Rattle.net_check.specs.Names.{name_of}
 use Rattle.net_check.specs.Routing.{node_at, eid_of, Holds}
 use Rattle.net_plan.specs.declared.nodes.Node.{Node}
@@ -36,9 +35,9 @@ by_name plan word place (Some eid) first holds = inl (place, first, holds)
 pub by_number : (plan : Plan) (word : List ℕ) (result : Option Eid) → ((n : ℕ) → name_of plan n ≢ Some word)
     → MatchOption result ((e : ℕ) → ¬ IsEidWord word e) (λ (eid : Eid). IsEidWord word eid.value)
     → MatchOption result ((e : ℕ) → ¬ IsDestination plan word e) (λ (eid : Eid). IsDestination plan word eid.value)
-by_number plan word None none no = λ e is. elim is [
+by_number plan word None none unspelled = λ e is. elim is [
   | inl (n, first, holds) ↦ none n first.named
-  | inr (other, number) ↦ no e number
+  | inr (other, number) ↦ unspelled e number
 ]
 by_number plan word (Some eid) none is = inr (λ found. none found.0 found.1.named, is)
 
@@ -60,14 +59,3 @@ no_number word error parsed digits e (all, is, assignable) =
       some_digits word (omega (arith, is, assignable.0)),
       omega (arith, is, assignable.1),
     )
-
-pub the_number : {E : Type 0} (word : List ℕ) (n : ℕ) → ParsesUnsigned {E = E} 8 10 word (Ok n) → list_all is_ascii_digit word ≡ true → digits_value 10 word ≡ n
-the_number word n parsed digits = sym (parse_digits own 8 word (Ok n) parsed digits).1
-
--- the endpoint ID of a number that the word is
-pub of_number : {E : Type 0} (word : List ℕ) (n : ℕ) (result : Option Eid) → ParsesUnsigned {E = E} 8 10 word (Ok n) → list_all is_ascii_digit word ≡ true
-    → MatchOption result (¬ IsAssignable n) (λ (eid : Eid). (eid.value ≡ n) × IsAssignable n)
-    → MatchOption result ((e : ℕ) → ¬ IsEidWord word e) (λ (eid : Eid). IsEidWord word eid.value)
-of_number word n None parsed digits no = λ e is. no (subst IsAssignable (sym is.1 ∙ the_number word n parsed digits) is.2)
-of_number word n (Some eid) parsed digits is =
-    (digits, the_number word n parsed digits ∙ sym is.0, subst IsAssignable (sym is.0) is.1)
