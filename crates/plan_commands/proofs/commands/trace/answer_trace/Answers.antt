@@ -38,3 +38,8 @@ returns-clause-untraced g c =
     let certificates = stream (g.C.Source.remaining c.args.certificate.now) (g.C.Source.failures c.args.certificate.now) (g.C.Source.remaining c.read_inputs.new.certificate) (g.C.Source.failures c.read_inputs.new.certificate) in
     memory_lacks (λ unread cause. IsUnread unread cause plans certificates) (NamesNoEnds c.args.from.now c.args.to.now plans certificates) ⊥ ⊥ ⊥
     c.fault_answer.result c.fault_answer.ensures.refused
+
+pub returns-in_default-clause-untraced : goal.returns-in_default-clause-untraced
+returns-in_default-clause-untraced g c =
+    let read = c.in_ok-plan in
+    (read.plan, read.certificate, read.ensures.given, c.in_default.ensures)
