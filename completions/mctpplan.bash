@@ -6,12 +6,12 @@ _mctpplan() {
     local files=0
     COMPREPLY=()
     if [ "$place" -eq 1 ]; then
-        mapfile -t COMPREPLY < <(compgen -W 'check certify move assign sim simmove walk show' -- "$current")
+        mapfile -t COMPREPLY < <(compgen -W 'check certify move assign sim simmove walk reach trace show' -- "$current")
         return
     fi
     case $command in
         certify) files=1 ;;
-        check | assign | walk) files=2 ;;
+        check | assign | walk | reach | trace) files=2 ;;
         move | sim) files=3 ;;
         simmove) files=4 ;;
         show)
@@ -24,7 +24,7 @@ _mctpplan() {
     if [ "$((place - 1))" -le "$files" ]; then
         compopt -o filenames 2>/dev/null
         mapfile -t COMPREPLY < <(compgen -d -- "$current"; compgen -f -X '!*.json' -- "$current")
-    elif [ "$command" = walk ] && [ "$place" -eq 4 ] && [ -f "${COMP_WORDS[2]}" ]; then
+    elif [[ $command == walk && $place -eq 4 || $command == trace && $place -le 5 ]] && [ -f "${COMP_WORDS[2]}" ]; then
         # (the names of buses are among them: in the text they look the same)
         local names
         names=$(grep -o '"name": *"[^"]*"' "${COMP_WORDS[2]}" | cut -d '"' -f 4)

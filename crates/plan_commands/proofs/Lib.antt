@@ -9,3 +9,5 @@ pub mod Simulated
 pub mod Naming
 pub mod Moved
 pub mod MovePlayed
+pub mod Traced
+pub mod Ends

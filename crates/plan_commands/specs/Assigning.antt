@@ -1,6 +1,5 @@
 -- What `assign` prints of an accepted plan.
-use Rattle.std.specs.Prelude.{◌≡◌, ℕ, ◌<◌, List, length, ◌++◌, All, Option}
-use Rattle.std.specs.Prelude.{option_map, slice_get, string_bytes, unwrap_or, codes}
+use Rattle.std.specs.Prelude.{◌≡◌, ℕ, ◌<◌, List, length, ◌++◌, All, codes}
 use Rattle.std.specs.List.{flat_map}
 use Rattle.hex.specs.Hex.{encode_lower}
 use Rattle.mctp_control.specs.Requests.{request_bytes}
@@ -8,15 +7,7 @@ use Rattle.net_plan.specs.declared.plan.Plan.{Plan}
 use Rattle.net_plan.specs.declared.certificate.Certificate.{Certificate}
 use Rattle.net_sim.specs.Assignments.{AssignmentValue, IsAssignmentOf}
 use Rattle.net_sim.specs.AssignmentRuns.{CanBeCarriedOut, IsAcceptedThroughout, AssignsAll}
-use Rattle.plan_commands.specs.Lines.{name_or_dash}
-
--- a bus's name; none beyond the plan
-abbrev pub bus_name_of : Plan → ℕ → Option (List ℕ)
-bus_name_of plan bus = option_map (λ found. string_bytes found.name.text) (slice_get plan.buses.items bus)
-
--- the name of the bus at a place, or a dash where there is none
-abbrev pub bus_name_or_dash : Plan → ℕ → List ℕ
-bus_name_or_dash plan bus = unwrap_or (bus_name_of plan bus) (codes "-")
+use Rattle.plan_commands.specs.Lines.{name_or_dash, bus_name_or_dash}
 
 -- the names of a request's bus and node, and its bytes in hex
 abbrev pub assignment_text : Plan → AssignmentValue → List ℕ

@@ -9,6 +9,8 @@ pub mod Assigning
 pub mod Walking
 pub mod Collecting
 pub mod Gathering
+pub mod Reaching
+pub mod Tracing
 pub mod OutcomeLines
 pub mod Simulating
 pub mod Moving

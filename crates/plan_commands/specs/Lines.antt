@@ -1,5 +1,5 @@
 -- The lines that tell a fault, or what rules certificates out.
-use Rattle.std.specs.Prelude.{ℕ, List, ◌++◌, Option, Some, None, codes, unwrap_or}
+use Rattle.std.specs.Prelude.{ℕ, List, ◌++◌, Option, Some, None, codes, option_map, slice_get, string_bytes, unwrap_or}
 use Rattle.std.specs.Fmt.{decimal}
 use Rattle.std.specs.List.{flat_map}
 use Rattle.net_check.specs.declared.certify_error.CertifyError.{CertifyError}
@@ -25,6 +25,14 @@ number_or_dash None = codes "-"
 -- the name of the node at a place, or a dash where there is none
 abbrev pub name_or_dash : Plan → ℕ → List ℕ
 name_or_dash plan node = unwrap_or (name_of plan node) (codes "-")
+
+-- a bus's name; none beyond the plan
+abbrev pub bus_name_of : Plan → ℕ → Option (List ℕ)
+bus_name_of plan bus = option_map (λ found. string_bytes found.name.text) (slice_get plan.buses.items bus)
+
+-- the name of the bus at a place, or a dash where there is none
+abbrev pub bus_name_or_dash : Plan → ℕ → List ℕ
+bus_name_or_dash plan bus = unwrap_or (bus_name_of plan bus) (codes "-")
 
 -- the names of nodes, in their order, each after a space
 abbrev pub names_text : Plan → List ℕ → List ℕ

@@ -19,9 +19,9 @@ abbrev pub status_of : Refused → Status
 status_of Refused.NoMemory = NoMemory
 status_of _ = Unreadable
 
--- The cause of a refusal: of an input that can't be read, by its error, of a name that no terminus has, of a
--- text that is no hex, of records with too many bytes, and of an output that failed. Want of memory needs
--- none. No command is refused for its usage.
+-- The cause of a refusal: of an input that can't be read, by its error, of a name that nothing has which is
+-- asked for, of a text that is no hex, of records with too many bytes, and of an output that failed. Want of
+-- memory needs none. No command is refused for its usage.
 abbrev pub HasCause : (Input → PlanError → Type 0) → (unknown no_hex too_much unwritten : Type 0) → Refused → Type 0
 HasCause IsUnread unknown no_hex too_much unwritten Refused.Usage = ⊥
 HasCause IsUnread unknown no_hex too_much unwritten (Refused.Unreadable input cause) = IsUnread input cause

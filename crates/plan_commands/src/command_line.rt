@@ -49,6 +49,18 @@ pub enum Command<'a> {
         node: &'a str,
         part: PartSize,
     },
+    /// Who reaches whom in the network of the plan in one file, certified by another?
+    Reach {
+        plan: &'a str,
+        certificate: &'a str,
+    },
+    /// Which way does a packet take from a node to another, or to an endpoint ID?
+    Trace {
+        plan: &'a str,
+        certificate: &'a str,
+        from: &'a str,
+        to: &'a str,
+    },
     /// What are the bytes of a hex text?
     Show {
         kind: Kind,
@@ -63,7 +75,7 @@ pub fn parse_command<'a>(alloc: Global, list: &'a [String]) -> Result<Command<'a
 }
 
 /// The name of each command, and the names of its arguments.
-const COMMANDS: [(&str, &[&str]); 8] = [
+const COMMANDS: [(&str, &[&str]); 10] = [
     ("check", &["plan", "certificate"]),
     ("certify", &["plan"]),
     ("assign", &["plan", "certificate"]),
@@ -71,6 +83,8 @@ const COMMANDS: [(&str, &[&str]); 8] = [
     ("move", &["old", "new", "certificate"]),
     ("simmove", &["old", "new", "certificate", "events"]),
     ("walk", &["plan", "certificate", "node", "count"]),
+    ("reach", &["plan", "certificate"]),
+    ("trace", &["plan", "certificate", "from", "to"]),
     ("show", &["kind", "hex"]),
 ];
 
@@ -106,6 +120,8 @@ fn chosen<'a>(matches: &ArgMatches<'a>) -> Option<Command<'a>> {
         "move" => moving(arguments),
         "simmove" => playing_moves(arguments),
         "walk" => walking(arguments),
+        "reach" => reaching(arguments),
+        "trace" => tracing(arguments),
         "show" => showing(arguments),
         _ => None,
     }
@@ -162,6 +178,22 @@ fn walking<'a>(arguments: &ArgMatches<'a>) -> Option<Command<'a>> {
         certificate: arguments.get_str("certificate")?,
         node: arguments.get_str("node")?,
         part: part_size_of(arguments.get_str("count")?)?,
+    })
+}
+
+fn reaching<'a>(arguments: &ArgMatches<'a>) -> Option<Command<'a>> {
+    Some(Command::Reach {
+        plan: arguments.get_str("plan")?,
+        certificate: arguments.get_str("certificate")?,
+    })
+}
+
+fn tracing<'a>(arguments: &ArgMatches<'a>) -> Option<Command<'a>> {
+    Some(Command::Trace {
+        plan: arguments.get_str("plan")?,
+        certificate: arguments.get_str("certificate")?,
+        from: arguments.get_str("from")?,
+        to: arguments.get_str("to")?,
     })
 }
 

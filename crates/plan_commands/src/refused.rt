@@ -22,7 +22,7 @@ pub enum Refused {
     Usage,
     /// A file can't be read, and the cause says why. Out of memory is no such cause: `NoMemory` tells it.
     Unreadable { input: Input, cause: PlanError },
-    /// The plan has no node of the name with a terminus.
+    /// The plan has no node of the name, or none with a terminus where one is asked for.
     UnknownNode,
     /// A hex text is no hex: an odd number of digits, or a character that is none.
     UnreadableHex,

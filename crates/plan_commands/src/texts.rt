@@ -1,11 +1,13 @@
 //! Every text that a user of the program sees.
 ghost use Rattle.std.specs.Prelude.{◌≡◌, Some, IfOk, IsOk, string_bytes};
 ghost use Rattle.plan_commands.specs.declared.refused.Refused.TheVariants.{Unwritten};
-ghost use Rattle.plan_commands.specs.Lines.{name_or_dash, names_text, fault_text, owner_loop_text, loop_text, chain_text, obstacle_text};
+ghost use Rattle.plan_commands.specs.Lines.{name_or_dash, bus_name_or_dash, names_text, fault_text, owner_loop_text, loop_text, chain_text, obstacle_text};
 
 pub mod assignments;
 pub mod moves;
 pub mod outcomes;
+pub mod pairs;
+pub mod ways;
 
 use crate::refused::{Input, Refused};
 use mctp_transport::Eid;
@@ -97,6 +99,15 @@ fn name_or_dash(plan: &Plan, node: usize) -> &str
     plan.nodes
         .get(node)
         .map_or("-", |node| node.name.text.as_str())
+}
+
+/// The name of the bus at a place, or a dash where there is none.
+fn bus_name_or_dash(plan: &Plan, bus: usize) -> &str
+    ensures { result.now ≡ bus_name_or_dash plan.now bus }
+{
+    plan.buses
+        .get(bus)
+        .map_or("-", |bus| bus.name.text.as_str())
 }
 
 /// Why there is no answer.

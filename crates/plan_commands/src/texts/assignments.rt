@@ -3,9 +3,9 @@ ghost use Rattle.std.specs.Prelude.{◌≡◌, map, IfOk, string_bytes};
 ghost use Rattle.hex.specs.Hex.{encode_lower};
 ghost use Rattle.mctp_control.specs.Requests.{request_bytes, request_value};
 ghost use Rattle.net_sim.specs.Assignments.{assignment_value};
-ghost use Rattle.plan_commands.specs.Assigning.{assignment_lines, assignment_text, bus_name_or_dash};
+ghost use Rattle.plan_commands.specs.Assigning.{assignment_lines, assignment_text};
 
-use super::name_or_dash;
+use super::{bus_name_or_dash, name_or_dash};
 use mctp_control::Request;
 use mctp_transport::Wire;
 use net_plan::Plan;
@@ -38,15 +38,6 @@ fn assignment_line(
     let node = name_or_dash(plan, assignment.node);
     let request = request_hex(alloc, &assignment.body)?;
     format!(in alloc; "{bus} {node} {request}\n")
-}
-
-/// The name of the bus at a place, or a dash where there is none.
-fn bus_name_or_dash(plan: &Plan, bus: usize) -> &str
-    ensures { result.now ≡ bus_name_or_dash plan.now bus }
-{
-    plan.buses
-        .get(bus)
-        .map_or("-", |bus| bus.name.text.as_str())
 }
 
 /// The bytes of a request in hex.

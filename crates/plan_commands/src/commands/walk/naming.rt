@@ -1,10 +1,10 @@
 //! The terminus that a node's name stands for.
-ghost use Rattle.std.specs.Prelude.{◌≡◌, ◌≢◌, ℕ, Some, None, MatchOption, MatchBool, string_bytes};
-ghost use Rattle.net_check.specs.Names.{name_of};
+ghost use Rattle.std.specs.Prelude.{◌≡◌, Some, None, MatchOption};
 ghost use Rattle.net_check.specs.Repositories.{terminus_of};
-ghost use Rattle.plan_commands.specs.Walking.{IsFirstNamed, IsTerminusNamed, HasTerminusNamed};
+ghost use Rattle.plan_commands.specs.Walking.{IsTerminusNamed, HasTerminusNamed};
 
-use net_plan::{Node, Plan, Terminus};
+use crate::commands::naming::first_named;
+use net_plan::{Plan, Terminus};
 
 /// The terminus of the first node of the name, if it has one, and the place of that node.
 #[tactic(auto, using(crate::proofs::Naming::no_terminus))]
@@ -15,24 +15,6 @@ pub fn named_terminus<'a>(plan: &'a Plan, name: &str) -> Option<(usize, &'a Term
     let place = first_named(plan, name)?;
     let terminus = terminus_at(plan, place)?;
     Some((place, terminus))
-}
-
-/// The place of the first node of the name.
-fn first_named(plan: &Plan, name: &str) -> Option<usize>
-    ensures { MatchOption result ((n : ℕ) → name_of plan.now n ≢ Some name.now) (λ place. IsFirstNamed plan.now name.now place) }
-{
-    for (place, node) in plan.nodes.iter().enumerate() {
-        if is_named(node, name) {
-            return Some(place);
-        }
-    }
-    None
-}
-
-fn is_named(node: &Node, name: &str) -> bool
-    ensures { MatchBool result (string_bytes node.now.name.text ≡ name.now) (string_bytes node.now.name.text ≢ name.now) }
-{
-    node.name.text.as_str() == name
 }
 
 /// The terminus of the node at a place.

@@ -1,0 +1,95 @@
+-- The lines of a way, and what the end of `trace` tells of an answer.
+use Rattle.std.proofs.Common.{◌≡◌, ◌⊎◌, ◌+◌, ◌<◌, ℕ, List, [], ◌∷◌, ◌++◌, length, take, get_or, Result, Ok, Err, inl, inr, refl, sym, ◌∙◌, ap, subst, append_assoc, append-nil, arith}
+use Rattle.std.specs.Prelude.{IfOk, IfErr}
+use Rattle.std.specs.Cow.{cow_str_bytes}
+use Rattle.std.specs.Io.KnownBytes.{Appends}
+use Rattle.std.proofs.lemmas.List.{length-take-le, take_more}
+use Rattle.net_check.specs.declared.check_error.CheckError.{CheckError}
+use Rattle.net_check.specs.declared.check_error.CheckError.TheVariants as check_error
+use Rattle.net_check.specs.Errors.{NamesFirstFault}
+use Rattle.net_check.specs.Rules.{Accepts}
+use Rattle.net_plan.specs.declared.certificate.Certificate.{Certificate}
+use Rattle.net_plan.specs.declared.plan.Plan.{Plan}
+use Rattle.net_questions.specs.declared.step.Step.{Step}
+use Rattle.plan_commands.specs.declared.commands.answer.Answer.{Answer}
+use Rattle.plan_commands.specs.declared.refused.Refused.{Refused}
+use Rattle.plan_commands.specs.declared.refused.Refused.TheVariants as refused
+use Rattle.plan_commands.specs.declared.status.Status.{Status}
+use Rattle.plan_commands.specs.declared.status.Status.TheVariants as status
+use Rattle.plan_commands.specs.Answers.{Stream, Fails, AreGiven, IsUnread, IsAnswerOf, IsErrorText}
+use Rattle.plan_commands.specs.Statuses.{status_of}
+use Rattle.plan_commands.specs.Told.{IsTold}
+use Rattle.plan_commands.specs.Tracing.{NameTheEnds, NamesNoEnds, IsTraceText, IsUntracedFor, TracesSo, Traces, step_line, steps_from}
+use Rattle.plan_commands.proofs.Told.{ends_as, or_unwritten}
+
+-- ---- lines
+
+steps_more : (plan : Plan) (number : ℕ) (steps : List Step) (step : Step)
+    → steps_from plan number (steps ++ step ∷ []) ≡ steps_from plan number steps ++ step_line plan (number + length steps) step
+steps_more plan number [] step =
+    append-nil (step_line plan number step) ∙ ap (λ n. step_line plan n step) (let same : number ≡ number + 0 = omega arith in same)
+steps_more plan number (first ∷ steps) step =
+    let further : number + 1 + length steps ≡ number + length (first ∷ steps) = omega arith in
+    ap (λ z. step_line plan number first ++ z) (steps_more plan (number + 1) steps step)
+    ∙ (sym (append_assoc (step_line plan number first) (steps_from plan (number + 1) steps) (step_line plan (number + 1 + length steps) step))
+    ∙ ap (λ n. step_line plan number first ++ steps_from plan (number + 1) steps ++ step_line plan n step) further)
+
+-- the lines of so many steps, and that of the next
+pub one_step_more : (plan : Plan) (steps : List Step) (place : ℕ) (default : Step) (lines line : List ℕ) → place < length steps
+    → lines ≡ steps_from plan 1 (take place steps) → line ≡ step_line plan (place + 1) (get_or steps place default) → lines ++ line ≡ steps_from plan 1 (take (place + 1) steps)
+one_step_more plan steps place default lines line within before told =
+    let step = get_or steps place default in
+    let earlier = take place steps in
+    let many : length earlier ≡ place = length-take-le place steps (omega (arith, within)) in
+    let number : 1 + length earlier ≡ place + 1 = omega (arith, many) in
+    let more : take (place + 1) steps ≡ earlier ++ step ∷ [] = take_more steps place default within in
+    ap (λ z. z ++ line) before
+    ∙ (ap (λ z. steps_from plan 1 earlier ++ z) (told ∙ ap (λ n. step_line plan n step) (sym number))
+    ∙ (sym (steps_more plan 1 earlier step) ∙ ap (steps_from plan 1) (sym more)))
+
+-- ---- answers
+
+module _ (from to : List ℕ) (plans certificates : Stream) where
+  pub trace_answer : (s : Status) (text : List ℕ) → TracesSo from to plans certificates s text → IsAnswerOf (IsTraceText from to) plans certificates text
+  trace_answer status.Yes text (plan, cert, given, accepted, told) = (plan, cert, given, inl (accepted, told))
+  trace_answer status.Fault text (plan, cert, given, named, fault) = (plan, cert, given, inr fault)
+  trace_answer status.Unreadable text h = absurd h
+  trace_answer status.NoMemory text h = absurd h
+
+  pub traces_so : (output : Stream) (ended : Status) (answered : Result Answer Refused)
+      → IfOk answered (λ (a : Answer). TracesSo from to plans certificates a.status (cow_str_bytes a.text))
+      → IfErr answered (λ why. IsUntracedFor why from to plans certificates)
+      → IfOk answered (λ (a : Answer). IsTold a.status (cow_str_bytes a.text) ended output)
+      → IfErr answered (λ why. (ended ≡ status_of why) ⊎ (ended ≡ status.NoMemory)) → Traces ended from to plans certificates output
+  traces_so output ended answered answers unread told ends =
+      ends_as (TracesSo from to plans certificates) ended output (λ s. Traces s from to plans certificates output)
+      (λ why. IsUntracedFor why from to plans certificates) answered answers unread told ends out
+      (λ why h is. (
+        why,
+        is,
+        or_unwritten (λ unread cause. IsUnread unread cause plans certificates) (NamesNoEnds from to plans certificates) ⊥ ⊥ (Fails output) why h,
+      ))
+      (λ fails. (refused.Unwritten, refl, fails)) tt
+    where
+      out : (s : Status) (text : List ℕ) → TracesSo from to plans certificates s text → Appends output.before output.after text
+          → Traces s from to plans certificates output
+      out status.Yes text (plan, cert, given, accepted, told) written = (plan, cert, text, given, accepted, told, written)
+      out status.Fault text (plan, cert, given, named, (fault, first, is)) written =
+          (plan, cert, fault, given, named, first, subst (Appends output.before output.after) is written)
+      out status.Unreadable text h written = absurd h
+      out status.NoMemory text h written = absurd h
+
+  module _ (plan : Plan) (cert : Certificate) (given : AreGiven plans certificates plan cert) where
+    pub traced_so : (a : Answer) → a.status ≡ status.Yes → Accepts plan cert → IsTraceText from to plan cert (cow_str_bytes a.text)
+        → TracesSo from to plans certificates a.status (cow_str_bytes a.text)
+    traced_so a is accepted told =
+        let A : Status → Type 0 = λ s. TracesSo from to plans certificates s (cow_str_bytes a.text) in subst A (sym is) (plan, cert, given, accepted, told)
+
+    pub trace_fault_so : NameTheEnds from to plan → (error : CheckError) (result : Result Answer Refused) → NamesFirstFault plan cert error
+        → IfOk result (λ (a : Answer). (a.status ≡ status.Fault) × IsErrorText plan error (cow_str_bytes a.text))
+        → IfOk result (λ (a : Answer). TracesSo from to plans certificates a.status (cow_str_bytes a.text))
+    trace_fault_so named (check_error.Fault fault) (Ok a) first (is, told) =
+        let A : Status → Type 0 = λ s. TracesSo from to plans certificates s (cow_str_bytes a.text) in
+        subst A (sym is) (plan, cert, given, named, (fault, first, told))
+    trace_fault_so named check_error.OutOfMemory (Ok a) first (is, told) = absurd told
+    trace_fault_so named error (Err why) first told = tt

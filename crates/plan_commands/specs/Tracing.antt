@@ -1,0 +1,152 @@
+-- What the end of `trace` says of the plan and the certificate that it read, and of what it wrote.
+use Rattle.std.specs.Prelude.{◌≡◌, ◌≤◌, ◌+◌, ◌==◌, ◌⊎◌, ℕ, List, [], ◌∷◌, ◌++◌, length, Option}
+use Rattle.std.specs.Prelude.{Some, None, true, option_map, slice_get, unwrap_or, find, codes, if◌then◌else◌, ⊤}
+use Rattle.std.specs.Fmt.{decimal}
+use Rattle.std.specs.Io.KnownBytes.{Appends}
+use Rattle.std.specs.Char.{is_ascii_digit}
+use Rattle.std.specs.List.{list_all}
+use Rattle.std.specs.Str.Parse.{digits_value}
+use Rattle.hex.specs.Hex.{encode_lower}
+use Rattle.mctp_bridge.specs.Decisions.{obstacle_code}
+use Rattle.mctp_transport.specs.Frames.{IsAssignable}
+use Rattle.net_check.specs.declared.fault.Fault.{Fault}
+use Rattle.net_check.specs.Faults.{IsFirstFault, place_of}
+use Rattle.net_check.specs.Ranks.{rank}
+use Rattle.net_check.specs.Routing.{Holds, ports_of}
+use Rattle.net_check.specs.Rules.{Accepts}
+use Rattle.net_plan.specs.declared.plan.Plan.{Plan}
+use Rattle.net_plan.specs.declared.nodes.Port.{Port}
+use Rattle.net_plan.specs.declared.certificate.Certificate.{Certificate}
+use Rattle.net_questions.specs.declared.step.Step.{Step}
+use Rattle.net_questions.specs.declared.way.End.{End}
+use Rattle.net_questions.specs.declared.way.End.TheVariants.{Arrives, Stops}
+use Rattle.net_questions.specs.Packets.{KeepsToWays}
+use Rattle.net_questions.specs.Ways.{IsWay}
+use Rattle.plan_commands.specs.declared.refused.Refused.{Refused}
+use Rattle.plan_commands.specs.declared.status.Status.{Status}
+use Rattle.plan_commands.specs.declared.status.Status.TheVariants as status
+use Rattle.plan_commands.specs.Answers.{Stream, AreGiven, IsUnread, IsFaultText, TellsOf, Fails}
+use Rattle.plan_commands.specs.Lines.{name_or_dash, bus_name_or_dash, fault_text}
+use Rattle.plan_commands.specs.Statuses.{status_of, HasCause}
+use Rattle.plan_commands.specs.Walking.{IsFirstNamed}
+
+-- the word is ASCII digits, and e, which can be assigned, is their number
+abbrev pub IsEidWord : List ℕ → ℕ → Type 0
+IsEidWord word e = (list_all is_ascii_digit word ≡ true) × (digits_value 10 word ≡ e) × IsAssignable e
+
+-- e is the endpoint ID of the first node of the name; or no node has the name, and it is a number, e
+abbrev pub IsDestination : Plan → List ℕ → ℕ → Type 0
+IsDestination plan word e = ((n : ℕ) × IsFirstNamed plan word n × Holds plan n e)
+    ⊎ (¬ ((n : ℕ) × IsFirstNamed plan word n) × IsEidWord word e)
+
+-- the words name a node and a destination
+abbrev pub NameTheEnds : List ℕ → List ℕ → Plan → Type 0
+NameTheEnds from to plan = ((n : ℕ) × IsFirstNamed plan from n) × ((e : ℕ) × IsDestination plan to e)
+
+-- the bus of the port by which a step leaves
+abbrev pub bus_of_step : Plan → Step → Option ℕ
+bus_of_step plan step =
+    option_map (λ (port : Port). port.bus) (slice_get (ports_of plan step.node) step.hop.port)
+
+-- the name of a bus, or a dash where there is none
+abbrev pub bus_text : Plan → Option ℕ → List ℕ
+bus_text plan (Some bus) = bus_name_or_dash plan bus
+bus_text plan None = codes "-"
+
+-- the address of the first of these ports that is on the bus; empty where none is
+abbrev pub first_address : List Port → ℕ → List ℕ
+first_address ports bus =
+    unwrap_or (option_map (λ (port : Port). port.address.items) (find (λ (port : Port). port.bus == bus) ports)) []
+
+-- the address of a node's first port on a bus; empty where it has none there
+abbrev pub address_on : Plan → ℕ → Option ℕ → List ℕ
+address_on plan node (Some bus) = first_address (ports_of plan node) bus
+address_on plan node None = []
+
+-- an address in hex, or a dash where it is empty
+abbrev pub address_text : List ℕ → List ℕ
+address_text address = if length address == 0 then codes "-" else encode_lower address
+
+-- a hop's number, its node and port, the bus, the address of the next node there, and that node
+abbrev pub hop_text : ℕ → List ℕ → ℕ → (bus address next : List ℕ) → List ℕ
+hop_text number node port bus address next = decimal number ++ (codes " " ++ (node ++ (codes " port " ++ (decimal port
+    ++ (codes " bus " ++ (bus ++ (codes " address " ++ (address ++ (codes " to " ++ (next ++ codes "\n"))))))))))
+
+-- the line of the step of a number
+abbrev pub step_line : Plan → ℕ → Step → List ℕ
+step_line plan number step = hop_text number (name_or_dash plan step.node) step.hop.port
+    (bus_text plan (bus_of_step plan step)) (address_text (address_on plan step.hop.next (bus_of_step plan step)))
+    (name_or_dash plan step.hop.next)
+
+-- the lines of steps, numbered from one number on
+abbrev pub steps_from : Plan → ℕ → List Step → List ℕ
+steps_from plan number [] = []
+steps_from plan number (step ∷ steps) = step_line plan number step ++ steps_from plan (number + 1) steps
+
+-- how many hops a packet makes that arrives, or where it stops and why
+abbrev pub end_line : Plan → ℕ → ℕ → End → List ℕ
+end_line plan hops last Arrives = codes "hops " ++ (decimal hops ++ codes "\n")
+end_line plan hops last (Stops why) =
+    codes "stops at " ++ (name_or_dash plan last ++ (codes " " ++ (obstacle_code why ++ codes "\n")))
+
+-- a line for each step, numbered from 1, and one that says how the way ends
+abbrev pub trace_text : Plan → List Step → ℕ → End → List ℕ
+trace_text plan steps last end = steps_from plan 1 steps ++ end_line plan (length steps) last end
+
+-- The text is the lines of the way of a packet for e that is put in at n. It has no more hops than the certified rank,
+-- and in every run of the network each packet keeps to its way.
+pub record IsWayText (plan : Plan) (certificate : Certificate) (n e : ℕ) (text : List ℕ) : Type 0 where
+  pub steps : List Step
+  pub last : ℕ
+  pub end : End
+  pub way : IsWay plan e n steps last end
+  pub within : length steps ≤ rank certificate n e
+  pub kept : KeepsToWays plan certificate
+  pub written : text ≡ trace_text plan steps last end
+
+-- the text is that of the way from the first node of the one name to the destination that the other word names
+abbrev pub IsTraceText : List ℕ → List ℕ → Plan → Certificate → List ℕ → Type 0
+IsTraceText from to plan certificate text = (n e : ℕ) × IsFirstNamed plan from n × IsDestination plan to e
+    × IsWayText plan certificate n e text
+
+-- the output was given the line of the first fault of the plan and the certificate that were given, where the words
+-- name a node and a destination
+abbrev pub TellsTraceFault : List ℕ → List ℕ → Stream → Stream → Stream → Type 0
+TellsTraceFault from to plans certificates output = (plan : Plan) × (certificate : Certificate) × (fault : Fault)
+    × AreGiven plans certificates plan certificate × NameTheEnds from to plan
+    × IsFirstFault plan certificate (place_of fault) × Appends output.before output.after (fault_text plan fault)
+
+-- The text answers so: it is that of the way, and every rule holds; or the words name a node and a destination, and it
+-- is the line of the first fault.
+abbrev pub TracesSo : List ℕ → List ℕ → Stream → Stream → Status → List ℕ → Type 0
+TracesSo from to plans certificates status.Yes text = (plan : Plan) × (certificate : Certificate)
+    × AreGiven plans certificates plan certificate × Accepts plan certificate
+    × IsTraceText from to plan certificate text
+TracesSo from to plans certificates status.Fault text = (plan : Plan) × (certificate : Certificate)
+    × AreGiven plans certificates plan certificate × NameTheEnds from to plan × IsFaultText plan certificate text
+TracesSo from to plans certificates status.Unreadable text = ⊥
+TracesSo from to plans certificates status.NoMemory text = ⊥
+
+-- the plan that was given has no node of the one name, or the other word names no destination
+abbrev pub NamesNoEnds : List ℕ → List ℕ → Stream → Stream → Type 0
+NamesNoEnds from to plans certificates = (plan : Plan) × (certificate : Certificate)
+    × AreGiven plans certificates plan certificate × ¬ NameTheEnds from to plan
+
+-- why there is no text: the inputs were not read, or the words name no node or no destination
+abbrev pub IsUntracedFor : Refused → List ℕ → List ℕ → Stream → Stream → Type 0
+IsUntracedFor why from to plans certificates = HasCause (λ unread cause. IsUnread unread cause plans certificates)
+    (NamesNoEnds from to plans certificates) ⊥ ⊥ ⊥ why
+
+-- why there is no answer: the inputs were not read, the words name no node or no destination, or the output failed
+abbrev pub IsNotTracedFor : Refused → List ℕ → List ℕ → Stream → Stream → Stream → Type 0
+IsNotTracedFor why from to plans certificates output =
+    HasCause (λ unread cause. IsUnread unread cause plans certificates)
+    (NamesNoEnds from to plans certificates) ⊥ ⊥ (Fails output) why
+
+-- what the end of a run says of what the sources gave and what was written, for a node's name and a destination's word
+abbrev pub Traces : Status → List ℕ → List ℕ → Stream → Stream → Stream → Type 0
+Traces status.Yes from to plans certificates output = TellsOf (IsTraceText from to) plans certificates output
+Traces status.Fault from to plans certificates output = TellsTraceFault from to plans certificates output
+Traces status.Unreadable from to plans certificates output = (why : Refused) × (status_of why ≡ status.Unreadable)
+    × IsNotTracedFor why from to plans certificates output
+Traces status.NoMemory from to plans certificates output = ⊤

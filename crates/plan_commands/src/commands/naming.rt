@@ -1,0 +1,24 @@
+//! The node that a name stands for.
+ghost use Rattle.std.specs.Prelude.{◌≡◌, ◌≢◌, ℕ, Some, MatchOption, MatchBool, string_bytes};
+ghost use Rattle.net_check.specs.Names.{name_of};
+ghost use Rattle.plan_commands.specs.Walking.{IsFirstNamed};
+
+use net_plan::{Node, Plan};
+
+/// The place of the first node of the name.
+pub fn first_named(plan: &Plan, name: &str) -> Option<usize>
+    ensures { MatchOption result ((n : ℕ) → name_of plan.now n ≢ Some name.now) (λ place. IsFirstNamed plan.now name.now place) }
+{
+    for (place, node) in plan.nodes.iter().enumerate() {
+        if is_named(node, name) {
+            return Some(place);
+        }
+    }
+    None
+}
+
+fn is_named(node: &Node, name: &str) -> bool
+    ensures { MatchBool result (string_bytes node.now.name.text ≡ name.now) (string_bytes node.now.name.text ≢ name.now) }
+{
+    node.name.text.as_str() == name
+}
