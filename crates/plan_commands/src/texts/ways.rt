@@ -29,12 +29,7 @@ fn steps_lines(alloc: Global, plan: &Plan, steps: &[Step]) -> Result<String, All
 }
 
 /// The line of the step of a number.
-fn step_line(
-    alloc: Global,
-    plan: &Plan,
-    number: usize,
-    step: &Step,
-) -> Result<String, AllocError>
+fn step_line(alloc: Global, plan: &Plan, number: usize, step: &Step) -> Result<String, AllocError>
     ensures { IfOk result (λ line. string_bytes line ≡ step_line plan.now number step.now) }
 {
     let node = name_or_dash(plan, step.node);

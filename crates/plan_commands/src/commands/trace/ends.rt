@@ -58,11 +58,7 @@ fn assignable(number: u8) -> Option<Eid>
     ensures { MatchOption result (¬ IsAssignable number) (λ eid. (eid.value ≡ number) × IsAssignable number) }
 {
     let eid = Eid::new(number);
-    if eid.is_assignable() {
-        Some(eid)
-    } else {
-        None
-    }
+    if eid.is_assignable() { Some(eid) } else { None }
 }
 
 /// Whether each byte is an ASCII digit.
