@@ -8,7 +8,7 @@ use mctp_transport::BASELINE_UNIT;
 use pdr_repository::MAX_ANSWER;
 use std::alloc::{AllocError, Global};
 
-/// A payload. One of up to 64 bytes, as each is under the baseline unit, stands in its place; a longer one has memory of
+/// A payload. One of up to 64 bytes stands in its place; under the baseline unit each does. A longer one has memory of
 /// its own.
 #[derive(Debug, Drop)]
 pub enum Payload {
