@@ -1,9 +1,7 @@
-use Rattle.std.proofs.Common.{◌≡◌, [], Some, codes, map, option_map, sym, subst, ap, ◌∙◌, true, rules}
-use Rattle.json.specs.Json.{object, value}
-use Rattle.json.specs.Lex.{tokens}
+use Rattle.std.proofs.Common.{◌≡◌, Some, codes, map, option_map, sym, subst, ap, ◌∙◌, true, rules}
+use Rattle.json.specs.Json.{object}
 use Rattle.json.specs.Value.{members_view}
 use Rattle.json.proofs.Trees.{view-Object}
-use Rattle.serde_json.specs.Read.{max_depth}
 use Rattle.net_plan.specs.Skeleton.{AreStandIns, IsCutNodes, cut_value}
 use Rattle.net_plan.specs.Trees.{fits}
 use Rattle.net_plan.proofs.skeleton.skeleton_of.Goals as goal

@@ -1,5 +1,4 @@
-use Rattle.std.proofs.Common.{◌+◌, All, List, length, sym, ◌∙◌, ap, subst}
-use Rattle.std.specs.Prelude.{Vec}
+use Rattle.std.proofs.Common.{◌+◌, All, length, sym, ◌∙◌, ap, subst}
 use Rattle.std.proofs.lemmas.List.{length_push}
 use Rattle.std.proofs.lemmas.List.Elements.{All-push}
 use Rattle.net_sim.specs.Payloads.{IsRoomFor}

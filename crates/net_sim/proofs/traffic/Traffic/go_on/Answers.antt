@@ -1,6 +1,5 @@
-use Rattle.std.proofs.Common.{◌≡◌, Option, Some, sym, ◌∙◌, ap, subst}
-use Rattle.std.specs.Prelude.{option_map, IfSome}
-use Rattle.std.proofs.lemmas.Option.{same_Some}
+use Rattle.std.proofs.Common.{Option}
+use Rattle.std.specs.Prelude.{option_map}
 use Rattle.net_check.specs.States.{Flight}
 use Rattle.net_sim.specs.Flights.{slots_of, flight_at, gone_on}
 use Rattle.net_sim.specs.Placing.{IsPlaced}

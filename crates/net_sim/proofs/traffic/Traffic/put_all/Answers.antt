@@ -4,7 +4,7 @@ use Rattle.mctp_transport.specs.Frames.{Frame}
 use Rattle.mctp_transport.specs.Packets.{frame_of}
 use Rattle.mctp_transport.specs.PacketsLeft.{frames_left}
 use Rattle.net_check.specs.States.{Flight}
-use Rattle.net_sim.specs.Flights.{slots_of, flight_value, begun}
+use Rattle.net_sim.specs.Flights.{slots_of, begun}
 use Rattle.net_sim.specs.Payloads.{HaveRooms}
 use Rattle.net_sim.specs.Routers.{RouterValue}
 use Rattle.net_sim.proofs.traffic.Traffic.put_all.Goals as goal
