@@ -19,23 +19,23 @@ use Rattle.net_sim.specs.Standing.{TrafficValue, StandsFor, at_place}
 use Rattle.net_sim.specs.Dealing.{dealt_to, left_by, dealt, at_rest, planned_termini}
 
 module _ {D : Type 0} (see : D → Option TerminusState) (nodes : List Node) where
-  pub none_dealt : (desks : List D) (termini : List TerminusState) → desks ≡ [] → map see desks ++ dealt (drop 0 nodes) termini ≡ dealt nodes termini
-  none_dealt desks termini none = ap (λ ds. map see ds ++ dealt nodes termini) none
+  pub none_dealt : (queues : List D) (termini : List TerminusState) → queues ≡ [] → map see queues ++ dealt (drop 0 nodes) termini ≡ dealt nodes termini
+  none_dealt queues termini none = ap (λ ds. map see ds ++ dealt nodes termini) none
 
-  pub one_dealt : (desks more : List D) (desk : D) (i : ℕ) (node : Node) (old new : List TerminusState) (all : List (Option TerminusState)) → i < length nodes → node ≡ get_or nodes i node
-      → more ≡ desks ++ desk ∷ [] → ((rest : List Node) → dealt (node ∷ rest) old ≡ see desk ∷ dealt rest new) → map see desks ++ dealt (drop i nodes) old ≡ all
+  pub one_dealt : (queues more : List D) (queue : D) (i : ℕ) (node : Node) (old new : List TerminusState) (all : List (Option TerminusState)) → i < length nodes → node ≡ get_or nodes i node
+      → more ≡ queues ++ queue ∷ [] → ((rest : List Node) → dealt (node ∷ rest) old ≡ see queue ∷ dealt rest new) → map see queues ++ dealt (drop i nodes) old ≡ all
       → map see more ++ dealt (drop (i + 1) nodes) new ≡ all
-  one_dealt desks more desk i node old new all within is pushed dealing before =
+  one_dealt queues more queue i node old new all within is pushed dealing before =
       ap (λ ds. map see ds ++ dealt (drop (i + 1) nodes) new) pushed
-      ∙ (ap (λ ys. ys ++ dealt (drop (i + 1) nodes) new) (map-append see desks (desk ∷ []))
-      ∙ (append_assoc (map see desks) (see desk ∷ []) (dealt (drop (i + 1) nodes) new)
-      ∙ (ap (λ ys. map see desks ++ ys) (sym (dealing (drop (i + 1) nodes)))
-      ∙ (ap (λ n. map see desks ++ dealt (n ∷ drop (i + 1) nodes) old) is
-      ∙ (ap (λ ns. map see desks ++ dealt ns old) (sym (drop_more nodes i node within)) ∙ before)))))
+      ∙ (ap (λ ys. ys ++ dealt (drop (i + 1) nodes) new) (map-append see queues (queue ∷ []))
+      ∙ (append_assoc (map see queues) (see queue ∷ []) (dealt (drop (i + 1) nodes) new)
+      ∙ (ap (λ ys. map see queues ++ ys) (sym (dealing (drop (i + 1) nodes)))
+      ∙ (ap (λ n. map see queues ++ dealt (n ∷ drop (i + 1) nodes) old) is
+      ∙ (ap (λ ns. map see queues ++ dealt ns old) (sym (drop_more nodes i node within)) ∙ before)))))
 
-  pub all_dealt : (desks : List D) (i : ℕ) (termini : List TerminusState) (all : List (Option TerminusState)) → length nodes ≤ i → map see desks ++ dealt (drop i nodes) termini ≡ all → map see desks ≡ all
-  all_dealt desks i termini all past before =
-      sym (append-nil (map see desks)) ∙ (ap (λ ns. map see desks ++ dealt ns termini) (sym (drop_all i nodes past)) ∙ before)
+  pub all_dealt : (queues : List D) (i : ℕ) (termini : List TerminusState) (all : List (Option TerminusState)) → length nodes ≤ i → map see queues ++ dealt (drop i nodes) termini ≡ all → map see queues ≡ all
+  all_dealt queues i termini all past before =
+      sym (append-nil (map see queues)) ∙ (ap (λ ns. map see queues ++ dealt ns termini) (sym (drop_all i nodes past)) ∙ before)
 
 pub dealt_same : {B : Type 0} (see : B → TerminusState) (nodes nodes' : List Node) (bs bs' : List B) → nodes ≡ nodes' → bs ≡ bs' → dealt nodes (map see bs) ≡ dealt nodes' (map see bs')
 dealt_same see nodes nodes' bs bs' same same' = ap (λ ns. dealt ns (map see bs)) same ∙ ap (λ xs. dealt nodes' (map see xs)) same'
@@ -143,9 +143,9 @@ dealt_long : (nodes : List Node) (ts : List TerminusState) → length (dealt nod
 dealt_long [] ts = refl
 dealt_long (node ∷ nodes) ts = ap suc (dealt_long nodes (left_by node.terminus ts))
 
--- as many desks as nodes
-pub desks_long : {D : Type 0} (see : D → Option TerminusState) (desks : List D) (nodes : List Node) (ts : List TerminusState) → map see desks ≡ dealt nodes ts → length desks ≡ length nodes
-desks_long see desks nodes ts is = sym (length-map desks see) ∙ (ap length is ∙ dealt_long nodes ts)
+-- as many queues as nodes
+pub queues_long : {D : Type 0} (see : D → Option TerminusState) (queues : List D) (nodes : List Node) (ts : List TerminusState) → map see queues ≡ dealt nodes ts → length queues ≡ length nodes
+queues_long see queues nodes ts is = sym (length-map queues see) ∙ (ap length is ∙ dealt_long nodes ts)
 
 -- no flight is there where there is none
 pub no_flight_there : (slots : List (Option Flight)) (number : ℕ) (f : Flight) → slots ≡ None ∷ [] → flight_at slots number ≡ Some f → ⊥

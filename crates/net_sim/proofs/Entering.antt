@@ -17,7 +17,7 @@ use Rattle.mctp_transport.specs.declared.why.Why.{Why}
 use Rattle.net_check.specs.Termini.{TerminusState, WaitingMessage, with_waiting}
 use Rattle.net_check.specs.States.{NetworkState, Flight, with_input, with_terminus, with_received, slots, limit}
 use Rattle.net_check.specs.Events.{Entered}
-use Rattle.net_sim.specs.Desks.{with_message}
+use Rattle.net_sim.specs.TerminusQueues.{with_message}
 use Rattle.net_sim.specs.Standing.{TrafficValue, StandsFor, Receives, at_place}
 use Rattle.net_sim.proofs.Changes.{input_stands, terminus_stands}
 
@@ -111,12 +111,12 @@ module _ (v u : TrafficValue) (number : ℕ) (f : Flight) (a b : Assembler) (key
           subst (λ b. StandsFor u (cond b (with_terminus entered f.node (waits (w.terminus f.node))) entered)) (sym owned) (same_terminus u entered f.node o was s')
 
 -- the terminus of a node after a message has come there
-pub desk_waits : {D : Type 0} (g : D → Option TerminusState) (ds : List D) (i : ℕ) (new : D) (m : WaitingMessage) (o : Option TerminusState) → g new ≡ with_message m o
+pub queue_waits : {D : Type 0} (g : D → Option TerminusState) (ds : List D) (i : ℕ) (new : D) (m : WaitingMessage) (o : Option TerminusState) → g new ≡ with_message m o
     → map g (slice_set ds i new) ≡ slice_set (map g ds) i (with_message m o)
-desk_waits g ds i new m o is = map-set g ds i new ∙ ap (λ t. slice_set (map g ds) i t) is
+queue_waits g ds i new m o is = map-set g ds i new ∙ ap (λ t. slice_set (map g ds) i t) is
 
-pub desk_there : {D : Type 0} (g : D → Option TerminusState) (ds : List D) (i : ℕ) (d : D) → slice_get ds i ≡ Some d → slice_get (map g ds) i ≡ Some (g d)
-desk_there g ds i d is = slice_get-map g ds i ∙ ap (option_map g) is
+pub queue_there : {D : Type 0} (g : D → Option TerminusState) (ds : List D) (i : ℕ) (d : D) → slice_get ds i ≡ Some d → slice_get (map g ds) i ≡ Some (g d)
+queue_there g ds i d is = slice_get-map g ds i ∙ ap (option_map g) is
 
 -- what an assembler of the network's size answers
 pub as_sized : (a : Assembler) (p : Frame) (answer : Answer) → (assembly.assembler_slots a ≡ 16) × (assembly.assembler_limit a ≡ 4096)

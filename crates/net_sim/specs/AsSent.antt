@@ -2,13 +2,11 @@
 use Rattle.std.specs.Prelude.{◌≡◌, ℕ, ◌*◌, ◌≤◌, List, length, slice_get, Option, Some}
 use Rattle.std.specs.List.{zip}
 use Rattle.mctp_transport.specs.Frames.{KeyValue}
-use Rattle.mctp_transport.specs.Hearing.{Whole}
 use Rattle.net_plan.specs.declared.plan.Plan.{Plan}
 use Rattle.net_check.specs.Routing.{Holds}
 use Rattle.net_check.specs.TwoPlans.{Tables}
-use Rattle.net_check.specs.Events.{Entered}
 use Rattle.net_check.specs.ExactMessages.{Epoch, IsQuiet}
-use Rattle.net_check.specs.Walkers.{WalkedState, WalkedEvent, WalkedOutcome, Happened, Handed}
+use Rattle.net_check.specs.Walkers.{WalkedState, WalkedEvent, WalkedOutcome, Handed, BringsWholeAt}
 use Rattle.net_check.specs.WalkedMessages.{IsWalkedTidyFrom}
 use Rattle.net_sim.specs.WalkedStanding.{NetworkValue, StandsForWalked}
 use Rattle.net_sim.specs.Played.{IsRunOf}
@@ -18,7 +16,7 @@ use Rattle.net_sim.specs.Played.{IsRunOf}
 abbrev pub TellWhatWasSent : (unit : ℕ) → Plan → KeyValue → ℕ → List WalkedOutcome → List Epoch → Type 0
 TellWhatWasSent unit plan key d outcomes epochs =
     (i number n : ℕ) (message : List ℕ) (epoch : Epoch) (handed : Option Handed)
-    → slice_get outcomes i ≡ Some (Happened (Entered number n key (Whole message)) handed)
+    → BringsWholeAt outcomes i number n key message handed
     → slice_get epochs i ≡ Some epoch → Holds plan n d → length epoch.message ≤ 5 * unit → message ≡ epoch.message
 
 -- Where a key is quiet for d at first, and the turns of the run are tidy in epochs, one for each

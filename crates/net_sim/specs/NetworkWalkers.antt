@@ -10,7 +10,7 @@ use Rattle.pdr_repository.specs.declared.walk_fault.WalkFault.TheVariants.{OutOf
 use Rattle.pdr_repository.specs.Walkers.{WalkState, Asks, Takes}
 use Rattle.pdr_repository.specs.WalkerRooms.{HasRoom}
 use Rattle.pdr_repository.specs.WalkerStates.{state_of}
-use Rattle.net_check.specs.Events.{OutcomeValue, Entered}
+use Rattle.net_check.specs.Events.{OutcomeValue, Brings}
 use Rattle.net_check.specs.Walkers.{WalkerValue, Handed, answering_key, ended_after}
 use Rattle.net_sim.specs.declared.network_walker.NetworkWalker.{NetworkWalker}
 
@@ -67,7 +67,7 @@ pub record TellsRequest (old : WalkerValue) (request : List ℕ) (new : WalkerVa
 abbrev pub HandsOver : WalkerValue → ℕ → OutcomeValue → Option Handed → WalkerValue → Type 0
 HandsOver old number outcome None new =
     (new ≡ old)
-    × ((flight node : ℕ) (key : KeyValue) (message : List ℕ) → outcome ≢ Entered flight node key (Whole message))
+    × ((flight node : ℕ) (key : KeyValue) (message : List ℕ) → ¬ Brings outcome flight node key (Whole message))
 HandsOver old number outcome (Some handed) new =
     (handed.number ≡ number) × (flight : ℕ) × (node : ℕ) × (key : KeyValue) × (message : List ℕ)
-    × (outcome ≡ Entered flight node key (Whole message)) × HasTakenMessage old message handed.result new
+    × Brings outcome flight node key (Whole message) × HasTakenMessage old message handed.result new

@@ -1,14 +1,13 @@
 -- Runs in which one request is sent under a key come to that request, whatever is lost, repeated or out of order.
-use Rattle.std.specs.Prelude.{◌≡◌, ℕ, ◌*◌, ◌≤◌, List, length, slice_get, Option, Some, true, All}
+use Rattle.std.specs.Prelude.{◌≡◌, ℕ, ◌*◌, ◌≤◌, List, length, Option, true, All}
 use Rattle.mctp_transport.specs.Frames.{Frame, KeyValue, key_of, Spelled}
-use Rattle.mctp_transport.specs.Hearing.{Whole}
 use Rattle.net_plan.specs.declared.plan.Plan.{Plan}
 use Rattle.net_check.specs.Routing.{Holds}
 use Rattle.net_check.specs.TwoPlans.{Tables}
 use Rattle.net_check.specs.States.{unit_of}
-use Rattle.net_check.specs.Events.{Put, Entered}
+use Rattle.net_check.specs.Events.{Put}
 use Rattle.net_check.specs.ExactMessages.{Epoch, IsOfEpoch, IsQuiet}
-use Rattle.net_check.specs.Walkers.{WalkedState, WalkedEvent, Happening, Ask, WalkedOutcome, Happened, Handed}
+use Rattle.net_check.specs.Walkers.{WalkedState, WalkedEvent, Happening, Ask, WalkedOutcome, Handed, BringsWholeAt}
 use Rattle.net_check.specs.WalkedRuns.{WalkedTurn}
 use Rattle.net_check.specs.WalkedMessages.{IsPutOfWalked}
 use Rattle.net_sim.specs.WalkedStanding.{NetworkValue}
@@ -32,5 +31,5 @@ RequestsComeAsSent tables =
     → IsQuiet tables.plan w.network key d
     → All (PutsOnly tables.plan key d sent) run.turns → length sent.message ≤ 5 * unit_of tables.plan
     → (i number n : ℕ) (message : List ℕ) (handed : Option Handed)
-    → slice_get outcomes i ≡ Some (Happened (Entered number n key (Whole message)) handed)
+    → BringsWholeAt outcomes i number n key message handed
     → Holds tables.plan n d → message ≡ sent.message

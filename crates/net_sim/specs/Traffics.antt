@@ -3,11 +3,11 @@ use Rattle.std.specs.Prelude.{◌≡◌, ◌<◌, ◌≤◌, ℕ, length, List, 
 use Rattle.net_plan.specs.declared.certificate.Certificate.{Certificate}
 use Rattle.net_check.specs.TwoPlans.{Tables}
 use Rattle.pdr_repository.specs.Records.{Entry}
-use Rattle.net_sim.specs.declared.desk.Desk.{Desk}
+use Rattle.net_sim.specs.declared.terminus_queue.TerminusQueue.{TerminusQueue}
 use Rattle.net_sim.specs.declared.traffic.Traffic.{Traffic}
 use Rattle.net_check.specs.Events.{most_flights}
 use Rattle.net_sim.specs.Flights.{slots_of, room_of}
-use Rattle.net_sim.specs.Desks.{desk_state, HasPlace}
+use Rattle.net_sim.specs.TerminusQueues.{queue_state, HasPlace}
 use Rattle.net_sim.specs.Standing.{TrafficValue}
 
 -- the tables of the network, of one plan or of two, and the certificate for them
@@ -15,18 +15,18 @@ abbrev pub traffic_checked : {X : Type 0} {R : X → Type 0} → Traffic X R →
 traffic_checked network = (network.router.tables, network.router.certificate)
 
 -- by the terminus IDs and the records that the termini mean
-abbrev pub traffic_value : {X : Type 0} {R : X → Type 0} → (Desk X R → ℕ) → (Desk X R → List Entry) → Traffic X R
+abbrev pub traffic_value : {X : Type 0} {R : X → Type 0} → (TerminusQueue X R → ℕ) → (TerminusQueue X R → List Entry) → Traffic X R
     → TrafficValue
 traffic_value tid records network = record {
   flights = slots_of network.flights;
   assemblers = network.assemblers.items;
-  termini = map (option_map (desk_state tid records)) network.desks.items;
+  termini = map (option_map (queue_state tid records)) network.queues.items;
   switched = network.router.switched;
 }
 
 -- where the node has a terminus, one message more can wait there without growing
 abbrev pub HasPlaceAt : {X : Type 0} {R : X → Type 0} → Traffic X R → ℕ → Type 0
-HasPlaceAt {X} {R} network node = (d : Option (Desk X R)) → slice_get network.desks.items node ≡ Some d → HasPlace d
+HasPlaceAt {X} {R} network node = (d : Option (TerminusQueue X R)) → slice_get network.queues.items node ≡ Some d → HasPlace d
 
 -- a flight number is left, and one flight more can be made without growing
 abbrev pub HasNumberAndRoom : {X : Type 0} {R : X → Type 0} → Traffic X R → Type 0

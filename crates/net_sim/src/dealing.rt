@@ -3,10 +3,10 @@ ghost use Rattle.std.specs.Prelude.{◌≡◌, ◌∷◌, List, IfOk, count_by, 
 ghost use Rattle.std.specs.Vec.Iter.{into_iter_items};
 ghost use Rattle.net_plan.specs.declared.nodes.Node.{Node};
 ghost use Rattle.net_plan.specs.declared.certificate.Certificate.{Certificate};
-ghost use Rattle.net_sim.specs.Desks.{desk_state};
+ghost use Rattle.net_sim.specs.TerminusQueues.{queue_state};
 ghost use Rattle.net_sim.specs.Dealing.{resting, dealt, planned_termini};
 
-use crate::desk::Desk;
+use crate::terminus_queue::TerminusQueue;
 use net_plan::{Node, Plan};
 use pdr_repository::Terminus;
 use std::alloc::{AllocError, Global};
@@ -26,34 +26,34 @@ fn with_terminus(nodes: &[Node]) -> usize
     nodes.iter().filter(|node| node.terminus.is_some()).count()
 }
 
-/// A desk for each node that has a terminus, with the next of the termini.
+/// A queue for each node that has a terminus, with the next of the termini.
 pub fn deal(
     alloc: Global,
     plan: &Plan,
     termini: Vec<Box<dyn Terminus>>,
-) -> Result<Vec<Option<Desk>>, AllocError>
-    ensures { IfOk result (λ desks. map (option_map (desk_state (λ d. tid d.terminus) (λ d. records d.terminus))) desks.items
+) -> Result<Vec<Option<TerminusQueue>>, AllocError>
+    ensures { IfOk result (λ queues. map (option_map (queue_state (λ d. tid d.terminus) (λ d. records d.terminus))) queues.items
         ≡ dealt plan.now.nodes.items (map (resting (λ b. tid b) (λ b. records b)) termini.items)) }
 {
-    let mut desks = Vec::new(alloc);
+    let mut queues = Vec::new(alloc);
     let mut left = termini.into_iter();
     for node in &plan.nodes {
-        desks.push(deal_to(alloc, node, &mut left))?;
+        queues.push(deal_to(alloc, node, &mut left))?;
     }
-    Ok(desks)
+    Ok(queues)
 }
 
-/// The desk of a node, if it has a terminus and one is left.
-fn deal_to(alloc: Global, node: &Node, left: &mut IntoIter<Box<dyn Terminus>>) -> Option<Desk>
+/// The queue of a node, if it has a terminus and one is left.
+fn deal_to(alloc: Global, node: &Node, left: &mut IntoIter<Box<dyn Terminus>>) -> Option<TerminusQueue>
     ensures { (nodes : List Node) → dealt (node.now ∷ nodes) (map (resting (λ b. tid b) (λ b. records b)) (into_iter_items left.old))
-        ≡ option_map (desk_state (λ d. tid d.terminus) (λ d. records d.terminus)) result
+        ≡ option_map (queue_state (λ d. tid d.terminus) (λ d. records d.terminus)) result
         ∷ dealt nodes (map (resting (λ b. tid b) (λ b. records b)) (into_iter_items left.new)) }
 {
     if node.terminus.is_none() {
         return None;
     }
     match left.next() {
-        Some(terminus) => Some(Desk::new(alloc, terminus)),
+        Some(terminus) => Some(TerminusQueue::new(alloc, terminus)),
         None => None,
     }
 }

@@ -12,7 +12,7 @@ ghost use Rattle.net_sim.specs.Placing.{IsPlaced};
 use crate::accepted::Accepted;
 use crate::assemblers::idle_assemblers;
 use crate::dealing::deal;
-use crate::desk::{Desk, answer_at, idle_at, none_waits_at, reserve_at, wait_at};
+use crate::terminus_queue::{TerminusQueue, answer_at, idle_at, none_waits_at, reserve_at, wait_at};
 use crate::effect::Effect;
 use crate::flights::{Flight, Flights};
 use crate::payload::{room_for_payload, rooms_for_answer, take_room};
@@ -42,8 +42,8 @@ pub struct Traffic<'a> {
     router: Router<'a>,
     flights: Flights,
     assemblers: Vec<Assembler>,
-    desks: Vec<Option<Desk>>,
-    ghost desked: { length desks.items ≡ length router.tables.plan.nodes.items },
+    queues: Vec<Option<TerminusQueue>>,
+    ghost queued: { length queues.items ≡ length router.tables.plan.nodes.items },
     ghost assembled: { length assemblers.items ≡ length router.tables.plan.nodes.items },
     ghost sized: { (n : ℕ) (a : Assembler) → slice_get assemblers.items n ≡ Some a → (assembler_slots a ≡ 16) × (assembler_limit a ≡ 4096) },
     ghost placed: { (number : ℕ) (f : Flight) → flight_at (slots_of flights) number ≡ Some f → IsPlaced router.tables.plan router.certificate f },
@@ -82,13 +82,13 @@ impl<'a> Traffic<'a> {
         let router = Router::new(alloc, accepted)?;
         let flights = Flights::new(alloc)?;
         let assemblers = idle_assemblers(alloc, router.plan().nodes.len())?;
-        let desks = deal(alloc, router.plan(), termini)?;
+        let queues = deal(alloc, router.plan(), termini)?;
         Ok(Traffic {
             alloc,
             router,
             flights,
             assemblers,
-            desks,
+            queues,
         })
     }
 
@@ -123,7 +123,7 @@ impl<'a> Traffic<'a> {
         ensures room { OnOk result (count ≤ room_of self.new.flights) }
         ensures router { self.new.router ≡ self.old.router }
         ensures assemblers { self.new.assemblers.items ≡ self.old.assemblers.items }
-        ensures desks { self.new.desks.items ≡ self.old.desks.items }
+        ensures queues { self.new.queues.items ≡ self.old.queues.items }
     {
         self.flights.reserve(count)
     }
@@ -134,7 +134,7 @@ impl<'a> Traffic<'a> {
         ensures room { OnOk result (0 < room_of self.new.flights) }
         ensures router { self.new.router ≡ self.old.router }
         ensures assemblers { self.new.assemblers.items ≡ self.old.assemblers.items }
-        ensures desks { self.new.desks.items ≡ self.old.desks.items }
+        ensures queues { self.new.queues.items ≡ self.old.queues.items }
         ensures payload { IfOk result (IsRoomFor count) }
     {
         self.reserve(1)?;
@@ -148,7 +148,7 @@ impl<'a> Traffic<'a> {
         ensures flights { slots_of self.new.flights ≡ slice_set (slots_of self.old.flights) number None }
         ensures router { self.new.router ≡ self.old.router }
         ensures assemblers { self.new.assemblers.items ≡ self.old.assemblers.items }
-        ensures desks { self.new.desks.items ≡ self.old.desks.items }
+        ensures queues { self.new.queues.items ≡ self.old.queues.items }
     {
         self.flights.end(number)
     }
@@ -161,7 +161,7 @@ impl<'a> Traffic<'a> {
         ensures flights { slots_of self.new.flights ≡ slice_set (slots_of self.old.flights) number (option_map (gone_on node) (flight_at (slots_of self.old.flights) number)) }
         ensures router { self.new.router ≡ self.old.router }
         ensures assemblers { self.new.assemblers.items ≡ self.old.assemblers.items }
-        ensures desks { self.new.desks.items ≡ self.old.desks.items }
+        ensures queues { self.new.queues.items ≡ self.old.queues.items }
     {
         self.flights.go_on(number, node);
     }
@@ -176,7 +176,7 @@ impl<'a> Traffic<'a> {
         ensures room { room_of self.new.flights + 1 ≡ room_of self.old.flights }
         ensures router { self.new.router ≡ self.old.router }
         ensures assemblers { self.new.assemblers.items ≡ self.old.assemblers.items }
-        ensures desks { self.new.desks.items ≡ self.old.desks.items }
+        ensures queues { self.new.queues.items ≡ self.old.queues.items }
     {
         let number = self.flights.next_number() as u32;
         self.flights.push(flight);
@@ -266,7 +266,7 @@ impl<'a> Traffic<'a> {
         ensures { (w : NetworkState) → StandsFor (traffic_value (λ d. tid d.terminus) (λ d. records d.terminus) self.now) w
             → IsTrue result ↔ (Holds self.now.router.tables.plan node eid.value × (w.terminus node ≢ None)) }
     {
-        self.eid_at(node) == eid && self.desks[node].is_some()
+        self.eid_at(node) == eid && self.queues[node].is_some()
     }
 
     /// The node into which the move of a flight brings its packet, and the packet's key. None where it is refused, or the
@@ -325,7 +325,7 @@ impl<'a> Traffic<'a> {
         if self.assemblers[node].is_open(key) {
             return false;
         }
-        none_waits_at(&self.desks[node], key)
+        none_waits_at(&self.queues[node], key)
     }
 
     /// Room for what a packet can lead to at a node: a message that is told, and one that waits.
@@ -343,7 +343,7 @@ impl<'a> Traffic<'a> {
     {
         let told = room_for_message(self.alloc)?;
         let kept = room_for_message(self.alloc)?;
-        reserve_at(&mut self.desks[node])?;
+        reserve_at(&mut self.queues[node])?;
         Ok(Room { told, kept })
     }
 
@@ -362,7 +362,7 @@ impl<'a> Traffic<'a> {
         let key = flight.packet.view().key();
         match feed(&mut self.assemblers[node], &flight.packet, room.told) {
             Receipt::Whole(bytes) => {
-                wait_at(&mut self.desks[node], key, &bytes, room.kept);
+                wait_at(&mut self.queues[node], key, &bytes, room.kept);
                 Effect::Whole {
                     number,
                     node,
@@ -474,7 +474,7 @@ impl<'a> Traffic<'a> {
         ensures flights { slots_of self.new.flights ≡ slots_of self.old.flights ++ map (begun node) (frames_left packets.entry) }
         ensures router { self.new.router ≡ self.old.router }
         ensures assemblers { self.new.assemblers.items ≡ self.old.assemblers.items }
-        ensures desks { self.new.desks.items ≡ self.old.desks.items }
+        ensures queues { self.new.queues.items ≡ self.old.queues.items }
     {
         for packet in packets {
             let room = take_room(self.alloc, &mut rooms);
@@ -513,7 +513,7 @@ impl<'a> Traffic<'a> {
         ensures sends { Sends self.old.router.tables.plan node (key_value asked) answer.now (slots_of self.old.flights) (effect_value result) (slots_of self.new.flights) }
         ensures router { self.new.router ≡ self.old.router }
         ensures assemblers { self.new.assemblers.items ≡ self.old.assemblers.items }
-        ensures desks { self.new.desks.items ≡ self.old.desks.items }
+        ensures queues { self.new.queues.items ≡ self.old.queues.items }
     {
         let key = Key {
             source: self.router.plan().nodes[node].eid,
@@ -545,7 +545,7 @@ impl<'a> Traffic<'a> {
         if !self.has_node(node) {
             return Ok(Effect::Refused(Refusal::NoNode));
         }
-        if let Some(why) = idle_at(&self.desks[node]) {
+        if let Some(why) = idle_at(&self.queues[node]) {
             return Ok(Effect::Refused(why));
         }
         if self.left() < 64 {
@@ -558,7 +558,7 @@ impl<'a> Traffic<'a> {
             return Err(AllocError);
         }
         let mut out = ArrayVec::new();
-        let Some(asked) = answer_at(&mut self.desks[node], &mut out) else {
+        let Some(asked) = answer_at(&mut self.queues[node], &mut out) else {
             return Ok(Effect::Refused(Refusal::NothingWaits));
         };
         if !asked.answered {

@@ -49,7 +49,7 @@ returns-in_err-reserve-clause-plays g c =
     err_told _ _ c.from_residual.result c.from_residual.ensures.0
     (ask_wants now.traffic.router.tables _ c.args.number (omega (arith, c.left.ensures, c.if-left-lt1.false)) i place.0 (walker_value x) here held.0 held.1
     (λ w s. c.in_default-why_not_ask.ensures w s) _ _
-    (λ w s. same_stands _ _ w c.reserve.ensures.flights c.reserve.ensures.assemblers (same_means _ _ _ c.reserve.ensures.desks) (same_marks _ _ c.reserve.ensures.router) s) refl)
+    (λ w s. same_stands _ _ w c.reserve.ensures.flights c.reserve.ensures.assemblers (same_means _ _ _ c.reserve.ensures.queues) (same_marks _ _ c.reserve.ensures.router) s) refl)
 
 pub returns-in-Some-put_request-clause-plays : goal.returns-in-Some-put_request-clause-plays
 returns-in-Some-put_request-clause-plays g c =
@@ -70,7 +70,7 @@ returns-in-Some-put_request-clause-plays g c =
     let puts = puts_in _ _ _ _ _ _ _ (ap (λ (r : RouterValue). r.tables) c.reserve.ensures.router) c.in-Some-put_request.ensures.puts in
     asks now.traffic.router.tables _ c.args.number (omega (arith, c.left.ensures, c.if-left-lt1.false)) i place.0 (walker_value y) here held.0 held.1
     (λ w s. subst (λ (z : NetworkWalker). MayAsk plan w (walker_value z)) same (c.in_default-why_not_ask.ensures w s)) _ _ c.in-Some-put_request.number (walker_value next) _
-    (λ w s. same_stands _ _ w c.reserve.ensures.flights c.reserve.ensures.assemblers (same_means _ _ _ c.reserve.ensures.desks) (same_marks _ _ c.reserve.ensures.router) s)
+    (λ w s. same_stands _ _ w c.reserve.ensures.flights c.reserve.ensures.assemblers (same_means _ _ _ c.reserve.ensures.queues) (same_marks _ _ c.reserve.ensures.router) s)
     puts (map-set walker_value items i next)
 
 pub returns-in-None-clause-plays : goal.returns-in-None-clause-plays

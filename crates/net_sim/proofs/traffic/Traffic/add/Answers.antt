@@ -12,4 +12,4 @@ invariant_of-self g c =
     let P : Flight → Type 0 = IsPlaced now.router.tables.plan now.router.certificate in
     let o : Option Flight = option_map flight_value c.args.flight in
     let placed = each_push (slots_of now.flights) P o now.placed (λ a is. mapped_some flight_value P c.args.flight c.requires.placed a is) in
-    record { desked = now.desked; assembled = now.assembled; sized = now.sized; placed = λ k f is. placed k f (rw c.push.ensures.slots at is) }
+    record { queued = now.queued; assembled = now.assembled; sized = now.sized; placed = λ k f is. placed k f (rw c.push.ensures.slots at is) }

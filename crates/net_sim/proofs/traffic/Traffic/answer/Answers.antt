@@ -9,8 +9,8 @@ use Rattle.net_sim.specs.Routers.{RouterValue}
 use Rattle.net_sim.specs.Sending.{Sends}
 use Rattle.net_sim.proofs.Slots.{same_means}
 use Rattle.net_sim.proofs.Changes.{same_marks}
-use Rattle.net_sim.proofs.Entering.{desk_there}
-use Rattle.net_sim.proofs.Packing.{silent_by, sent_by, desk_set, some_out, not_false, not_true}
+use Rattle.net_sim.proofs.Entering.{queue_there}
+use Rattle.net_sim.proofs.Packing.{silent_by, sent_by, queue_set, some_out, not_false, not_true}
 use Rattle.net_sim.proofs.traffic.Traffic.answer.Goals as goal
 
 pub send-requires-clause-some : goal.send-requires-clause-some
@@ -22,22 +22,22 @@ pub returns-then-not-asked-clause-plays : goal.returns-then-not-asked-clause-pla
 returns-then-not-asked-clause-plays g c =
     let now = c.args.self.now in
     let within = c.has_node.ensures.0 c.if-not-has_node.false in
-    let desks = c.reserve.new.self.desks.items in
-    let short : c.args.node < length desks = omega (arith, within, now.desked, ap length c.reserve.ensures.desks) in
-    let there = slice_get_read desks _ c.args.node c.index_mut.result.now refl short c.index_mut.ensures.value in
-    let here = subst (λ ds. slice_get ds c.args.node ≡ Some c.index_mut.result.now) c.reserve.ensures.desks there in
-    silent_by now.router.tables _ _ c.args.node within _ _ (desk_there _ now.desks.items c.args.node c.index_mut.result.now here) (key_value c.in-Some-answer_at.asked.key) (omega (arith, c.left.ensures, c.if-left-lt64.false)) c.reserve.ensures.assemblers
-    (desk_set _ _ _ _ _ c.reserve.ensures.desks) (same_marks _ _ c.reserve.ensures.router) c.in-Some-answer_at.asked.answered c.answer_at.new.out.items (not_true _ c.if-not-asked.true) c.in-Some-answer_at.ensures.asked
+    let queues = c.reserve.new.self.queues.items in
+    let short : c.args.node < length queues = omega (arith, within, now.queued, ap length c.reserve.ensures.queues) in
+    let there = slice_get_read queues _ c.args.node c.index_mut.result.now refl short c.index_mut.ensures.value in
+    let here = subst (λ ds. slice_get ds c.args.node ≡ Some c.index_mut.result.now) c.reserve.ensures.queues there in
+    silent_by now.router.tables _ _ c.args.node within _ _ (queue_there _ now.queues.items c.args.node c.index_mut.result.now here) (key_value c.in-Some-answer_at.asked.key) (omega (arith, c.left.ensures, c.if-left-lt64.false)) c.reserve.ensures.assemblers
+    (queue_set _ _ _ _ _ c.reserve.ensures.queues) (same_marks _ _ c.reserve.ensures.router) c.in-Some-answer_at.asked.answered c.answer_at.new.out.items (not_true _ c.if-not-asked.true) c.in-Some-answer_at.ensures.asked
     c.reserve.ensures.flights
 
 pub returns-clause-plays : goal.returns-clause-plays
 returns-clause-plays g c =
     let now = c.args.self.now in
     let within = c.has_node.ensures.0 c.if-not-has_node.false in
-    let desks = c.reserve.new.self.desks.items in
-    let short : c.args.node < length desks = omega (arith, within, now.desked, ap length c.reserve.ensures.desks) in
-    let there = slice_get_read desks _ c.args.node c.index_mut.result.now refl short c.index_mut.ensures.value in
-    let here = subst (λ ds. slice_get ds c.args.node ≡ Some c.index_mut.result.now) c.reserve.ensures.desks there in
+    let queues = c.reserve.new.self.queues.items in
+    let short : c.args.node < length queues = omega (arith, within, now.queued, ap length c.reserve.ensures.queues) in
+    let there = slice_get_read queues _ c.args.node c.index_mut.result.now refl short c.index_mut.ensures.value in
+    let here = subst (λ ds. slice_get ds c.args.node ≡ Some c.index_mut.result.now) c.reserve.ensures.queues there in
     let key = key_value c.in-Some-answer_at.asked.key in
     let outcome = effect_value c.send.result in
     let new = slots_of c.send.new.self.flights in
@@ -45,7 +45,7 @@ returns-clause-plays g c =
     let sends = subst (λ (r : RouterValue). Sends r.tables.plan c.args.node key c.deref.result.now (slots_of c.reserve.new.self.flights) outcome new) c.reserve.ensures.router c.send.ensures.sends in
     let told = subst (λ (bs : List ℕ). Sends now.router.tables.plan c.args.node key bs (slots_of c.reserve.new.self.flights) outcome new) c.deref.ensures.0 sends in
     let sent = subst (λ (fs : List (Option Flight)). Sends now.router.tables.plan c.args.node key out fs outcome new) c.reserve.ensures.flights told in
-    sent_by now.router.tables _ _ c.args.node within _ _ (desk_there _ now.desks.items c.args.node c.index_mut.result.now here) key (omega (arith, c.left.ensures, c.if-left-lt64.false))
-    (c.send.ensures.assemblers ∙ c.reserve.ensures.assemblers) (same_means _ _ _ c.send.ensures.desks ∙ desk_set _ _ _ _ _ c.reserve.ensures.desks)
+    sent_by now.router.tables _ _ c.args.node within _ _ (queue_there _ now.queues.items c.args.node c.index_mut.result.now here) key (omega (arith, c.left.ensures, c.if-left-lt64.false))
+    (c.send.ensures.assemblers ∙ c.reserve.ensures.assemblers) (same_means _ _ _ c.send.ensures.queues ∙ queue_set _ _ _ _ _ c.reserve.ensures.queues)
     (same_marks _ _ (c.send.ensures.router ∙ c.reserve.ensures.router))
     c.in-Some-answer_at.asked.answered out outcome (not_false _ c.if-not-asked.false) c.in-Some-answer_at.ensures.asked sent

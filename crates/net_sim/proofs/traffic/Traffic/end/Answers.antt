@@ -12,4 +12,4 @@ invariant_of-self g c =
     let found = some_by (flight_at (slots_of now.flights) c.args.number) c.requires in
     let within = some_within (slots_of now.flights) c.args.number found.0 found.1 in
     let placed = each_set (slots_of now.flights) P c.args.number None within now.placed (λ a is. absurd (cc is)) in
-    record { desked = now.desked; assembled = now.assembled; sized = now.sized; placed = λ k f is. placed k f (rw c.end.ensures.slots at is) }
+    record { queued = now.queued; assembled = now.assembled; sized = now.sized; placed = λ k f is. placed k f (rw c.end.ensures.slots at is) }

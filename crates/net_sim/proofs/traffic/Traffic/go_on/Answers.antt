@@ -15,4 +15,4 @@ invariant_of-self g c =
     let within = some_within (slots_of now.flights) c.args.number found.0 found.1 in
     let placed = each_set (slots_of now.flights) P c.args.number (option_map (gone_on c.args.node) there) within now.placed
     (λ a is. mapped_some (gone_on c.args.node) P there c.requires.placed a is) in
-    record { desked = now.desked; assembled = now.assembled; sized = now.sized; placed = λ k f is. placed k f (rw c.go_on.ensures.slots at is) }
+    record { queued = now.queued; assembled = now.assembled; sized = now.sized; placed = λ k f is. placed k f (rw c.go_on.ensures.slots at is) }

@@ -45,7 +45,7 @@ returns-in_ok-room-in-Here-clause-plays g c =
     copy_enters now.router.tables _ c.args.number f (sym c.in-Some.ensures ∙ ap Some (sym c.in-Ok.ensures)) _ _ c.add-number.result _ c.receive.ensures.receives (c.add-number.ensures.number ∙ ap length slots)
     (omega (arith, c.left.ensures, c.if-left-lt1.false)) decided (c.add-number.ensures.flights ∙ ap (λ (fs : List (Option Flight)). fs ++ None ∷ []) slots)
     (c.add-number.ensures.assemblers ∙ (c.room_at.ensures.assemblers ∙ c.reserve.ensures.assemblers))
-    (same_means _ _ _ c.add-number.ensures.desks ∙ (c.room_at.ensures.termini ∙ same_means _ _ _ c.reserve.ensures.desks))
+    (same_means _ _ _ c.add-number.ensures.queues ∙ (c.room_at.ensures.termini ∙ same_means _ _ _ c.reserve.ensures.queues))
     (same_marks _ _ (c.add-number.ensures.router ∙ (c.room_at.ensures.router ∙ c.reserve.ensures.router)))
 
 pub returns-in-Drop-clause-plays : goal.returns-in-Drop-clause-plays
@@ -56,7 +56,7 @@ returns-in-Drop-clause-plays g c =
     let decided = subst (λ (r : RouterValue). IsDecided r.tables.plan (rows_in_force r f.node) f (Drop c.in-Drop.why)) c.reserve.ensures.router c.in-Drop.ensures.decided in
     copy_stops now.router.tables _ c.args.number f (sym c.in-Some.ensures ∙ ap Some (sym c.in-Ok.ensures)) _ c.in-Drop.why add.result (add.ensures.number ∙ ap length c.reserve.ensures.flights)
     (omega (arith, c.left.ensures, c.if-left-lt1.false)) decided (add.ensures.flights ∙ ap (λ (fs : List (Option Flight)). fs ++ None ∷ []) c.reserve.ensures.flights)
-    (add.ensures.assemblers ∙ c.reserve.ensures.assemblers) (same_means _ _ _ (add.ensures.desks ∙ c.reserve.ensures.desks))
+    (add.ensures.assemblers ∙ c.reserve.ensures.assemblers) (same_means _ _ _ (add.ensures.queues ∙ c.reserve.ensures.queues))
     (same_marks _ _ (add.ensures.router ∙ c.reserve.ensures.router))
 
 pub returns-in-Forward-clause-plays : goal.returns-in-Forward-clause-plays
@@ -69,5 +69,5 @@ returns-in-Forward-clause-plays g c =
     copy_goes now.router.tables _ c.args.number f (sym c.in-Some.ensures ∙ ap Some (sym c.in-Ok.ensures)) _ c.in-Forward.hop moved add.result (add.ensures.number ∙ ap length c.reserve.ensures.flights)
     (omega (arith, c.left.ensures, c.if-left-lt1.false)) decided c.go_on.ensures
     (add.ensures.flights ∙ ap (λ (fs : List (Option Flight)). fs ++ Some moved ∷ []) c.reserve.ensures.flights)
-    (add.ensures.assemblers ∙ c.reserve.ensures.assemblers) (same_means _ _ _ (add.ensures.desks ∙ c.reserve.ensures.desks))
+    (add.ensures.assemblers ∙ c.reserve.ensures.assemblers) (same_means _ _ _ (add.ensures.queues ∙ c.reserve.ensures.queues))
     (same_marks _ _ (add.ensures.router ∙ c.reserve.ensures.router))

@@ -41,8 +41,8 @@ receive-requires-clause-place g c =
     let same : flight_value c.in-Some-end.flight ≡ f =
     same_Some _ f (c.in-Some-end.ensures.flight ∙ (ap (λ (fs : List (Option Flight)). flight_at fs c.args.number) c.room_at.ensures.flights ∙ sym c.in-Some.ensures)) in
     λ d is. c.in_ok-room-in-Here.ensures.place d
-    (subst (λ (x : Flight). slice_get c.room_at.new.self.desks.items x.node ≡ Some d) same
-    (subst (λ ds. slice_get ds c.in-Some-end.flight.node ≡ Some d) c.end.ensures.desks is))
+    (subst (λ (x : Flight). slice_get c.room_at.new.self.queues.items x.node ≡ Some d) same
+    (subst (λ ds. slice_get ds c.in-Some-end.flight.node ≡ Some d) c.end.ensures.queues is))
 
 pub end-requires-in-Drop : goal.end-requires-in-Drop
 end-requires-in-Drop g c = ap is_some (sym c.in-Some.ensures)
@@ -82,7 +82,7 @@ returns-in-Some-end-clause-plays g c =
     let receives = receives_same _ _ c.args.number _ _ f same c.receive.ensures.receives in
     enters now.router.tables _ c.args.number f (sym c.in-Some.ensures) _ _ _ receives c.in-Here.ensures.decided
     (c.end.ensures.flights ∙ ap (λ (fs : List (Option Flight)). slice_set fs c.args.number None) c.room_at.ensures.flights)
-    (c.end.ensures.assemblers ∙ c.room_at.ensures.assemblers) (same_means _ _ _ c.end.ensures.desks ∙ c.room_at.ensures.termini)
+    (c.end.ensures.assemblers ∙ c.room_at.ensures.assemblers) (same_means _ _ _ c.end.ensures.queues ∙ c.room_at.ensures.termini)
     (same_marks _ _ (c.end.ensures.router ∙ c.room_at.ensures.router))
 
 pub returns-in-Drop-clause-plays : goal.returns-in-Drop-clause-plays
@@ -90,7 +90,7 @@ returns-in-Drop-clause-plays g c =
     let now = c.args.self.now in
     let end = c.end-in-Drop in
     stops now.router.tables _ c.args.number (flight_value c.in-Some.flight.now) (sym c.in-Some.ensures) _ c.in-Drop.why c.in-Drop.ensures.decided
-    end.ensures.flights end.ensures.assemblers (same_means _ _ _ end.ensures.desks)
+    end.ensures.flights end.ensures.assemblers (same_means _ _ _ end.ensures.queues)
     (same_marks _ _ end.ensures.router)
 
 pub returns-in-Forward-clause-plays : goal.returns-in-Forward-clause-plays
@@ -100,5 +100,5 @@ returns-in-Forward-clause-plays g c =
     let on = gone_on c.in-Forward.hop.next in
     goes now.router.tables _ c.args.number f (sym c.in-Some.ensures) _ c.in-Forward.hop (on f) c.in-Forward.ensures.decided
     refl (c.go_on.ensures.flights ∙ ap (λ (o : Option Flight). slice_set (slots_of now.flights) c.args.number (option_map on o)) (sym c.in-Some.ensures))
-    c.go_on.ensures.assemblers (same_means _ _ _ c.go_on.ensures.desks)
+    c.go_on.ensures.assemblers (same_means _ _ _ c.go_on.ensures.queues)
     (same_marks _ _ c.go_on.ensures.router)

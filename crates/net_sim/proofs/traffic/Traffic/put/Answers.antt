@@ -18,7 +18,7 @@ pub returns-in_default-room_for_flight-clause-plays : goal.returns-in_default-ro
 returns-in_default-room_for_flight-clause-plays g c =
     let now = c.args.self.now in
     put_wants now.router.tables _ c.args.node c.args.bytes.now _ (frame_of c.in-Ok.packet) (c.has_node.ensures.0 c.if-not-has_node.false) (subst (λ u. Spelled u (frame_of c.in-Ok.packet) c.args.bytes.now) c.unit.ensures.unit c.in-Ok.ensures.ok)
-    (omega (arith, c.left.ensures, c.if-left-lt1.false)) c.room_for_flight.ensures.flights c.room_for_flight.ensures.assemblers (same_means _ _ _ c.room_for_flight.ensures.desks)
+    (omega (arith, c.left.ensures, c.if-left-lt1.false)) c.room_for_flight.ensures.flights c.room_for_flight.ensures.assemblers (same_means _ _ _ c.room_for_flight.ensures.queues)
     (same_marks _ _ c.room_for_flight.ensures.router)
 
 pub returns-clause-plays : goal.returns-clause-plays
@@ -28,5 +28,5 @@ returns-clause-plays g c =
     (omega (arith, c.left.ensures, c.if-left-lt1.false)) (c.add-number.ensures.number ∙ ap length c.room_for_flight.ensures.flights)
     (c.add-number.ensures.flights ∙ (ap (λ (fs : List (Option Flight)). fs ++ Some (flight_value c.put_in.result) ∷ []) c.room_for_flight.ensures.flights
     ∙ ap (λ (f : Flight). slots_of now.flights ++ Some f ∷ []) c.put_in.ensures))
-    (c.add-number.ensures.assemblers ∙ c.room_for_flight.ensures.assemblers) (same_means _ _ _ (c.add-number.ensures.desks ∙ c.room_for_flight.ensures.desks))
+    (c.add-number.ensures.assemblers ∙ c.room_for_flight.ensures.assemblers) (same_means _ _ _ (c.add-number.ensures.queues ∙ c.room_for_flight.ensures.queues))
     (same_marks _ _ (c.add-number.ensures.router ∙ c.room_for_flight.ensures.router))

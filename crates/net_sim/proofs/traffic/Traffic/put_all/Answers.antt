@@ -31,5 +31,5 @@ loop-packet-preserved g c =
           ∙ ap (λ (fs : List Frame). slots ++ map (begun c.args.node) fs) (sym c.in-Some.ensures.steps) ∙ before.flights;
       router = c.add.ensures.router ∙ before.router;
       assemblers = c.add.ensures.assemblers ∙ before.assemblers;
-      desks = c.add.ensures.desks ∙ before.desks;
+      queues = c.add.ensures.queues ∙ before.queues;
     }

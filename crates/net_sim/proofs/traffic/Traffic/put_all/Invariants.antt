@@ -14,5 +14,5 @@ invariant-loop-packet g l = record {
   flights : slots_of l.self.flights ++ map (begun l.node) (frames_left l.packet-iterator) ≡ slots_of l.initial.self.flights ++ map (begun l.node) (frames_left l.initial.packet-iterator);
   router : l.self.router ≡ l.initial.self.router;
   assemblers : l.self.assemblers.items ≡ l.initial.self.assemblers.items;
-  desks : l.self.desks.items ≡ l.initial.self.desks.items;
+  queues : l.self.queues.items ≡ l.initial.self.queues.items;
 }

@@ -33,4 +33,4 @@ returns-clause-puts g c =
     puts_one now.router.tables _ _ c.args.node c.next_number-number.result c.args.message.now c.args.destination.value key c.requires.node c.requires.few c.next_number-number.ensures.next
     c.requires.some c.requires.most c.args.destination.in_range c.args.key.source.in_range c.args.key.tag.in_range (frames_left c.within-packets.result)
     (subst (λ n. ArePacketsOf (unit_of now.router.tables.plan) c.args.message.now c.args.destination.value key n (frames_left c.within-packets.result)) c.new.ensures (as_cut c.unit.ensures.unit c.within-packets.ensures))
-    c.put_all.ensures.flights c.put_all.ensures.assemblers (same_means _ _ _ c.put_all.ensures.desks) (same_marks _ _ c.put_all.ensures.router)
+    c.put_all.ensures.flights c.put_all.ensures.assemblers (same_means _ _ _ c.put_all.ensures.queues) (same_marks _ _ c.put_all.ensures.router)

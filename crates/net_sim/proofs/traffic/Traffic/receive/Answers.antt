@@ -6,7 +6,7 @@ use Rattle.mctp_transport.specs.Packets.{key_value}
 use Rattle.mctp_transport.specs.Hearing.{Whole, Held, Dropped}
 use Rattle.net_check.specs.Termini.{WaitingMessage}
 use Rattle.net_sim.specs.Flights.{flight_value}
-use Rattle.net_sim.proofs.Entering.{receives_held, receives_dropped, receives_whole, desk_waits, desk_there, short_map, at_bytes, as_sized}
+use Rattle.net_sim.proofs.Entering.{receives_held, receives_dropped, receives_whole, queue_waits, queue_there, short_map, at_bytes, as_sized}
 use Rattle.net_sim.proofs.traffic.Traffic.receive.Goals as goal
 
 pub returns-in-Held-clause-receives : goal.returns-in-Held-clause-receives
@@ -41,7 +41,7 @@ returns-in-Whole-clause-receives g c =
     let message : WaitingMessage = record { key = key; bytes = m } in
     receives_whole _ _ c.args.number f a c.feed.new.assembler key (c.key-key.ensures ∙ ap key_of c.view.ensures) within here
     c.feed.ensures.stands refl refl refl m _ (as_sized a f.packet (Whole m) (now.sized f.node a here) c.in-Whole.ensures.hears)
-    (short_map _ now.desks.items f.node (omega (arith, c.requires.node, now.desked)))
-    (desk_there _ now.desks.items f.node c.index_mut-in-Whole.result.now
-    (slice_get_read now.desks.items _ _ c.index_mut-in-Whole.result.now refl (omega (arith, c.requires.node, now.desked)) c.index_mut-in-Whole.ensures.value))
-    (λ fits. desk_waits _ _ _ _ message _ (at_bytes m c.deref.result.now (sym c.deref.ensures.value) key _ _ c.wait_at.ensures fits))
+    (short_map _ now.queues.items f.node (omega (arith, c.requires.node, now.queued)))
+    (queue_there _ now.queues.items f.node c.index_mut-in-Whole.result.now
+    (slice_get_read now.queues.items _ _ c.index_mut-in-Whole.result.now refl (omega (arith, c.requires.node, now.queued)) c.index_mut-in-Whole.ensures.value))
+    (λ fits. queue_waits _ _ _ _ message _ (at_bytes m c.deref.result.now (sym c.deref.ensures.value) key _ _ c.wait_at.ensures fits))

@@ -9,7 +9,7 @@ invariant_of-self g c =
     let now = c.args.self.now in
     let nodes = ap (λ (r : RouterValue). length r.tables.plan.nodes.items) (sym c.switch.ensures) in
     record {
-      desked = now.desked ∙ nodes;
+      queued = now.queued ∙ nodes;
       assembled = now.assembled ∙ nodes;
       sized = now.sized;
       placed = λ number f is. subst (λ (r : RouterValue). IsPlaced r.tables.plan r.certificate f) (sym c.switch.ensures) (now.placed number f is);

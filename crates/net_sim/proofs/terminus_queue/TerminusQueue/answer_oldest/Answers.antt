@@ -1,5 +1,5 @@
 use Rattle.net_sim.proofs.Asking.{answers_oldest}
-use Rattle.net_sim.proofs.desk.Desk.answer_oldest.Goals as goal
+use Rattle.net_sim.proofs.terminus_queue.TerminusQueue.answer_oldest.Goals as goal
 
 pub returns-clause-asked : goal.returns-clause-asked
 returns-clause-asked g c =

@@ -1,6 +1,6 @@
 use Rattle.std.proofs.Common.{ap}
 use Rattle.net_sim.proofs.Asking.{answers_along}
-use Rattle.net_sim.proofs.desk.ask.Goals as goal
+use Rattle.net_sim.proofs.terminus_queue.ask.Goals as goal
 
 pub returns-clause-answered : goal.returns-clause-answered
 returns-clause-answered g c =

@@ -3,7 +3,7 @@ ghost use Rattle.std.specs.Prelude.{◌≡◌, ◌≢◌, ◌↔◌, ◌<◌, �
 ghost use Rattle.mctp_transport.specs.Packets.{key_value};
 ghost use Rattle.net_check.specs.Termini.{with_waiting};
 ghost use Rattle.std.specs.VecDeque.{deque_len, deque_capacity};
-ghost use Rattle.net_sim.specs.Desks.{desk_state, with_message, HasPlace, AnswersOldest, IsIdle, IsIdleFor};
+ghost use Rattle.net_sim.specs.TerminusQueues.{queue_state, with_message, HasPlace, AnswersOldest, IsIdle, IsIdleFor};
 ghost use Rattle.net_sim.specs.Settling.{NoneWaits};
 ghost use Rattle.pdr_repository.specs.Answers.{Answers, answer_of};
 
@@ -24,7 +24,7 @@ pub struct Waiting {
 
 /// The terminus of a node, and the messages that wait there, oldest first.
 #[derive(Drop)]
-pub struct Desk {
+pub struct TerminusQueue {
     terminus: Box<dyn Terminus>,
     waiting: VecDeque<Waiting>,
 }
@@ -36,13 +36,13 @@ pub struct Asked {
     pub answered: bool,
 }
 
-impl Desk {
+impl TerminusQueue {
     /// A terminus at which nothing waits.
-    pub fn new(alloc: Global, terminus: Box<dyn Terminus>) -> Desk
+    pub fn new(alloc: Global, terminus: Box<dyn Terminus>) -> TerminusQueue
         ensures terminus { result.terminus ≡ terminus }
         ensures waiting { result.waiting.items ≡ [] }
     {
-        Desk {
+        TerminusQueue {
             terminus,
             waiting: VecDeque::new(alloc),
         }
@@ -51,9 +51,9 @@ impl Desk {
     /// Takes the oldest message off, if there is one, and asks the terminus.
     fn answer_oldest(&mut self, out: &mut ArrayVec<u8, MAX_ANSWER>) -> Option<Asked>
         ensures none { IfNone result (self.old.waiting.items ≡ []) }
-        ensures asked { IfSome result (λ asked. AnswersOldest (Some (desk_state (λ d. tid d.terminus) (λ d. records d.terminus) self.old))
+        ensures asked { IfSome result (λ asked. AnswersOldest (Some (queue_state (λ d. tid d.terminus) (λ d. records d.terminus) self.old))
             (key_value asked.key) (answer_of asked.answered out.new.items)
-            (Some (desk_state (λ d. tid d.terminus) (λ d. records d.terminus) self.new))) }
+            (Some (queue_state (λ d. tid d.terminus) (λ d. records d.terminus) self.new))) }
     {
         let oldest = self.waiting.pop_front()?;
         let answered = ask(&mut self.terminus, &oldest.bytes, out);
@@ -74,8 +74,8 @@ impl Desk {
 
     /// Makes room for a message more.
     pub fn reserve(&mut self) -> Result<(), AllocError>
-        ensures state { desk_state (λ d. tid d.terminus) (λ d. records d.terminus) self.new
-            ≡ desk_state (λ d. tid d.terminus) (λ d. records d.terminus) self.old }
+        ensures state { queue_state (λ d. tid d.terminus) (λ d. records d.terminus) self.new
+            ≡ queue_state (λ d. tid d.terminus) (λ d. records d.terminus) self.old }
         ensures room { OnOk result (deque_len self.new.waiting < deque_capacity self.new.waiting) }
     {
         self.waiting.reserve(1)
@@ -86,8 +86,8 @@ impl Desk {
         requires place { deque_len self.old.waiting < deque_capacity self.old.waiting }
         requires empty { room.items ≡ [] }
         requires room { 4096 ≤ vec_capacity room }
-        ensures { length bytes.now ≤ 4096 → desk_state (λ d. tid d.terminus) (λ d. records d.terminus) self.new
-            ≡ with_waiting (desk_state (λ d. tid d.terminus) (λ d. records d.terminus) self.old) (record { key = key_value key; bytes = bytes.now }) }
+        ensures { length bytes.now ≤ 4096 → queue_state (λ d. tid d.terminus) (λ d. records d.terminus) self.new
+            ≡ with_waiting (queue_state (λ d. tid d.terminus) (λ d. records d.terminus) self.old) (record { key = key_value key; bytes = bytes.now }) }
     {
         let _ = room.extend_from_slice(bytes);
         room.shrink_to_fit();
@@ -105,13 +105,13 @@ fn ask(terminus: &mut Box<dyn Terminus>, request: &[u8], out: &mut ArrayVec<u8, 
 }
 
 /// Why nothing is asked there: there is no terminus, or nothing waits.
-pub fn idle_at(desk: &Option<Desk>) -> Option<Refusal>
-    ensures { IsIdleFor (option_map (desk_state (λ d. tid d.terminus) (λ d. records d.terminus)) desk.now) result }
+pub fn idle_at(queue: &Option<TerminusQueue>) -> Option<Refusal>
+    ensures { IsIdleFor (option_map (queue_state (λ d. tid d.terminus) (λ d. records d.terminus)) queue.now) result }
 {
-    match desk {
+    match queue {
         None => Some(Refusal::NoTerminus),
-        Some(desk) => {
-            if desk.waiting.is_empty() {
+        Some(queue) => {
+            if queue.waiting.is_empty() {
                 Some(Refusal::NothingWaits)
             } else {
                 None
@@ -122,13 +122,13 @@ pub fn idle_at(desk: &Option<Desk>) -> Option<Refusal>
 
 /// Takes the oldest message off, where there is one, and asks the terminus. Its answer is written into `out`: the key of the
 /// message is told, and whether there is an answer.
-pub fn answer_at(desk: &mut Option<Desk>, out: &mut ArrayVec<u8, MAX_ANSWER>) -> Option<Asked>
-    ensures none { IfNone result (IsIdle (option_map (desk_state (λ d. tid d.terminus) (λ d. records d.terminus)) desk.old)) }
-    ensures asked { IfSome result (λ asked. AnswersOldest (option_map (desk_state (λ d. tid d.terminus) (λ d. records d.terminus)) desk.old)
+pub fn answer_at(queue: &mut Option<TerminusQueue>, out: &mut ArrayVec<u8, MAX_ANSWER>) -> Option<Asked>
+    ensures none { IfNone result (IsIdle (option_map (queue_state (λ d. tid d.terminus) (λ d. records d.terminus)) queue.old)) }
+    ensures asked { IfSome result (λ asked. AnswersOldest (option_map (queue_state (λ d. tid d.terminus) (λ d. records d.terminus)) queue.old)
         (key_value asked.key) (answer_of asked.answered out.new.items)
-        (option_map (desk_state (λ d. tid d.terminus) (λ d. records d.terminus)) desk.new)) }
+        (option_map (queue_state (λ d. tid d.terminus) (λ d. records d.terminus)) queue.new)) }
 {
-    desk.as_mut()?.answer_oldest(out)
+    queue.as_mut()?.answer_oldest(out)
 }
 
 /// Whether a message is of another key.
@@ -139,39 +139,39 @@ fn is_of_another_key(message: &Waiting, key: Key) -> bool
 }
 
 /// Whether no message of the key waits there.
-pub fn none_waits_at(desk: &Option<Desk>, key: Key) -> bool
-    ensures { IsTrue result ↔ NoneWaits (key_value key) (option_map (desk_state (λ d. tid d.terminus) (λ d. records d.terminus)) desk.now) }
+pub fn none_waits_at(queue: &Option<TerminusQueue>, key: Key) -> bool
+    ensures { IsTrue result ↔ NoneWaits (key_value key) (option_map (queue_state (λ d. tid d.terminus) (λ d. records d.terminus)) queue.now) }
 {
-    match desk {
-        Some(desk) => desk.none_waits(key),
+    match queue {
+        Some(queue) => queue.none_waits(key),
         None => true,
     }
 }
 
 /// Makes room for a message more, where there is a terminus.
-pub fn reserve_at(desk: &mut Option<Desk>) -> Result<(), AllocError>
-    ensures state { option_map (desk_state (λ d. tid d.terminus) (λ d. records d.terminus)) desk.new
-        ≡ option_map (desk_state (λ d. tid d.terminus) (λ d. records d.terminus)) desk.old }
-    ensures place { OnOk result (HasPlace desk.new) }
+pub fn reserve_at(queue: &mut Option<TerminusQueue>) -> Result<(), AllocError>
+    ensures state { option_map (queue_state (λ d. tid d.terminus) (λ d. records d.terminus)) queue.new
+        ≡ option_map (queue_state (λ d. tid d.terminus) (λ d. records d.terminus)) queue.old }
+    ensures place { OnOk result (HasPlace queue.new) }
 {
-    match desk {
-        Some(desk) => desk.reserve(),
+    match queue {
+        Some(queue) => queue.reserve(),
         None => Ok(()),
     }
 }
 
 /// Lets a message whose source owns the tag wait, where there is a terminus. It is copied into the room.
-pub fn wait_at(desk: &mut Option<Desk>, key: Key, bytes: &[u8], room: Vec<u8>)
-    requires place { HasPlace desk.old }
+pub fn wait_at(queue: &mut Option<TerminusQueue>, key: Key, bytes: &[u8], room: Vec<u8>)
+    requires place { HasPlace queue.old }
     requires empty { room.items ≡ [] }
     requires room { 4096 ≤ vec_capacity room }
-    ensures { length bytes.now ≤ 4096 → option_map (desk_state (λ d. tid d.terminus) (λ d. records d.terminus)) desk.new
+    ensures { length bytes.now ≤ 4096 → option_map (queue_state (λ d. tid d.terminus) (λ d. records d.terminus)) queue.new
         ≡ with_message (record { key = key_value key; bytes = bytes.now })
-        (option_map (desk_state (λ d. tid d.terminus) (λ d. records d.terminus)) desk.old) }
+        (option_map (queue_state (λ d. tid d.terminus) (λ d. records d.terminus)) queue.old) }
 {
     if key.owner
-        && let Some(desk) = desk
+        && let Some(queue) = queue
     {
-        desk.wait(key, bytes, room);
+        queue.wait(key, bytes, room);
     }
 }

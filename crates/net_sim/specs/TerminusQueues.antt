@@ -8,19 +8,19 @@ use Rattle.pdr_repository.specs.Answers.{Answers}
 use Rattle.net_check.specs.Termini.{TerminusState, WaitingMessage, with_waiting}
 use Rattle.net_sim.specs.declared.refusal.Refusal.{Refusal}
 use Rattle.net_sim.specs.declared.refusal.Refusal.TheVariants.{NoTerminus, NothingWaits}
-use Rattle.net_sim.specs.declared.desk.Waiting.{Waiting}
-use Rattle.net_sim.specs.declared.desk.Desk.{Desk}
+use Rattle.net_sim.specs.declared.terminus_queue.Waiting.{Waiting}
+use Rattle.net_sim.specs.declared.terminus_queue.TerminusQueue.{TerminusQueue}
 
 abbrev pub waiting_value : Waiting → WaitingMessage
 waiting_value m = record { key = key_value m.key; bytes = m.bytes.items }
 
 -- the terminus ID and the records by the termini's own meaning
-abbrev pub desk_state : {X : Type 0} {R : X → Type 0} → (Desk X R → ℕ) → (Desk X R → List Entry) → Desk X R
+abbrev pub queue_state : {X : Type 0} {R : X → Type 0} → (TerminusQueue X R → ℕ) → (TerminusQueue X R → List Entry) → TerminusQueue X R
     → TerminusState
-desk_state tid records d = record { tid = tid d; records = records d; waiting = map waiting_value d.waiting.items }
+queue_state tid records d = record { tid = tid d; records = records d; waiting = map waiting_value d.waiting.items }
 
 -- where there is a terminus, one message more can wait without growing
-abbrev pub HasPlace : {X : Type 0} {R : X → Type 0} → Option (Desk X R) → Type 0
+abbrev pub HasPlace : {X : Type 0} {R : X → Type 0} → Option (TerminusQueue X R) → Type 0
 HasPlace None = Unit {0}
 HasPlace (Some d) = deque_len d.waiting < deque_capacity d.waiting
 
