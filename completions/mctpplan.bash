@@ -6,7 +6,7 @@ _mctpplan() {
     local files=0
     COMPREPLY=()
     if [ "$place" -eq 1 ]; then
-        mapfile -t COMPREPLY < <(compgen -W 'check certify move assign sim simmove walk reach trace show' -- "$current")
+        mapfile -t COMPREPLY < <(compgen -W 'check certify move assign sim simmove walk reach trace show code guide' -- "$current")
         return
     fi
     case $command in

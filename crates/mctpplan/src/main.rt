@@ -3,8 +3,8 @@
 
 use net_plan::Counted;
 use plan_commands::{
-    Command, FileAtPath, Refused, Status, parse_command, refuse, run_assign, run_certify,
-    run_check, run_move, run_reach, run_show, run_trace, run_walk, simulate, simulate_move,
+    Command, FileAtPath, GUIDE, Refused, Status, parse_command, refuse, run_assign, run_certify,
+    run_check, run_known, run_move, run_reach, run_show, run_trace, run_walk, simulate, simulate_move,
 };
 use std::env;
 use std::process::ExitCode;
@@ -126,6 +126,8 @@ fn run(rt: &HostRuntime) -> Status {
             &mut output,
             &mut errors,
         ),
+        Ok(Command::Code { text }) => run_known(alloc, text, &mut output, &mut errors),
+        Ok(Command::Guide) => run_known(alloc, GUIDE, &mut output, &mut errors),
         Ok(Command::Show { kind, hex }) => run_show(alloc, kind, hex, &mut output, &mut errors),
         Err(refused) => refuse(alloc, refused, &mut errors),
     }

@@ -2,6 +2,7 @@
 use crate::commands::show::Kind;
 use crate::commands::walk::PartSize;
 use crate::refused::Refused;
+use crate::texts::codes::text_of;
 use clap::{Arg, ArgAction, ArgMatches};
 use std::alloc::{AllocError, Global};
 
@@ -61,6 +62,12 @@ pub enum Command<'a> {
         from: &'a str,
         to: &'a str,
     },
+    /// What does a code mean? The text says it.
+    Code {
+        text: &'static str,
+    },
+    /// Which commands are there?
+    Guide,
     /// What are the bytes of a hex text?
     Show {
         kind: Kind,
@@ -75,7 +82,7 @@ pub fn parse_command<'a>(alloc: Global, list: &'a [String]) -> Result<Command<'a
 }
 
 /// The name of each command, and the names of its arguments.
-const COMMANDS: [(&str, &[&str]); 10] = [
+const COMMANDS: [(&str, &[&str]); 12] = [
     ("check", &["plan", "certificate"]),
     ("certify", &["plan"]),
     ("assign", &["plan", "certificate"]),
@@ -86,6 +93,8 @@ const COMMANDS: [(&str, &[&str]); 10] = [
     ("reach", &["plan", "certificate"]),
     ("trace", &["plan", "certificate", "from", "to"]),
     ("show", &["kind", "hex"]),
+    ("code", &["code"]),
+    ("guide", &[]),
 ];
 
 /// The words of each command.
@@ -123,6 +132,8 @@ fn chosen<'a>(matches: &ArgMatches<'a>) -> Option<Command<'a>> {
         "reach" => reaching(arguments),
         "trace" => tracing(arguments),
         "show" => showing(arguments),
+        "code" => explaining(arguments),
+        "guide" => Some(Command::Guide),
         _ => None,
     }
 }
@@ -218,4 +229,9 @@ fn part_size_of(word: &str) -> Option<PartSize> {
         return None;
     }
     PartSize::of(word.parse().ok()?)
+}
+
+fn explaining<'a>(arguments: &ArgMatches<'a>) -> Option<Command<'a>> {
+    let text = text_of(arguments.get_str("code")?)?;
+    Some(Command::Code { text })
 }

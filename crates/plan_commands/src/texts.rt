@@ -4,6 +4,7 @@ ghost use Rattle.plan_commands.specs.declared.refused.Refused.TheVariants.{Unwri
 ghost use Rattle.plan_commands.specs.Lines.{name_or_dash, bus_name_or_dash, names_text, fault_text, owner_loop_text, loop_text, chain_text, obstacle_text};
 
 pub mod assignments;
+pub mod codes;
 pub mod moves;
 pub mod outcomes;
 pub mod pairs;
@@ -22,6 +23,23 @@ pub const YES: &str = "yes\n";
 
 /// What is said where there is too little memory, also too little for any other line.
 pub const NO_MEMORY: &str = "no memory\n";
+
+/// The commands, a line each with its words.
+pub const GUIDE: &str = "\
+check PLAN CERT              whether the certificate fits the plan
+certify PLAN                 the certificate of the plan, or why it has none
+move OLD NEW CERT            whether nodes may go over from the old plan's rows to the new one's
+assign PLAN CERT             the requests that give the nodes their endpoint IDs and pools
+sim PLAN CERT EVENTS         what comes of events in the planned network
+simmove OLD NEW CERT EVENTS  the same while nodes go over to new rows
+walk PLAN CERT NODE COUNT    the records that a walk over a node's terminus collects
+reach PLAN CERT              who reaches whom, and in how many hops
+trace PLAN CERT FROM TO      the way of a packet from a node to another, or to an endpoint ID
+show packet HEX              what the bytes of a packet are
+show record HEX              what the bytes of a platform descriptor record are
+code CODE                    what a code, as C08 or N03, means, and what to do
+guide                        this list
+";
 
 /// The answer where a plan has a fault.
 pub fn fault_line(alloc: Global, plan: &Plan, fault: &Fault) -> Result<String, AllocError>

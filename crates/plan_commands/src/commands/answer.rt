@@ -37,6 +37,17 @@ impl Answer {
         }
     }
 
+    /// A text of the program itself that was asked for.
+    pub fn known(text: &'static str) -> Answer
+        ensures status { result.status ≡ Yes }
+        ensures text { cow_str_bytes result.text ≡ text.now }
+    {
+        Answer {
+            status: Status::Yes,
+            text: CowStr::Borrowed(text),
+        }
+    }
+
     /// The text that was asked for.
     pub fn found(text: String) -> Answer
         ensures status { result.status ≡ Yes }
