@@ -39,7 +39,12 @@ fn gives_the_command_or_usage(rt: HostRuntime) -> Result<(), Fail> {
         certificate: "c",
         events: "d",
     };
-    let rows: [(&[&str], Result<Command, Refused>); 46] = [
+    let rows: [(&[&str], Result<Command, Refused>); 51] = [
+        (&["mctpplan", "guide"], Ok(Command::Guide)),
+        (&["mctpplan", "guide", "check"], Err(Refused::Usage)),
+        (&["mctpplan", "code"], Err(Refused::Usage)),
+        (&["mctpplan", "code", "C99"], Err(Refused::Usage)),
+        (&["mctpplan", "code", "c08"], Err(Refused::Usage)),
         (&["mctpplan", "move", "a", "b", "c"], Ok(moving)),
         (&["mctpplan", "move", "a", "b"], Err(Refused::Usage)),
         (
