@@ -4,7 +4,7 @@
 use net_plan::Counted;
 use plan_commands::{
     Command, FileAtPath, Refused, Status, parse_command, refuse, run_assign, run_certify,
-    run_check, run_move, run_reach, run_show, run_trace, run_walk, simulate, simulate_move,
+    run_check, run_lint, run_move, run_reach, run_show, run_trace, run_walk, simulate, simulate_move,
 };
 use std::env;
 use std::process::ExitCode;
@@ -123,6 +123,12 @@ fn run(rt: &HostRuntime) -> Status {
             &mut Counted::new(FileAtPath::new(rt, certificate)),
             from,
             to,
+            &mut output,
+            &mut errors,
+        ),
+        Ok(Command::Lint { plan }) => run_lint(
+            alloc,
+            &mut Counted::new(FileAtPath::new(rt, plan)),
             &mut output,
             &mut errors,
         ),

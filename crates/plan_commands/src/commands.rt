@@ -7,6 +7,7 @@ pub mod check;
 pub mod faults;
 pub mod gathered;
 pub mod inputs;
+pub mod lint;
 pub mod moving;
 pub mod naming;
 pub mod reach;

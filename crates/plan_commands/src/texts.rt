@@ -4,6 +4,7 @@ ghost use Rattle.plan_commands.specs.declared.refused.Refused.TheVariants.{Unwri
 ghost use Rattle.plan_commands.specs.Lines.{name_or_dash, bus_name_or_dash, names_text, fault_text, owner_loop_text, loop_text, chain_text, obstacle_text};
 
 pub mod assignments;
+pub mod findings;
 pub mod moves;
 pub mod outcomes;
 pub mod pairs;
@@ -19,6 +20,9 @@ use std::fmt;
 
 /// The answer where a certificate fits its plan.
 pub const YES: &str = "yes\n";
+
+/// The answer where nothing in a plan looks wrong.
+pub const CLEAN: &str = "clean\n";
 
 /// What is said where there is too little memory, also too little for any other line.
 pub const NO_MEMORY: &str = "no memory\n";
