@@ -4,7 +4,7 @@
 use net_plan::Counted;
 use plan_commands::{
     Command, FileAtPath, GUIDE, Refused, Status, parse_command, refuse, run_assign, run_certify,
-    run_check, run_known, run_move, run_reach, run_show, run_trace, run_walk, simulate, simulate_move,
+    run_check, run_known, run_lint, run_move, run_reach, run_show, run_trace, run_walk, simulate, simulate_move,
 };
 use std::env;
 use std::process::ExitCode;
@@ -128,6 +128,12 @@ fn run(rt: &HostRuntime) -> Status {
         ),
         Ok(Command::Code { text }) => run_known(alloc, text, &mut output, &mut errors),
         Ok(Command::Guide) => run_known(alloc, GUIDE, &mut output, &mut errors),
+        Ok(Command::Lint { plan }) => run_lint(
+            alloc,
+            &mut Counted::new(FileAtPath::new(rt, plan)),
+            &mut output,
+            &mut errors,
+        ),
         Ok(Command::Show { kind, hex }) => run_show(alloc, kind, hex, &mut output, &mut errors),
         Err(refused) => refuse(alloc, refused, &mut errors),
     }

@@ -11,3 +11,4 @@ pub mod Moved
 pub mod MovePlayed
 pub mod Traced
 pub mod Ends
+pub mod Linted

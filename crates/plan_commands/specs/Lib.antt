@@ -11,6 +11,7 @@ pub mod Collecting
 pub mod Gathering
 pub mod Reaching
 pub mod Tracing
+pub mod Linting
 pub mod OutcomeLines
 pub mod Simulating
 pub mod Moving

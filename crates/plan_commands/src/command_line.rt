@@ -50,6 +50,10 @@ pub enum Command<'a> {
         node: &'a str,
         part: PartSize,
     },
+    /// What in the plan in a file is lawful and still looks wrong?
+    Lint {
+        plan: &'a str,
+    },
     /// Who reaches whom in the network of the plan in one file, certified by another?
     Reach {
         plan: &'a str,
@@ -82,7 +86,7 @@ pub fn parse_command<'a>(alloc: Global, list: &'a [String]) -> Result<Command<'a
 }
 
 /// The name of each command, and the names of its arguments.
-const COMMANDS: [(&str, &[&str]); 12] = [
+const COMMANDS: [(&str, &[&str]); 13] = [
     ("check", &["plan", "certificate"]),
     ("certify", &["plan"]),
     ("assign", &["plan", "certificate"]),
@@ -92,6 +96,7 @@ const COMMANDS: [(&str, &[&str]); 12] = [
     ("walk", &["plan", "certificate", "node", "count"]),
     ("reach", &["plan", "certificate"]),
     ("trace", &["plan", "certificate", "from", "to"]),
+    ("lint", &["plan"]),
     ("show", &["kind", "hex"]),
     ("code", &["code"]),
     ("guide", &[]),
@@ -131,6 +136,7 @@ fn chosen<'a>(matches: &ArgMatches<'a>) -> Option<Command<'a>> {
         "walk" => walking(arguments),
         "reach" => reaching(arguments),
         "trace" => tracing(arguments),
+        "lint" => linting(arguments),
         "show" => showing(arguments),
         "code" => explaining(arguments),
         "guide" => Some(Command::Guide),
@@ -205,6 +211,12 @@ fn tracing<'a>(arguments: &ArgMatches<'a>) -> Option<Command<'a>> {
         certificate: arguments.get_str("certificate")?,
         from: arguments.get_str("from")?,
         to: arguments.get_str("to")?,
+    })
+}
+
+fn linting<'a>(arguments: &ArgMatches<'a>) -> Option<Command<'a>> {
+    Some(Command::Lint {
+        plan: arguments.get_str("plan")?,
     })
 }
 

@@ -8,6 +8,7 @@ pub mod faults;
 pub mod gathered;
 pub mod inputs;
 pub mod known;
+pub mod lint;
 pub mod moving;
 pub mod naming;
 pub mod reach;

@@ -14,6 +14,7 @@ pub use commands::assign::run_assign;
 pub use commands::certify::run_certify;
 pub use commands::check::run_check;
 pub use commands::known::run_known;
+pub use commands::lint::run_lint;
 pub use commands::moving::run_move;
 pub use commands::reach::run_reach;
 pub use commands::show::{Kind, run_show};

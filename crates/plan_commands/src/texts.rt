@@ -5,6 +5,7 @@ ghost use Rattle.plan_commands.specs.Lines.{name_or_dash, bus_name_or_dash, name
 
 pub mod assignments;
 pub mod codes;
+pub mod findings;
 pub mod moves;
 pub mod outcomes;
 pub mod pairs;
@@ -20,6 +21,9 @@ use std::fmt;
 
 /// The answer where a certificate fits its plan.
 pub const YES: &str = "yes\n";
+
+/// The answer where nothing in a plan looks wrong.
+pub const CLEAN: &str = "clean\n";
 
 /// What is said where there is too little memory, also too little for any other line.
 pub const NO_MEMORY: &str = "no memory\n";

@@ -6,12 +6,13 @@ ghost use Rattle.net_plan.specs.Stream.{AppendsBeginning};
 ghost use Rattle.plan_commands.specs.declared.refused.Refused.TheVariants.{Unwritten};
 ghost use Rattle.plan_commands.specs.declared.status.Status.TheVariants.{Yes, Fault, Unreadable, NoMemory};
 ghost use Rattle.plan_commands.specs.Answers.{stream};
+ghost use Rattle.plan_commands.specs.Linting.{clean_line};
 ghost use Rattle.plan_commands.specs.Statuses.{status_of, yes_line};
 ghost use Rattle.plan_commands.specs.Told.{IsTold};
 
 use crate::refused::Refused;
 use crate::status::Status;
-use crate::texts::{self, NO_MEMORY, YES};
+use crate::texts::{self, CLEAN, NO_MEMORY, YES};
 use net_plan::{Sink, write_whole};
 use std::alloc::{AllocError, Global};
 use std::borrow::CowStr;
@@ -45,6 +46,17 @@ impl Answer {
         Answer {
             status: Status::Yes,
             text: CowStr::Borrowed(text),
+        }
+    }
+
+    /// The answer `clean`.
+    pub fn clean() -> Answer
+        ensures status { result.status ≡ Yes }
+        ensures text { cow_str_bytes result.text ≡ clean_line }
+    {
+        Answer {
+            status: Status::Yes,
+            text: CowStr::Borrowed(CLEAN),
         }
     }
 

@@ -95,7 +95,7 @@ fn bus_of_step(plan: &Plan, step: &Step) -> Option<usize>
 }
 
 /// The name of a bus, or a dash where there is none.
-fn bus_text(plan: &Plan, bus: Option<usize>) -> &str
+pub fn bus_text(plan: &Plan, bus: Option<usize>) -> &str
     ensures { result.now ≡ bus_text plan.now bus }
 {
     match bus {
@@ -125,7 +125,7 @@ fn first_address(ports: &[Port], bus: usize) -> &[u8]
 }
 
 /// The ports of a node, none where there is no such node.
-fn ports_at(plan: &Plan, node: usize) -> &[Port]
+pub fn ports_at(plan: &Plan, node: usize) -> &[Port]
     ensures { result.now ≡ ports_of plan.now node }
 {
     match plan.nodes.get(node) {
@@ -135,7 +135,7 @@ fn ports_at(plan: &Plan, node: usize) -> &[Port]
 }
 
 /// An address in hex, or a dash where it is empty.
-fn address_text(alloc: Global, address: &[u8]) -> Result<String, AllocError>
+pub fn address_text(alloc: Global, address: &[u8]) -> Result<String, AllocError>
     ensures { IfOk result (λ text. string_bytes text ≡ address_text address.now) }
 {
     if address.is_empty() {
