@@ -14,8 +14,8 @@ abbrev pub checked_of : {X : Type 0} {R : X → Type 0} → Network X R → Tabl
 checked_of network = traffic_checked network.traffic
 
 -- by the terminus IDs and the records that the termini mean
-abbrev pub network_value : {X : Type 0} {R : X → Type 0} → (TerminusQueue X R → ℕ) → (TerminusQueue X R → List Entry) → Network X R
-    → NetworkValue
+abbrev pub network_value : {X : Type 0} {R : X → Type 0} → (TerminusQueue X R → ℕ) → (TerminusQueue X R → List Entry)
+    → Network X R → NetworkValue
 network_value tid records network = record {
   traffic = traffic_value tid records network.traffic;
   walkers = map walker_value network.walkers.items;

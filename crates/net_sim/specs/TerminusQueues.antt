@@ -15,8 +15,8 @@ abbrev pub waiting_value : Waiting → WaitingMessage
 waiting_value m = record { key = key_value m.key; bytes = m.bytes.items }
 
 -- the terminus ID and the records by the termini's own meaning
-abbrev pub queue_state : {X : Type 0} {R : X → Type 0} → (TerminusQueue X R → ℕ) → (TerminusQueue X R → List Entry) → TerminusQueue X R
-    → TerminusState
+abbrev pub queue_state : {X : Type 0} {R : X → Type 0} → (TerminusQueue X R → ℕ) → (TerminusQueue X R → List Entry)
+    → TerminusQueue X R → TerminusState
 queue_state tid records d = record { tid = tid d; records = records d; waiting = map waiting_value d.waiting.items }
 
 -- where there is a terminus, one message more can wait without growing

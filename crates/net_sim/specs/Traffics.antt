@@ -15,8 +15,8 @@ abbrev pub traffic_checked : {X : Type 0} {R : X → Type 0} → Traffic X R →
 traffic_checked network = (network.router.tables, network.router.certificate)
 
 -- by the terminus IDs and the records that the termini mean
-abbrev pub traffic_value : {X : Type 0} {R : X → Type 0} → (TerminusQueue X R → ℕ) → (TerminusQueue X R → List Entry) → Traffic X R
-    → TrafficValue
+abbrev pub traffic_value : {X : Type 0} {R : X → Type 0} → (TerminusQueue X R → ℕ) → (TerminusQueue X R → List Entry)
+    → Traffic X R → TrafficValue
 traffic_value tid records network = record {
   flights = slots_of network.flights;
   assemblers = network.assemblers.items;
@@ -26,7 +26,8 @@ traffic_value tid records network = record {
 
 -- where the node has a terminus, one message more can wait there without growing
 abbrev pub HasPlaceAt : {X : Type 0} {R : X → Type 0} → Traffic X R → ℕ → Type 0
-HasPlaceAt {X} {R} network node = (d : Option (TerminusQueue X R)) → slice_get network.queues.items node ≡ Some d → HasPlace d
+HasPlaceAt {X} {R} network node =
+    (d : Option (TerminusQueue X R)) → slice_get network.queues.items node ≡ Some d → HasPlace d
 
 -- a flight number is left, and one flight more can be made without growing
 abbrev pub HasNumberAndRoom : {X : Type 0} {R : X → Type 0} → Traffic X R → Type 0

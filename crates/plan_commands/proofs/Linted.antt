@@ -26,8 +26,8 @@ none_found plan findings found empty f so =
 pub lint_answer : (plans : Stream) (s : Status) (text : List ℕ) → LintsSo plans s text → IsLintAnswer plans text
 lint_answer plans status.Yes text (plan, given, clean) = (plan, given, inl clean)
 lint_answer plans status.Fault text (plan, given, found) = (plan, given, inr found)
-lint_answer plans status.Unreadable text h = absurd h
-lint_answer plans status.NoMemory text h = absurd h
+lint_answer plans status.Unreadable text (plan, given, h) = absurd h
+lint_answer plans status.NoMemory text (plan, given, h) = absurd h
 
 pub lints_so : (plans output : Stream) (ended : Status) (answered : Result Answer Refused)
     → IfOk answered (λ (a : Answer). LintsSo plans a.status (cow_str_bytes a.text)) → IfErr answered (λ why. IsPlanUnread why plans)
@@ -41,5 +41,5 @@ lints_so plans output ended answered answers unread told ends =
     out : (s : Status) (text : List ℕ) → LintsSo plans s text → Appends output.before output.after text → Lints s plans output
     out status.Yes text (plan, given, clean) written = (plan, text, given, clean, written)
     out status.Fault text (plan, given, found) written = (plan, text, given, found, written)
-    out status.Unreadable text h written = absurd h
-    out status.NoMemory text h written = absurd h
+    out status.Unreadable text (plan, given, h) written = absurd h
+    out status.NoMemory text (plan, given, h) written = absurd h

@@ -26,7 +26,8 @@ bus_of_port plan n p = option_map (λ (port : Port). port.bus) (slice_get (ports
 
 -- the address of n's port p; empty where there is no such port
 abbrev pub address_of_port : Plan → ℕ → ℕ → List ℕ
-address_of_port plan n p = unwrap_or (option_map (λ (port : Port). port.address.items) (slice_get (ports_of plan n) p)) []
+address_of_port plan n p =
+    unwrap_or (option_map (λ (port : Port). port.address.items) (slice_get (ports_of plan n) p)) []
 
 -- a code and a node
 abbrev pub node_finding : List ℕ → Plan → ℕ → List ℕ
@@ -47,15 +48,19 @@ abbrev pub port_finding : List ℕ → Plan → ℕ → ℕ → List ℕ
 port_finding code plan n p = code ++ (codes " node " ++ (name_or_dash plan n ++ (codes " port " ++ (decimal p
     ++ (codes " bus " ++ (bus_text plan (bus_of_port plan n p) ++ codes "\n"))))))
 
--- two ports of two nodes, with the bus and the address that they share
-abbrev pub shared_address_line : List ℕ → ℕ → (bus address other : List ℕ) → ℕ → List ℕ
-shared_address_line name p bus address other q = codes "H01 node " ++ (name ++ (codes " port " ++ (decimal p
-    ++ (codes " bus " ++ (bus ++ (codes " address " ++ (address ++ (codes " node " ++ (other
-    ++ (codes " port " ++ (decimal q ++ codes "\n")))))))))))
+-- a node, one of its ports, and the bus of the port
+abbrev pub port_on_bus : List ℕ → ℕ → List ℕ → List ℕ
+port_on_bus name p bus = codes "node " ++ (name ++ (codes " port " ++ (decimal p ++ (codes " bus " ++ bus))))
+
+-- such a port, with the address that it shares with another node's port
+abbrev pub shared_address_line : (port address other : List ℕ) → ℕ → List ℕ
+shared_address_line port address other q = codes "H01 " ++ (port ++ (codes " address " ++ (address
+    ++ (codes " node " ++ (other ++ (codes " port " ++ (decimal q ++ codes "\n")))))))
 
 -- two ports, the bus of the first one, and its address
 abbrev pub address_finding : Plan → ℕ → ℕ → ℕ → ℕ → List ℕ
-address_finding plan n p m q = shared_address_line (name_or_dash plan n) p (bus_text plan (bus_of_port plan n p))
+address_finding plan n p m q =
+    shared_address_line (port_on_bus (name_or_dash plan n) p (bus_text plan (bus_of_port plan n p)))
     (address_text (address_of_port plan n p)) (name_or_dash plan m) q
 
 -- the line of a finding: its code, and whom it is about
@@ -95,12 +100,16 @@ pub record IsFindingsText (plan : Plan) (text : List ℕ) : Type 0 where
 abbrev pub IsLintAnswer : Stream → List ℕ → Type 0
 IsLintAnswer plans text = (plan : Plan) × GavePlan plans plan × (IsCleanText plan text ⊎ IsFindingsText plan text)
 
--- so it does, in a run that ends so
+-- a run that says so of the plan ends so
+abbrev pub IsLinted : Plan → Status → List ℕ → Type 0
+IsLinted plan status.Yes text = IsCleanText plan text
+IsLinted plan status.Fault text = IsFindingsText plan text
+IsLinted plan status.Unreadable text = ⊥
+IsLinted plan status.NoMemory text = ⊥
+
+-- so it does of the plan that was given
 abbrev pub LintsSo : Stream → Status → List ℕ → Type 0
-LintsSo plans status.Yes text = (plan : Plan) × GavePlan plans plan × IsCleanText plan text
-LintsSo plans status.Fault text = (plan : Plan) × GavePlan plans plan × IsFindingsText plan text
-LintsSo plans status.Unreadable text = ⊥
-LintsSo plans status.NoMemory text = ⊥
+LintsSo plans ended text = (plan : Plan) × GavePlan plans plan × IsLinted plan ended text
 
 -- the output was given a text that is said of the plan that was given
 abbrev pub TellsOfPlan : (Plan → List ℕ → Type 0) → Stream → Stream → Type 0

@@ -39,6 +39,7 @@ simmove OLD NEW CERT EVENTS  the same while nodes go over to new rows
 walk PLAN CERT NODE COUNT    the records that a walk over a node's terminus collects
 reach PLAN CERT              who reaches whom, and in how many hops
 trace PLAN CERT FROM TO      the way of a packet from a node to another, or to an endpoint ID
+lint PLAN                    what is lawful in the plan and still looks wrong, or clean
 show packet HEX              what the bytes of a packet are
 show record HEX              what the bytes of a platform descriptor record are
 code CODE                    what a code, as C08 or N03, means, and what to do

@@ -3,16 +3,16 @@ ghost use Rattle.std.specs.Prelude.{◌≡◌, ◌⊎◌, ◌<◌, ◌^◌, ◌-
 ghost use Rattle.std.specs.Cow.{cow_str_bytes};
 ghost use Rattle.plan_commands.specs.declared.status.Status.TheVariants.{Yes, Fault, Unreadable, NoMemory};
 ghost use Rattle.plan_commands.specs.Answers.{stream, IsPlanUnread, BreaksOff};
-ghost use Rattle.plan_commands.specs.Linting.{LintsSo, IsLintAnswer, Lints};
+ghost use Rattle.plan_commands.specs.Linting.{IsLinted, LintsSo, IsLintAnswer, Lints};
 
 use crate::commands::answer::{Answer, tell};
 use crate::commands::inputs::given_plan;
 use crate::refused::Refused;
 use crate::status::Status;
 use crate::texts::findings::lint_lines;
-use net_plan::{Sink, Source};
+use net_plan::{Plan, Sink, Source};
 use net_questions::lint;
-use std::alloc::Global;
+use std::alloc::{AllocError, Global};
 
 /// Tells on `output` all that is lawful in a plan and still looks wrong, or that the plan is clean. Where the plan can't
 /// be read, says so on `errors`.
@@ -46,9 +46,16 @@ fn answer_lint<P: Source>(alloc: Global, plan: &mut P) -> Result<Answer, Refused
         IfErr result (λ why. IsPlanUnread why plans) }
 {
     let plan = given_plan(alloc, plan)?;
-    let findings = lint(alloc, &plan)?;
+    Ok(lint_plan(alloc, &plan)?)
+}
+
+/// All that looks wrong in a plan, or that it is clean.
+fn lint_plan(alloc: Global, plan: &Plan) -> Result<Answer, AllocError>
+    ensures { IfOk result (λ answer. IsLinted plan.now answer.status (cow_str_bytes answer.text)) }
+{
+    let findings = lint(alloc, plan)?;
     if findings.is_empty() {
         return Ok(Answer::clean());
     }
-    Ok(Answer::fault(lint_lines(alloc, &plan, &findings)?))
+    Ok(Answer::fault(lint_lines(alloc, plan, &findings)?))
 }

@@ -1,6 +1,6 @@
 //! What the command `lint` prints.
 ghost use Rattle.std.specs.Prelude.{◌≡◌, IfOk, string_bytes};
-ghost use Rattle.plan_commands.specs.Linting.{bus_of_port, address_of_port, node_finding, pair_finding, item_finding, port_finding, shared_address_line, address_finding, finding_line, findings_text};
+ghost use Rattle.plan_commands.specs.Linting.{bus_of_port, address_of_port, node_finding, pair_finding, item_finding, port_finding, port_on_bus, shared_address_line, address_finding, finding_line, findings_text};
 ghost use Rattle.plan_commands.specs.Tracing.{bus_text, address_text};
 
 use super::name_or_dash;
@@ -113,24 +113,28 @@ fn address_finding(
     let bus = bus_name_of_port(plan, node, port);
     let address = address_of_port(alloc, plan, node, port)?;
     let other = name_or_dash(plan, other);
-    shared_address_line(alloc, name, port, bus, &address, other, other_port)
+    let port = port_on_bus(alloc, name, port, bus)?;
+    shared_address_line(alloc, &port, &address, other, other_port)
 }
 
-/// The names of two nodes with a port each, and of the bus and the address, in hex, that the ports share.
+/// A node's port and its bus.
+fn port_on_bus(alloc: Global, name: &str, port: usize, bus: &str) -> Result<String, AllocError>
+    ensures { IfOk result (λ text. string_bytes text ≡ port_on_bus name.now port bus.now) }
+{
+    format!(in alloc; "node {name} port {port} bus {bus}")
+}
+
+/// A port, the address in hex that it shares with another node's port, and that one.
 fn shared_address_line(
     alloc: Global,
-    name: &str,
-    port: usize,
-    bus: &str,
+    port: &str,
     address: &str,
     other: &str,
     other_port: usize,
 ) -> Result<String, AllocError>
-    ensures { IfOk result (λ line. string_bytes line ≡ shared_address_line name.now port bus.now address.now other.now other_port) }
+    ensures { IfOk result (λ line. string_bytes line ≡ shared_address_line port.now address.now other.now other_port) }
 {
-    format!(in alloc;
-        "H01 node {name} port {port} bus {bus} address {address} node {other} port {other_port}\n"
-    )
+    format!(in alloc; "H01 {port} address {address} node {other} port {other_port}\n")
 }
 
 /// The name of a port's bus, or a dash where there is none.
