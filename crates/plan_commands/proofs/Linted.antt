@@ -1,5 +1,5 @@
 -- What the end of `lint` tells of an answer.
-use Rattle.std.proofs.Common.{◌≡◌, ◌⊎◌, ◌↔◌, ℕ, List, [], Result, inl, inr, refl, subst, sym}
+use Rattle.std.proofs.Common.{◌≡◌, ◌⊎◌, ℕ, List, [], Result, inl, inr, refl, subst, arith}
 use Rattle.std.specs.Prelude.{IfOk, IfErr, Contains}
 use Rattle.std.specs.Cow.{cow_str_bytes}
 use Rattle.std.specs.Io.KnownBytes.{Appends}
@@ -21,7 +21,7 @@ use Rattle.plan_commands.proofs.Told.{ends_as, or_unwritten}
 pub none_found : (plan : Plan) (findings : List Finding) → AreFindings plan findings → findings ≡ [] → (f : Finding) → ¬ IsSo plan f
 none_found plan findings found empty f so =
     let none : Contains [] f = subst (λ fs. Contains fs f) empty ((found.exact f).1 so) in
-    absurd none
+    absurd (omega (arith, none.1))
 
 pub lint_answer : (plans : Stream) (s : Status) (text : List ℕ) → LintsSo plans s text → IsLintAnswer plans text
 lint_answer plans status.Yes text (plan, given, clean) = (plan, given, inl clean)

@@ -17,4 +17,4 @@ returns-clause-unwritten g c =
     let plans = stream (g.P.Source.remaining c.args.plan.now) (g.P.Source.failures c.args.plan.now) (g.P.Source.remaining c.answer_lint-answered.new.plan) (g.P.Source.failures c.answer_lint-answered.new.plan) in
     let output = stream (g.O.Sink.contents c.args.output.now) (g.O.Sink.failures c.args.output.now) (g.O.Sink.contents c.tell.new.output) (g.O.Sink.failures c.tell.new.output) in
     breaks_in_answer (LintsSo plans) c.tell.result output (IsLintAnswer plans) _ answered.result answered.ensures.answers
-    c.tell.ensures.told c.tell.ensures.untouched (lint_answer plans) (λ text h. h.1.1)
+    c.tell.ensures.told c.tell.ensures.untouched (lint_answer plans) (λ text h. h.2)
