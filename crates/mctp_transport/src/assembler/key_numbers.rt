@@ -30,7 +30,8 @@ pub(super) fn number_in(slot: Option<OpenMessage>) -> u16
 /// The first place of a number, or 64 where it has none.
 ///
 /// Most messages come one at a time, in the first slot. Otherwise all numbers are looked at, without a branch on what
-/// they are, so that the processor compares several at once.
+/// they are, so that the processor compares several at once. A place is as narrow as a number, so that no more rounds
+/// are needed for the least place than for the numbers.
 pub(super) fn first_place(numbers: &[u16], wanted: u16) -> usize
     requires { length numbers.now ≡ MAX_SLOTS }
     ensures { result ≡ position_or_len (λ number. number == wanted) numbers.now }
@@ -38,14 +39,14 @@ pub(super) fn first_place(numbers: &[u16], wanted: u16) -> usize
     if numbers[0] == wanted {
         return 0;
     }
-    let mut first = MAX_SLOTS;
+    let mut first = MAX_SLOTS as u16;
     for place in 0..MAX_SLOTS {
         let found = if numbers[place] == wanted {
-            place
+            place as u16
         } else {
-            MAX_SLOTS
+            MAX_SLOTS as u16
         };
         first = first.min(found);
     }
-    first
+    first as usize
 }
