@@ -1,8 +1,9 @@
 //! C16 and M03: the certificate gives nothing that the plan has no use for, or of a move neither plan.
 ghost use Rattle.std.specs.Prelude.{◌≡◌, ℕ, ◌<◌, ◌↔◌, IsTrue, MatchOption, length};
+ghost use Rattle.net_check.specs.Routing.{Holds};
 ghost use Rattle.net_check.specs.Repositories.{places_of};
 ghost use Rattle.net_check.specs.Superfluous.{NeedsItsLevel, NeedsItsPlaces, NeedsWhatItIsGiven, NeedsItsRank};
-ghost use Rattle.net_check.specs.TwoPlans.{tables_of};
+ghost use Rattle.net_check.specs.TwoPlans.{tables_of, HasRowEver};
 ghost use Rattle.net_check.specs.Rules.{AtNodeOrEid};
 ghost use Rattle.net_check.specs.Search.{IsFirstSpot};
 
@@ -63,16 +64,28 @@ impl<'a> Stretched for RankNeed<'a> {
     /// Whether the node is given no rank for the endpoint ID, or does not hold it and has a row for it in one of the
     /// plans.
     fn is_met_at(&self, eid: Eid) -> bool {
-        self.ranges.rank_of(eid) == 0
-            || (!holds(self.rows.plan(), self.rows.node(), eid) && self.rows.has_in_one(eid))
+        self.ranges.rank_of(eid) == 0 || may_be_ranked(&self.rows, eid)
     }
 
     fn stretch_end(&self, eid: Eid) -> u16 {
-        self.ranges
+        let end = self
+            .rows
             .border(eid)
-            .min(self.rows.border(eid))
-            .min(held_border(self.rows.plan(), self.rows.node(), eid))
+            .min(held_border(self.rows.plan(), self.rows.node(), eid));
+        // What may be ranked may have any rank.
+        if may_be_ranked(&self.rows, eid) {
+            end
+        } else {
+            self.ranges.border(eid).min(end)
+        }
     }
+}
+
+/// Whether the node does not hold the endpoint ID and has a row for it in one of the plans.
+fn may_be_ranked(rows: &RowsInForce<'_>, eid: Eid) -> bool
+    ensures { IsTrue result ↔ (¬ Holds rows.now.0.plan.now rows.now.1 eid.value × HasRowEver (tables_of rows.now.0) rows.now.1 eid.value) }
+{
+    !holds(rows.plan(), rows.node(), eid) && rows.has_in_one(eid)
 }
 
 /// Whether the node is given no level and no places beyond its need.

@@ -1,12 +1,18 @@
 use Rattle.std.proofs.Common.{arith}
 use Rattle.std.proofs.lemmas.Grind.{common_steps}
 use Rattle.net_check.specs.TwoPlans.{tables_of}
-use Rattle.net_check.proofs.RowsInForce.{led_alike}
+use Rattle.net_check.proofs.RowsInForce.{led_alike, led_along_rows}
 use Rattle.net_check.proofs.rules.held_eids.WayOnStretched.stretch_end.Goals as goal
 
-pub returns : goal.returns
-returns c =
+pub returns-then-is_routing_bridge : goal.returns-then-is_routing_bridge
+returns-then-is_routing_bridge c =
+    let way = c.args.self.now in
+    let met = c.is_routing_bridge.ensures.0 c.if-is_routing_bridge.true in
+    led_along_rows (tables_of way.plans.now) way.node way.next c.args.eid.value c.row_border-end.result met.0 met.1 c.row_border-end.ensures.always
+
+pub returns-else-is_routing_bridge : goal.returns-else-is_routing_bridge
+returns-else-is_routing_bridge c =
     let way = c.args.self.now in
     let some = (c.holder_border.ensures way.node).0 in
-    led_alike (tables_of way.plans.now) way.node way.next c.args.eid.value c.holder_border.result c.row_border.result c.min.result c.holder_border.ensures
-    c.row_border.ensures.always (grind (arith, common_steps, some)) (grind (arith, common_steps)) (grind (arith, common_steps))
+    led_alike (tables_of way.plans.now) way.node way.next c.args.eid.value c.holder_border.result c.row_border-end.result c.min.result c.holder_border.ensures
+    c.row_border-end.ensures.always (grind (arith, common_steps, some)) (grind (arith, common_steps)) (grind (arith, common_steps))
