@@ -1,6 +1,6 @@
 //! Texts in which an object has a key twice.
 use super::{edited, riser};
-use net_plan::{PlanError, certificate_of_text, events_of_text, plan_of_text};
+use net_plan::{Plan, PlanError, certificate_of_text, events_of_text, plan_of_text};
 use std::alloc::Global;
 use std::test::Fail;
 
@@ -89,40 +89,63 @@ fn tells_doubled_keys_before_unknown_names(rt: HostRuntime) -> Result<(), Fail> 
     Ok(())
 }
 
+/// Why the riser network's certificate with a change is none.
+fn certificate_error(
+    alloc: Global,
+    plan: &Plan,
+    from: &str,
+    to: &str,
+) -> Result<Option<PlanError>, Fail> {
+    let text = edited(alloc, riser::CERTIFICATE, &[(from, to)])?;
+    Ok(certificate_of_text(alloc, plan, text.as_str().as_bytes()).err())
+}
+
+/// Why the riser network's events with a change are none.
+fn events_error(
+    alloc: Global,
+    plan: &Plan,
+    from: &str,
+    to: &str,
+) -> Result<Option<PlanError>, Fail> {
+    let text = edited(alloc, riser::EVENTS, &[(from, to)])?;
+    Ok(events_of_text(alloc, plan, text.as_str().as_bytes()).err())
+}
+
+/// Changes of the riser network's certificate.
+const OF_CERTIFICATE: [(&str, &str); 6] = [
+    ("\"levels\":", "\"ranks\":[],\"levels\":"),
+    ("\"level\":1", "\"level\":1,\"level\":1"),
+    ("\"places\":[0]", "\"places\":[0],\"places\":[0]"),
+    (
+        "\"node\":\"ssd\",\"ranges\"",
+        "\"node\":\"ssd\",\"node\":\"ssd\",\"ranges\"",
+    ),
+    ("\"rank\":2", "\"rank\":2,\"rank\":2"),
+    (
+        "\"node\":\"host\",\"ranges\"",
+        "\"node\":\"x\",\"node\":\"x\",\"ranges\"",
+    ),
+];
+
+/// Changes of the riser network's events.
+const OF_EVENTS: [(&str, &str); 4] = [
+    ("\"format\":1", "\"format\":1,\"format\":1"),
+    ("\"do\":\"put\"", "\"do\":\"put\",\"do\":\"put\""),
+    ("\"keep\":false", "\"keep\":false,\"keep\":true"),
+    ("\"node\":\"nic\"", "\"node\":\"x\",\"node\":\"x\""),
+];
+
 /// One change of the riser network's certificate or events each.
 #[test]
 fn refuses_doubled_keys_of_certificates_and_events(rt: HostRuntime) -> Result<(), Fail> {
-    let alloc = rt.alloc();
-    let plan = plan_of_text(alloc, riser::PLAN.as_bytes())?;
-    let changes: [(&str, &str); 6] = [
-        ("\"levels\":", "\"ranks\":[],\"levels\":"),
-        ("\"level\":1", "\"level\":1,\"level\":1"),
-        ("\"places\":[0]", "\"places\":[0],\"places\":[0]"),
-        (
-            "\"node\":\"ssd\",\"ranges\"",
-            "\"node\":\"ssd\",\"node\":\"ssd\",\"ranges\"",
-        ),
-        ("\"rank\":2", "\"rank\":2,\"rank\":2"),
-        (
-            "\"node\":\"host\",\"ranges\"",
-            "\"node\":\"x\",\"node\":\"x\",\"ranges\"",
-        ),
-    ];
-    for (from, to) in changes {
-        let text = edited(alloc, riser::CERTIFICATE, &[(from, to)])?;
-        let read = certificate_of_text(alloc, &plan, text.as_str().as_bytes());
-        assert_eq!(rt; read.err(), Some(PlanError::Doubled), "{to}");
+    let plan = plan_of_text(rt.alloc(), riser::PLAN.as_bytes())?;
+    for (from, to) in OF_CERTIFICATE {
+        let error = certificate_error(rt.alloc(), &plan, from, to)?;
+        assert_eq!(rt; error, Some(PlanError::Doubled), "{to}");
     }
-    let changes: [(&str, &str); 4] = [
-        ("\"format\":1", "\"format\":1,\"format\":1"),
-        ("\"do\":\"put\"", "\"do\":\"put\",\"do\":\"put\""),
-        ("\"keep\":false", "\"keep\":false,\"keep\":true"),
-        ("\"node\":\"nic\"", "\"node\":\"x\",\"node\":\"x\""),
-    ];
-    for (from, to) in changes {
-        let text = edited(alloc, riser::EVENTS, &[(from, to)])?;
-        let read = events_of_text(alloc, &plan, text.as_str().as_bytes());
-        assert_eq!(rt; read.err(), Some(PlanError::Doubled), "{to}");
+    for (from, to) in OF_EVENTS {
+        let error = events_error(rt.alloc(), &plan, from, to)?;
+        assert_eq!(rt; error, Some(PlanError::Doubled), "{to}");
     }
     Ok(())
 }

@@ -130,43 +130,45 @@ fn new_rows_lead_on_by_both_plans(rt: HostRuntime) -> Result<(), Fail> {
 fn a_rank_is_needed_by_one_of_the_plans(rt: HostRuntime) -> Result<(), Fail> {
     // in the first two moves one plan alone has a row of right's, in the third neither has
     let without = [TO_LEFT, TO_X, NOWHERE];
-    let mut found_in_turn = Vec::new(rt.alloc());
-    for (before, after) in [
-        (without, THROUGH_LEFT),
-        (THROUGH_LEFT, without),
-        (without, without),
-    ] {
-        found_in_turn.push(found(rt.alloc(), before, after, ["2", "1", "1"])?)?;
-    }
     let superfluous = MoveError::Both(fault(MoveRule::M03, 2, None));
-    assert_eq!(rt;
-        found_in_turn.as_slice(),
-        [None, None, Some(superfluous)].as_slice()
-    );
+    for (before, after, wanted) in [
+        (without, THROUGH_LEFT, None),
+        (THROUGH_LEFT, without, None),
+        (without, without, Some(superfluous)),
+    ] {
+        assert_eq!(rt; found(rt.alloc(), before, after, ["2", "1", "1"])?, wanted);
+    }
     Ok(())
+}
+
+/// The plan through right with this change of its text.
+fn changed(alloc: Global, from: &str, to: &str) -> Result<Plan, Fail> {
+    let text = filled(alloc, PLAN, THROUGH_RIGHT)?;
+    let text = text.as_str().replacen(alloc, from, to, 1)?;
+    Ok(plan_of_text(alloc, text.as_str().as_bytes())?)
+}
+
+/// What is found of the move from left to right where the later plan has this change too.
+fn found_with(alloc: Global, from: &str, to: &str) -> Result<Option<MoveError>, Fail> {
+    let before = planned(alloc, THROUGH_LEFT)?;
+    let after = changed(alloc, from, to)?;
+    found_between(alloc, &before, &after, ["2", "1", "1"])
 }
 
 #[test]
 fn plans_differ_in_rows_alone(rt: HostRuntime) -> Result<(), Fail> {
-    let alloc = rt.alloc();
-    let before = planned(alloc, THROUGH_LEFT)?;
-    let text = filled(alloc, PLAN, THROUGH_RIGHT)?;
-    let mut found_in_turn = Vec::new(alloc);
-    for (from, to) in [
-        (r#""eid":17"#, r#""eid":18"#),
-        (r#""media":4},{"name":"b1""#, r#""media":5},{"name":"b1""#),
+    for (from, to, node) in [
+        (r#""eid":17"#, r#""eid":18"#, Some(3)),
+        (
+            r#""media":4},{"name":"b1""#,
+            r#""media":5},{"name":"b1""#,
+            None,
+        ),
     ] {
-        let text = text.as_str().replacen(alloc, from, to, 1)?;
-        let after = plan_of_text(alloc, text.as_str().as_bytes())?;
-        found_in_turn.push(found_between(alloc, &before, &after, ["2", "1", "1"])?)?;
+        assert_eq!(rt;
+            found_with(rt.alloc(), from, to)?,
+            Some(MoveError::Differ(node))
+        );
     }
-    assert_eq!(rt;
-        found_in_turn.as_slice(),
-        [
-            Some(MoveError::Differ(Some(3))),
-            Some(MoveError::Differ(None))
-        ]
-        .as_slice()
-    );
     Ok(())
 }

@@ -5,6 +5,8 @@ use super::refused_networks;
 use super::riser::{CERTIFICATE, NIC, PLAN};
 use super::rows::expect_refusals;
 use super::telling::told;
+use super::unit_runs::expect_four_packets;
+use super::walkers::{Walks, expect_walks};
 use net_check::check;
 use net_plan::{Certificate, Counted, Event, Plan, read_certificate, read_events, read_plan};
 use net_sim::{Network, Outcome, Played};
@@ -92,6 +94,16 @@ pub enum Scenario<'a> {
     SixPackets,
     /// Events at nodes beyond the plan.
     BeyondThePlan,
+    /// One event, how it is called, and what comes of it.
+    Step(&'a Event, &'a str, &'a str),
+    /// Events one by one, and what comes of them, one text after another.
+    Events(&'a [Event], &'a str),
+    /// A message of four packets of the largest unit.
+    FourPackets,
+    /// A walk over 20 records, each event of which is asked again where memory ran out.
+    Refused20Records,
+    /// Walks of host over nic.
+    Walks(Walks),
 }
 
 /// The texts of a plan and a certificate, and the places of the nodes with termini.
@@ -124,27 +136,47 @@ pub fn play_on_texts(
 }
 
 /// Plays on the network of this plan and this certificate, with termini at these places.
-fn play_on_plan(
+pub fn play_on_plan(
     rt: &(impl Abort + AllocGlobal),
     plan: &Plan,
     certificate: &Certificate,
     termini: &[(usize, Storage)],
     scenario: Scenario<'_>,
 ) -> Result<(), Fail> {
-    let alloc = rt.alloc();
+    let boxed = termini_of(rt.alloc(), plan, termini)?;
+    let mut network = network_over(rt.alloc(), plan, certificate, boxed)?;
+    play(rt, plan, &mut network, scenario)
+}
+
+/// The termini of the nodes at these places.
+fn termini_of(
+    alloc: Global,
+    plan: &Plan,
+    places: &[(usize, Storage)],
+) -> Result<Vec<Box<dyn Terminus>>, Fail> {
     let mut boxed: Vec<Box<dyn Terminus>> = Vec::new(alloc);
-    for (place, storage) in termini {
+    for (place, storage) in places {
         match storage {
             Storage::List => boxed.push(Box::new(alloc, list_at(alloc, plan, *place)?)?)?,
             Storage::Block => boxed.push(Box::new(alloc, block_at(alloc, plan, *place)?)?)?,
         }
     }
-    let checked = check(alloc, plan, certificate)?;
-    let mut network = network_of(alloc, checked, boxed)?;
-    play(rt, plan, &mut network, scenario)
+    Ok(boxed)
 }
 
-fn play(
+/// The network of this plan and this certificate over these termini.
+pub fn network_over<'a>(
+    alloc: Global,
+    plan: &'a Plan,
+    certificate: &'a Certificate,
+    termini: Vec<Box<dyn Terminus>>,
+) -> Result<Network<'a>, Fail> {
+    let checked = check(alloc, plan, certificate)?;
+    network_of(alloc, checked, termini)
+}
+
+/// Plays on a network of this plan.
+pub fn play(
     rt: &(impl Abort + AllocGlobal),
     plan: &Plan,
     network: &mut Network,
@@ -158,6 +190,13 @@ fn play(
         Scenario::FivePackets => expect_whole_or_nothing(rt, network),
         Scenario::SixPackets => expect_two_of_six(rt, network),
         Scenario::BeyondThePlan => expect_refusals(rt, network),
+        Scenario::Step(event, name, wanted) => {
+            expect_step(rt, plan, network, event, (name, wanted))
+        }
+        Scenario::Events(events, wanted) => expect_events(rt, plan, network, events, wanted),
+        Scenario::FourPackets => expect_four_packets(rt, network),
+        Scenario::Refused20Records => refused_networks::expect_20_records(rt, plan, network),
+        Scenario::Walks(walks) => expect_walks(rt, network, walks),
     }
 }
 
@@ -170,11 +209,50 @@ pub fn expect_steps(
 ) -> Result<(), Fail> {
     let events = events_of(rt.alloc(), plan, rows)?;
     assert_eq!(rt; events.len(), rows.len());
-    for (event, (text, wanted)) in events.iter().zip(rows) {
-        let outcome = network.step(event)?;
-        expect_told(rt, plan, &outcome, text, wanted)?;
+    for (event, row) in events.iter().zip(rows) {
+        expect_step(rt, plan, network, event, *row)?;
     }
     Ok(())
+}
+
+/// Plays an event, and wants what its row says.
+fn expect_step(
+    rt: &(impl Abort + AllocGlobal),
+    plan: &Plan,
+    network: &mut Network,
+    event: &Event,
+    (text, wanted): (&str, &str),
+) -> Result<(), Fail> {
+    let outcome = network.step(event)?;
+    expect_told(rt, plan, &outcome, text, wanted)
+}
+
+/// Plays events one by one, and wants this to come of them, one text after another.
+fn expect_events(
+    rt: &(impl Abort + AllocGlobal),
+    plan: &Plan,
+    network: &mut Network,
+    events: &[Event],
+    wanted: &str,
+) -> Result<(), Fail> {
+    let text = told_of(rt.alloc(), plan, network, events)?;
+    assert_eq!(rt; text.as_str(), wanted);
+    Ok(())
+}
+
+/// What comes of events, one text after another.
+fn told_of(
+    alloc: Global,
+    plan: &Plan,
+    network: &mut Network,
+    events: &[Event],
+) -> Result<String, Fail> {
+    let mut texts = Vec::new(alloc);
+    for event in events {
+        let outcome = network.step(event)?;
+        texts.push(told(alloc, plan, &outcome)?)?;
+    }
+    Ok(texts.as_slice().join(alloc, ", ")?)
 }
 
 /// Plays the rows' events as one list, and wants what their rows say.

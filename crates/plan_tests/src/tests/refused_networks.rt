@@ -1,19 +1,17 @@
 //! Networks in which any growth of memory may be refused. An event that is asked again then has the outcome that it has
 //! with ample memory. `tools/refuse-growths` refuses the growths one after another.
-use super::boxes::{moving_network_of, network_of};
-use super::losing::has_collected;
 use super::marks::{Mark, set_mark};
 use super::playing::{
     Row, Scenario, certificate_of, events_of, expect_played, expect_told, plan_of, play_on,
 };
 use super::riser::{CERTIFICATE, HOST, NIC, PLAN};
 use super::riser_events::{GET_TID_OF_NIC, MOVE_1, MOVE_2};
-use super::switching::{RANKS_OF_TWO_WAYS, TWO_WAYS};
-use super::walkers::{records_of, terminus_with};
-use super::{edited, playing, rows, walks};
+use super::switching::{RANKS_OF_TWO_WAYS, TWO_WAYS, by_right, play_on_two_ways};
+use super::walkers::{expect_collected, play_over, terminus_with};
+use super::{playing, rows, walks};
 use mctp_transport::{Eid, Tag};
 use net_check::{Checked, CheckedMove, check, check_move};
-use net_plan::{Event, Plan};
+use net_plan::{Certificate, Event, Plan};
 use net_sim::{Network, Outcome, Played, planned_termini_count};
 use pdr_repository::Terminus;
 use std::alloc::{AllocError, Global};
@@ -41,11 +39,22 @@ pub fn expect_steps(
 ) -> Result<(), Fail> {
     let events = events_of(rt.alloc(), plan, rows)?;
     assert_eq!(rt; events.len(), rows.len());
-    for (event, (text, wanted)) in events.iter().zip(rows) {
-        let outcome = step(rt.alloc(), network, event)?;
-        expect_told(rt, plan, &outcome, text, wanted)?;
+    for (event, row) in events.iter().zip(rows) {
+        expect_step(rt, plan, network, event, *row)?;
     }
     Ok(())
+}
+
+/// Plays an event, and wants what its row says.
+fn expect_step(
+    rt: &(impl Abort + AllocGlobal),
+    plan: &Plan,
+    network: &mut Network,
+    event: &Event,
+    (text, wanted): (&str, &str),
+) -> Result<(), Fail> {
+    let outcome = step(rt.alloc(), network, event)?;
+    expect_told(rt, plan, &outcome, text, wanted)
 }
 
 /// The outcomes of a list of events. Where memory ran out, what is left is asked again.
@@ -144,34 +153,38 @@ const TWENTY: [u16; 20] = [
     0, 1, 2, 3, 4, 5, 6, 7, 8, 9, 10, 11, 12, 13, 14, 15, 16, 17, 18, 19,
 ];
 
-/// Each record comes with one exchange, and all are there at the end.
-#[test]
-fn refused_step_over_20_records(rt: HostRuntime) -> Result<(), Fail> {
-    let alloc = rt.alloc();
-    let plan = plan_of(alloc, PLAN)?;
-    let certificate = certificate_of(alloc, &plan, CERTIFICATE)?;
-    let checked = check(alloc, &plan, &certificate)?;
-    let mut network = network_of(alloc, checked, terminus_with(alloc, &TWENTY)?)?;
+/// Wants each record to come with one exchange, and all to be there at the end.
+pub fn expect_20_records(
+    rt: &(impl Abort + AllocGlobal),
+    plan: &Plan,
+    network: &mut Network,
+) -> Result<(), Fail> {
     let walk = Event::Walk {
         node: HOST,
         eid: Eid::new(17),
         tag: Tag::new(2),
         count: 32,
     };
-    step(alloc, &mut network, &walk)?;
+    step(rt.alloc(), network, &walk)?;
     for number in 0..20u32 {
-        exchange(alloc, &mut network, number)?;
+        exchange(rt.alloc(), network, number)?;
     }
-    let outcome = step(alloc, &mut network, &Event::Collected { walker: 1 })?;
-    expect_told(
+    let all = ("collected", "collected 1 records 20 done");
+    expect_step(rt, plan, network, &Event::Collected { walker: 1 }, all)?;
+    expect_collected(rt, network, &TWENTY)
+}
+
+#[test]
+fn refused_step_over_20_records(rt: HostRuntime) -> Result<(), Fail> {
+    let plan = plan_of(rt.alloc(), PLAN)?;
+    let certificate = certificate_of(rt.alloc(), &plan, CERTIFICATE)?;
+    play_over(
         &rt,
         &plan,
-        &outcome,
-        "collected",
-        "collected 1 records 20 done",
-    )?;
-    assert!(rt; has_collected(&network, 1, &records_of(alloc, &TWENTY)?));
-    Ok(())
+        &certificate,
+        &TWENTY,
+        Scenario::Refused20Records,
+    )
 }
 
 /// The network of a checked plan; none where memory ran out.
@@ -192,16 +205,24 @@ fn new<'a>(
     Ok(made.ok())
 }
 
-#[test]
-fn refused_network_new(rt: HostRuntime) -> Result<(), Fail> {
-    let alloc = rt.alloc();
-    let plan = plan_of(alloc, PLAN)?;
-    let certificate = certificate_of(alloc, &plan, CERTIFICATE)?;
-    let checked = check(alloc, &plan, &certificate)?;
-    match new(alloc, checked, terminus_with(alloc, &TWENTY)?)? {
-        Some(mut network) => playing::expect_steps(&rt, &plan, &mut network, &rows::AND_BACK),
+/// Plays there and back on the network over 20 records; on none where memory ran out.
+fn expect_and_back(
+    rt: &(impl Abort + AllocGlobal),
+    plan: &Plan,
+    certificate: &Certificate,
+) -> Result<(), Fail> {
+    let checked = check(rt.alloc(), plan, certificate)?;
+    match new(rt.alloc(), checked, terminus_with(rt.alloc(), &TWENTY)?)? {
+        Some(mut network) => playing::expect_steps(rt, plan, &mut network, &rows::AND_BACK),
         None => Ok(()),
     }
+}
+
+#[test]
+fn refused_network_new(rt: HostRuntime) -> Result<(), Fail> {
+    let plan = plan_of(rt.alloc(), PLAN)?;
+    let certificate = certificate_of(rt.alloc(), &plan, CERTIFICATE)?;
+    expect_and_back(&rt, &plan, &certificate)
 }
 
 /// The network of a checked move; none where memory ran out.
@@ -237,30 +258,29 @@ const SWITCHED: [Row; 9] = [
     (MOVE_2, "moved 2 to x hops 2"),
 ];
 
-/// The plan in which host goes by right.
-fn by_right(alloc: Global) -> Result<Plan, Fail> {
-    let text = edited(alloc, TWO_WAYS, &[(r#""left"}]"#, r#""right"}]"#)])?;
-    plan_of(alloc, &text)
-}
-
-#[test]
-fn refused_new_move(rt: HostRuntime) -> Result<(), Fail> {
-    let alloc = rt.alloc();
-    let (before, after) = (plan_of(alloc, TWO_WAYS)?, by_right(alloc)?);
-    let certificate = certificate_of(alloc, &before, RANKS_OF_TWO_WAYS)?;
-    let checked = check_move(alloc, &before, &after, &certificate)?;
-    match new_move(alloc, checked, Vec::new(alloc))? {
-        Some(mut network) => playing::expect_steps(&rt, &before, &mut network, &SWITCHED),
+/// Plays the switch on the network of a move; on none where memory ran out.
+fn expect_switched(
+    rt: &(impl Abort + AllocGlobal),
+    before: &Plan,
+    after: &Plan,
+    certificate: &Certificate,
+) -> Result<(), Fail> {
+    let checked = check_move(rt.alloc(), before, after, certificate)?;
+    match new_move(rt.alloc(), checked, Vec::new(rt.alloc()))? {
+        Some(mut network) => playing::expect_steps(rt, before, &mut network, &SWITCHED),
         None => Ok(()),
     }
 }
 
 #[test]
+fn refused_new_move(rt: HostRuntime) -> Result<(), Fail> {
+    let before = plan_of(rt.alloc(), TWO_WAYS)?;
+    let after = by_right(rt.alloc())?;
+    let certificate = certificate_of(rt.alloc(), &before, RANKS_OF_TWO_WAYS)?;
+    expect_switched(&rt, &before, &after, &certificate)
+}
+
+#[test]
 fn refused_step_of_switches(rt: HostRuntime) -> Result<(), Fail> {
-    let alloc = rt.alloc();
-    let (before, after) = (plan_of(alloc, TWO_WAYS)?, by_right(alloc)?);
-    let certificate = certificate_of(alloc, &before, RANKS_OF_TWO_WAYS)?;
-    let checked = check_move(alloc, &before, &after, &certificate)?;
-    let mut network = moving_network_of(alloc, checked, Vec::new(alloc))?;
-    expect_steps(&rt, &before, &mut network, &SWITCHED)
+    play_on_two_ways(&rt, Scenario::RefusedSteps(&SWITCHED))
 }

@@ -1,10 +1,10 @@
 //! Networks whose nodes switch to new rows while packets are on their way.
-use super::boxes::{moving_network_of, network_of};
-use super::playing::{certificate_of, plan_of};
-use super::telling::told;
-use net_check::{check, check_move};
+use super::boxes::moving_network_of;
+use super::edited;
+use super::playing::{Scenario, Texts, certificate_of, plan_of, play, play_on_texts};
+use net_check::check_move;
 use net_plan::{Certificate, Event, Plan};
-use net_sim::{Effect, Network, Outcome, Refusal};
+use net_sim::{Effect, Outcome, Refusal};
 use std::alloc::{AllocError, Global};
 use std::ops::Range;
 use std::process::Abort;
@@ -39,79 +39,69 @@ fn move_of(flight: u32) -> Event {
     }
 }
 
-/// What comes of events, one text after another.
-fn told_of(
-    alloc: Global,
-    plan: &Plan,
-    network: &mut Network,
-    events: &[Event],
-) -> Result<String, Fail> {
-    let mut texts = Vec::new(alloc);
-    for event in events {
-        let outcome = network.step(event)?;
-        texts.push(told(alloc, plan, &outcome)?)?;
-    }
-    Ok(texts.as_slice().join(alloc, ", ")?)
+/// The plan in which host goes by right.
+pub fn by_right(alloc: Global) -> Result<Plan, Fail> {
+    let text = edited(alloc, TWO_WAYS, &[(r#""left"}]"#, r#""right"}]"#)])?;
+    plan_of(alloc, &text)
+}
+
+/// Plays on the network that moves from the way by left to the way by right.
+pub fn play_on_two_ways(
+    rt: &(impl Abort + AllocGlobal),
+    scenario: Scenario<'_>,
+) -> Result<(), Fail> {
+    let before = plan_of(rt.alloc(), TWO_WAYS)?;
+    let after = by_right(rt.alloc())?;
+    let certificate = certificate_of(rt.alloc(), &before, RANKS_OF_TWO_WAYS)?;
+    play_over_move(rt, &before, &after, &certificate, scenario)
+}
+
+/// Plays on the network that moves between these plans, neither of which has a terminus.
+fn play_over_move(
+    rt: &(impl Abort + AllocGlobal),
+    before: &Plan,
+    after: &Plan,
+    certificate: &Certificate,
+    scenario: Scenario<'_>,
+) -> Result<(), Fail> {
+    let checked = check_move(rt.alloc(), before, after, certificate)?;
+    let mut network = moving_network_of(rt.alloc(), checked, Vec::new(rt.alloc()))?;
+    play(rt, before, &mut network, scenario)
 }
 
 #[test]
 fn host_goes_by_its_new_row_once_it_has_switched(rt: HostRuntime) -> Result<(), Fail> {
-    let alloc = rt.alloc();
-    let before = plan_of(alloc, TWO_WAYS)?;
-    let text = TWO_WAYS.replacen(alloc, "\"left\"}]", "\"right\"}]", 1)?;
-    let after = plan_of(alloc, &text)?;
-    let certificate = certificate_of(alloc, &before, RANKS_OF_TWO_WAYS)?;
-    let checked = check_move(alloc, &before, &after, &certificate)?;
-    let mut network = moving_network_of(alloc, checked, Vec::new(alloc))?;
     let events = [
-        request(alloc)?,
+        request(rt.alloc())?,
         move_of(1),
         Event::Switch { node: NOWHERE },
         Event::Switch { node: HOST },
         move_of(1),
         move_of(1),
-        request(alloc)?,
+        request(rt.alloc())?,
         move_of(2),
         Event::Switch { node: HOST },
     ];
-    let wanted = [
-        "put 1 at host",
-        "moved 1 to left hops 1",
-        "refused N01",
-        "switched host",
-        "moved 1 to x hops 2",
-        "whole 1 at x source 8 tag 3 owner 1 bytes 01800002",
-        "put 2 at host",
-        "moved 2 to right hops 1",
-        "refused N07",
-    ];
-    let wanted = wanted.as_slice().join(alloc, ", ")?;
-    assert_eq!(rt;
-        told_of(alloc, &before, &mut network, &events)?.as_str(),
-        wanted.as_str()
-    );
-    Ok(())
+    let wanted =
+        "put 1 at host, moved 1 to left hops 1, refused N01, switched host, moved 1 to x hops 2, whole 1 at x source 8 tag 3 owner 1 bytes 01800002, put 2 at host, moved 2 to right hops 1, refused N07";
+    play_on_two_ways(&rt, Scenario::Events(&events, wanted))
 }
 
 #[test]
 fn nobody_switches_in_a_network_of_one_plan(rt: HostRuntime) -> Result<(), Fail> {
-    let alloc = rt.alloc();
-    let plan = plan_of(alloc, TWO_WAYS)?;
-    let certificate = certificate_of(alloc, &plan, RANKS_OF_TWO_WAYS)?;
-    let checked = check(alloc, &plan, &certificate)?;
-    let mut network = network_of(alloc, checked, Vec::new(alloc))?;
+    let texts = Texts {
+        plan: TWO_WAYS,
+        certificate: RANKS_OF_TWO_WAYS,
+        termini: &[],
+    };
     let events = [
         Event::Switch { node: HOST },
         Event::Switch { node: NOWHERE },
-        request(alloc)?,
+        request(rt.alloc())?,
         move_of(1),
     ];
     let wanted = "refused N07, refused N01, put 1 at host, moved 1 to left hops 1";
-    assert_eq!(rt;
-        told_of(alloc, &plan, &mut network, &events)?.as_str(),
-        wanted
-    );
-    Ok(())
+    play_on_texts(&rt, texts, Scenario::Events(&events, wanted))
 }
 
 /// How many bridges there are in a line to endpoint x, all on one bus. The rank of each is the number of bridges from it
@@ -195,6 +185,24 @@ fn is_lawful(outcome: &Outcome) -> bool {
     }
 }
 
+/// Whether all outcomes can be, and all packets come whole.
+fn are_lawful_and_whole(outcomes: &[Outcome]) -> bool {
+    let mut come: usize = 0;
+    for outcome in outcomes {
+        if !is_lawful(outcome) {
+            return false;
+        }
+        if let Outcome::Happened {
+            effect: Effect::Whole { .. },
+            ..
+        } = outcome
+        {
+            come = come.saturating_add(1);
+        }
+    }
+    come == BRIDGES + 1
+}
+
 /// Whether all packets come whole, within their ranks, where the bridges switch in this order.
 fn all_come(
     alloc: Global,
@@ -203,39 +211,41 @@ fn all_come(
     certificate: &Certificate,
     order: &[usize],
 ) -> Result<bool, Fail> {
+    let events = events_in(alloc, order)?;
     let checked = check_move(alloc, before, after, certificate)?;
     let mut network = moving_network_of(alloc, checked, Vec::new(alloc))?;
-    let played = network.run(&events_in(alloc, order)?)?;
-    let mut come = Vec::new(alloc);
-    for outcome in &played.outcomes {
-        if !is_lawful(outcome) {
-            return Ok(false);
-        }
-        if let Outcome::Happened {
-            effect: Effect::Whole { number, .. },
-            ..
-        } = outcome
-        {
-            come.push(*number)?;
-        }
+    let played = network.run(&events)?;
+    Ok(are_lawful_and_whole(&played.outcomes))
+}
+
+/// Wants all packets to come between these plans where the bridges switch in the orders of these numbers.
+fn expect_all_come_between(
+    rt: &(impl Abort + AllocGlobal),
+    before: &Plan,
+    after: &Plan,
+    certificate: &Certificate,
+    numbers: Range<usize>,
+) -> Result<(), Fail> {
+    for number in numbers {
+        let order = order_of(rt.alloc(), number)?;
+        let come = all_come(rt.alloc(), before, after, certificate, &order)?;
+        assert!(rt; come, "{number}");
     }
-    Ok(come.len() == BRIDGES + 1)
+    Ok(())
+}
+
+/// The plan of the line where each bridge passes on to the one so many places on.
+fn line_plan_of(alloc: Global, stride: usize) -> Result<Plan, Fail> {
+    let text = line_of(alloc, stride)?;
+    plan_of(alloc, &text)
 }
 
 /// Wants all packets to come where the bridges switch in the orders of these numbers.
 fn expect_all_come(rt: &(impl Abort + AllocGlobal), numbers: Range<usize>) -> Result<(), Fail> {
-    let alloc = rt.alloc();
-    let before = plan_of(alloc, &line_of(alloc, 1)?)?;
-    let after = plan_of(alloc, &line_of(alloc, 2)?)?;
-    let certificate = certificate_of(alloc, &before, &ranks_of_line(alloc)?)?;
-    for number in numbers {
-        let order = order_of(alloc, number)?;
-        assert!(rt;
-            all_come(alloc, &before, &after, &certificate, &order)?,
-            "{number}"
-        );
-    }
-    Ok(())
+    let before = line_plan_of(rt.alloc(), 1)?;
+    let after = line_plan_of(rt.alloc(), 2)?;
+    let certificate = certificate_of(rt.alloc(), &before, &ranks_of_line(rt.alloc())?)?;
+    expect_all_come_between(rt, &before, &after, &certificate, numbers)
 }
 
 #[test]

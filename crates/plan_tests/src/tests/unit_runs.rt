@@ -1,12 +1,9 @@
 //! Networks of other transmission units than the baseline: what may be put in, and how answers and requests are cut.
-use super::boxes::network_of;
-use super::playing::{Row, certificate_of, expect_steps, expect_told, list_at, plan_of};
+use super::playing::{Row, Scenario, Storage, certificate_of, plan_of, play_on_plan};
 use super::riser::{CERTIFICATE, HOST, NIC, PLAN, SSD};
 use mctp_transport::{Eid, HEADER_LENGTH, Key, MAX_UNIT, Packets, Seq, Tag};
-use net_check::check;
 use net_plan::{Event, Plan};
 use net_sim::{Effect, Network, Outcome};
-use pdr_repository::Terminus;
 use std::alloc::{AllocError, Global};
 use std::process::Abort;
 use std::test::Fail;
@@ -17,16 +14,18 @@ fn riser_of(alloc: Global, unit: u16) -> Result<Plan, Fail> {
     Ok(Plan::of(unit, plan.buses, plan.nodes).ok_or("no plan")?)
 }
 
-/// Rows, each an event's text and what comes of it, in the riser network of a transmission unit.
-fn play_at(rt: &(impl Abort + AllocGlobal), unit: u16, rows: &[Row]) -> Result<(), Fail> {
-    let alloc = rt.alloc();
-    let plan = riser_of(alloc, unit)?;
-    let certificate = certificate_of(alloc, &plan, CERTIFICATE)?;
-    let mut boxed: Vec<Box<dyn Terminus>> = Vec::new(alloc);
-    boxed.push(Box::new(alloc, list_at(alloc, &plan, NIC)?)?)?;
-    let checked = check(alloc, &plan, &certificate)?;
-    let mut network = network_of(alloc, checked, boxed)?;
-    expect_steps(rt, &plan, &mut network, rows)
+/// Plays on the riser network of a transmission unit.
+fn play_at(rt: &(impl Abort + AllocGlobal), unit: u16, scenario: Scenario<'_>) -> Result<(), Fail> {
+    let plan = riser_of(rt.alloc(), unit)?;
+    let certificate = certificate_of(rt.alloc(), &plan, CERTIFICATE)?;
+    play_on_plan(rt, &plan, &certificate, &[(NIC, Storage::List)], scenario)
+}
+
+/// A packet of so many payload bytes that is put in at host.
+fn put_of(alloc: Global, length: usize) -> Result<Event, AllocError> {
+    let mut bytes = vec![in alloc; 0x01u8, 0x12, 0x08, 0xc9]?;
+    bytes.extend_from_slice(&vec![in alloc; 0u8; length]?)?;
+    Ok(Event::Put { node: HOST, bytes })
 }
 
 /// Puts a packet of so many payload bytes in at host, in the riser network of a transmission unit.
@@ -36,17 +35,8 @@ fn put_at(
     length: usize,
     wanted: &str,
 ) -> Result<(), Fail> {
-    let alloc = rt.alloc();
-    let plan = riser_of(alloc, unit)?;
-    let certificate = certificate_of(alloc, &plan, CERTIFICATE)?;
-    let mut boxed: Vec<Box<dyn Terminus>> = Vec::new(alloc);
-    boxed.push(Box::new(alloc, list_at(alloc, &plan, NIC)?)?)?;
-    let checked = check(alloc, &plan, &certificate)?;
-    let mut network = network_of(alloc, checked, boxed)?;
-    let mut bytes = vec![in alloc; 0x01u8, 0x12, 0x08, 0xc9]?;
-    bytes.extend_from_slice(&vec![in alloc; 0u8; length]?)?;
-    let outcome = network.step(&Event::Put { node: HOST, bytes })?;
-    expect_told(rt, &plan, &outcome, "put", wanted)
+    let event = put_of(rt.alloc(), length)?;
+    play_at(rt, unit, Scenario::Step(&event, "put", wanted))
 }
 
 #[test]
@@ -98,7 +88,7 @@ const ONE_REQUEST: [Row; 9] = [
 
 #[test]
 fn one_packet_answers_at_a_unit_of_1024(rt: HostRuntime) -> Result<(), Fail> {
-    play_at(&rt, 1024, &ONE_REQUEST)
+    play_at(&rt, 1024, Scenario::Steps(&ONE_REQUEST))
 }
 
 /// Walks, each with the transmission unit, and whether the count of bytes in its requests is refused.
@@ -113,23 +103,20 @@ const COUNTS: [(u16, u16, &str); 8] = [
     (1024, 4080, "refused N10"),
 ];
 
+/// A walk of host over nic with this count.
+fn walk_of(count: u16) -> Event {
+    Event::Walk {
+        node: HOST,
+        eid: Eid::new(17),
+        tag: Tag::new(2),
+        count,
+    }
+}
+
 #[test]
 fn parts_fit_five_packets_of_the_unit(rt: HostRuntime) -> Result<(), Fail> {
-    let alloc = rt.alloc();
     for (unit, count, wanted) in COUNTS {
-        let plan = riser_of(alloc, unit)?;
-        let certificate = certificate_of(alloc, &plan, CERTIFICATE)?;
-        let mut boxed: Vec<Box<dyn Terminus>> = Vec::new(alloc);
-        boxed.push(Box::new(alloc, list_at(alloc, &plan, NIC)?)?)?;
-        let checked = check(alloc, &plan, &certificate)?;
-        let mut network = network_of(alloc, checked, boxed)?;
-        let outcome = network.step(&Event::Walk {
-            node: HOST,
-            eid: Eid::new(17),
-            tag: Tag::new(2),
-            count,
-        })?;
-        expect_told(&rt, &plan, &outcome, "walk", wanted)?;
+        play_at(&rt, unit, Scenario::Step(&walk_of(count), "walk", wanted))?;
     }
     Ok(())
 }
@@ -197,27 +184,40 @@ fn bring(network: &mut Network, bytes: Vec<u8>) -> Result<Option<Vec<u8>>, Fail>
     }
 }
 
+/// Whether the message comes with the fourth packet, and none comes before.
+fn comes_as_due(come: Option<&Vec<u8>>, place: usize, message: &[u8]) -> bool {
+    match come {
+        Some(bytes) => place == 3 && bytes.as_slice() == message,
+        None => place != 3,
+    }
+}
+
+/// Wants a message to come with the fourth of its four packets.
+fn expect_whole_with_fourth(
+    rt: &(impl Abort + AllocGlobal),
+    network: &mut Network,
+    message: &[u8],
+    packets: &[Vec<u8>],
+) -> Result<(), Fail> {
+    assert_eq!(rt; packets.len(), 4);
+    for (place, packet) in packets.iter().enumerate() {
+        let come = bring(network, packet.as_slice().to_vec(rt.alloc())?)?;
+        assert!(rt; comes_as_due(come.as_ref(), place, message), "at {place}");
+    }
+    Ok(())
+}
+
+/// Wants a message of 4096 bytes to come with the fourth packet of 1024 bytes.
+pub fn expect_four_packets(
+    rt: &(impl Abort + AllocGlobal),
+    network: &mut Network,
+) -> Result<(), Fail> {
+    let message = message_of(rt.alloc(), 4096)?;
+    let packets = written(rt.alloc(), 1024, &message)?;
+    expect_whole_with_fourth(rt, network, &message, &packets)
+}
+
 #[test]
 fn four_packets_of_1024_bytes_come_whole(rt: HostRuntime) -> Result<(), Fail> {
-    let alloc = rt.alloc();
-    let plan = riser_of(alloc, 1024)?;
-    let certificate = certificate_of(alloc, &plan, CERTIFICATE)?;
-    let mut boxed: Vec<Box<dyn Terminus>> = Vec::new(alloc);
-    boxed.push(Box::new(alloc, list_at(alloc, &plan, NIC)?)?)?;
-    let checked = check(alloc, &plan, &certificate)?;
-    let mut network = network_of(alloc, checked, boxed)?;
-    let message = message_of(alloc, 4096)?;
-    let packets = written(alloc, 1024, &message)?;
-    assert_eq!(rt; packets.len(), 4);
-    let mut came: usize = 0;
-    for (place, packet) in packets.iter().enumerate() {
-        let whole = bring(&mut network, packet.as_slice().to_vec(alloc)?)?;
-        assert_eq!(rt; whole.is_some(), place == 3, "at {place}");
-        if let Some(bytes) = whole {
-            assert_eq!(rt; bytes.as_slice(), message.as_slice());
-            came = came.saturating_add(1);
-        }
-    }
-    assert_eq!(rt; came, 1);
-    Ok(())
+    play_at(&rt, 1024, Scenario::FourPackets)
 }

@@ -1,15 +1,15 @@
 //! Walkers at length: the instance IDs of their requests, answers of several packets, counts, many walkers.
-use super::boxes::network_of;
 use super::losing::{deliver, has_collected, walk_of_host};
-use super::playing::{list_at, plan_of};
+use super::playing::{Scenario, Storage, network_over, plan_of, play, play_on_plan};
 use super::riser::{HOST, NIC, PLAN};
 use mctp_transport::{Eid, Tag};
-use net_check::{certify, check};
-use net_plan::{Event, Plan};
+use net_check::certify;
+use net_plan::{Certificate, Event, Plan};
 use net_sim::{Effect, Network, Outcome, Refusal, WalkRefusal};
 use pdr_repository::{ListTerminus, Terminus, is_lawful_list};
 use pldm_message::Tid;
 use std::alloc::{AllocError, Global};
+use std::process::Abort;
 use std::test::Fail;
 
 /// A record of another type than those that are known, with so many bytes of data.
@@ -43,13 +43,6 @@ pub fn terminus_with(alloc: Global, sizes: &[u16]) -> Result<Vec<Box<dyn Terminu
     let terminus = ListTerminus::new(alloc, Tid::new(1), records)?;
     let mut termini: Vec<Box<dyn Terminus>> = Vec::new(alloc);
     termini.push(Box::new(alloc, terminus)?)?;
-    Ok(termini)
-}
-
-/// The terminus of nic as it is planned.
-fn terminus_as_planned(alloc: Global, plan: &Plan) -> Result<Vec<Box<dyn Terminus>>, Fail> {
-    let mut termini: Vec<Box<dyn Terminus>> = Vec::new(alloc);
-    termini.push(Box::new(alloc, list_at(alloc, plan, NIC)?)?)?;
     Ok(termini)
 }
 
@@ -102,13 +95,77 @@ fn exchange(network: &mut Network) -> Result<Option<u8>, Fail> {
     Ok(id_byte(&come))
 }
 
-#[test]
-fn instance_ids_go_round_after_32_requests(rt: HostRuntime) -> Result<(), Fail> {
-    let alloc = rt.alloc();
-    let plan = plan_of(alloc, PLAN)?;
-    let certificate = certify(alloc, &plan)?;
-    let checked = check(alloc, &plan, &certificate)?;
-    let mut network = network_of(alloc, checked, terminus_with(alloc, &[0; 40])?)?;
+/// What is wanted of walks of host over nic.
+#[derive(Clone, Copy)]
+pub enum Walks {
+    /// 40 records of no data come by instance IDs that go round.
+    InstanceIds,
+    /// A record of 320 bytes of data comes in answers of five packets.
+    FivePackets,
+    /// Counts beyond five packets are refused.
+    Counts,
+    /// No walk begins beyond the plan.
+    BeyondThePlan,
+    /// 32 walkers ask.
+    ThirtyTwo,
+}
+
+/// Wants this of the walks on a network.
+pub fn expect_walks(
+    rt: &(impl Abort + AllocGlobal),
+    network: &mut Network,
+    walks: Walks,
+) -> Result<(), Fail> {
+    match walks {
+        Walks::InstanceIds => expect_instance_ids(rt, network),
+        Walks::FivePackets => expect_five_packets(rt, network),
+        Walks::Counts => expect_counts(rt, network),
+        Walks::BeyondThePlan => expect_no_walk(rt, network),
+        Walks::ThirtyTwo => expect_thirty_two(rt, network),
+    }
+}
+
+/// Plays on the riser network over a list of such records at nic.
+pub fn play_over(
+    rt: &(impl Abort + AllocGlobal),
+    plan: &Plan,
+    certificate: &Certificate,
+    sizes: &[u16],
+    scenario: Scenario<'_>,
+) -> Result<(), Fail> {
+    let termini = terminus_with(rt.alloc(), sizes)?;
+    let mut network = network_over(rt.alloc(), plan, certificate, termini)?;
+    play(rt, plan, &mut network, scenario)
+}
+
+/// Wants this of walks over a list of such records at nic.
+fn walk_over(rt: &(impl Abort + AllocGlobal), sizes: &[u16], walks: Walks) -> Result<(), Fail> {
+    let plan = plan_of(rt.alloc(), PLAN)?;
+    let certificate = certify(rt.alloc(), &plan)?;
+    play_over(rt, &plan, &certificate, sizes, Scenario::Walks(walks))
+}
+
+/// Wants this of walks over the records that are planned.
+fn walk_as_planned(rt: &(impl Abort + AllocGlobal), walks: Walks) -> Result<(), Fail> {
+    let plan = plan_of(rt.alloc(), PLAN)?;
+    let certificate = certify(rt.alloc(), &plan)?;
+    let termini = [(NIC, Storage::List)];
+    play_on_plan(rt, &plan, &certificate, &termini, Scenario::Walks(walks))
+}
+
+/// Wants the first walker to have collected such records.
+pub fn expect_collected(
+    rt: &(impl Abort + AllocGlobal),
+    network: &Network,
+    sizes: &[u16],
+) -> Result<(), Fail> {
+    let records = records_of(rt.alloc(), sizes)?;
+    assert!(rt; has_collected(network, 1, &records));
+    Ok(())
+}
+
+/// Wants the instance IDs of 40 requests to go round after 32.
+fn expect_instance_ids(rt: &(impl Abort + AllocGlobal), network: &mut Network) -> Result<(), Fail> {
     network.step(&walk_of_host(Tag::new(2)))?;
     for number in 0..40u8 {
         let wanted = if number < 32 {
@@ -116,10 +173,14 @@ fn instance_ids_go_round_after_32_requests(rt: HostRuntime) -> Result<(), Fail> 
         } else {
             number.saturating_add(0x60)
         };
-        assert_eq!(rt; exchange(&mut network)?, Some(wanted));
+        assert_eq!(rt; exchange(network)?, Some(wanted));
     }
-    assert!(rt; has_collected(&network, 1, &records_of(alloc, &[0; 40])?));
-    Ok(())
+    expect_collected(rt, network, &[0; 40])
+}
+
+#[test]
+fn instance_ids_go_round_after_32_requests(rt: HostRuntime) -> Result<(), Fail> {
+    walk_over(&rt, &[0; 40], Walks::InstanceIds)
 }
 
 /// A walk of host over nic with this count, under tag 1.
@@ -173,25 +234,27 @@ fn exchange_with_copy(network: &mut Network, twice: Option<u32>) -> Result<(u32,
     Ok((packets, come))
 }
 
+/// Answers in turn: the place whose packet comes twice, how many packets the answer has, how often a message comes.
+const ANSWERS: [(Option<u32>, (u32, u32)); 5] = [
+    (Some(1), (5, 0)),
+    (Some(2), (5, 0)),
+    (Some(3), (5, 0)),
+    (Some(0), (5, 1)),
+    (None, (1, 1)),
+];
+
+/// Wants an answer of five packets to come whole or not.
+fn expect_five_packets(rt: &(impl Abort + AllocGlobal), network: &mut Network) -> Result<(), Fail> {
+    network.step(&walk_by(303))?;
+    for (twice, wanted) in ANSWERS {
+        assert_eq!(rt; exchange_with_copy(network, twice)?, wanted, "{twice:?}");
+    }
+    expect_collected(rt, network, &[320])
+}
+
 #[test]
 fn an_answer_of_five_packets_comes_whole_or_not(rt: HostRuntime) -> Result<(), Fail> {
-    let alloc = rt.alloc();
-    let plan = plan_of(alloc, PLAN)?;
-    let certificate = certify(alloc, &plan)?;
-    let checked = check(alloc, &plan, &certificate)?;
-    let mut network = network_of(alloc, checked, terminus_with(alloc, &[320])?)?;
-    network.step(&walk_by(303))?;
-    for twice in 1..4u32 {
-        assert_eq!(rt;
-            exchange_with_copy(&mut network, Some(twice))?,
-            (5, 0),
-            "{twice}"
-        );
-    }
-    assert_eq!(rt; exchange_with_copy(&mut network, Some(0))?, (5, 1));
-    assert_eq!(rt; exchange_with_copy(&mut network, None)?, (1, 1));
-    assert!(rt; has_collected(&network, 1, &records_of(alloc, &[320])?));
-    Ok(())
+    walk_over(&rt, &[320], Walks::FivePackets)
 }
 
 /// Whether a walk with this count is refused for it.
@@ -200,18 +263,18 @@ fn is_refused_for_its_count(network: &mut Network, count: u16) -> Result<bool, A
     Ok(matches!(outcome, Outcome::Refused(WalkRefusal::WrongCount)))
 }
 
+/// Wants counts beyond five packets to be refused.
+fn expect_counts(rt: &(impl Abort + AllocGlobal), network: &mut Network) -> Result<(), Fail> {
+    for count in [0, 7, 304, 305, 4079, 4080, u16::MAX] {
+        assert!(rt; is_refused_for_its_count(network, count)?, "{count}");
+    }
+    assert!(rt; !is_refused_for_its_count(network, 303)?);
+    Ok(())
+}
+
 #[test]
 fn counts_beyond_five_packets_are_refused(rt: HostRuntime) -> Result<(), Fail> {
-    let alloc = rt.alloc();
-    let plan = plan_of(alloc, PLAN)?;
-    let certificate = certify(alloc, &plan)?;
-    let checked = check(alloc, &plan, &certificate)?;
-    let mut network = network_of(alloc, checked, terminus_as_planned(alloc, &plan)?)?;
-    for count in [0, 7, 304, 305, 4079, 4080, u16::MAX] {
-        assert!(rt; is_refused_for_its_count(&mut network, count)?, "{count}");
-    }
-    assert!(rt; !is_refused_for_its_count(&mut network, 303)?);
-    Ok(())
+    walk_as_planned(&rt, Walks::Counts)
 }
 
 /// A walk at a node under a tag, which asks this endpoint ID.
@@ -224,13 +287,8 @@ fn walk_at(node: usize, eid: u8, tag: Tag) -> Event {
     }
 }
 
-#[test]
-fn no_walk_begins_beyond_the_plan(rt: HostRuntime) -> Result<(), Fail> {
-    let alloc = rt.alloc();
-    let plan = plan_of(alloc, PLAN)?;
-    let certificate = certify(alloc, &plan)?;
-    let checked = check(alloc, &plan, &certificate)?;
-    let mut network = network_of(alloc, checked, terminus_as_planned(alloc, &plan)?)?;
+/// Wants no walk to begin beyond the plan.
+fn expect_no_walk(rt: &(impl Abort + AllocGlobal), network: &mut Network) -> Result<(), Fail> {
     for (node, eid) in [(4, 17u8), (4, 200), (usize::MAX, 17), (usize::MAX, 200)] {
         let outcome = network.step(&walk_at(node, eid, Tag::new(0)))?;
         let refused = matches!(
@@ -240,6 +298,11 @@ fn no_walk_begins_beyond_the_plan(rt: HostRuntime) -> Result<(), Fail> {
         assert!(rt; refused, "{node} {eid}");
     }
     Ok(())
+}
+
+#[test]
+fn no_walk_begins_beyond_the_plan(rt: HostRuntime) -> Result<(), Fail> {
+    walk_as_planned(&rt, Walks::BeyondThePlan)
 }
 
 /// How many walks begin under the 8 tags at the plan's four nodes, and how many are refused since their walkers are there.
@@ -258,15 +321,10 @@ fn begun_and_there(network: &mut Network) -> Result<(u32, u32), AllocError> {
     Ok((begun, there))
 }
 
-#[test]
-fn thirty_two_walkers_ask_one_terminus(rt: HostRuntime) -> Result<(), Fail> {
-    let alloc = rt.alloc();
-    let plan = plan_of(alloc, PLAN)?;
-    let certificate = certify(alloc, &plan)?;
-    let checked = check(alloc, &plan, &certificate)?;
-    let mut network = network_of(alloc, checked, terminus_as_planned(alloc, &plan)?)?;
-    assert_eq!(rt; begun_and_there(&mut network)?, (32, 0));
-    assert_eq!(rt; begun_and_there(&mut network)?, (0, 32));
+/// Wants 32 walkers to ask, and no other.
+fn expect_thirty_two(rt: &(impl Abort + AllocGlobal), network: &mut Network) -> Result<(), Fail> {
+    assert_eq!(rt; begun_and_there(network)?, (32, 0));
+    assert_eq!(rt; begun_and_there(network)?, (0, 32));
     for walker in 1..=32u32 {
         let outcome = network.step(&Event::Ask { walker })?;
         let asked = matches!(outcome, Outcome::Asked { number, .. } if number == walker);
@@ -275,4 +333,9 @@ fn thirty_two_walkers_ask_one_terminus(rt: HostRuntime) -> Result<(), Fail> {
     let outcome = network.step(&Event::Ask { walker: 33 })?;
     assert!(rt; matches!(outcome, Outcome::Refused(WalkRefusal::NoWalker)));
     Ok(())
+}
+
+#[test]
+fn thirty_two_walkers_ask_one_terminus(rt: HostRuntime) -> Result<(), Fail> {
+    walk_as_planned(&rt, Walks::ThirtyTwo)
 }
