@@ -7,19 +7,20 @@ use Rattle.std.proofs.lemmas.Option.{same_Some, slice_get_within}
 use Rattle.mctp_transport.specs.declared.address.Eid.{Eid}
 use Rattle.net_plan.specs.declared.plan.Plan.{Plan}
 use Rattle.net_check.specs.Routing.{ports_of, rows_of}
+use Rattle.net_check.specs.Repositories.{records_of}
 use Rattle.net_questions.specs.declared.code.Code.{Code}
 use Rattle.net_questions.specs.declared.code.Code.TheVariants as code
 use Rattle.net_questions.specs.declared.finding.Finding.{Finding}
 use Rattle.net_questions.specs.declared.finding.Finding.TheVariants.{SharedAddress, MissingAddress, SharedTid}
-use Rattle.net_questions.specs.declared.finding.Finding.TheVariants.{MissingLocator, IdleRow, PoolEidNotLedOn, LonePort, Isolated}
+use Rattle.net_questions.specs.declared.finding.Finding.TheVariants.{MissingLocator, IdleRow, PoolEidNotLedOn, LonePort, EmptyReadableRange, Isolated}
 use Rattle.net_questions.specs.Findings.{IsSo, order_of, subject_of, key_of, items_of, others_of, other_items_of, BeginsWith, Adds, IsUnder, AreFindings}
-use Rattle.net_questions.proofs.Within.{port_within, row_within, terminus_within, holder_within, bridge_within}
+use Rattle.net_questions.proofs.Within.{port_within, row_within, record_within, terminus_within, holder_within, bridge_within}
 use Rattle.net_questions.proofs.Ascending.{NextBelow, Below, start, one, nothing, all_pairs}
 
 -- ---- the codes in their order
 
 abbrev in_order : List Code
-in_order = code.SharedAddress ∷ code.MissingAddress ∷ code.SharedTid ∷ code.MissingLocator ∷ code.IdleRow ∷ code.PoolEidNotLedOn ∷ code.LonePort ∷ code.Isolated ∷ []
+in_order = code.SharedAddress ∷ code.MissingAddress ∷ code.SharedTid ∷ code.MissingLocator ∷ code.IdleRow ∷ code.PoolEidNotLedOn ∷ code.LonePort ∷ code.EmptyReadableRange ∷ code.Isolated ∷ []
 
 stands_in_order : (c : Code) → slice_get in_order (order_of c) ≡ Some c
 stands_in_order code.SharedAddress = refl
@@ -29,12 +30,13 @@ stands_in_order code.MissingLocator = refl
 stands_in_order code.IdleRow = refl
 stands_in_order code.PoolEidNotLedOn = refl
 stands_in_order code.LonePort = refl
+stands_in_order code.EmptyReadableRange = refl
 stands_in_order code.Isolated = refl
 
 pub one_order : (a b : Code) → order_of a ≡ order_of b → a ≡ b
 one_order a b same = same_Some a b (sym (stands_in_order a) ∙ (ap (λ k. slice_get in_order k) same ∙ stands_in_order b))
 
-pub order_at : (k : ℕ) (d : Code) → k < 8 → order_of (get_or in_order k d) ≡ k
+pub order_at : (k : ℕ) (d : Code) → k < 9 → order_of (get_or in_order k d) ≡ k
 order_at zero d less = refl
 order_at (suc zero) d less = refl
 order_at (suc (suc zero)) d less = refl
@@ -43,9 +45,10 @@ order_at (suc (suc (suc (suc zero)))) d less = refl
 order_at (suc (suc (suc (suc (suc zero))))) d less = refl
 order_at (suc (suc (suc (suc (suc (suc zero)))))) d less = refl
 order_at (suc (suc (suc (suc (suc (suc (suc zero))))))) d less = refl
-order_at (suc (suc (suc (suc (suc (suc (suc (suc k)))))))) d less = absurd (omega arith)
+order_at (suc (suc (suc (suc (suc (suc (suc (suc zero)))))))) d less = refl
+order_at (suc (suc (suc (suc (suc (suc (suc (suc (suc k))))))))) d less = absurd (omega arith)
 
-order_within : (c : Code) → order_of c < 8
+order_within : (c : Code) → order_of c < 9
 order_within code.SharedAddress = omega arith
 order_within code.MissingAddress = omega arith
 order_within code.SharedTid = omega arith
@@ -53,6 +56,7 @@ order_within code.MissingLocator = omega arith
 order_within code.IdleRow = omega arith
 order_within code.PoolEidNotLedOn = omega arith
 order_within code.LonePort = omega arith
+order_within code.EmptyReadableRange = omega arith
 order_within code.Isolated = omega arith
 
 -- ---- where findings stand
@@ -65,6 +69,7 @@ node_within plan (MissingLocator n) (t, is, rest) = terminus_within plan n t is
 node_within plan (IdleRow n r) (row, is, rest) = row_within plan n r row is
 node_within plan (PoolEidNotLedOn n eid) so = bridge_within plan n so.0
 node_within plan (LonePort n p) (a, is, rest) = port_within plan n p a is
+node_within plan (EmptyReadableRange n j) (r, is, rest) = record_within plan n j r is
 node_within plan (Isolated n) so = holder_within plan n so.1.0 so.1.1
 
 item_within : (plan : Plan) (f : Finding) → IsSo plan f → (subject_of f).item < items_of plan (subject_of f).code (subject_of f).node
@@ -75,6 +80,7 @@ item_within plan (MissingLocator n) so = omega arith
 item_within plan (IdleRow n r) (row, is, rest) = slice_get_within (rows_of plan n) r row is
 item_within plan (PoolEidNotLedOn n eid) so = eid.in_range
 item_within plan (LonePort n p) (a, is, rest) = slice_get_within (ports_of plan n) p a is
+item_within plan (EmptyReadableRange n j) (r, is, rest) = slice_get_within (records_of plan n) j r is
 item_within plan (Isolated n) so = omega arith
 
 other_within : (plan : Plan) (f : Finding) → IsSo plan f → (subject_of f).other < others_of plan (subject_of f).code
@@ -85,6 +91,7 @@ other_within plan (MissingLocator n) so = omega arith
 other_within plan (IdleRow n r) so = omega arith
 other_within plan (PoolEidNotLedOn n eid) so = omega arith
 other_within plan (LonePort n p) so = omega arith
+other_within plan (EmptyReadableRange n j) so = omega arith
 other_within plan (Isolated n) so = omega arith
 
 other_item_within : (plan : Plan) (f : Finding) → IsSo plan f → (subject_of f).other_item < other_items_of plan (subject_of f).code (subject_of f).other
@@ -95,12 +102,13 @@ other_item_within plan (MissingLocator n) so = omega arith
 other_item_within plan (IdleRow n r) so = omega arith
 other_item_within plan (PoolEidNotLedOn n eid) so = omega arith
 other_item_within plan (LonePort n p) so = omega arith
+other_item_within plan (EmptyReadableRange n j) so = omega arith
 other_item_within plan (Isolated n) so = omega arith
 
 -- ---- the ends of the loops
 
 module _ (plan : Plan) (f : Finding) (so : IsSo plan f) where
-  pub end_of_codes : NextBelow [] 8 (key_of f)
+  pub end_of_codes : NextBelow [] 9 (key_of f)
   end_of_codes = order_within (subject_of f).code
 
   pub end_of_nodes : (c : Code) → BeginsWith (order_of c ∷ []) (key_of f) → NextBelow (order_of c ∷ []) (length plan.nodes.items) (key_of f)
@@ -179,6 +187,7 @@ made code.MissingLocator n i m j = MissingLocator n
 made code.IdleRow n i m j = IdleRow n i
 made code.PoolEidNotLedOn n i m j = PoolEidNotLedOn n (eid_of i)
 made code.LonePort n i m j = LonePort n i
+made code.EmptyReadableRange n i m j = EmptyReadableRange n i
 made code.Isolated n i m j = Isolated n
 
 made_again : (f : Finding) → made (subject_of f).code (subject_of f).node (subject_of f).item (subject_of f).other (subject_of f).other_item ≡ f
@@ -190,6 +199,7 @@ made_again (MissingLocator n) = refl
 made_again (IdleRow n r) = refl
 made_again (PoolEidNotLedOn n eid) = ap (λ e. PoolEidNotLedOn n e) (same_eid (eid_of eid.value) eid (value_of_eid eid))
 made_again (LonePort n p) = refl
+made_again (EmptyReadableRange n j) = refl
 made_again (Isolated n) = refl
 
 one_made : (c d : Code) (n k i j m l p q : ℕ) → c ≡ d → n ≡ k → i ≡ j → m ≡ l → p ≡ q → made c n i m p ≡ made d k j l q
@@ -214,7 +224,7 @@ none_added plan f old not = nothing (IsUnder plan (key_of f)) old (λ g at. not 
 
 -- ---- the whole list
 
-pub are_findings : (plan : Plan) (findings : List Finding) → Adds (Below plan [] 8) [] findings → AreFindings plan findings
+pub are_findings : (plan : Plan) (findings : List Finding) → Adds (Below plan [] 9) [] findings → AreFindings plan findings
 are_findings plan findings (more, is, all) =
     let whole : findings ≡ more = is in
     subst (λ fs. AreFindings plan fs) (sym whole) (record {

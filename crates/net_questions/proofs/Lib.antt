@@ -6,3 +6,4 @@ pub mod Exists
 pub mod Ascending
 pub mod Within
 pub mod Bounds
+pub mod Numbers

@@ -2,15 +2,16 @@
 use Rattle.std.specs.Prelude.{◌≡◌, ◌↔◌, ℕ, List, [], ◌∷◌, ◌++◌, length, Contains, AllPairs, All, ⊤}
 use Rattle.net_plan.specs.declared.plan.Plan.{Plan}
 use Rattle.net_check.specs.Routing.{ports_of, rows_of}
+use Rattle.net_check.specs.Repositories.{records_of}
 use Rattle.net_check.specs.Faults.{LessByFirstDifference}
 use Rattle.net_questions.specs.declared.code.Code.{Code}
 use Rattle.net_questions.specs.declared.code.Code.TheVariants as code
 use Rattle.net_questions.specs.declared.finding.Finding.{Finding}
 use Rattle.net_questions.specs.declared.finding.Finding.TheVariants.{SharedAddress, MissingAddress, SharedTid}
 use Rattle.net_questions.specs.declared.finding.Finding.TheVariants.{MissingLocator, IdleRow, PoolEidNotLedOn}
-use Rattle.net_questions.specs.declared.finding.Finding.TheVariants.{LonePort, Isolated}
+use Rattle.net_questions.specs.declared.finding.Finding.TheVariants.{LonePort, EmptyReadableRange, Isolated}
 use Rattle.net_questions.specs.Lint.{ShareAddress, LacksAddress, IsAloneOnBus, ShareTid, LacksLocator}
-use Rattle.net_questions.specs.Lint.{HasIdleRow, LeavesHeld, IsIsolated}
+use Rattle.net_questions.specs.Lint.{HasIdleRow, LeavesHeld, HasEmptyReadableRange, IsIsolated}
 
 -- the finding is so in the plan
 abbrev pub IsSo : Plan → Finding → Type 0
@@ -21,6 +22,7 @@ IsSo plan (MissingLocator n) = LacksLocator plan n
 IsSo plan (IdleRow n r) = HasIdleRow plan n r
 IsSo plan (PoolEidNotLedOn n eid) = LeavesHeld plan n eid.value
 IsSo plan (LonePort n p) = IsAloneOnBus plan n p
+IsSo plan (EmptyReadableRange n j) = HasEmptyReadableRange plan n j
 IsSo plan (Isolated n) = IsIsolated plan n
 
 -- the place of a code among the codes
@@ -32,7 +34,8 @@ order_of code.MissingLocator = 3
 order_of code.IdleRow = 4
 order_of code.PoolEidNotLedOn = 5
 order_of code.LonePort = 6
-order_of code.Isolated = 7
+order_of code.EmptyReadableRange = 7
+order_of code.Isolated = 8
 
 -- What a finding is about: its code; a node, and one of its ports, rows, records or EIDs; another node, and one of its
 -- ports or records. What is not spoken of is 0.
@@ -53,6 +56,8 @@ subject_of (IdleRow n r) = record { code = code.IdleRow; node = n; item = r; oth
 subject_of (PoolEidNotLedOn n eid) =
     record { code = code.PoolEidNotLedOn; node = n; item = eid.value; other = 0; other_item = 0 }
 subject_of (LonePort n p) = record { code = code.LonePort; node = n; item = p; other = 0; other_item = 0 }
+subject_of (EmptyReadableRange n j) =
+    record { code = code.EmptyReadableRange; node = n; item = j; other = 0; other_item = 0 }
 subject_of (Isolated n) = record { code = code.Isolated; node = n; item = 0; other = 0; other_item = 0 }
 
 -- by code, then by what it is about
@@ -104,6 +109,7 @@ items_of plan code.MissingLocator n = 1
 items_of plan code.IdleRow n = length (rows_of plan n)
 items_of plan code.PoolEidNotLedOn n = 256
 items_of plan code.LonePort n = length (ports_of plan n)
+items_of plan code.EmptyReadableRange n = length (records_of plan n)
 items_of plan code.Isolated n = 1
 
 -- how many other nodes a code looks at; one where it speaks of none
@@ -115,6 +121,7 @@ others_of plan code.MissingLocator = 1
 others_of plan code.IdleRow = 1
 others_of plan code.PoolEidNotLedOn = 1
 others_of plan code.LonePort = 1
+others_of plan code.EmptyReadableRange = 1
 others_of plan code.Isolated = 1
 
 -- how many other items a code looks at; one where it speaks of none
@@ -126,4 +133,5 @@ other_items_of plan code.MissingLocator m = 1
 other_items_of plan code.IdleRow m = 1
 other_items_of plan code.PoolEidNotLedOn m = 1
 other_items_of plan code.LonePort m = 1
+other_items_of plan code.EmptyReadableRange m = 1
 other_items_of plan code.Isolated m = 1

@@ -1,10 +1,12 @@
 -- What is lawful in a plan and still looks wrong.
-use Rattle.std.specs.Prelude.{◌≡◌, ◌≢◌, ◌⊎◌, ℕ, ◌<◌, [], ◌∷◌, Some, slice_get}
+use Rattle.std.specs.Prelude.{◌≡◌, ◌≢◌, ◌⊎◌, ℕ, ◌<◌, ◌+◌, ◌*◌, ◌-◌, ◌^◌, nat_lt, nat_eq, if◌then◌else◌, List, [], ◌∷◌, Some, slice_get}
 use Rattle.net_plan.specs.declared.plan.Plan.{Plan}
 use Rattle.net_plan.specs.declared.nodes.Port.{Port}
 use Rattle.net_plan.specs.declared.nodes.Row.{Row}
 use Rattle.net_plan.specs.declared.terminus.Record.{Record}
 use Rattle.net_plan.specs.declared.terminus.Terminus.{Terminus}
+use Rattle.pdr_record.specs.Layouts.{NumericValue}
+use Rattle.pdr_record.specs.Records.{RecordValue, BodyValue, Spelled}
 use Rattle.net_check.specs.Routing.{ports_of, rows_of, IsBridge, Holds, Covers, HasRow}
 use Rattle.net_check.specs.Pools.{IsInPoolOf}
 use Rattle.net_check.specs.Repositories.{terminus_of, records_of}
@@ -102,6 +104,47 @@ IsUnlocated plan n tid = (e : ℕ) × Holds plan n e × ¬ HasLocator plan n tid
 -- n has a terminus, and no valid locator of its own TID and EID
 abbrev pub LacksLocator : Plan → ℕ → Type 0
 LacksLocator plan n = (t : Terminus) × (terminus_of plan n ≡ Some t) × IsUnlocated plan n t.tid
+
+-- ---- sensors
+
+-- the number that the bytes spell, the lowest byte first
+abbrev pub number_of : List ℕ → ℕ
+number_of [] = 0
+number_of (b ∷ bs) = b + 256 * number_of bs
+
+-- A signed number whose sign bit, of this weight, is flipped. Flipped numbers, taken as unsigned, stand in the order of
+-- the signed ones: the least one, the sign bit alone, is flipped to 0.
+abbrev pub flipped : ℕ → ℕ → ℕ
+flipped sign k = if nat_lt k sign then k + sign else k - sign
+
+-- The place of a number among those of its data size, in their order, from 0. Data sizes 1, 3 and 5 are the signed ones,
+-- in two's complement of 8, 16 and 32 bits.
+abbrev pub place_of : ℕ → ℕ → ℕ
+place_of size k =
+    if nat_eq size 1 then flipped (2 ^ 7) k
+    else if nat_eq size 3 then flipped (2 ^ 15) k
+    else if nat_eq size 5 then flipped (2 ^ 31) k
+    else k
+
+-- the bytes a are a number of the data size that is over the number that the bytes b are
+abbrev pub IsOver : ℕ → List ℕ → List ℕ → Type 0
+IsOver size a b = place_of size (number_of b) < place_of size (number_of a)
+
+-- the bytes are those of a numeric sensor's record
+pub record IsNumericSensor (bytes : List ℕ) (sensor : NumericValue) : Type 0 where
+  pub whole : RecordValue
+  pub spelled : Spelled whole bytes
+  pub body : whole.body ≡ BodyValue.Numeric sensor
+
+-- the bytes are those of a numeric sensor's record, whose minReadable is over its maxReadable
+abbrev pub HasEmptyRange : List ℕ → Type 0
+HasEmptyRange bytes =
+    (s : NumericValue) × IsNumericSensor bytes s × IsOver s.data_size s.min_readable s.max_readable
+
+-- n's record j is such a record
+abbrev pub HasEmptyReadableRange : Plan → ℕ → ℕ → Type 0
+HasEmptyReadableRange plan n j =
+    (r : Record) × (slice_get (records_of plan n) j ≡ Some r) × HasEmptyRange r.bytes.items
 
 -- ---- rows
 

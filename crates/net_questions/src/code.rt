@@ -10,11 +10,12 @@ pub enum Code {
     IdleRow,
     PoolEidNotLedOn,
     LonePort,
+    EmptyReadableRange,
     Isolated,
 }
 
 /// The codes, in their order.
-pub const CODES: [Code; 8] = [
+pub const CODES: [Code; 9] = [
     Code::SharedAddress,
     Code::MissingAddress,
     Code::SharedTid,
@@ -22,5 +23,6 @@ pub const CODES: [Code; 8] = [
     Code::IdleRow,
     Code::PoolEidNotLedOn,
     Code::LonePort,
+    Code::EmptyReadableRange,
     Code::Isolated,
 ];

@@ -41,6 +41,11 @@ pub enum Finding {
         node: usize,
         port: usize,
     },
+    /// H11: a record is a numeric sensor's whose least readable value is over its greatest one.
+    EmptyReadableRange {
+        node: usize,
+        record: usize,
+    },
     /// H12: a node has no rows, and no node has a row for its endpoint ID.
     Isolated {
         node: usize,

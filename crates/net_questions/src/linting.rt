@@ -4,8 +4,8 @@ ghost use Rattle.net_questions.specs.Findings.{IsSo, AreFindings, Adds, IsUnder,
 
 use crate::code::{CODES, Code};
 use crate::finding::Finding;
-use crate::lints::{locators, ports, rows, termini};
-use crate::lookup::{ports_at, rows_at};
+use crate::lints::{locators, ports, rows, sensors, termini};
+use crate::lookup::{ports_at, records_at, rows_at};
 use mctp_transport::Eid;
 use net_plan::Plan;
 use std::alloc::{AllocError, Global};
@@ -103,6 +103,7 @@ fn items(plan: &Plan, code: Code, node: usize) -> usize
         Code::SharedAddress | Code::MissingAddress | Code::LonePort => ports_at(plan, node).len(),
         Code::IdleRow => rows_at(plan, node).len(),
         Code::PoolEidNotLedOn => 256,
+        Code::EmptyReadableRange => records_at(plan, node).len(),
         Code::SharedTid | Code::MissingLocator | Code::Isolated => 1,
     }
 }
@@ -157,6 +158,7 @@ fn finding_at(
             eid: Eid::new(item as u8),
         },
         Code::LonePort => Finding::LonePort { node, port: item },
+        Code::EmptyReadableRange => Finding::EmptyReadableRange { node, record: item },
         Code::Isolated => Finding::Isolated { node },
     }
 }
@@ -178,6 +180,9 @@ fn is_so(plan: &Plan, finding: Finding) -> bool
         Finding::IdleRow { node, row } => rows::has_idle_row(plan, node, row),
         Finding::PoolEidNotLedOn { node, eid } => rows::leaves_held(plan, node, eid),
         Finding::LonePort { node, port } => ports::is_alone_on_bus(plan, node, port),
+        Finding::EmptyReadableRange { node, record } => {
+            sensors::has_empty_readable_range(plan, node, record)
+        }
         Finding::Isolated { node } => rows::is_isolated(plan, node),
     }
 }

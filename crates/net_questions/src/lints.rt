@@ -2,4 +2,5 @@
 pub mod locators;
 pub mod ports;
 pub mod rows;
+pub mod sensors;
 pub mod termini;

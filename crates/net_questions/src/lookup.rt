@@ -114,6 +114,13 @@ pub fn terminus_at(plan: &Plan, node: usize) -> Option<&Terminus>
     plan.nodes.get(node)?.terminus.as_ref()
 }
 
+/// A record of a node's terminus, if it has it.
+pub fn record_at(plan: &Plan, node: usize, index: usize) -> Option<&Record>
+    ensures { option_map (λ r. r.now) result ≡ slice_get (records_of plan.now node) index }
+{
+    records_at(plan, node).get(index)
+}
+
 /// The records of a node's terminus, none where it has no terminus.
 pub fn records_at(plan: &Plan, node: usize) -> &[Record]
     ensures { result.now ≡ records_of plan.now node }

@@ -72,6 +72,7 @@ finding_line plan (finding.MissingLocator n) = node_finding (codes "H04") plan n
 finding_line plan (finding.IdleRow n r) = item_finding (codes "H08") plan n (codes "row") r
 finding_line plan (finding.PoolEidNotLedOn n eid) = item_finding (codes "H09") plan n (codes "eid") eid.value
 finding_line plan (finding.LonePort n p) = port_finding (codes "H10") plan n p
+finding_line plan (finding.EmptyReadableRange n j) = item_finding (codes "H11") plan n (codes "record") j
 finding_line plan (finding.Isolated n) = node_finding (codes "H12") plan n
 
 -- a line for each finding, in their order

@@ -226,6 +226,9 @@ fn of_h(code: &str) -> Option<&'static str> {
         "H10" => Some(
             "H10: a port is the only one on its bus.\nCause: the node that it should meet stands on another bus, or is missing.\nHint: put the other node's port on the bus, or drop this one.\n",
         ),
+        "H11" => Some(
+            "H11: a record reads as a numeric sensor whose minReadable is over its maxReadable, both as numbers\nof its data size, signed or not.\nCause: the two were swapped, or written for another data size.\nHint: write the lower limit as minReadable, or the data size that the two were meant for.\n",
+        ),
         "H12" => Some(
             "H12: a node has no rows, and no node has a row for its endpoint ID.\nCause: the node was put into the plan and never routed.\nHint: give the node rows, and those that it should hear from rows for it.\n",
         ),

@@ -41,6 +41,9 @@ fn finding_line(alloc: Global, plan: &Plan, finding: &Finding) -> Result<String,
             item_finding(alloc, "H09", plan, node, "eid", usize::from(eid.value))
         }
         Finding::LonePort { node, port } => port_finding(alloc, "H10", plan, node, port),
+        Finding::EmptyReadableRange { node, record } => {
+            item_finding(alloc, "H11", plan, node, "record", record)
+        }
         Finding::Isolated { node } => node_finding(alloc, "H12", plan, node),
     }
 }

@@ -1,0 +1,120 @@
+//! H11: the readable ranges of numeric sensors.
+ghost use Rattle.std.specs.Prelude.{◌≡◌, ◌<◌, ◌≤◌, ◌↔◌, ℕ, length, IsTrue, IfSome, IsSomeAnd, Some, slice_get, get_or, ◌^◌};
+ghost use Rattle.pdr_record.specs.Layouts.{NumericValue, IsNumeric, width_of};
+ghost use Rattle.pdr_record.specs.Numbers.{size_code};
+ghost use Rattle.pdr_record.specs.NumericValues.{numeric_value};
+ghost use Rattle.net_questions.specs.Lint.{number_of, flipped, place_of, IsOver, IsNumericSensor, HasEmptyRange, HasEmptyReadableRange};
+
+use crate::lookup::record_at;
+use mctp_transport::Wire;
+use net_plan::{Plan, Record};
+use pdr_record::{Body, NumericSensor, SensorDataSize};
+
+/// Where the type stands in the common header of a record (DSP0248).
+const TYPE_AT: usize = 5;
+/// The type of a numeric sensor (DSP0248).
+const NUMERIC_SENSOR: u8 = 2;
+
+/// Whether a node's record is a numeric sensor's whose least readable value is over its greatest one.
+pub fn has_empty_readable_range(plan: &Plan, node: usize, index: usize) -> bool
+    ensures { IsTrue result ↔ HasEmptyReadableRange plan.now node index }
+{
+    match record_at(plan, node, index) {
+        Some(listed) => has_empty_range(listed),
+        None => false,
+    }
+}
+
+/// Whether a record is a numeric sensor's whose least readable value is over its greatest one.
+fn has_empty_range(listed: &Record) -> bool
+    ensures { IsTrue result ↔ HasEmptyRange listed.now.bytes.items }
+{
+    match numeric_sensor(&listed.bytes) {
+        Some(sensor) => is_over(
+            sensor.sensor_data_size,
+            sensor.min_readable,
+            sensor.max_readable,
+        ),
+        None => false,
+    }
+}
+
+/// The numeric sensor whose record the bytes are, if they are one's.
+fn numeric_sensor(bytes: &[u8]) -> Option<NumericSensor<'_>>
+    ensures found { IfSome result (λ sensor. IsNumericSensor bytes.now (numeric_value sensor)) }
+    ensures layout { IfSome result (λ sensor. IsNumeric (numeric_value sensor)) }
+    ensures all { (s : NumericValue) → IsNumericSensor bytes.now s → IsSomeAnd result (λ sensor. numeric_value sensor ≡ s) }
+{
+    if !has_numeric_type(bytes) {
+        return None;
+    }
+    match pdr_record::Record::read(bytes) {
+        Ok(record) => match record.body {
+            Body::Numeric(sensor) => Some(sensor),
+            _ => None,
+        },
+        Err(_) => None,
+    }
+}
+
+/// Whether the common header, if the bytes have one, tells a numeric sensor.
+fn has_numeric_type(bytes: &[u8]) -> bool
+    ensures { IsTrue result ↔ (slice_get bytes.now 5 ≡ Some 2) }
+{
+    bytes.get(TYPE_AT) == Some(&NUMERIC_SENSOR)
+}
+
+/// Whether one value of the data size is over another.
+fn is_over(size: SensorDataSize, value: &[u8], other: &[u8]) -> bool
+    requires value { length value.now ≡ width_of (size_code size) }
+    requires other { length other.now ≡ width_of (size_code size) }
+    ensures { IsTrue result ↔ IsOver (size_code size) value.now other.now }
+{
+    place(size, number(other)) < place(size, number(value))
+}
+
+/// The place of a number among those of its data size, in their order.
+fn place(size: SensorDataSize, number: u64) -> u64
+    requires { number < 2 ^ 32 }
+    ensures { result ≡ place_of (size_code size) number }
+{
+    match size {
+        SensorDataSize::S8 => flip(number, 1 << 7),
+        SensorDataSize::S16 => flip(number, 1 << 15),
+        SensorDataSize::S32 => flip(number, 1 << 31),
+        SensorDataSize::U8 | SensorDataSize::U16 | SensorDataSize::U32 => number,
+    }
+}
+
+/// A number whose sign bit, of this weight, is flipped.
+fn flip(number: u64, sign: u64) -> u64
+    requires number { number < 2 ^ 32 }
+    requires sign { sign < 2 ^ 32 }
+    ensures { result ≡ flipped sign number }
+{
+    if number < sign {
+        number + sign
+    } else {
+        number - sign
+    }
+}
+
+/// The number that at most four bytes are, the lowest first.
+fn number(bytes: &[u8]) -> u64
+    requires { length bytes.now ≤ 4 }
+    ensures range { result < 2 ^ 32 }
+    ensures number { result ≡ number_of bytes.now }
+{
+    byte(bytes, 0) + 256 * byte(bytes, 1) + 65536 * byte(bytes, 2) + 16777216 * byte(bytes, 3)
+}
+
+/// A byte, 0 behind the end.
+fn byte(bytes: &[u8], at: usize) -> u64
+    ensures range { result < 256 }
+    ensures byte { result ≡ get_or bytes.now at 0 }
+{
+    match bytes.get(at) {
+        Some(byte) => u64::from(*byte),
+        None => 0,
+    }
+}
