@@ -7,3 +7,4 @@ pub mod Ascending
 pub mod Within
 pub mod Bounds
 pub mod Numbers
+pub mod SensorIds

@@ -1,5 +1,6 @@
 -- What is lawful in a plan and still looks wrong.
-use Rattle.std.specs.Prelude.{◌≡◌, ◌≢◌, ◌⊎◌, ℕ, ◌<◌, ◌+◌, ◌*◌, ◌-◌, ◌^◌, nat_lt, nat_eq, if◌then◌else◌, List, [], ◌∷◌, Some, slice_get}
+use Rattle.std.specs.Prelude.{◌≡◌, ◌≢◌, ◌⊎◌, ℕ, ◌<◌, ◌+◌, ◌*◌, ◌-◌, ◌^◌, nat_lt, nat_eq, if◌then◌else◌}
+use Rattle.std.specs.Prelude.{List, [], ◌∷◌, Option, Some, None, slice_get}
 use Rattle.net_plan.specs.declared.plan.Plan.{Plan}
 use Rattle.net_plan.specs.declared.nodes.Port.{Port}
 use Rattle.net_plan.specs.declared.nodes.Row.{Row}
@@ -106,6 +107,34 @@ abbrev pub LacksLocator : Plan → ℕ → Type 0
 LacksLocator plan n = (t : Terminus) × (terminus_of plan n ≡ Some t) × IsUnlocated plan n t.tid
 
 -- ---- sensors
+
+-- the sensor ID of a body, if it is a numeric or state sensor's
+abbrev pub sensor_id_of : BodyValue → Option ℕ
+sensor_id_of (BodyValue.Terminus t) = None
+sensor_id_of (BodyValue.Numeric n) = Some n.sensor.sensor_id
+sensor_id_of (BodyValue.State s) = Some s.sensor.sensor_id
+sensor_id_of (BodyValue.Association a) = None
+sensor_id_of (BodyValue.Other number bytes) = None
+
+-- the bytes are those of a numeric or state sensor's record, which has this sensor ID
+pub record IsSensorRecord (bytes : List ℕ) (id : ℕ) : Type 0 where
+  pub whole : RecordValue
+  pub spelled : Spelled whole bytes
+  pub id_is : sensor_id_of whole.body ≡ Some id
+
+-- a record of n's before record j is one of the sensor ID
+abbrev pub HasEarlierSensor : Plan → ℕ → ℕ → ℕ → Type 0
+HasEarlierSensor plan n j id =
+    (i : ℕ) × (r : Record) × (slice_get (records_of plan n) i ≡ Some r) × ((i < j) × IsSensorRecord r.bytes.items id)
+
+-- the bytes are those of a sensor's record, and a record of n's before record j is one of the same sensor ID
+abbrev pub RepeatsSensorId : Plan → ℕ → ℕ → List ℕ → Type 0
+RepeatsSensorId plan n j bytes = (id : ℕ) × IsSensorRecord bytes id × HasEarlierSensor plan n j id
+
+-- n's record j is a sensor's, and an earlier one of n's is one of the same sensor ID
+abbrev pub SharesSensorId : Plan → ℕ → ℕ → Type 0
+SharesSensorId plan n j =
+    (r : Record) × (slice_get (records_of plan n) j ≡ Some r) × RepeatsSensorId plan n j r.bytes.items
 
 -- the number that the bytes spell, the lowest byte first
 abbrev pub number_of : List ℕ → ℕ

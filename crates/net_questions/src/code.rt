@@ -7,6 +7,7 @@ pub enum Code {
     MissingAddress,
     SharedTid,
     MissingLocator,
+    SharedSensorId,
     IdleRow,
     PoolEidNotLedOn,
     LonePort,
@@ -15,11 +16,12 @@ pub enum Code {
 }
 
 /// The codes, in their order.
-pub const CODES: [Code; 9] = [
+pub const CODES: [Code; 10] = [
     Code::SharedAddress,
     Code::MissingAddress,
     Code::SharedTid,
     Code::MissingLocator,
+    Code::SharedSensorId,
     Code::IdleRow,
     Code::PoolEidNotLedOn,
     Code::LonePort,

@@ -26,6 +26,11 @@ pub enum Finding {
     MissingLocator {
         node: usize,
     },
+    /// H05: a record is a numeric or state sensor's, and an earlier one of its terminus is one with the same sensor ID.
+    SharedSensorId {
+        node: usize,
+        record: usize,
+    },
     /// H08: none of a row's endpoint IDs is held by a node or lies in a pool.
     IdleRow {
         node: usize,

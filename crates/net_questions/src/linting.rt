@@ -103,7 +103,7 @@ fn items(plan: &Plan, code: Code, node: usize) -> usize
         Code::SharedAddress | Code::MissingAddress | Code::LonePort => ports_at(plan, node).len(),
         Code::IdleRow => rows_at(plan, node).len(),
         Code::PoolEidNotLedOn => 256,
-        Code::EmptyReadableRange => records_at(plan, node).len(),
+        Code::SharedSensorId | Code::EmptyReadableRange => records_at(plan, node).len(),
         Code::SharedTid | Code::MissingLocator | Code::Isolated => 1,
     }
 }
@@ -152,6 +152,7 @@ fn finding_at(
         Code::MissingAddress => Finding::MissingAddress { node, port: item },
         Code::SharedTid => Finding::SharedTid { node, other },
         Code::MissingLocator => Finding::MissingLocator { node },
+        Code::SharedSensorId => Finding::SharedSensorId { node, record: item },
         Code::IdleRow => Finding::IdleRow { node, row: item },
         Code::PoolEidNotLedOn => Finding::PoolEidNotLedOn {
             node,
@@ -177,6 +178,7 @@ fn is_so(plan: &Plan, finding: Finding) -> bool
         Finding::MissingAddress { node, port } => ports::lacks_address(plan, node, port),
         Finding::SharedTid { node, other } => termini::share_tid(plan, node, other),
         Finding::MissingLocator { node } => locators::lacks_locator(plan, node),
+        Finding::SharedSensorId { node, record } => sensors::shares_sensor_id(plan, node, record),
         Finding::IdleRow { node, row } => rows::has_idle_row(plan, node, row),
         Finding::PoolEidNotLedOn { node, eid } => rows::leaves_held(plan, node, eid),
         Finding::LonePort { node, port } => ports::is_alone_on_bus(plan, node, port),
