@@ -8,7 +8,8 @@ use Rattle.net_questions.specs.declared.code.Code.{Code}
 use Rattle.net_questions.specs.declared.code.Code.TheVariants as code
 use Rattle.net_questions.specs.declared.finding.Finding.{Finding}
 use Rattle.net_questions.specs.declared.finding.Finding.TheVariants.{SharedAddress, MissingAddress, SharedTid}
-use Rattle.net_questions.specs.declared.finding.Finding.TheVariants.{MissingLocator, SharedSensorId, IdleRow, PoolEidNotLedOn}
+use Rattle.net_questions.specs.declared.finding.Finding.TheVariants.{MissingLocator, SharedSensorId}
+use Rattle.net_questions.specs.declared.finding.Finding.TheVariants.{IdleRow, PoolEidNotLedOn}
 use Rattle.net_questions.specs.declared.finding.Finding.TheVariants.{LonePort, EmptyReadableRange, Isolated}
 use Rattle.net_questions.specs.Lint.{ShareAddress, LacksAddress, IsAloneOnBus, ShareTid, LacksLocator}
 use Rattle.net_questions.specs.Lint.{SharesSensorId, HasIdleRow, LeavesHeld, HasEmptyReadableRange, IsIsolated}

@@ -146,8 +146,8 @@ number_of (b ∷ bs) = b + 256 * number_of bs
 abbrev pub flipped : ℕ → ℕ → ℕ
 flipped sign k = if nat_lt k sign then k + sign else k - sign
 
--- The place of a number among those of its data size, in their order, from 0. Data sizes 1, 3 and 5 are the signed ones,
--- in two's complement of 8, 16 and 32 bits.
+-- The place of a number among those of its data size, in their order, from 0. Data sizes 1, 3 and 5 are the signed
+-- ones, in two's complement of 8, 16 and 32 bits.
 abbrev pub place_of : ℕ → ℕ → ℕ
 place_of size k =
     if nat_eq size 1 then flipped (2 ^ 7) k

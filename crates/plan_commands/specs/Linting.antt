@@ -69,6 +69,7 @@ finding_line plan (finding.SharedAddress n p m q) = address_finding plan n p m q
 finding_line plan (finding.MissingAddress n p) = port_finding (codes "H02") plan n p
 finding_line plan (finding.SharedTid n m) = pair_finding (codes "H03") plan n (codes "node") m
 finding_line plan (finding.MissingLocator n) = node_finding (codes "H04") plan n
+finding_line plan (finding.SharedSensorId n j) = item_finding (codes "H05") plan n (codes "record") j
 finding_line plan (finding.IdleRow n r) = item_finding (codes "H08") plan n (codes "row") r
 finding_line plan (finding.PoolEidNotLedOn n eid) = item_finding (codes "H09") plan n (codes "eid") eid.value
 finding_line plan (finding.LonePort n p) = port_finding (codes "H10") plan n p

@@ -217,6 +217,9 @@ fn of_h(code: &str) -> Option<&'static str> {
         "H04" => Some(
             "H04: a terminus has no record that is a valid locator of its own terminus ID and its node's endpoint\nID.\nCause: the locator was left out, is not valid, or names another terminus ID or endpoint ID.\nHint: give its repository a valid terminus locator (type 1) of both.\n",
         ),
+        "H05" => Some(
+            "H05: a record reads as a numeric or state sensor, and an earlier record of its terminus reads as one\nwith the same sensor ID.\nCause: a sensor's record was copied.\nHint: give one of the two sensors its own sensor ID.\n",
+        ),
         "H08" => Some(
             "H08: a row has no endpoint ID that a node holds or that lies in a pool.\nCause: the row is left over, or its endpoint IDs are mistyped.\nHint: drop the row, or write the endpoint IDs of those behind it.\n",
         ),

@@ -36,6 +36,9 @@ fn finding_line(alloc: Global, plan: &Plan, finding: &Finding) -> Result<String,
             pair_finding(alloc, "H03", plan, node, "node", other)
         }
         Finding::MissingLocator { node } => node_finding(alloc, "H04", plan, node),
+        Finding::SharedSensorId { node, record } => {
+            item_finding(alloc, "H05", plan, node, "record", record)
+        }
         Finding::IdleRow { node, row } => item_finding(alloc, "H08", plan, node, "row", row),
         Finding::PoolEidNotLedOn { node, eid } => {
             item_finding(alloc, "H09", plan, node, "eid", usize::from(eid.value))
