@@ -246,21 +246,8 @@ struct Sent {
     whole: u32,
 }
 
-/// Sends the packets in this order, and tells how often the message came. It comes where its packets come in a row.
-fn send_as_due(
-    rt: &(impl Abort + AllocGlobal),
-    network: &mut Network,
-    message: &[u8],
-    packets: &[Vec<u8>],
-    places: &[usize],
-) -> Result<u32, Fail> {
-    let come = send(rt.alloc(), network, message, packets, places)?;
-    let in_a_row = places.starts_with(&IN_A_ROW) || places.ends_with(&IN_A_ROW);
-    assert_eq!(rt; come, u32::from(in_a_row), "{places:?}");
-    Ok(come)
-}
-
-/// Sends the packets in the orders of these many numbers, as far as one packet at most comes twice.
+/// Sends the packets in the orders of these many numbers, as far as one packet at most comes twice. The message comes
+/// where its packets come in a row.
 fn send_in_orders(
     rt: &(impl Abort + AllocGlobal),
     network: &mut Network,
@@ -277,7 +264,9 @@ fn send_in_orders(
         if !repeats_one_at_most(&places) {
             continue;
         }
-        let come = send_as_due(rt, network, message, packets, &places)?;
+        let come = send(rt.alloc(), network, message, packets, &places)?;
+        let in_a_row = places.starts_with(&IN_A_ROW) || places.ends_with(&IN_A_ROW);
+        assert_eq!(rt; come, u32::from(in_a_row), "{places:?}");
         sent.orders = sent.orders.saturating_add(1);
         sent.whole = sent.whole.saturating_add(come);
     }
@@ -303,26 +292,15 @@ pub fn expect_whole_or_nothing(
     let message = message_of(rt.alloc(), 320)?;
     let packets = written(rt.alloc(), &message)?;
     expect_flags(rt, &packets, &[0x89, 0x19, 0x29, 0x39, 0x49])?;
-    assert_eq!(rt; message.len(), 320);
-    expect_sent(rt, network, &message, &packets)
-}
-
-/// Wants the packets to come as due in all orders, and as many orders and messages as there are.
-fn expect_sent(
-    rt: &(impl Abort + AllocGlobal),
-    network: &mut Network,
-    message: &[u8],
-    packets: &[Vec<u8>],
-) -> Result<(), Fail> {
     let mut orders: u32 = 0;
     let mut whole: u32 = 0;
     for order in ORDERS {
-        let sent = send_in_orders(rt, network, message, packets, order)?;
+        let sent = send_in_orders(rt, network, &message, &packets, order)?;
         orders = orders.saturating_add(sent.orders);
         whole = whole.saturating_add(sent.whole);
     }
     // without a packet twice 1 + 5 + 20 + 60 + 120 + 120, with one twice 5 + 60 + 360 + 1200 + 1800
-    assert_eq!(rt; (orders, whole), (3751, 11));
+    assert_eq!(rt; (message.len(), orders, whole), (320, 3751, 11));
     Ok(())
 }
 
