@@ -4,7 +4,8 @@
 use net_plan::Counted;
 use plan_commands::{
     Command, FileAtPath, GUIDE, Refused, Status, parse_command, refuse, run_assign, run_certify,
-    run_check, run_known, run_lint, run_move, run_reach, run_show, run_trace, run_walk, simulate, simulate_move,
+    run_check, run_known, run_lint, run_move, run_reach, run_show, run_trace, run_walk, simulate,
+    simulate_move,
 };
 use std::env;
 use std::process::ExitCode;

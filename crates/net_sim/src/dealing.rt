@@ -44,7 +44,11 @@ pub fn deal(
 }
 
 /// The queue of a node, if it has a terminus and one is left.
-fn deal_to(alloc: Global, node: &Node, left: &mut IntoIter<Box<dyn Terminus>>) -> Option<TerminusQueue>
+fn deal_to(
+    alloc: Global,
+    node: &Node,
+    left: &mut IntoIter<Box<dyn Terminus>>,
+) -> Option<TerminusQueue>
     ensures { (nodes : List Node) → dealt (node.now ∷ nodes) (map (resting (λ b. tid b) (λ b. records b)) (into_iter_items left.old))
         ≡ option_map (queue_state (λ d. tid d.terminus) (λ d. records d.terminus)) result
         ∷ dealt nodes (map (resting (λ b. tid b) (λ b. records b)) (into_iter_items left.new)) }

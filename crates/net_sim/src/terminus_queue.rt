@@ -122,7 +122,10 @@ pub fn idle_at(queue: &Option<TerminusQueue>) -> Option<Refusal>
 
 /// Takes the oldest message off, where there is one, and asks the terminus. Its answer is written into `out`: the key of the
 /// message is told, and whether there is an answer.
-pub fn answer_at(queue: &mut Option<TerminusQueue>, out: &mut ArrayVec<u8, MAX_ANSWER>) -> Option<Asked>
+pub fn answer_at(
+    queue: &mut Option<TerminusQueue>,
+    out: &mut ArrayVec<u8, MAX_ANSWER>,
+) -> Option<Asked>
     ensures none { IfNone result (IsIdle (option_map (queue_state (λ d. tid d.terminus) (λ d. records d.terminus)) queue.old)) }
     ensures asked { IfSome result (λ asked. AnswersOldest (option_map (queue_state (λ d. tid d.terminus) (λ d. records d.terminus)) queue.old)
         (key_value asked.key) (answer_of asked.answered out.new.items)

@@ -12,13 +12,15 @@ ghost use Rattle.net_sim.specs.Placing.{IsPlaced};
 use crate::accepted::Accepted;
 use crate::assemblers::idle_assemblers;
 use crate::dealing::deal;
-use crate::terminus_queue::{TerminusQueue, answer_at, idle_at, none_waits_at, reserve_at, wait_at};
 use crate::effect::Effect;
 use crate::flights::{Flight, Flights};
 use crate::payload::{room_for_payload, rooms_for_answer, take_room};
 use crate::receiving::{Receipt, feed, room_for_message};
 use crate::refusal::Refusal;
 use crate::router::Router;
+use crate::terminus_queue::{
+    TerminusQueue, answer_at, idle_at, none_waits_at, reserve_at, wait_at,
+};
 use arrayvec::ArrayVec;
 use mctp_bridge::Decision;
 use mctp_transport::{Assembler, Eid, Key, PacketView, Packets, Seq};
