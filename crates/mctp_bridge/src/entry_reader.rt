@@ -3,7 +3,7 @@ ghost use Rattle.std.specs.Prelude.{◌≡◌, ◌≤◌, ◌+◌, true, false, 
 
 use crate::read_fault::ReadFault;
 use crate::table_part::{TablePart, append};
-use mctp_control::{Command, ControlHeader, InstanceId, Request, RouteEntry};
+use mctp_control::{ControlCommand, ControlHeader, ControlInstanceId, Request, RouteEntry};
 use mctp_transport::Wire;
 use std::alloc::{AllocError, Global};
 
@@ -25,7 +25,7 @@ pub struct EntryReader {
     /// The handle to ask for next; none once the table is complete.
     handle: Option<u8>,
     /// The instance ID of the request that has no answer yet.
-    waiting: Option<InstanceId>,
+    waiting: Option<ControlInstanceId>,
     failed: bool,
     /// How many answers were taken.
     taken: usize,
@@ -60,7 +60,7 @@ impl EntryReader {
     /// The request that is due, under this instance ID; none once the table is complete or the reader has failed. Asked
     /// again before an answer, it is the same request under the new instance ID, which the answer must then have. Its
     /// bytes: 0x00, the Rq bit and the instance ID, 0x0A, the entry handle.
-    pub fn next_request(&mut self, id: InstanceId) -> Option<[u8; 4]>
+    pub fn next_request(&mut self, id: ControlInstanceId) -> Option<[u8; 4]>
         ensures asks { Asks (reader_state self.old) id.value result (reader_state self.new) }
         ensures memory { reader_memory self.new ≡ reader_memory self.old }
     {
@@ -111,7 +111,7 @@ impl EntryReader {
     }
 
     /// Takes a success answer, where a request waits under this instance ID.
-    fn take_answer(&mut self, id: InstanceId, part: TablePart) -> Result<bool, ReadFault>
+    fn take_answer(&mut self, id: ControlInstanceId, part: TablePart) -> Result<bool, ReadFault>
         requires goes { self.old.failed ≡ false }
         requires waits { self.old.waiting ≡ Some id }
         ensures takes { TakesAnswer (reader_state self.old) part.header.instance.value part.next (entries_of part.entries) result

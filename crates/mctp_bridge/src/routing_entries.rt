@@ -5,7 +5,7 @@ ghost use Rattle.mctp_bridge.specs.Entries.{run_entry, own_kind, row_entries, br
 
 use crate::range_table::RangeTable;
 use crate::row::Row;
-use mctp_control::{DeviceKind, EntryKind, Port, RouteEntry};
+use mctp_control::{DeviceKind, EntryKind, EntryPort, RouteEntry};
 use mctp_transport::Eid;
 use std::alloc::{AllocError, Global};
 
@@ -115,7 +115,7 @@ fn run(row: &Row, next: &Neighbor, first: Eid, size: u8, kind: EntryKind) -> Rou
         first,
         kind,
         is_static: false,
-        port: Port::new(row.hop.port),
+        port: EntryPort::new(row.hop.port),
         binding: next.binding,
         media: next.media,
         address: Default::default(),

@@ -4,7 +4,7 @@ ghost use Rattle.mctp_control.specs.EntriesValue.{entries_of};
 ghost use Rattle.mctp_control.specs.Headers.{header_value};
 ghost use Rattle.mctp_bridge.specs.Parts.{Tells, TellsNothing};
 
-use mctp_control::{Answer, ControlHeader, Entries, Response, RouteEntry};
+use mctp_control::{ControlAnswer, ControlHeader, Entries, Response, RouteEntry};
 use mctp_transport::Wire;
 
 /// A success answer of Get Routing Table Entries.
@@ -26,7 +26,7 @@ impl TablePart {
             Ok(
                 Response {
                     header,
-                    answer: Answer::GetRoutingTableEntries { next, entries },
+                    answer: ControlAnswer::GetRoutingTableEntries { next, entries },
                 },
             ) => Some(TablePart {
                 header,

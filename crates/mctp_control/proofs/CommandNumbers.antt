@@ -2,8 +2,8 @@
 use Rattle.std.proofs.Common.{refl, inl, inr}
 use Rattle.mctp_control.specs.Numbers.{command_number}
 use Rattle.mctp_control.specs.Responses.{IsCommandNumber}
-use Rattle.mctp_control.specs.declared.response.CommandNumber.{CommandNumber}
-use Rattle.mctp_control.specs.declared.response.CommandNumber.TheVariants as command
+use Rattle.mctp_control.specs.declared.command_number.CommandNumber.{CommandNumber}
+use Rattle.mctp_control.specs.declared.command_number.CommandNumber.TheVariants as command
 
 pub is_number : (c : CommandNumber) → IsCommandNumber (command_number c)
 is_number command.SetEndpointId = inl refl

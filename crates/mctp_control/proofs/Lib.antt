@@ -1,6 +1,7 @@
 pub mod EntryReading
 pub mod EntryTaking
 pub mod CommandNumbers
+pub mod AnswerLengths
 pub mod PoolLaws
 pub mod EntryFitting
 pub mod Deciding

@@ -12,8 +12,8 @@ use Rattle.mctp_control.specs.declared.statuses.EndpointType.{EndpointType}
 use Rattle.mctp_control.specs.declared.statuses.EndpointType.TheVariants as endpoint
 use Rattle.mctp_control.specs.declared.statuses.EidType.{EidType}
 use Rattle.mctp_control.specs.declared.statuses.EidType.TheVariants as eid
-use Rattle.mctp_control.specs.declared.response.CommandNumber.{CommandNumber}
-use Rattle.mctp_control.specs.declared.response.CommandNumber.TheVariants as command
+use Rattle.mctp_control.specs.declared.command_number.CommandNumber.{CommandNumber}
+use Rattle.mctp_control.specs.declared.command_number.CommandNumber.TheVariants as command
 
 -- the operation of Set Endpoint ID
 abbrev pub set_number : SetOperation → ℕ

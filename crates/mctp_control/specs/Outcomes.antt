@@ -1,7 +1,9 @@
 -- What a device's private calls answer, as bytes.
-use Rattle.std.specs.Prelude.{ℕ, List, [], ◌∷◌, Result, Ok, Err}
+use Rattle.std.specs.Prelude.{ℕ, List, [], ◌∷◌, Result, Ok, Err, drop}
+use Rattle.mctp_control.specs.Responses.{AnswerValue, answer_bytes, answer_value}
 use Rattle.mctp_control.specs.declared.replies.Refusal.{Refusal}
 use Rattle.mctp_control.specs.declared.replies.Refusal.TheVariants as refusal
+use Rattle.mctp_control.specs.declared.response.ControlAnswer.{ControlAnswer}
 
 -- completion codes other than success (DSP0236, "MCTP control message completion codes")
 abbrev pub refusal_code : Refusal → ℕ
@@ -9,7 +11,11 @@ refusal_code refusal.InvalidData = 2
 refusal_code refusal.InvalidLength = 3
 refusal_code refusal.UnsupportedCommand = 5
 
--- success and its bytes, or the code alone
-abbrev pub content_of : Result (List ℕ) Refusal → List ℕ
-content_of (Ok bytes) = 0 ∷ bytes
+-- the completion code of an answer and the bytes after it, without the command's number
+abbrev pub content_bytes : AnswerValue → List ℕ
+content_bytes answer = drop 1 (answer_bytes answer)
+
+-- that of the answer, or the code alone
+abbrev pub content_of : Result ControlAnswer Refusal → List ℕ
+content_of (Ok answer) = content_bytes (answer_value answer)
 content_of (Err r) = refusal_code r ∷ []

@@ -3,8 +3,8 @@ use Rattle.std.specs.Prelude.{ℕ, ◌+◌, ◌*◌, ◌<◌, List, [], ◌∷�
 use Rattle.mctp_transport.specs.Wire.{Spells}
 use Rattle.mctp_control.specs.Headers.{HeaderValue, header_value, header_byte}
 use Rattle.mctp_control.specs.Numbers.{set_number, allocate_number}
-use Rattle.mctp_control.specs.declared.request.Command.{Command}
-use Rattle.mctp_control.specs.declared.request.Command.TheVariants as command
+use Rattle.mctp_control.specs.declared.request.ControlCommand.{ControlCommand}
+use Rattle.mctp_control.specs.declared.request.ControlCommand.TheVariants as command
 use Rattle.mctp_control.specs.declared.request.Request.{Request}
 
 -- What is asked. Of an operation byte: bits 1 and 0, then bits 7 to 2.
@@ -21,7 +21,7 @@ pub record RequestValue : Type 0 where
   pub header : HeaderValue
   pub command : CommandValue
 
-abbrev pub command_value : Command → CommandValue
+abbrev pub command_value : ControlCommand → CommandValue
 command_value (command.SetEndpointId operation reserved eid) = SetsEid (set_number operation) reserved.value eid.value
 command_value command.GetEndpointId = GetsEid
 command_value (command.AllocateEndpointIds operation reserved size first) =

@@ -9,8 +9,8 @@ use Rattle.mctp_control.specs.Statuses.{PoolStatusValue, IsPoolStatus, pool_byte
 use Rattle.mctp_control.specs.RouteEntries.{EntryValue, IsEntry}
 use Rattle.mctp_control.specs.EntryLists.{entries_bytes}
 use Rattle.mctp_control.specs.EntriesValue.{entries_of}
-use Rattle.mctp_control.specs.declared.response.Answer.{Answer}
-use Rattle.mctp_control.specs.declared.response.Answer.TheVariants as answer
+use Rattle.mctp_control.specs.declared.response.ControlAnswer.{ControlAnswer}
+use Rattle.mctp_control.specs.declared.response.ControlAnswer.TheVariants as answer
 use Rattle.mctp_control.specs.declared.response.Response.{Response}
 
 -- What is answered.
@@ -30,7 +30,7 @@ pub record ResponseValue : Type 0 where
   pub header : HeaderValue
   pub answer : AnswerValue
 
-abbrev pub answer_value : Answer → AnswerValue
+abbrev pub answer_value : ControlAnswer → AnswerValue
 answer_value (answer.SetEndpointId status eid size) = EidSet (set_status status) eid.value size
 answer_value (answer.GetEndpointId eid status medium) = EidTold eid.value (endpoint_status status) medium
 answer_value (answer.AllocateEndpointIds status size first) = PoolTold (pool_status status) size first.value

@@ -2,14 +2,18 @@
 ghost use Rattle.std.specs.Prelude.{◌≡◌, ◌<◌, ◌≤◌, ℕ, List, length};
 ghost use Rattle.mctp_control.specs.EntryLists.{values_of};
 ghost use Rattle.mctp_control.specs.Replies.{reply_bytes};
-ghost use Rattle.mctp_control.specs.Outcomes.{content_of};
+ghost use Rattle.mctp_control.specs.Outcomes.{content_of, content_bytes};
+ghost use Rattle.mctp_control.specs.Responses.{answer_value};
 
 use crate::eid_range::EidRange;
 use crate::operations::{AllocateOperation, SetOperation};
 use crate::replies::{MAX_BODY, Refusal, concluded, framed, tell_entries};
-use crate::request::{Command, Request};
+use crate::request::{ControlCommand, Request};
+use crate::response::ControlAnswer;
 use crate::route_entry::RouteEntry;
-use crate::statuses::{Acceptance, Allocation, EndpointType};
+use crate::statuses::{
+    Acceptance, Allocation, EidType, EndpointStatus, EndpointType, PoolStatus, SetStatus,
+};
 use arrayvec::ArrayVec;
 use mctp_transport::{Eid, Wire};
 
@@ -45,9 +49,9 @@ pub struct Device {
 }
 
 impl Device {
-    ghost use Rattle.std.specs.Prelude.{◌↔◌, ◌∷◌, ◌<◌, ℕ, List, [], length, IsTrue, Some, option_map};
+    ghost use Rattle.std.specs.Prelude.{◌↔◌, ◌∷◌, ◌<◌, ◌+◌, ◌*◌, ℕ, List, [], length, IsTrue, Some, option_map};
     ghost use Rattle.mctp_transport.specs.Frames.{IsAssignable};
-    ghost use Rattle.mctp_control.specs.Numbers.{set_number, allocate_number, allocation_number};
+    ghost use Rattle.mctp_control.specs.Numbers.{set_number, allocate_number, acceptance_number, allocation_number};
     ghost use Rattle.mctp_control.specs.Requests.{command_value};
     ghost use Rattle.mctp_control.specs.Devices.{device_value, configured_pool, size_of, present_eid, present_size, present_first, MayGiveEid, MayGivePool, allocation_of, pool_wanted, endpoint_type};
     ghost use Rattle.mctp_control.specs.Replies.{Replies, SetReplies, AllocateReplies, CommandReplies, Supports};
@@ -129,20 +133,26 @@ impl Device {
     }
 
     /// The EID that is held, 0 for none.
-    fn present_eid(&self) -> u8
-        ensures { result ≡ present_eid (device_value self.now).eid }
+    fn present_eid(&self) -> Eid
+        ensures { result.value ≡ present_eid (device_value self.now).eid }
     {
-        self.eid.map_or(0, |held| held.eid.value)
+        self.eid.map_or(Eid::new(0), |held| held.eid)
     }
 
-    /// The size and the first EID of the pool that is held, 0 and 0 for none.
-    fn present_pool(&self) -> (u8, u8)
-        ensures size { result.0 ≡ present_size (device_value self.now).pool }
-        ensures first { result.1 ≡ present_first (device_value self.now).pool }
+    /// What answers Allocate Endpoint IDs: whether the pool was taken, and the pool that is held now, of size 0 and from
+    /// EID 0 for none.
+    fn pool_told(&self, acceptance: Acceptance) -> ControlAnswer
+        ensures { content_bytes (answer_value result) ≡ 0 ∷ acceptance_number acceptance
+            ∷ present_size (device_value self.now).pool ∷ present_first (device_value self.now).pool ∷ [] }
     {
-        match self.pool {
-            Some(held) => (held.range.size, held.range.first.value),
-            None => (0, 0),
+        let (size, first) = match self.pool {
+            Some(held) => (held.range.size, held.range.first),
+            None => (0, Eid::new(0)),
+        };
+        ControlAnswer::AllocateEndpointIds {
+            status: PoolStatus::new(acceptance),
+            size,
+            first,
         }
     }
 
@@ -167,7 +177,12 @@ impl Device {
     }
 
     /// Set Endpoint ID.
-    fn set_eid(&mut self, bus: u8, operation: SetOperation, eid: Eid) -> Result<[u8; 3], Refusal>
+    fn set_eid(
+        &mut self,
+        bus: u8,
+        operation: SetOperation,
+        eid: Eid,
+    ) -> Result<ControlAnswer, Refusal>
         ensures { SetReplies (device_value self.old) bus (set_number operation) eid.value (content_of result) (device_value self.new) }
     {
         if !eid.is_assignable() {
@@ -181,25 +196,41 @@ impl Device {
             }
         };
         if !accepted {
-            let status = 16 * (Acceptance::Rejected as u8) + self.allocation() as u8;
-            return Ok([status, self.present_eid(), self.pool_wanted()]);
+            return Ok(self.eid_set(Acceptance::Rejected));
         }
         self.eid = Some(HeldEid {
             eid,
             giver: Some(bus),
         });
-        Ok([self.allocation() as u8, eid.value, self.pool_wanted()])
+        Ok(self.eid_set(Acceptance::Accepted))
+    }
+
+    /// What answers Set Endpoint ID: whether the EID was taken, the EID that is held now, and the pool that is wanted.
+    fn eid_set(&self, acceptance: Acceptance) -> ControlAnswer
+        ensures { content_bytes (answer_value result) ≡ 0
+            ∷ (16 * acceptance_number acceptance + allocation_of (pool_wanted self.now.kind self.now.wants) (device_value self.now).pool)
+            ∷ present_eid (device_value self.now).eid ∷ pool_wanted self.now.kind self.now.wants ∷ [] }
+    {
+        ControlAnswer::SetEndpointId {
+            status: SetStatus::new(acceptance, self.allocation()),
+            eid: self.present_eid(),
+            size: self.pool_wanted(),
+        }
     }
 
     /// Get Endpoint ID.
-    fn get_eid(&self) -> [u8; 3]
-        ensures { 0 ∷ result ≡ 0 ∷ present_eid (device_value self.now).eid ∷ endpoint_type self.now.kind ∷ 0 ∷ [] }
+    fn get_eid(&self) -> ControlAnswer
+        ensures { content_bytes (answer_value result) ≡ 0 ∷ present_eid (device_value self.now).eid ∷ endpoint_type self.now.kind ∷ 0 ∷ [] }
     {
         let endpoint_type = match self.kind {
             DeviceKind::Endpoint => EndpointType::Simple,
             DeviceKind::Bridge => EndpointType::Bridge,
         };
-        [self.present_eid(), 16 * (endpoint_type as u8), 0]
+        ControlAnswer::GetEndpointId {
+            eid: self.present_eid(),
+            status: EndpointStatus::new(endpoint_type, EidType::Dynamic),
+            medium: 0,
+        }
     }
 
     /// Allocate Endpoint IDs.
@@ -209,27 +240,24 @@ impl Device {
         operation: AllocateOperation,
         first: Eid,
         size: u8,
-    ) -> Result<[u8; 3], Refusal>
+    ) -> Result<ControlAnswer, Refusal>
         ensures { AllocateReplies (device_value self.old) bus (allocate_number operation) size first.value (content_of result) (device_value self.new) }
     {
-        let (held_size, held_first) = self.present_pool();
-        let force = match operation {
-            AllocateOperation::Allocate => false,
+        let accepted = match operation {
+            AllocateOperation::Allocate => self.may_give_pool(bus),
             AllocateOperation::Force => true,
-            AllocateOperation::GetInformation => {
-                return Ok([Acceptance::Accepted as u8, held_size, held_first]);
-            }
+            AllocateOperation::GetInformation => return Ok(self.pool_told(Acceptance::Accepted)),
             AllocateOperation::Reserved => return Err(Refusal::InvalidData),
         };
         let range = EidRange::of(first, size).ok_or(Refusal::InvalidData)?;
-        if !force && !self.may_give_pool(bus) {
-            return Ok([Acceptance::Rejected as u8, held_size, held_first]);
+        if !accepted {
+            return Ok(self.pool_told(Acceptance::Rejected));
         }
         self.pool = Some(HeldPool {
             range,
             giver: Some(bus),
         });
-        Ok([Acceptance::Accepted as u8, size, first.value])
+        Ok(self.pool_told(Acceptance::Accepted))
     }
 
     /// Whether the device knows the command.
@@ -280,7 +308,7 @@ impl Device {
         bus: u8,
         table: &[RouteEntry],
         body: &[u8],
-        command: Command,
+        command: ControlCommand,
     ) -> ArrayVec<u8, MAX_BODY>
         requires body { 3 ≤ length body.now }
         requires table { length table.now < 255 }
@@ -288,17 +316,17 @@ impl Device {
             × CommandReplies (device_value self.old) bus (values_of table.now) (command_value command) content (device_value self.new) }
     {
         match command {
-            Command::SetEndpointId { operation, eid, .. } => {
-                concluded(body, self.set_eid(bus, operation, eid))
+            ControlCommand::SetEndpointId { operation, eid, .. } => {
+                concluded(body, &self.set_eid(bus, operation, eid))
             }
-            Command::GetEndpointId => concluded(body, Ok(self.get_eid())),
-            Command::AllocateEndpointIds {
+            ControlCommand::GetEndpointId => concluded(body, &Ok(self.get_eid())),
+            ControlCommand::AllocateEndpointIds {
                 operation,
                 size,
                 first,
                 ..
-            } => concluded(body, self.allocate(bus, operation, first, size)),
-            Command::GetRoutingTableEntries { handle } => tell_entries(body, table, handle),
+            } => concluded(body, &self.allocate(bus, operation, first, size)),
+            ControlCommand::GetRoutingTableEntries { handle } => tell_entries(body, table, handle),
         }
     }
 }

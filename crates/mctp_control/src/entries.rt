@@ -1,5 +1,5 @@
 //! The entries that one response brings.
-ghost use Rattle.std.specs.Prelude.{◌≡◌, ◌≤◌, ◌++◌, ℕ, List, length, drop, IfSome, IsSomeAnd};
+ghost use Rattle.std.specs.Prelude.{◌≡◌, ◌<◌, ◌≤◌, ◌+◌, ◌∷◌, ◌++◌, ℕ, List, length, drop, IfSome, IsSomeAnd};
 ghost use Rattle.std.specs.List.{AllByRecursion};
 ghost use Rattle.mctp_control.specs.EntryLists.{SpellsEntries, entries_bytes, values_of};
 ghost use Rattle.mctp_control.specs.RouteEntries.{EntryValue, IsEntry, entry_bytes, entry_value};
@@ -75,8 +75,20 @@ pub(crate) fn byte_count(entries: &[RouteEntry]) -> usize
     count
 }
 
+/// Writes the number, the code and the data of a part of a table at the front, and leaves the rest: the next entry
+/// handle, the number of entries, the entries.
+pub(crate) fn put_table(next: u8, entries: &[RouteEntry], out: &mut [u8])
+    requires few { length entries.now < 256 }
+    requires room { 4 + length (entries_bytes (values_of entries.now)) ≤ length out.old }
+    ensures { out.new ≡ 10 ∷ 0 ∷ next ∷ length entries.now ∷ entries_bytes (values_of entries.now)
+        ++ drop (4 + length (entries_bytes (values_of entries.now))) out.old }
+{
+    out[..4].copy_from_slice(&[10, 0, next, entries.len() as u8]);
+    put_entries(entries, &mut out[4..]);
+}
+
 /// Writes the entries at the front, one after another, and leaves the rest.
-pub(crate) fn put_entries(entries: &[RouteEntry], out: &mut [u8])
+fn put_entries(entries: &[RouteEntry], out: &mut [u8])
     requires { length (entries_bytes (values_of entries.now)) ≤ length out.old }
     ensures { out.new ≡ entries_bytes (values_of entries.now) ++ drop (length (entries_bytes (values_of entries.now))) out.old }
 {

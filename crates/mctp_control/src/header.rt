@@ -3,18 +3,18 @@ ghost use Rattle.std.specs.Prelude.{◌≡◌, ◌<◌};
 
 /// An instance ID, 0 to 31: a response repeats that of its request.
 #[derive(Clone, Copy, Debug, PartialEq, Eq)]
-pub struct InstanceId {
+pub struct ControlInstanceId {
     pub value: u8,
     pub ghost in_range: { value < 32 },
 }
 
-impl InstanceId {
+impl ControlInstanceId {
     /// The instance ID of this number, which is below 32.
     pub fn new(value: u8) -> Self
         requires { value < 32 }
         ensures { result.value ≡ value }
     {
-        InstanceId { value }
+        ControlInstanceId { value }
     }
 }
 
@@ -26,7 +26,7 @@ pub struct ControlHeader {
     /// Bit 5, kept as read.
     pub reserved: bool,
     /// Bits 4 to 0.
-    pub instance: InstanceId,
+    pub instance: ControlInstanceId,
 }
 
 impl ControlHeader {
@@ -41,7 +41,7 @@ impl ControlHeader {
         ControlHeader {
             datagram: bits / 64 != 0,
             reserved: bits / 32 % 2 != 0,
-            instance: InstanceId::new(bits % 32),
+            instance: ControlInstanceId::new(bits % 32),
         }
     }
 

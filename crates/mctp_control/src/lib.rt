@@ -2,6 +2,7 @@
 //! the devices that answer them, and pools of endpoint IDs.
 #![tactic(auto)]
 
+mod command_number;
 mod control_error;
 mod device;
 mod eid_pool;
@@ -16,18 +17,19 @@ mod response;
 mod route_entry;
 mod statuses;
 
+pub use command_number::CommandNumber;
 pub use control_error::ControlError;
 pub use device::{Device, DeviceKind};
 pub use eid_pool::EidPool;
 pub use eid_range::EidRange;
 pub use entries::{Entries, MAX_ENTRIES, MAX_ENTRY_BYTES};
-pub use header::{ControlHeader, InstanceId};
+pub use header::{ControlHeader, ControlInstanceId};
 pub use laws::one_reply;
-pub use operations::{AllocateOperation, Reserved, SetOperation};
+pub use operations::{AllocateOperation, ReservedBits, SetOperation};
 pub use replies::MAX_BODY;
-pub use request::{Command, Request};
-pub use response::{Answer, CommandNumber, Failure, Response};
-pub use route_entry::{EntryKind, MAX_ADDRESS, Port, RouteEntry};
+pub use request::{ControlCommand, Request};
+pub use response::{ControlAnswer, Failure, Response};
+pub use route_entry::{EntryKind, EntryPort, MAX_ADDRESS, RouteEntry};
 pub use statuses::{
     Acceptance, Allocation, EidType, EndpointStatus, EndpointType, PoolStatus, ReservedPair,
     SetStatus,

@@ -62,17 +62,17 @@ impl AllocateOperation {
 
 /// The reserved bits 7 to 2 of an operation's byte, as a number from 0 to 63. They are kept as read.
 #[derive(Clone, Copy, Debug, PartialEq, Eq)]
-pub struct Reserved {
+pub struct ReservedBits {
     pub value: u8,
     pub ghost in_range: { value < 64 },
 }
 
-impl Reserved {
+impl ReservedBits {
     /// The bits of this number, which is below 64.
     pub fn new(value: u8) -> Self
         requires { value < 64 }
         ensures { result.value ≡ value }
     {
-        Reserved { value }
+        ReservedBits { value }
     }
 }

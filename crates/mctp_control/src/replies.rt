@@ -2,15 +2,20 @@
 ghost use Rattle.std.specs.Prelude.{◌≡◌, ◌<◌, ◌≤◌, ◌==◌, ◌∷◌, if◌then◌else◌, ℕ, List, length};
 ghost use Rattle.mctp_control.specs.EntryLists.{entries_bytes, values_of};
 ghost use Rattle.mctp_control.specs.Replies.{EntriesReplies, IsMost, reply_bytes};
-ghost use Rattle.mctp_control.specs.Outcomes.{content_of};
+ghost use Rattle.mctp_control.specs.Outcomes.{content_of, content_bytes};
+ghost use Rattle.mctp_control.specs.Responses.{answer_value};
 
-use crate::entries::{MAX_ENTRY_BYTES, byte_count, put_entries};
+use crate::entries::{MAX_ENTRY_BYTES, byte_count, put_table};
+use crate::response::ControlAnswer;
 use crate::route_entry::RouteEntry;
 use arrayvec::ArrayVec;
 use mctp_transport::Wire;
 
 /// The most bytes of a control message.
 pub const MAX_BODY: usize = 64;
+
+/// The most bytes of an answer: a command's number, the completion code, and the data.
+const MAX_ANSWER: usize = MAX_BODY - 2;
 
 /// A completion code other than success.
 #[derive(Clone, Copy, Debug, PartialEq, Eq)]
@@ -34,15 +39,30 @@ pub(crate) fn framed(body: &[u8], content: &[u8]) -> ArrayVec<u8, MAX_BODY>
     reply
 }
 
-/// A reply to the body with success and three bytes, or with another code alone.
-pub(crate) fn concluded(body: &[u8], outcome: Result<[u8; 3], Refusal>) -> ArrayVec<u8, MAX_BODY>
+/// A reply to the body with what is answered, or with another code alone.
+pub(crate) fn concluded(
+    body: &[u8],
+    outcome: &Result<ControlAnswer, Refusal>,
+) -> ArrayVec<u8, MAX_BODY>
     requires { 3 ≤ length body.now }
-    ensures { result.items ≡ reply_bytes body.now (content_of outcome) }
+    ensures { result.items ≡ reply_bytes body.now (content_of outcome.now) }
 {
     match outcome {
-        Ok(data) => framed(body, &[0, data[0], data[1], data[2]]),
-        Err(refusal) => framed(body, &[refusal as u8]),
+        Ok(answer) => answered(body, answer),
+        Err(refusal) => framed(body, &[*refusal as u8]),
     }
+}
+
+/// A reply to the body with what is answered.
+#[tactic(auto, using(crate::proofs::AnswerLengths::fits, crate::proofs::AnswerLengths::some))]
+fn answered(body: &[u8], answer: &ControlAnswer) -> ArrayVec<u8, MAX_BODY>
+    requires { 3 ≤ length body.now }
+    ensures { result.items ≡ reply_bytes body.now (content_bytes (answer_value answer.now)) }
+{
+    let length = answer.len();
+    let mut bytes = [0; MAX_ANSWER];
+    answer.put(&mut bytes);
+    framed(body, &bytes[1..length])
 }
 
 /// A reply to the body with the entries from the handle on, as many as fit.
@@ -76,11 +96,9 @@ fn told(body: &[u8], next: u8, entries: &[RouteEntry]) -> ArrayVec<u8, MAX_BODY>
     requires fit { length (entries_bytes (values_of entries.now)) ≤ 58 }
     ensures { result.items ≡ reply_bytes body.now (0 ∷ next ∷ length entries.now ∷ entries_bytes (values_of entries.now)) }
 {
-    let mut content = [0; 3 + MAX_ENTRY_BYTES];
-    content[1] = next;
-    content[2] = entries.len() as u8;
-    put_entries(entries, &mut content[3..]);
-    framed(body, &content[..3 + byte_count(entries)])
+    let mut bytes = [0; MAX_ANSWER];
+    put_table(next, entries, &mut bytes);
+    framed(body, &bytes[1..4 + byte_count(entries)])
 }
 
 /// How many of the entries fit one response.

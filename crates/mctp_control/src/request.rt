@@ -3,16 +3,16 @@ ghost use Rattle.std.specs.Prelude.{◌≡◌};
 
 use crate::control_error::ControlError;
 use crate::header::ControlHeader;
-use crate::operations::{AllocateOperation, Reserved, SetOperation};
+use crate::operations::{AllocateOperation, ReservedBits, SetOperation};
 use mctp_transport::{Eid, Wire};
 
 /// What is asked, with its data (DSP0236, the command of the same name).
 #[derive(Clone, Copy, Debug, PartialEq, Eq)]
-pub enum Command {
+pub enum ControlCommand {
     /// 0x01: give the device an EID. Two bytes: the operation, the EID.
     SetEndpointId {
         operation: SetOperation,
-        reserved: Reserved,
+        reserved: ReservedBits,
         eid: Eid,
     },
     /// 0x02: tell the EID and the kind of the device. No bytes.
@@ -21,7 +21,7 @@ pub enum Command {
     /// the first EID.
     AllocateEndpointIds {
         operation: AllocateOperation,
-        reserved: Reserved,
+        reserved: ReservedBits,
         size: u8,
         first: Eid,
     },
@@ -37,10 +37,10 @@ pub enum Command {
 pub struct Request {
     pub header: ControlHeader,
     /// The command with its data.
-    pub command: Command,
+    pub command: ControlCommand,
 }
 
-impl Command {
+impl ControlCommand {
     ghost use Rattle.std.specs.Prelude.{◌↔◌, ◌≢◌, ◌≤◌, ◌∷◌, ◌++◌, ℕ, List, length, drop, IfOk, IsOkAnd, Err};
     ghost use Rattle.mctp_control.specs.Requests.{CommandValue, IsCommand, command_bytes, command_value};
     ghost use Rattle.mctp_control.specs.Refusals.{IsUnknown, IsCommandLength};
@@ -54,19 +54,19 @@ impl Command {
         ensures no_other { (result ≢ Err ControlError.Short) × (result ≢ Err ControlError.OtherMessage) }
     {
         match (number, rest) {
-            (1, [operation, eid]) => Ok(Command::SetEndpointId {
+            (1, [operation, eid]) => Ok(ControlCommand::SetEndpointId {
                 operation: SetOperation::from_number(operation % 4),
-                reserved: Reserved::new(operation / 4),
+                reserved: ReservedBits::new(operation / 4),
                 eid: Eid::new(*eid),
             }),
-            (2, []) => Ok(Command::GetEndpointId),
-            (8, [operation, size, first]) => Ok(Command::AllocateEndpointIds {
+            (2, []) => Ok(ControlCommand::GetEndpointId),
+            (8, [operation, size, first]) => Ok(ControlCommand::AllocateEndpointIds {
                 operation: AllocateOperation::from_number(operation % 4),
-                reserved: Reserved::new(operation / 4),
+                reserved: ReservedBits::new(operation / 4),
                 size: *size,
                 first: Eid::new(*first),
             }),
-            (10, [handle]) => Ok(Command::GetRoutingTableEntries { handle: *handle }),
+            (10, [handle]) => Ok(ControlCommand::GetRoutingTableEntries { handle: *handle }),
             (1 | 2 | 8 | 10, _) => Err(ControlError::Length),
             _ => Err(ControlError::UnknownCommand),
         }
@@ -78,10 +78,10 @@ impl Command {
         ensures count { result ≡ length (command_bytes (command_value self)) }
     {
         match self {
-            Command::SetEndpointId { .. } => 3,
-            Command::GetEndpointId => 1,
-            Command::AllocateEndpointIds { .. } => 4,
-            Command::GetRoutingTableEntries { .. } => 2,
+            ControlCommand::SetEndpointId { .. } => 3,
+            ControlCommand::GetEndpointId => 1,
+            ControlCommand::AllocateEndpointIds { .. } => 4,
+            ControlCommand::GetRoutingTableEntries { .. } => 2,
         }
     }
 
@@ -91,7 +91,7 @@ impl Command {
         ensures { out.new ≡ command_bytes (command_value self.now) ++ drop (length (command_bytes (command_value self.now))) out.old }
     {
         match self {
-            Command::SetEndpointId {
+            ControlCommand::SetEndpointId {
                 operation,
                 reserved,
                 eid,
@@ -100,8 +100,8 @@ impl Command {
                 out[1] = 4 * reserved.value + (*operation as u8);
                 out[2] = eid.value;
             }
-            Command::GetEndpointId => out[0] = 2,
-            Command::AllocateEndpointIds {
+            ControlCommand::GetEndpointId => out[0] = 2,
+            ControlCommand::AllocateEndpointIds {
                 operation,
                 reserved,
                 size,
@@ -112,7 +112,7 @@ impl Command {
                 out[2] = *size;
                 out[3] = first.value;
             }
-            Command::GetRoutingTableEntries { handle } => {
+            ControlCommand::GetRoutingTableEntries { handle } => {
                 out[0] = 10;
                 out[1] = *handle;
             }
@@ -153,7 +153,7 @@ impl<'a> Wire<'a> for Request {
         if *first != 0 || *header < 128 {
             return Err(ControlError::OtherMessage);
         }
-        let command = Command::read(*number, rest)?;
+        let command = ControlCommand::read(*number, rest)?;
         Ok(Request {
             header: ControlHeader::of(header % 128),
             command,

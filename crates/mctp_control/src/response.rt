@@ -1,40 +1,12 @@
 //! Responses of control messages.
 ghost use Rattle.std.specs.Prelude.{◌≡◌, ◌<◌, ◌≤◌, ◌++◌, length, drop};
 
+use crate::command_number::CommandNumber;
 use crate::control_error::ControlError;
-use crate::entries::{Entries, MAX_ENTRY_BYTES, byte_count, put_entries};
+use crate::entries::{Entries, MAX_ENTRY_BYTES, byte_count, put_table};
 use crate::header::ControlHeader;
 use crate::statuses::{EndpointStatus, PoolStatus, SetStatus};
 use mctp_transport::{Eid, Wire};
-
-/// The number of a command.
-#[derive(Clone, Copy, Debug, PartialEq, Eq)]
-pub enum CommandNumber {
-    SetEndpointId = 0x01,
-    GetEndpointId = 0x02,
-    AllocateEndpointIds = 0x08,
-    GetRoutingTableEntries = 0x0a,
-}
-
-impl CommandNumber {
-    ghost use Rattle.std.specs.Prelude.{◌↔◌, IfSome, IfNone};
-    ghost use Rattle.mctp_control.specs.Numbers.{command_number};
-    ghost use Rattle.mctp_control.specs.Refusals.{IsUnknown};
-
-    /// The command of this number.
-    fn of(number: u8) -> Option<Self>
-        ensures some { IfSome result (λ c. command_number c ≡ number) }
-        ensures none { (result ≡ None) ↔ IsUnknown number }
-    {
-        match number {
-            1 => Some(CommandNumber::SetEndpointId),
-            2 => Some(CommandNumber::GetEndpointId),
-            8 => Some(CommandNumber::AllocateEndpointIds),
-            10 => Some(CommandNumber::GetRoutingTableEntries),
-            _ => None,
-        }
-    }
-}
 
 /// A completion code other than 0x00, which is success (DSP0236, "MCTP control message completion codes"): 0x01 error,
 /// 0x02 invalid data, 0x03 invalid length, 0x04 not ready, 0x05 unsupported command, and others.
@@ -56,7 +28,7 @@ impl Failure {
 
 /// What is answered, with its data.
 #[derive(Debug, PartialEq, Eq, Drop)]
-pub enum Answer {
+pub enum ControlAnswer {
     /// Success of 0x01, Set Endpoint ID. Three bytes: the status, the device's EID, the size of the pool that it wants.
     SetEndpointId {
         status: SetStatus,
@@ -94,10 +66,10 @@ pub enum Answer {
 pub struct Response {
     pub header: ControlHeader,
     /// The command that is answered, and the completion code with what follows it.
-    pub answer: Answer,
+    pub answer: ControlAnswer,
 }
 
-impl Answer {
+impl ControlAnswer {
     ghost use Rattle.std.specs.Prelude.{◌↔◌, ◌≢◌, ◌≤◌, ◌∷◌, ◌++◌, ℕ, List, length, drop, IfOk, IfErr, IsOkAnd, Err};
     ghost use Rattle.mctp_control.specs.Responses.{AnswerValue, IsAnswer, answer_bytes, answer_value};
     ghost use Rattle.mctp_control.specs.Refusals.{IsUnknown, IsAnswerData, IsTableData};
@@ -112,23 +84,23 @@ impl Answer {
     {
         let command = CommandNumber::of(number).ok_or(ControlError::UnknownCommand)?;
         match (number, code, rest) {
-            (1, 0, [status, eid, size]) => Ok(Answer::SetEndpointId {
+            (1, 0, [status, eid, size]) => Ok(ControlAnswer::SetEndpointId {
                 status: SetStatus::of(*status),
                 eid: Eid::new(*eid),
                 size: *size,
             }),
-            (2, 0, [eid, status, medium]) => Ok(Answer::GetEndpointId {
+            (2, 0, [eid, status, medium]) => Ok(ControlAnswer::GetEndpointId {
                 eid: Eid::new(*eid),
                 status: EndpointStatus::of(*status),
                 medium: *medium,
             }),
-            (8, 0, [status, size, first]) => Ok(Answer::AllocateEndpointIds {
+            (8, 0, [status, size, first]) => Ok(ControlAnswer::AllocateEndpointIds {
                 status: PoolStatus::of(*status),
                 size: *size,
                 first: Eid::new(*first),
             }),
-            (10, 0, [next, count, entries @ ..]) => Answer::table(*next, *count, entries),
-            (_, 1.., []) => Ok(Answer::Failed {
+            (10, 0, [next, count, entries @ ..]) => ControlAnswer::table(*next, *count, entries),
+            (_, 1.., []) => Ok(ControlAnswer::Failed {
                 command,
                 failure: Failure::new(code),
             }),
@@ -147,35 +119,35 @@ impl Answer {
             return Err(ControlError::Length);
         }
         match Entries::read(count, bytes) {
-            Some(entries) => Ok(Answer::GetRoutingTableEntries { next, entries }),
+            Some(entries) => Ok(ControlAnswer::GetRoutingTableEntries { next, entries }),
             None => Err(ControlError::Length),
         }
     }
 
     /// How many bytes the number, the code and the data have.
-    fn len(&self) -> usize
+    pub(crate) fn len(&self) -> usize
         ensures lawful { IsAnswer (answer_value self.now) }
         ensures count { result ≡ length (answer_bytes (answer_value self.now)) }
     {
         // What is read here is known to be a byte.
         match self {
-            Answer::SetEndpointId { size, .. } => {
+            ControlAnswer::SetEndpointId { size, .. } => {
                 let _size = *size;
                 5
             }
-            Answer::GetEndpointId { medium, .. } => {
+            ControlAnswer::GetEndpointId { medium, .. } => {
                 let _medium = *medium;
                 5
             }
-            Answer::AllocateEndpointIds { size, .. } => {
+            ControlAnswer::AllocateEndpointIds { size, .. } => {
                 let _size = *size;
                 5
             }
-            Answer::GetRoutingTableEntries { next, entries } => {
+            ControlAnswer::GetRoutingTableEntries { next, entries } => {
                 let _next = *next;
                 4 + byte_count(entries.items.as_slice())
             }
-            Answer::Failed { failure, .. } => {
+            ControlAnswer::Failed { failure, .. } => {
                 let _code = failure.code;
                 2
             }
@@ -183,29 +155,28 @@ impl Answer {
     }
 
     /// Writes the number, the code and the data at the front.
-    fn put(&self, out: &mut [u8])
+    pub(crate) fn put(&self, out: &mut [u8])
         requires { length (answer_bytes (answer_value self.now)) ≤ length out.old }
         ensures { out.new ≡ answer_bytes (answer_value self.now) ++ drop (length (answer_bytes (answer_value self.now))) out.old }
     {
         match self {
-            Answer::SetEndpointId { status, eid, size } => {
+            ControlAnswer::SetEndpointId { status, eid, size } => {
                 put_front(out, [1, 0, status.byte(), eid.value, *size]);
             }
-            Answer::GetEndpointId {
+            ControlAnswer::GetEndpointId {
                 eid,
                 status,
                 medium,
             } => put_front(out, [2, 0, eid.value, status.byte(), *medium]),
-            Answer::AllocateEndpointIds {
+            ControlAnswer::AllocateEndpointIds {
                 status,
                 size,
                 first,
             } => put_front(out, [8, 0, status.byte(), *size, first.value]),
-            Answer::GetRoutingTableEntries { next, entries } => {
-                put_front(out, [10, 0, *next, entries.items.len() as u8]);
-                put_entries(entries.items.as_slice(), &mut out[4..]);
+            ControlAnswer::GetRoutingTableEntries { next, entries } => {
+                put_table(*next, entries.items.as_slice(), out);
             }
-            Answer::Failed { command, failure } => {
+            ControlAnswer::Failed { command, failure } => {
                 put_front(out, [*command as u8, failure.code]);
             }
         }
@@ -253,7 +224,7 @@ impl<'a> Wire<'a> for Response {
         if *first != 0 || *header >= 128 {
             return Err(ControlError::OtherMessage);
         }
-        let answer = Answer::read(*number, *code, rest)?;
+        let answer = ControlAnswer::read(*number, *code, rest)?;
         Ok(Response {
             header: ControlHeader::of(*header),
             answer,

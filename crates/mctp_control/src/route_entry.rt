@@ -42,18 +42,18 @@ impl EntryKind {
 
 /// A port's number, 0 to 31.
 #[derive(Clone, Copy, Debug, PartialEq, Eq)]
-pub struct Port {
+pub struct EntryPort {
     pub value: u8,
     pub ghost in_range: { value < 32 },
 }
 
-impl Port {
+impl EntryPort {
     /// The port of this number, which is below 32.
     pub fn new(value: u8) -> Self
         requires { value < 32 }
         ensures { result.value ≡ value }
     {
-        Port { value }
+        EntryPort { value }
     }
 }
 
@@ -70,7 +70,7 @@ pub struct RouteEntry {
     /// Whether the entry was set by hand and not learned.
     pub is_static: bool,
     /// The port through which the range is reached.
-    pub port: Port,
+    pub port: EntryPort,
     /// The number of the transport binding.
     pub binding: u8,
     /// The number of the media type.
@@ -117,7 +117,7 @@ impl<'a> Wire<'a> for RouteEntry {
             first: Eid::new(*first),
             kind: EntryKind::from_number(flags / 64),
             is_static: flags / 32 % 2 != 0,
-            port: Port::new(flags % 32),
+            port: EntryPort::new(flags % 32),
             binding: *binding,
             media: *media,
             address: held,
@@ -156,7 +156,7 @@ impl Default for RouteEntry {
             first: Eid::new(0),
             kind: EntryKind::Endpoint,
             is_static: false,
-            port: Port::new(0),
+            port: EntryPort::new(0),
             binding: 0,
             media: 0,
             address: ArrayVec::new(),

@@ -1,7 +1,7 @@
 //! The statuses in responses (DSP0236, "Set Endpoint ID", "Get Endpoint ID", "Allocate Endpoint IDs").
 ghost use Rattle.std.specs.Prelude.{◌≡◌, ◌<◌};
 
-use crate::operations::Reserved;
+use crate::operations::ReservedBits;
 
 /// Whether a device took the EID or the pool that it was given.
 #[derive(Clone, Copy, Debug, PartialEq, Eq)]
@@ -150,7 +150,20 @@ pub struct SetStatus {
 }
 
 impl SetStatus {
+    ghost use Rattle.mctp_control.specs.Numbers.{acceptance_number, allocation_number};
     ghost use Rattle.mctp_control.specs.Statuses.{pairs_byte, set_status};
+
+    /// The status with clear reserved bits.
+    pub fn new(acceptance: Acceptance, allocation: Allocation) -> Self
+        ensures { set_status result ≡ record { high = 0; second = acceptance_number acceptance; third = 0; low = allocation_number allocation } }
+    {
+        SetStatus {
+            high: ReservedPair::new(0),
+            acceptance,
+            low: ReservedPair::new(0),
+            allocation,
+        }
+    }
 
     pub(crate) fn of(byte: u8) -> Self
         ensures { pairs_byte (set_status result) ≡ byte }
@@ -187,7 +200,20 @@ pub struct EndpointStatus {
 }
 
 impl EndpointStatus {
+    ghost use Rattle.mctp_control.specs.Numbers.{endpoint_number, eid_type_number};
     ghost use Rattle.mctp_control.specs.Statuses.{pairs_byte, endpoint_status};
+
+    /// The status with clear reserved bits.
+    pub fn new(endpoint: EndpointType, eid: EidType) -> Self
+        ensures { endpoint_status result ≡ record { high = 0; second = endpoint_number endpoint; third = 0; low = eid_type_number eid } }
+    {
+        EndpointStatus {
+            high: ReservedPair::new(0),
+            endpoint,
+            low: ReservedPair::new(0),
+            eid,
+        }
+    }
 
     pub(crate) fn of(byte: u8) -> Self
         ensures { pairs_byte (endpoint_status result) ≡ byte }
@@ -211,19 +237,30 @@ impl EndpointStatus {
 #[derive(Clone, Copy, Debug, PartialEq, Eq)]
 pub struct PoolStatus {
     /// Bits 7 to 2, kept as read.
-    pub reserved: Reserved,
+    pub reserved: ReservedBits,
     /// Bits 1 and 0: whether the pool was taken.
     pub acceptance: Acceptance,
 }
 
 impl PoolStatus {
+    ghost use Rattle.mctp_control.specs.Numbers.{acceptance_number};
     ghost use Rattle.mctp_control.specs.Statuses.{pool_byte, pool_status};
+
+    /// The status with clear reserved bits.
+    pub fn new(acceptance: Acceptance) -> Self
+        ensures { pool_status result ≡ record { reserved = 0; acceptance = acceptance_number acceptance } }
+    {
+        PoolStatus {
+            reserved: ReservedBits::new(0),
+            acceptance,
+        }
+    }
 
     pub(crate) fn of(byte: u8) -> Self
         ensures { pool_byte (pool_status result) ≡ byte }
     {
         PoolStatus {
-            reserved: Reserved::new(byte / 4),
+            reserved: ReservedBits::new(byte / 4),
             acceptance: Acceptance::from_number(byte % 4),
         }
     }

@@ -16,7 +16,7 @@ use Rattle.mctp_transport.specs.TableChanges.{moved, started, carried, expired, 
 use Rattle.mctp_transport.specs.Frames.{Frame, KeyValue, key_of}
 use Rattle.mctp_transport.specs.Histories.{History, Arrived, TimeUp, after, IsOpen, IsKeyCount}
 use Rattle.mctp_transport.specs.Hearing.{Answer, Whole, Held, Dropped, HearsOnly}
-use Rattle.mctp_transport.specs.declared.why.Why.{Why}
+use Rattle.mctp_transport.specs.declared.drop_cause.DropCause.{DropCause}
 use Rattle.mctp_transport.specs.declared.assembler.Assembler.{Assembler}
 use Rattle.mctp_transport.specs.Assembly.{partial_of, Feeds, StandsFor, table_of, assembler_slots, assembler_limit, assembler_memory}
 use Rattle.mctp_transport.specs.Steps.{Takes}
@@ -188,18 +188,18 @@ held_as a i o m q is within at held =
       len = ap length bytes ∙ length-take-le m.len (part a.limit a.block.items i) (omega arith);
     }
 
-same_fault : (a : Assembler) (i : ℕ) (m : OpenMessage) (q : Partial) (p : Frame) (fault : Option Why) → IsHeldAs a i m q
+same_fault : (a : Assembler) (i : ℕ) (m : OpenMessage) (q : Partial) (p : Frame) (fault : Option DropCause) → IsHeldAs a i m q
     → fault_of a.limit m.number.value m.unit m.len p ≡ fault → fault_at a.limit q p ≡ fault
 same_fault a i m q p fault h e =
     ap (λ n. fault_of a.limit n q.unit (length q.bytes) p) h.number ∙ ap (λ n. fault_of a.limit m.number.value n (length q.bytes) p) h.unit
     ∙ ap (λ n. fault_of a.limit m.number.value m.unit n p) h.len ∙ e
 
 -- a message at a slot, and whether a packet goes on from it
-pub record IsHeldWith (a : Assembler) (i : ℕ) (m : OpenMessage) (q : Partial) (p : Frame) (fault : Option Why) : Type 0 where
+pub record IsHeldWith (a : Assembler) (i : ℕ) (m : OpenMessage) (q : Partial) (p : Frame) (fault : Option DropCause) : Type 0 where
   pub held : IsHeldAs a i m q
   pub fault_is : fault_at a.limit q p ≡ fault
 
-pub held_with : (a : Assembler) (i : ℕ) (o : Option OpenMessage) (m : OpenMessage) (q : Partial) (p : Frame) (fault : Option Why) → o ≡ Some m → i < length a.slots.items
+pub held_with : (a : Assembler) (i : ℕ) (o : Option OpenMessage) (m : OpenMessage) (q : Partial) (p : Frame) (fault : Option DropCause) → o ≡ Some m → i < length a.slots.items
     → o ≡ get_or a.slots.items i o → fault_of a.limit m.number.value m.unit m.len p ≡ fault → slice_get (table_of a) i ≡ Some (Some q) → IsHeldWith a i m q p fault
 held_with a i o m q p fault is within at e held =
     let h = held_as a i o m q is within at held in
@@ -210,11 +210,11 @@ pub record Leaves (limit : ℕ) (q : Partial) (p : Frame) (rest : Option Partial
   pub rest_is : next_partial limit q p ≡ rest
   pub answer_is : next_answer limit q p ≡ answer
 
-leaves : (fault found : Option Why) (ends known : Bool) (q : Partial) (p : Frame) → fault ≡ found → ends ≡ known
+leaves : (fault found : Option DropCause) (ends known : Bool) (q : Partial) (p : Frame) → fault ≡ found → ends ≡ known
     → (goes_on fault ends q p ≡ goes_on found known q p) × (answers_on fault ends q p ≡ answers_on found known q p)
 leaves fault found ends known q p f e = rw (f, e) (refl, refl)
 
-pub leaves_nothing : (limit : ℕ) (q : Partial) (p : Frame) (why : Why) → fault_at limit q p ≡ Some why → Leaves limit q p None (Dropped why)
+pub leaves_nothing : (limit : ℕ) (q : Partial) (p : Frame) (why : DropCause) → fault_at limit q p ≡ Some why → Leaves limit q p None (Dropped why)
 leaves_nothing limit q p why f = let l = leaves (fault_at limit q p) (Some why) p.eom p.eom q p f refl in record { rest_is = l.0; answer_is = l.1 }
 
 pub leaves_whole : (limit : ℕ) (q : Partial) (p : Frame) → fault_at limit q p ≡ None → p.eom ≡ true → Leaves limit q p None (Whole (q.bytes ++ p.payload))

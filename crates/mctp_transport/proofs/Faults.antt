@@ -7,18 +7,18 @@ use Rattle.mctp_transport.specs.Messages.{payloads_of, NumberFollows, LengthFits
 use Rattle.mctp_transport.specs.Histories.{History}
 use Rattle.mctp_transport.specs.Tables.{Partial, HoldsLast}
 use Rattle.mctp_transport.specs.TableChanges.{fault_at}
-use Rattle.mctp_transport.specs.declared.why.Why.{Why}
-use Rattle.mctp_transport.specs.declared.why.Why.TheVariants as why
+use Rattle.mctp_transport.specs.declared.drop_cause.DropCause.{DropCause}
+use Rattle.mctp_transport.specs.declared.drop_cause.DropCause.TheVariants as drop_cause
 use Rattle.mctp_transport.proofs.Places.{get_first, get_end}
 
 -- what each cause means of the packets since the start
-abbrev pub Means : ℕ → List Frame → Frame → Option Why → Type 0
+abbrev pub Means : ℕ → List Frame → Frame → Option DropCause → Type 0
 Means limit ps p None = NumberFollows ps p × LengthFits ps p × (length (payloads_of ps) + length p.payload ≤ limit)
-Means limit ps p (Some why.Number) = ¬ NumberFollows ps p
-Means limit ps p (Some why.Length) = NumberFollows ps p × ¬ LengthFits ps p
-Means limit ps p (Some why.Limit) = NumberFollows ps p × LengthFits ps p × (limit < length (payloads_of ps) + length p.payload)
-Means limit ps p (Some why.NotOpen) = ⊥
-Means limit ps p (Some why.Full) = ⊥
+Means limit ps p (Some drop_cause.Number) = ¬ NumberFollows ps p
+Means limit ps p (Some drop_cause.Length) = NumberFollows ps p × ¬ LengthFits ps p
+Means limit ps p (Some drop_cause.Limit) = NumberFollows ps p × LengthFits ps p × (limit < length (payloads_of ps) + length p.payload)
+Means limit ps p (Some drop_cause.NotOpen) = ⊥
+Means limit ps p (Some drop_cause.Full) = ⊥
 
 neither : (x y : Bool) → (x || y) ≡ false → (x ≡ false) × (y ≡ false)
 neither true y e = absurd (true≢false e)

@@ -10,8 +10,8 @@ use Rattle.mctp_transport.specs.Histories.{Arrived, TimeUp, History, after, has_
 use Rattle.mctp_transport.specs.Hearing.{Answer, Whole, Held, Dropped, HearsOnly}
 use Rattle.mctp_transport.specs.Tables.{Partial, Holds, HoldsLast, TableStandsFor, Table, is_at}
 use Rattle.mctp_transport.specs.TableChanges.{begun, fault_at, extended, goes_on, answers_on, placed, started, ended, carried_at, carried, moved, expired}
-use Rattle.mctp_transport.specs.declared.why.Why.{Why}
-use Rattle.mctp_transport.specs.declared.why.Why.TheVariants as why
+use Rattle.mctp_transport.specs.declared.drop_cause.DropCause.{DropCause}
+use Rattle.mctp_transport.specs.declared.drop_cause.DropCause.TheVariants as drop_cause
 use Rattle.mctp_transport.proofs.Places.{same_key-same, get_cases}
 use Rattle.mctp_transport.proofs.Joining.{first_of_snoc, payloads_snoc}
 use Rattle.mctp_transport.proofs.Openness.{open_expired, open_packets, are_alone, one_payload, are_more, has_started}
@@ -51,7 +51,7 @@ closed slots limit t u history p a s c told n = record {
 placed_is : (slots limit : ℕ) (t u : Table) (history : History) (p : Frame) (found : Option ℕ) → TableStandsFor slots limit t history → Cleared (key_of p) t u → length t ≡ slots
     → p.som ≡ true → length p.payload ≤ limit → p.eom ≡ false → position is_none u ≡ found → Stands slots limit history p (placed u p found)
 placed_is slots limit t u history p None s c long som fits going e =
-    closed slots limit t u history p (Dropped why.Full) s c
+    closed slots limit t u history p (Dropped drop_cause.Full) s c
     (inl (som, inr (fits, inr (going, inl (full slots limit t u history (key_of p) s c long e, refl))))) (λ n. cc)
 placed_is slots limit t u history p (Some i) s c long som fits going e =
     let at = position-some is_none u i e in
@@ -78,7 +78,7 @@ started_is : (slots limit : ℕ) (t u : Table) (history : History) (p : Frame) �
     → p.som ≡ true → Stands slots limit history p (started limit u p)
 started_is slots limit t u history p s c long som = elim (cases_Bool (nat_lt limit (length p.payload))) [
   | inl y ↦ pick_true (Stands slots limit history p) (nat_lt limit (length p.payload)) _ _ y
-      (closed slots limit t u history p (Dropped why.Limit) s c (inl (som, inl (ltb-true limit (length p.payload) y, refl))) (λ n. cc))
+      (closed slots limit t u history p (Dropped drop_cause.Limit) s c (inl (som, inl (ltb-true limit (length p.payload) y, refl))) (λ n. cc))
   | inr n ↦
       let fits = ltb-false limit (length p.payload) n in
       pick_false (Stands slots limit history p) (nat_lt limit (length p.payload)) _ _ n
@@ -106,16 +106,16 @@ extended_holds history p q ps som key started some are bytes unit = record {
 gone : (slots limit : ℕ) (t : Table) (history : History) (p : Frame) (i : ℕ) (q : Partial) (ps : List Frame) → TableStandsFor slots limit t history → p.som ≡ false
     → Cleared (key_of p) t (set t i None) → i < length t → q.key ≡ key_of p → IsOpen slots limit history (key_of p) → ArePackets (last_of history (key_of p)) ps
     → q.bytes ≡ payloads_of ps → AtFirst ps (λ f. q.unit ≡ length f.payload)
-    → (fault : Option Why) (ends : Bool) → p.eom ≡ ends → Means limit ps p fault
+    → (fault : Option DropCause) (ends : Bool) → p.eom ≡ ends → Means limit ps p fault
     → Stands slots limit history p (set t i (goes_on fault ends q p), answers_on fault ends q p)
-gone slots limit t history p i q ps s som c within key o are bytes unit (Some why.Number) ends e m =
-    closed slots limit t (set t i None) history p (Dropped why.Number) s c (inr (som, inr (o, (ps, are, inl (m, refl))))) (λ n. cc)
-gone slots limit t history p i q ps s som c within key o are bytes unit (Some why.Length) ends e m =
-    closed slots limit t (set t i None) history p (Dropped why.Length) s c (inr (som, inr (o, (ps, are, inr (m.0, inl (m.1, refl)))))) (λ n. cc)
-gone slots limit t history p i q ps s som c within key o are bytes unit (Some why.Limit) ends e m =
-    closed slots limit t (set t i None) history p (Dropped why.Limit) s c (inr (som, inr (o, (ps, are, inr (m.0, inr (m.1, inl (m.2, refl))))))) (λ n. cc)
-gone slots limit t history p i q ps s som c within key o are bytes unit (Some why.NotOpen) ends e m = absurd m
-gone slots limit t history p i q ps s som c within key o are bytes unit (Some why.Full) ends e m = absurd m
+gone slots limit t history p i q ps s som c within key o are bytes unit (Some drop_cause.Number) ends e m =
+    closed slots limit t (set t i None) history p (Dropped drop_cause.Number) s c (inr (som, inr (o, (ps, are, inl (m, refl))))) (λ n. cc)
+gone slots limit t history p i q ps s som c within key o are bytes unit (Some drop_cause.Length) ends e m =
+    closed slots limit t (set t i None) history p (Dropped drop_cause.Length) s c (inr (som, inr (o, (ps, are, inr (m.0, inl (m.1, refl)))))) (λ n. cc)
+gone slots limit t history p i q ps s som c within key o are bytes unit (Some drop_cause.Limit) ends e m =
+    closed slots limit t (set t i None) history p (Dropped drop_cause.Limit) s c (inr (som, inr (o, (ps, are, inr (m.0, inr (m.1, inl (m.2, refl))))))) (λ n. cc)
+gone slots limit t history p i q ps s som c within key o are bytes unit (Some drop_cause.NotOpen) ends e m = absurd m
+gone slots limit t history p i q ps s som c within key o are bytes unit (Some drop_cause.Full) ends e m = absurd m
 gone slots limit t history p i q ps s som c within key o are bytes unit None true e m =
     closed slots limit t (set t i None) history p (Whole (q.bytes ++ p.payload)) s c
     (inr (som, inr (o, (ps, are, inr (m.0, inr (m.1, inr (m.2, inl (e, ap (λ bs. Whole (bs ++ p.payload)) bytes)))))))) (λ n. cc)
@@ -133,7 +133,7 @@ gone slots limit t history p i q ps s som c within key o are bytes unit None fal
 carried_is : (slots limit : ℕ) (t : Table) (history : History) (p : Frame) (found : Option ℕ) → TableStandsFor slots limit t history → p.som ≡ false
     → position (is_at (key_of p)) t ≡ found → Stands slots limit history p (carried limit t p found)
 carried_is slots limit t history p None s som e =
-    closed slots limit t t history p (Dropped why.NotOpen) s (ended_cleared slots limit t history (key_of p) None s e)
+    closed slots limit t t history p (Dropped drop_cause.NotOpen) s (ended_cleared slots limit t history (key_of p) None s e)
     (inr (
       som,
       inl (

@@ -5,7 +5,7 @@ use Rattle.mctp_transport.specs.Frames.{Frame, KeyValue, key_of}
 use Rattle.mctp_transport.specs.Messages.{payloads_of, NumberFollows, LengthFits}
 use Rattle.mctp_transport.specs.Histories.{History, last_of, ArePackets, FewerThan, AsManyAs, IsOpen, IsOtherOpen}
 use Rattle.mctp_transport.specs.Hearing.{Answer, Whole, Held, Dropped, GoesOn, Hears, HearsOnly}
-use Rattle.mctp_transport.specs.declared.why.Why.TheVariants as why
+use Rattle.mctp_transport.specs.declared.drop_cause.DropCause.TheVariants as drop_cause
 use Rattle.mctp_transport.proofs.LastStarts.{packets_same}
 use Rattle.mctp_transport.proofs.Openness.{open_start, open_start_from, Continues, open_more, open_more_from, comes_start, comes_start_from, comes_more, comes_more_from}
 
@@ -24,16 +24,16 @@ test_one P answer Q rest apart one b c x y = elim x [
 
 abbrev pub ToldOfStart : ℕ → ℕ → History → Frame → Answer → Type 0
 ToldOfStart slots limit history p =
-    Test (limit < length p.payload) (Dropped why.Limit) (length p.payload ≤ limit)
+    Test (limit < length p.payload) (Dropped drop_cause.Limit) (length p.payload ≤ limit)
     (Test (p.eom ≡ true) (Whole p.payload) (p.eom ≡ false)
-    (Test (AsManyAs slots (IsOtherOpen slots limit history (key_of p))) (Dropped why.Full) (FewerThan slots (IsOtherOpen slots limit history (key_of p)))
+    (Test (AsManyAs slots (IsOtherOpen slots limit history (key_of p))) (Dropped drop_cause.Full) (FewerThan slots (IsOtherOpen slots limit history (key_of p)))
     (λ b. b ≡ Held)))
 
 abbrev pub ToldOfMore : ℕ → List Frame → Frame → Answer → Type 0
 ToldOfMore limit ps p =
-    Test (¬ NumberFollows ps p) (Dropped why.Number) (NumberFollows ps p)
-    (Test (¬ LengthFits ps p) (Dropped why.Length) (LengthFits ps p)
-    (Test (limit < length (payloads_of ps) + length p.payload) (Dropped why.Limit) (length (payloads_of ps) + length p.payload ≤ limit)
+    Test (¬ NumberFollows ps p) (Dropped drop_cause.Number) (NumberFollows ps p)
+    (Test (¬ LengthFits ps p) (Dropped drop_cause.Length) (LengthFits ps p)
+    (Test (limit < length (payloads_of ps) + length p.payload) (Dropped drop_cause.Limit) (length (payloads_of ps) + length p.payload ≤ limit)
     (Test (p.eom ≡ true) (Whole (payloads_of ps ++ p.payload)) (p.eom ≡ false)
     (λ b. b ≡ Held))))
 
@@ -41,7 +41,7 @@ abbrev pub ToldOfOpen : ℕ → History → Frame → Answer → Type 0
 ToldOfOpen limit history p b = (ps : List Frame) × ArePackets (last_of history (key_of p)) ps × ToldOfMore limit ps p b
 
 abbrev pub ToldOfLater : ℕ → ℕ → History → Frame → Answer → Type 0
-ToldOfLater slots limit history p = Test (¬ IsOpen slots limit history (key_of p)) (Dropped why.NotOpen) (IsOpen slots limit history (key_of p)) (ToldOfOpen limit history p)
+ToldOfLater slots limit history p = Test (¬ IsOpen slots limit history (key_of p)) (Dropped drop_cause.NotOpen) (IsOpen slots limit history (key_of p)) (ToldOfOpen limit history p)
 
 abbrev pub Told : ℕ → ℕ → History → Frame → Answer → Type 0
 Told slots limit history p b = ((p.som ≡ true) × ToldOfStart slots limit history p b) ⊎ ((p.som ≡ false) × ToldOfLater slots limit history p b)
@@ -93,14 +93,14 @@ told_from slots limit history p Held h = elim (cases_Bool p.som) [
   | inl s ↦ let o = open_start slots limit history p s h in inl (s, inr (o.fits, inr (o.going, inr (o.room, refl))))
   | inr s ↦ let c = open_more slots limit history p s h in going slots limit history p Held c.0 s c.1 (inr (c.2, refl))
 ]
-told_from slots limit history p (Dropped why.NotOpen) h = inr (h.0, inl (h.1, refl))
-told_from slots limit history p (Dropped why.Number) h = later slots limit history p _ _ h (λ ps n. inl (n, refl))
-told_from slots limit history p (Dropped why.Length) h = later slots limit history p _ _ h (λ ps n. inr (n.0, inl (n.1, refl)))
-told_from slots limit history p (Dropped why.Limit) h = elim h [
+told_from slots limit history p (Dropped drop_cause.NotOpen) h = inr (h.0, inl (h.1, refl))
+told_from slots limit history p (Dropped drop_cause.Number) h = later slots limit history p _ _ h (λ ps n. inl (n, refl))
+told_from slots limit history p (Dropped drop_cause.Length) h = later slots limit history p _ _ h (λ ps n. inr (n.0, inl (n.1, refl)))
+told_from slots limit history p (Dropped drop_cause.Limit) h = elim h [
   | inl l ↦ inl (l.0, inl (l.1, refl))
   | inr g ↦ later slots limit history p _ _ g (λ ps n. inr (n.0, inr (n.1, inl (n.2, refl))))
 ]
-told_from slots limit history p (Dropped why.Full) h = inl (h.0, inr (h.2, inr (h.1, inl (h.3, refl))))
+told_from slots limit history p (Dropped drop_cause.Full) h = inl (h.0, inr (h.2, inr (h.1, inl (h.3, refl))))
 
 -- what is told is heard
 as_answer : (slots limit : ℕ) (history : History) (p : Frame) (a b : Answer) → b ≡ a → Hears slots limit history p a → Hears slots limit history p b

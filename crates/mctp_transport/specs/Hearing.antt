@@ -4,14 +4,14 @@ use Rattle.mctp_transport.specs.Frames.{Frame, key_of}
 use Rattle.mctp_transport.specs.Messages.{payloads_of, NumberFollows, LengthFits}
 use Rattle.mctp_transport.specs.Histories.{History, Arrived, after, last_of, ArePackets}
 use Rattle.mctp_transport.specs.Histories.{IsOpen, IsOtherOpen, AsManyAs, Comes}
-use Rattle.mctp_transport.specs.declared.why.Why.{Why}
-use Rattle.mctp_transport.specs.declared.why.Why.TheVariants as why
+use Rattle.mctp_transport.specs.declared.drop_cause.DropCause.{DropCause}
+use Rattle.mctp_transport.specs.declared.drop_cause.DropCause.TheVariants as drop_cause
 
 -- what the assembler answers, without where it lies in memory
 pub data Answer : Type 0 where
   Whole : List ℕ → Answer
   Held : Answer
-  Dropped : Why → Answer
+  Dropped : DropCause → Answer
 
 -- the packet starts nothing, its key is open, and the packets since the key's last start have the property
 abbrev pub GoesOn : ℕ → ℕ → History → Frame → (List Frame → Type 0) → Type 0
@@ -19,14 +19,15 @@ GoesOn slots limit history p P = (p.som ≡ false) × IsOpen slots limit history
     × ((ps : List Frame) × ArePackets (last_of history (key_of p)) ps × P ps)
 
 -- the packet is dropped after the history for this cause
-abbrev pub IsDropped : ℕ → ℕ → History → Frame → Why → Type 0
-IsDropped slots limit history p why.NotOpen = (p.som ≡ false) × ¬ IsOpen slots limit history (key_of p)
-IsDropped slots limit history p why.Number = GoesOn slots limit history p (λ ps. ¬ NumberFollows ps p)
-IsDropped slots limit history p why.Length = GoesOn slots limit history p (λ ps. NumberFollows ps p × ¬ LengthFits ps p)
-IsDropped slots limit history p why.Limit = ((p.som ≡ true) × (limit < length p.payload))
+abbrev pub IsDropped : ℕ → ℕ → History → Frame → DropCause → Type 0
+IsDropped slots limit history p drop_cause.NotOpen = (p.som ≡ false) × ¬ IsOpen slots limit history (key_of p)
+IsDropped slots limit history p drop_cause.Number = GoesOn slots limit history p (λ ps. ¬ NumberFollows ps p)
+IsDropped slots limit history p drop_cause.Length =
+    GoesOn slots limit history p (λ ps. NumberFollows ps p × ¬ LengthFits ps p)
+IsDropped slots limit history p drop_cause.Limit = ((p.som ≡ true) × (limit < length p.payload))
     ⊎ GoesOn slots limit history p
     (λ ps. NumberFollows ps p × LengthFits ps p × (limit < length (payloads_of ps) + length p.payload))
-IsDropped slots limit history p why.Full = (p.som ≡ true) × (p.eom ≡ false) × (length p.payload ≤ limit)
+IsDropped slots limit history p drop_cause.Full = (p.som ≡ true) × (p.eom ≡ false) × (length p.payload ≤ limit)
     × AsManyAs slots (IsOtherOpen slots limit history (key_of p))
 
 -- what is heard of a packet that comes after the history

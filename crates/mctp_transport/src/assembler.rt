@@ -10,8 +10,8 @@ mod places;
 
 use crate::address::Key;
 use crate::cutting::MAX_MESSAGE;
+use crate::drop_cause::DropCause;
 use crate::packet::PacketView;
-use crate::why::Why;
 use block::write;
 use key_numbers::{FREE, first_place, number_in, number_of};
 use open_message::OpenMessage;
@@ -29,7 +29,7 @@ pub enum Fed<'a> {
     /// The packet's message is open: more of its packets have to come.
     Held,
     /// The packet was dropped. No message of its key is open now.
-    Dropped(Why),
+    Dropped(DropCause),
 }
 
 /// Joins packets to messages, under several keys at once.
@@ -62,7 +62,7 @@ enum Step {
     /// The whole message lies between these places of the block.
     At(usize, usize),
     Held,
-    Dropped(Why),
+    Dropped(DropCause),
 }
 
 impl Assembler {
@@ -279,13 +279,13 @@ impl Assembler {
         ensures memory { assembler_memory self.new ≡ assembler_memory self.old }
     {
         if packet.payload.len() > self.limit {
-            return Step::Dropped(Why::Limit);
+            return Step::Dropped(DropCause::Limit);
         }
         if packet.header.eom {
             return Step::Alone;
         }
         let Some(place) = self.free_place() else {
-            return Step::Dropped(Why::Full);
+            return Step::Dropped(DropCause::Full);
         };
         self.begin(place, packet);
         Step::Held
@@ -306,7 +306,7 @@ impl Assembler {
         ensures memory { assembler_memory self.new ≡ assembler_memory self.old }
     {
         match self.place_of(packet.key()) {
-            None => Step::Dropped(Why::NotOpen),
+            None => Step::Dropped(DropCause::NotOpen),
             Some(place) => self.go_on(place, packet),
         }
     }
@@ -326,7 +326,7 @@ impl Assembler {
         ensures memory { assembler_memory self.new ≡ assembler_memory self.old }
     {
         let Some(open) = self.slots[place] else {
-            return Step::Dropped(Why::NotOpen);
+            return Step::Dropped(DropCause::NotOpen);
         };
         match open.next(self.limit, packet) {
             Err(why) => {

@@ -5,17 +5,17 @@
 mod address;
 mod assembler;
 mod cutting;
+mod drop_cause;
 mod laws;
 mod packet;
 mod packet_error;
-mod why;
 mod wire;
 
 pub use address::{Eid, Key, Reserved, Seq, Tag};
 pub use assembler::{Assembler, Fed, MAX_SLOTS};
 pub use cutting::{MAX_MESSAGE, Packets, cut_joins, one_cut};
+pub use drop_cause::DropCause;
 pub use laws::one_spelling;
 pub use packet::{BASELINE_UNIT, HEADER_LENGTH, Header, MAX_UNIT, Packet, PacketView};
 pub use packet_error::PacketError;
-pub use why::Why;
 pub use wire::{Wire, round_trip};

@@ -13,7 +13,7 @@ use Rattle.mctp_transport.specs.Histories.{History, Arrived, after}
 use Rattle.mctp_transport.specs.Hearing.{Answer, Whole, Held, Dropped, Hears}
 use Rattle.mctp_transport.specs.Assembly as assembly
 use Rattle.mctp_transport.specs.declared.assembler.Assembler.{Assembler}
-use Rattle.mctp_transport.specs.declared.why.Why.{Why}
+use Rattle.mctp_transport.specs.declared.drop_cause.DropCause.{DropCause}
 use Rattle.net_check.specs.Termini.{TerminusState, WaitingMessage, with_waiting}
 use Rattle.net_check.specs.States.{NetworkState, Flight, with_input, with_terminus, with_received, slots, limit}
 use Rattle.net_check.specs.Events.{Entered}
@@ -61,7 +61,7 @@ module _ (v u : TrafficValue) (number : ℕ) (f : Flight) (a b : Assembler) (key
     heard_stands w s termini,
   )
 
-  pub receives_dropped : (why : Why) → ((h : History) → assembly.StandsFor a h → Hears slots limit h f.packet (Dropped why)) → u.termini ≡ v.termini
+  pub receives_dropped : (why : DropCause) → ((h : History) → assembly.StandsFor a h → Hears slots limit h f.packet (Dropped why)) → u.termini ≡ v.termini
       → Receives v number f (Entered number f.node key (Dropped why)) u
   receives_dropped why hears termini w s = (
     with_input w f.node (Arrived f.packet),

@@ -1,7 +1,7 @@
 //! What an event does to the packets of a network.
 use crate::refusal::Refusal;
 use mctp_bridge::Obstacle;
-use mctp_transport::{Key, Why};
+use mctp_transport::{DropCause, Key};
 
 /// What an event does to the packets of a network, their assemblers and the termini. Nodes are places in the plan's list.
 #[derive(Debug, Drop)]
@@ -35,7 +35,7 @@ pub enum Effect {
         number: u32,
         node: usize,
         key: Key,
-        why: Why,
+        why: DropCause,
     },
     /// The flight ended on its way.
     Stopped {

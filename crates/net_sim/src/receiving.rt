@@ -7,7 +7,7 @@ ghost use Rattle.net_sim.specs.KeptPackets.{kept_frame};
 ghost use Rattle.net_sim.specs.Receiving.{receipt_value};
 
 use crate::kept_packet::KeptPacket;
-use mctp_transport::{Assembler, Fed, MAX_MESSAGE, Why};
+use mctp_transport::{Assembler, DropCause, Fed, MAX_MESSAGE};
 use std::alloc::{AllocError, Global};
 
 /// What an assembler made of a packet.
@@ -16,7 +16,7 @@ pub enum Receipt {
     /// The packet ended this message.
     Whole(Vec<u8>),
     Held,
-    Dropped(Why),
+    Dropped(DropCause),
 }
 
 /// Room for a message of 4096 bytes.

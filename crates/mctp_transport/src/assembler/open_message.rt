@@ -2,8 +2,8 @@
 ghost use Rattle.std.specs.Prelude.{◌≡◌, ◌≤◌, ◌+◌, length, IfOk, MatchResult, Some, None};
 
 use crate::address::{Key, Seq};
+use crate::drop_cause::DropCause;
 use crate::packet::PacketView;
-use crate::why::Why;
 
 /// A message whose last packet has yet to come. Its bytes so far lie at the front of its slot's part of the block.
 #[derive(Clone, Copy, Debug)]
@@ -22,7 +22,7 @@ impl OpenMessage {
     ghost use Rattle.mctp_transport.specs.TableChanges.{fault_of};
 
     /// The message with one more packet, or why the packet doesn't go on from it.
-    pub(super) fn next(self, limit: usize, packet: &PacketView) -> Result<OpenMessage, Why>
+    pub(super) fn next(self, limit: usize, packet: &PacketView) -> Result<OpenMessage, DropCause>
         requires { self.len ≤ limit }
         ensures fault { let fault = fault_of limit self.number.value self.unit self.len (frame_of packet.now) in
             MatchResult result (λ _. fault ≡ None) (λ why. fault ≡ Some why) }
@@ -34,13 +34,13 @@ impl OpenMessage {
     {
         let len = packet.payload.len();
         if packet.header.number != self.number.next() {
-            return Err(Why::Number);
+            return Err(DropCause::Number);
         }
         if len > self.unit || (!packet.header.eom && len < self.unit) {
-            return Err(Why::Length);
+            return Err(DropCause::Length);
         }
         if len > limit - self.len {
-            return Err(Why::Limit);
+            return Err(DropCause::Limit);
         }
         Ok(OpenMessage {
             number: packet.header.number,

@@ -1,5 +1,5 @@
 //! Packets fed one after another.
-use mctp_transport::{Assembler, Eid, Fed, Key, PacketView, Packets, Seq, Tag, Why};
+use mctp_transport::{Assembler, DropCause, Eid, Fed, Key, PacketView, Packets, Seq, Tag};
 use std::process::Abort;
 use std::test::Fail;
 
@@ -8,7 +8,7 @@ use std::test::Fail;
 enum Told {
     Whole(usize),
     Held,
-    Dropped(Why),
+    Dropped(DropCause),
     Unread,
 }
 
@@ -89,9 +89,9 @@ fn lost_repeated_and_mixed_packets(rt: HostRuntime) -> Result<(), Fail> {
         // A repeat ends the message.
         Turn::Feed(8, 0x89, Told::Held),
         Turn::Feed(8, 0x19, Told::Held),
-        Turn::Feed(8, 0x19, Told::Dropped(Why::Number)),
-        Turn::Feed(8, 0x29, Told::Dropped(Why::NotOpen)),
-        Turn::Feed(8, 0x69, Told::Dropped(Why::NotOpen)),
+        Turn::Feed(8, 0x19, Told::Dropped(DropCause::Number)),
+        Turn::Feed(8, 0x29, Told::Dropped(DropCause::NotOpen)),
+        Turn::Feed(8, 0x69, Told::Dropped(DropCause::NotOpen)),
         // One tag of two sources.
         Turn::Feed(8, 0x89, Told::Held),
         Turn::Feed(9, 0x89, Told::Held),
@@ -99,7 +99,7 @@ fn lost_repeated_and_mixed_packets(rt: HostRuntime) -> Result<(), Fail> {
         Turn::Feed(8, 0x59, Told::Whole(128)),
         // Five packets, of which three are lost.
         Turn::Feed(8, 0x89, Told::Held),
-        Turn::Feed(8, 0x49, Told::Dropped(Why::Number)),
+        Turn::Feed(8, 0x49, Told::Dropped(DropCause::Number)),
     ];
     expect_answers(&rt, Assembler::new(rt.alloc(), 16, 4096)?, &turns);
     Ok(())
@@ -129,7 +129,7 @@ fn a_message_of_the_limit_and_one_past_it(rt: HostRuntime) -> Result<(), Fail> {
         Turn::Feed(8, 0x59, Told::Whole(128)),
         Turn::Feed(8, 0x89, Told::Held),
         Turn::Feed(8, 0x19, Told::Held),
-        Turn::Feed(8, 0x69, Told::Dropped(Why::Limit)),
+        Turn::Feed(8, 0x69, Told::Dropped(DropCause::Limit)),
         Turn::IsOpen(8, false),
     ];
     expect_answers(&rt, Assembler::new(rt.alloc(), 16, 128)?, &turns);
@@ -143,7 +143,7 @@ fn one_slot(rt: HostRuntime) -> Result<(), Fail> {
         Turn::IsOpen(8, true),
         Turn::IsOpen(9, false),
         Turn::OpenSlots(1),
-        Turn::Feed(9, 0x89, Told::Dropped(Why::Full)),
+        Turn::Feed(9, 0x89, Told::Dropped(DropCause::Full)),
         Turn::Expire(8, true),
         Turn::OpenSlots(0),
         Turn::Expire(8, false),

@@ -1,7 +1,7 @@
 //! Refusals are printed with their codes first.
 use mctp_bridge::{Obstacle, ReadFault, TableFault};
 use mctp_control::ControlError;
-use mctp_transport::{PacketError, Why};
+use mctp_transport::{DropCause, PacketError};
 use pdr_record::RecordError;
 use pdr_repository::WalkFault;
 use pldm_message::PldmError;
@@ -59,19 +59,19 @@ fn packet_errors(rt: HostRuntime) -> Result<(), Fail> {
 #[test]
 fn causes_of_drops(rt: HostRuntime) -> Result<(), Fail> {
     let rows = [
-        (Why::NotOpen, "A01"),
-        (Why::Number, "A02"),
-        (Why::Length, "A03"),
-        (Why::Limit, "A04"),
-        (Why::Full, "A05"),
+        (DropCause::NotOpen, "A01"),
+        (DropCause::Number, "A02"),
+        (DropCause::Length, "A03"),
+        (DropCause::Limit, "A04"),
+        (DropCause::Full, "A05"),
     ];
     for (why, code) in rows {
         expect_code(&rt, rt.alloc(), &why, Some(why.code()), code)?;
     }
     let text = "A01: no message of the packet's key is open";
-    expect_text(&rt, rt.alloc(), &Why::NotOpen, text)?;
+    expect_text(&rt, rt.alloc(), &DropCause::NotOpen, text)?;
     let text = "A05: all slots are taken";
-    expect_text(&rt, rt.alloc(), &Why::Full, text)?;
+    expect_text(&rt, rt.alloc(), &DropCause::Full, text)?;
     Ok(())
 }
 

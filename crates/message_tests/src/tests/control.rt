@@ -3,8 +3,8 @@ ghost use Rattle.std.specs.Prelude.{◌<◌, length};
 
 use super::spelling::{is_kept, is_written_as};
 use mctp_control::{
-    Answer, ControlHeader, Device, DeviceKind, EidPool, EidRange, InstanceId, Request, Response,
-    RouteEntry,
+    ControlAnswer, ControlHeader, ControlInstanceId, Device, DeviceKind, EidPool, EidRange,
+    Request, Response, RouteEntry,
 };
 use mctp_transport::{Eid, Wire, round_trip};
 use std::process::Abort;
@@ -141,7 +141,7 @@ fn bridges_tell_their_tables(rt: HostRuntime) -> Result<(), Fail> {
     ];
     expect_replies(&rt, &mut bridge, &table, &with);
     match Response::read(&ENTRIES)?.answer {
-        Answer::GetRoutingTableEntries { next, entries } => {
+        ControlAnswer::GetRoutingTableEntries { next, entries } => {
             assert!(rt; next == 0xff && entries.items.as_slice() == table.as_slice());
         }
         _ => return Err(Fail::from("no entries")),
@@ -221,7 +221,7 @@ fn messages_keep_reserved_bits(rt: HostRuntime) -> Result<(), Fail> {
     let header = ControlHeader {
         datagram: true,
         reserved: true,
-        instance: InstanceId::new(31),
+        instance: ControlInstanceId::new(31),
     };
     assert_eq!(rt; Request::read(&asked)?.header, header);
     assert!(rt; is_kept::<Request>(&asked));

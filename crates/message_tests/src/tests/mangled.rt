@@ -1,8 +1,8 @@
 //! Packets and control messages cut at each length, and with each byte changed to 00 and to FF: each is refused by the first
 //! of its causes, or read. The causes are told from the bytes, each by itself.
 use mctp_bridge::{EntryReader, ReadFault};
-use mctp_control::{ControlError, Device, InstanceId, Request, Response, RouteEntry};
-use mctp_transport::{Assembler, Fed, PacketView, Why, Wire};
+use mctp_control::{ControlError, ControlInstanceId, Device, Request, Response, RouteEntry};
+use mctp_transport::{Assembler, DropCause, Fed, PacketView, Wire};
 use std::alloc::{AllocError, Global};
 use std::test::Fail;
 
@@ -213,7 +213,7 @@ fn feed_code(alloc: Global, bytes: &[u8]) -> Result<&'static str, AllocError> {
     Ok(match assembler.feed(packet) {
         Fed::Whole(_) => "whole",
         Fed::Held => "held",
-        Fed::Dropped(Why::NotOpen) => "A01",
+        Fed::Dropped(DropCause::NotOpen) => "A01",
         Fed::Dropped(_) => "another",
     })
 }
@@ -233,7 +233,7 @@ fn table_cause(bytes: &[u8]) -> &'static str {
 /// What a reader that has asked under instance ID 0 makes of these bytes.
 fn table_code(alloc: Global, bytes: &[u8]) -> Result<&'static str, AllocError> {
     let mut reader = EntryReader::new(alloc)?;
-    reader.next_request(InstanceId::new(0));
+    reader.next_request(ControlInstanceId::new(0));
     Ok(match reader.take(bytes) {
         Ok(true) => "complete",
         Ok(false) => "read",

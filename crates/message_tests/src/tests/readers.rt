@@ -1,7 +1,7 @@
 //! Routing tables that are read from a bridge's answers.
 use super::tables::{row, told};
 use mctp_bridge::{EntryReader, Neighbor, ReadFault};
-use mctp_control::{Device, DeviceKind, InstanceId};
+use mctp_control::{ControlInstanceId, Device, DeviceKind};
 use mctp_transport::Eid;
 use std::process::Abort;
 use std::test::Fail;
@@ -10,7 +10,7 @@ use std::test::Fail;
 #[derive(Clone, Copy, Debug)]
 enum Turn<'a> {
     /// Asks under this instance ID: these bytes, or none.
-    Asks(InstanceId, Option<[u8; 4]>),
+    Asks(ControlInstanceId, Option<[u8; 4]>),
     /// Takes these bytes.
     Takes(&'a [u8], Result<bool, ReadFault>),
 }
@@ -52,14 +52,14 @@ fn a_reader_asks_a_bridge_twice_for_ten_entries(rt: HostRuntime) -> Result<(), F
     assert!(rt; last.len() == 20 && last.as_slice().starts_with(&announced));
     let mut reader = EntryReader::new(rt.alloc())?;
     let turns = [
-        Turn::Asks(InstanceId::new(1), Some(begin)),
-        Turn::Asks(InstanceId::new(2), Some([0x00, 0x82, 0x0a, 0x00])),
+        Turn::Asks(ControlInstanceId::new(1), Some(begin)),
+        Turn::Asks(ControlInstanceId::new(2), Some([0x00, 0x82, 0x0a, 0x00])),
         Turn::Takes(&first, Err(ReadFault::NotAsked)),
-        Turn::Asks(InstanceId::new(1), Some(begin)),
+        Turn::Asks(ControlInstanceId::new(1), Some(begin)),
         Turn::Takes(&first, Ok(false)),
-        Turn::Asks(InstanceId::new(0), Some(end)),
+        Turn::Asks(ControlInstanceId::new(0), Some(end)),
         Turn::Takes(&last, Ok(true)),
-        Turn::Asks(InstanceId::new(3), None),
+        Turn::Asks(ControlInstanceId::new(3), None),
         Turn::Takes(&last, Err(ReadFault::NotAsked)),
     ];
     expect_answers(&rt, &mut reader, &turns);
@@ -94,12 +94,12 @@ fn a_reader_that_failed_keeps_its_entries(rt: HostRuntime) -> Result<(), Fail> {
     for (bytes, fault) in endings {
         let mut reader = EntryReader::new(rt.alloc())?;
         let turns = [
-            Turn::Asks(InstanceId::new(0), Some([0x00, 0x80, 0x0a, 0x00])),
+            Turn::Asks(ControlInstanceId::new(0), Some([0x00, 0x80, 0x0a, 0x00])),
             Turn::Takes(&PART, Ok(false)),
-            Turn::Asks(InstanceId::new(1), Some([0x00, 0x81, 0x0a, 0x08])),
+            Turn::Asks(ControlInstanceId::new(1), Some([0x00, 0x81, 0x0a, 0x08])),
             Turn::Takes(bytes, Err(fault)),
             Turn::Takes(&PART, Err(ReadFault::FailedBefore)),
-            Turn::Asks(InstanceId::new(0), None),
+            Turn::Asks(ControlInstanceId::new(0), None),
         ];
         expect_answers(&rt, &mut reader, &turns);
         assert_eq!(rt; reader.entries().len(), 8);
@@ -111,14 +111,14 @@ fn a_reader_that_failed_keeps_its_entries(rt: HostRuntime) -> Result<(), Fail> {
 /// Wants the reader to take an answer with eight entries thirty times.
 fn expect_240(rt: &impl Abort, reader: &mut EntryReader) {
     for _ in 0..30 {
-        reader.next_request(InstanceId::new(0));
+        reader.next_request(ControlInstanceId::new(0));
         assert_eq!(rt; reader.take(&PART), Ok(false));
     }
 }
 
 #[test]
 fn a_reader_takes_247_entries_and_no_more(rt: HostRuntime) -> Result<(), Fail> {
-    let asks = Turn::Asks(InstanceId::new(0), Some([0x00, 0x80, 0x0a, 0x08]));
+    let asks = Turn::Asks(ControlInstanceId::new(0), Some([0x00, 0x80, 0x0a, 0x08]));
     let mut last = SEVEN;
     last[4] = 0xff;
     let rows: [(&[Turn], usize); 3] = [
@@ -148,14 +148,14 @@ fn expect_ones(rt: &impl Abort, reader: &mut EntryReader, count: usize) {
     let mut one = ONE;
     one[4] = 8;
     for _ in 0..count {
-        reader.next_request(InstanceId::new(0));
+        reader.next_request(ControlInstanceId::new(0));
         assert_eq!(rt; reader.take(&one), Ok(false));
     }
 }
 
 #[test]
 fn a_reader_takes_248_answers_and_no_more(rt: HostRuntime) -> Result<(), Fail> {
-    let asks = Turn::Asks(InstanceId::new(0), Some([0x00, 0x80, 0x0a, 0x08]));
+    let asks = Turn::Asks(ControlInstanceId::new(0), Some([0x00, 0x80, 0x0a, 0x08]));
     let end: &[u8] = &[0, 0, 10, 0, 255, 0];
     let empty: &[u8] = &[0, 0, 10, 0, 8, 0];
     let rows: [(&[Turn], usize); 4] = [
@@ -182,7 +182,7 @@ fn a_reader_takes_248_answers_and_no_more(rt: HostRuntime) -> Result<(), Fail> {
                 Turn::Takes(&[0, 1, 10, 0, 255, 0], Err(ReadFault::NotAsked)),
                 Turn::Takes(&ONE, Err(ReadFault::TooMany)),
                 Turn::Takes(&ONE, Err(ReadFault::FailedBefore)),
-                Turn::Asks(InstanceId::new(0), None),
+                Turn::Asks(ControlInstanceId::new(0), None),
             ],
             248,
         ),

@@ -5,7 +5,8 @@ ghost use Rattle.mctp_control.specs.Requests.{request_value};
 ghost use Rattle.net_sim.specs.Assignments.{plain_header, sets_eid, allocates_pool};
 
 use mctp_control::{
-    AllocateOperation, Command, ControlHeader, InstanceId, Request, Reserved, SetOperation,
+    AllocateOperation, ControlCommand, ControlHeader, ControlInstanceId, Request, ReservedBits,
+    SetOperation,
 };
 use mctp_transport::Eid;
 use net_plan::Pool;
@@ -17,7 +18,7 @@ fn header() -> ControlHeader
     ControlHeader {
         datagram: false,
         reserved: false,
-        instance: InstanceId::new(0),
+        instance: ControlInstanceId::new(0),
     }
 }
 
@@ -27,9 +28,9 @@ pub fn set_eid(eid: Eid) -> Request
 {
     Request {
         header: header(),
-        command: Command::SetEndpointId {
+        command: ControlCommand::SetEndpointId {
             operation: SetOperation::Set,
-            reserved: Reserved::new(0),
+            reserved: ReservedBits::new(0),
             eid,
         },
     }
@@ -41,9 +42,9 @@ pub fn allocate_pool(pool: Pool) -> Request
 {
     Request {
         header: header(),
-        command: Command::AllocateEndpointIds {
+        command: ControlCommand::AllocateEndpointIds {
             operation: AllocateOperation::Allocate,
-            reserved: Reserved::new(0),
+            reserved: ReservedBits::new(0),
             size: pool.size,
             first: pool.first,
         },

@@ -1,7 +1,9 @@
 //! Messages of several packets from host to ssd in the riser network.
 use super::playing::{Scenario, play_on};
 use super::riser::{HOST, SSD};
-use mctp_transport::{Eid, HEADER_LENGTH, Key, MAX_MESSAGE, MAX_UNIT, Packets, Seq, Tag, Why};
+use mctp_transport::{
+    DropCause, Eid, HEADER_LENGTH, Key, MAX_MESSAGE, MAX_UNIT, Packets, Seq, Tag,
+};
 use net_plan::Event;
 use net_sim::{Effect, Network, Outcome};
 use std::alloc::{AllocError, Global};
@@ -139,7 +141,7 @@ fn how_it_comes(effect: &Effect, message: &[u8]) -> Option<Comes> {
             ..
         } if *told == key() && bytes.as_slice() == message => Some(Comes::Whole),
         Effect::Dropped {
-            why: Why::NotOpen | Why::Number,
+            why: DropCause::NotOpen | DropCause::Number,
             ..
         } => Some(Comes::Not),
         Effect::Held { .. } => Some(Comes::Not),

@@ -1,14 +1,14 @@
 use Rattle.std.proofs.Common.{◌≡◌, ◌≢◌, true, Option, None, Some, option_map, sym, ap, ◌∙◌, inr}
 use Rattle.std.specs.Prelude.{is_some}
 use Rattle.std.proofs.lemmas.Bool.{false≢true}
-use Rattle.mctp_control.specs.declared.header.InstanceId.{InstanceId}
+use Rattle.mctp_control.specs.declared.header.ControlInstanceId.{ControlInstanceId}
 use Rattle.mctp_control.specs.Headers.{header_value}
 use Rattle.mctp_control.specs.EntriesValue.{entries_of}
 use Rattle.mctp_bridge.proofs.entry_reader.EntryReader.take.Goals as goal
 
-is_there : (o : Option InstanceId) (id : InstanceId) → o ≡ Some id → option_map (λ (id : InstanceId). id.value) o ≢ None
+is_there : (o : Option ControlInstanceId) (id : ControlInstanceId) → o ≡ Some id → option_map (λ (id : ControlInstanceId). id.value) o ≢ None
 is_there o id is none =
-    let mapped = ap (option_map (λ (id : InstanceId). id.value)) is in
+    let mapped = ap (option_map (λ (id : ControlInstanceId). id.value)) is in
     false≢true (sym (ap is_some none) ∙ ap is_some mapped)
 
 pub returns-clause-takes : goal.returns-clause-takes

@@ -6,7 +6,7 @@ use std::fmt;
 
 /// Why an assembler dropped a packet. Where several causes apply, the first of these is answered.
 #[derive(Clone, Copy, Debug, PartialEq, Eq)]
-pub enum Why {
+pub enum DropCause {
     /// A01: the packet doesn't start a message, and no message of its key is open.
     NotOpen,
     /// A02: the packet's number doesn't follow the last one of its message.
@@ -19,7 +19,7 @@ pub enum Why {
     Full,
 }
 
-impl Why {
+impl DropCause {
     ghost use Rattle.mctp_transport.specs.Causes.{cause_code};
 
     /// The code that users see, as `A01`.
@@ -27,25 +27,25 @@ impl Why {
         ensures { result.now ≡ cause_code self }
     {
         match self {
-            Why::NotOpen => "A01",
-            Why::Number => "A02",
-            Why::Length => "A03",
-            Why::Limit => "A04",
-            Why::Full => "A05",
+            DropCause::NotOpen => "A01",
+            DropCause::Number => "A02",
+            DropCause::Length => "A03",
+            DropCause::Limit => "A04",
+            DropCause::Full => "A05",
         }
     }
 }
 
-impl fmt::Display for Why {
+impl fmt::Display for DropCause {
     fn fmt<W: fmt::Write>(&self, f: &mut fmt::Formatter<W>) -> fmt::Result {
         f.write_str(match self {
-            Why::NotOpen => "A01: no message of the packet's key is open",
-            Why::Number => "A02: the packet's number does not follow the last one",
-            Why::Length => "A03: the payload's length does not fit the first packet's",
-            Why::Limit => "A04: the message is longer than the limit",
-            Why::Full => "A05: all slots are taken",
+            DropCause::NotOpen => "A01: no message of the packet's key is open",
+            DropCause::Number => "A02: the packet's number does not follow the last one",
+            DropCause::Length => "A03: the payload's length does not fit the first packet's",
+            DropCause::Limit => "A04: the message is longer than the limit",
+            DropCause::Full => "A05: all slots are taken",
         })
     }
 }
 
-impl Error for Why {}
+impl Error for DropCause {}

@@ -1,6 +1,6 @@
 use Rattle.std.proofs.Common.{arith}
 use Rattle.mctp_control.proofs.CommandNumbers.{is_number}
-use Rattle.mctp_control.proofs.response.Answer.len.Goals as goal
+use Rattle.mctp_control.proofs.response.ControlAnswer.len.Goals as goal
 
 pub returns-in-Failed-clause-lawful : goal.returns-in-Failed-clause-lawful
 returns-in-Failed-clause-lawful c =
