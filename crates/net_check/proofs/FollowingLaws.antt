@@ -1,6 +1,6 @@
 -- What is found by halving among items that follow one another.
-use Rattle.std.proofs.Common.{◌≡◌, ℕ, zero, suc, ◌+◌, ◌<◌, ◌≤◌, List, [], ◌∷◌, length, get_or, Bool, true, false, Some, None, take, refl, sym, ◌∙◌, ap, subst, arith, inl, inr}
-use Rattle.std.specs.Prelude.{◌↔◌, ◌&&◌, slice_get, nat_le, nat_lt}
+use Rattle.std.proofs.Common.{◌≡◌, ℕ, zero, suc, ◌+◌, ◌<◌, ◌≤◌, List, [], ◌∷◌, length, get_or, true, false, Some, None, take, refl, sym, ◌∙◌, ap, subst, arith, inl, inr}
+use Rattle.std.specs.Prelude.{slice_get, nat_le, nat_lt}
 use Rattle.std.specs.List.{AllWithin}
 use Rattle.std.specs.List.Sorted.{IsNonDecreasingBy, IsPartitionedBy}
 use Rattle.std.proofs.Math.Dec.{leb}
@@ -17,8 +17,8 @@ use Rattle.net_check.specs.Ranks.{rank_in, is_in_range}
 use Rattle.net_check.specs.Rows.{AreApart, IsApartFromEarlier}
 use Rattle.net_check.specs.Search.{IsFirstItem}
 use Rattle.net_check.specs.Stretches.{IsStretch, HasOneRank}
-use Rattle.net_check.specs.Following.{Follow, EndedBy, RowsFollow, RangesFollow}
-use Rattle.net_check.proofs.StretchLaws.{IsBetween, shorter, rank_alike, row_alike}
+use Rattle.net_check.specs.Following.{Follow, EndedBy, RowsFollow, RangesFollow, HaveRowsFor}
+use Rattle.net_check.proofs.StretchLaws.{IsBetween, rank_alike, row_alike}
 use Rattle.net_check.proofs.OtherSearches.{no_row_for}
 
 low_test : (n e : ℕ) → leb n e ≡ true → n ≤ e
@@ -248,16 +248,26 @@ module _ (plan : Plan) (n : ℕ) (rows : List Row) (same : rows ≡ rows_of plan
           let from = ap (λ (r : Row). r.first.value) one in
           absurd (omega (arith, from, covers.0, before)))
 
-      pub row_border_here : (end : ℕ) → y.first.value ≤ e → e < end → end ≤ y.first.value + y.size → end ≤ 256 → IsStretch (HasRow plan n) e end
-      row_border_here end from some less most =
-          row_alike plan rows (length rows) n e end same (omega arith) some most
-          (λ k lt x is. shorter (IsBetween x.first.value (x.first.value + x.size)) e (y.first.value + y.size) end some less
-          (alike_in (λ (row : Row). row.first.value) (λ (row : Row). row.first.value + row.size) row_grows rows follow e count by y here from k x is))
-
       pub row_border_later : e < y.first.value → y.first.value ≤ 256 → IsStretch (HasRow plan n) e y.first.value
       row_border_later before most =
           row_alike plan rows (length rows) n e y.first.value same (omega arith) before most
           (λ k lt. alike_before (λ (row : Row). row.first.value) (λ (row : Row). row.first.value + row.size) row_grows rows follow e count by y here before k)
+
+-- a row that begins where the ones before it end
+pub joins : (rows : List Row) (first end place : ℕ) (row : Row) → HaveRowsFor rows first end → slice_get rows place ≡ Some row → row.first.value ≡ end
+    → HaveRowsFor rows first (row.first.value + row.size)
+joins rows first end place row before here same e from less small = elim (cases_lt e end) [
+  | inl old ↦ before e from old small
+  | inr new ↦ (place, row, here, (omega arith, less, small))
+]
+
+pub joined_border : (plan : Plan) (n : ℕ) (rows : List Row) (e end : ℕ) → rows ≡ rows_of plan n → e < end → end ≤ 256 → HaveRowsFor rows e end → IsStretch (HasRow plan n) e end
+joined_border plan n rows e end same some most joined =
+    let has : (d : ℕ) → e ≤ d → d < end → HasRow plan n d = λ d low high. (
+    let found = joined d low high (omega arith) in
+    let P : List Row → Type 0 = λ rs. slice_get rs found.0 ≡ Some found.1 in
+    (found.1.next, (found.0, found.1, subst P same found.2, found.3, refl))) in
+    (some, λ d low high. (λ _. has e (omega arith) some, λ _. has d low high))
 
 -- rows that follow one another lie apart
 apart_rows : (row other : Row) → other.first.value + other.size ≤ row.first.value → AreApart row other

@@ -1,12 +1,13 @@
 -- Rows and rank ranges that follow one another along the endpoint IDs.
-use Rattle.std.specs.Prelude.{◌≡◌, ℕ, ◌+◌, ◌<◌, ◌≤◌, List, Bool, length, slice_get, Some, option_map, IsTrue}
+use Rattle.std.specs.Prelude.{◌≡◌, ℕ, ◌+◌, ◌<◌, ◌≤◌, List, Bool, length, slice_get, slice_index_or}
+use Rattle.std.specs.Prelude.{Some, option_map, IsTrue}
 use Rattle.net_plan.specs.declared.plan.Plan.{Plan}
 use Rattle.net_plan.specs.declared.nodes.Row.{Row}
 use Rattle.net_plan.specs.declared.certificate.RankRange.{RankRange}
 use Rattle.net_plan.specs.declared.certificate.Certificate.{Certificate}
 use Rattle.net_check.specs.declared.plans.Plans.{Plans}
-use Rattle.net_check.specs.Routing.{OfItem, rows_of}
-use Rattle.net_check.specs.Stretches.{ranges_of}
+use Rattle.net_check.specs.Routing.{OfItem, Covers, rows_of}
+use Rattle.net_check.specs.Ranks.{rank}
 
 -- each item ends before any later one begins
 abbrev pub Follow : {A : Type 0} → (A → ℕ) → (A → ℕ) → List A → Type 0
@@ -26,6 +27,11 @@ pub record EndedBy {A : Type 0} (past : A → ℕ) (items : List A) (e count : �
   pub ended : (k : ℕ) → k < count → OfItem items k (λ x. past x ≤ e)
   pub left : (k : ℕ) → count ≤ k → OfItem items k (λ x. e < past x)
 
+-- each EID from first to before end is one of a row's
+abbrev pub HaveRowsFor : List Row → ℕ → ℕ → Type 0
+HaveRowsFor rows first end = (e : ℕ) → first ≤ e → e < end → e ≤ 255
+    → (r : ℕ) × (row : Row) × (slice_get rows r ≡ Some row) × Covers row e
+
 -- if it is told so, the rows of n follow one another
 abbrev pub DoRowsFollow : Plan → ℕ → Bool → Type 0
 DoRowsFollow plan n follow = IsTrue follow → RowsFollow (rows_of plan n)
@@ -35,6 +41,7 @@ abbrev pub DoNewRowsFollow : Plans → ℕ → Bool → Type 0
 DoNewRowsFollow plans n follow =
     (after : Plan) → option_map (λ a. a.now) plans.after ≡ Some after → DoRowsFollow after n follow
 
--- lists of ranges, each as the certificate gives it to the node of its place
-abbrev pub AreRangesOf : Certificate → List (List RankRange) → Type 0
-AreRangesOf cert lists = (n : ℕ) → OfItem lists n (λ ranges. ranges ≡ ranges_of cert n)
+-- tables of ranks by EID, each as the certificate gives them to the node of its place
+abbrev pub AreRankTables : Certificate → List (List ℕ) → Type 0
+AreRankTables cert tables =
+    (n : ℕ) → OfItem tables n (λ table. (e : ℕ) → e < 256 → slice_index_or table e 0 ≡ rank cert n e)

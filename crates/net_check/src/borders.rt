@@ -41,17 +41,6 @@ pub fn held_border(plan: &Plan, node: usize, eid: Eid) -> u16
     }
 }
 
-/// The end of a stretch from the endpoint ID on that one node holds, or none.
-pub fn holder_border(plan: &Plan, eid: Eid) -> u16
-    ensures { (holder : ℕ) → IsStretch (Holds plan.now holder) eid.value result }
-{
-    let mut end = 256;
-    for holder in 0..plan.nodes.len() {
-        end = end.min(held_border(plan, holder, eid));
-    }
-    end
-}
-
 /// The end of a stretch from the endpoint ID on, cut where a range, from its first endpoint ID to before its end,
 /// begins or ends.
 fn cut(end: u16, eid: Eid, first: u16, past: u16) -> u16

@@ -1,11 +1,10 @@
 //! The search for the first fault of a plan and a certificate.
-ghost use Rattle.std.specs.Prelude.{◌<◌, length, IfOk};
-ghost use Rattle.net_check.specs.Following.{AreRangesOf};
+ghost use Rattle.std.specs.Prelude.{◌≡◌, ◌<◌, length, IfOk};
 ghost use Rattle.net_check.specs.Rules.{Demands};
 ghost use Rattle.net_check.specs.Search.{IsFirstSpot, IsFirstOfRule, IsFirstOfAll};
 
+use crate::certified_ranks::CertifiedRanks;
 use crate::fault::Fault;
-use crate::node_ranges::{NodeRanges, ranges_by_node};
 use crate::plan_fault::first_of_plan_at;
 use crate::plans::Plans;
 use crate::rule::{RULES, Rule};
@@ -39,9 +38,9 @@ pub fn first_of_rule(
 ) -> Result<Option<Fault>, AllocError>
     ensures { IfOk result (IsFirstOfRule plan.now certificate.now rule) }
 {
-    let lists = ranges_for(alloc, plan, certificate, rule)?;
+    let ranks = ranks_for(alloc, plan, certificate, rule)?;
     for node in 0..plan.nodes.len() {
-        if let Some(spot) = first_at(alloc, plan, certificate, &lists, rule, node)? {
+        if let Some(spot) = first_at(alloc, plan, certificate, &ranks, rule, node)? {
             return Ok(Some(Fault {
                 rule,
                 node,
@@ -53,18 +52,18 @@ pub fn first_of_rule(
     Ok(None)
 }
 
-/// The ranges of the nodes by place, where the rule looks them up.
-fn ranges_for<'a>(
+/// The certified ranks, with a table for each node where the rule looks them up.
+fn ranks_for<'a>(
     alloc: Global,
     plan: &Plan,
     certificate: &'a Certificate,
     rule: Rule,
-) -> Result<Vec<NodeRanges<'a>>, AllocError>
-    ensures { IfOk result (λ lists. AreRangesOf certificate.now lists.items) }
+) -> Result<CertifiedRanks<'a>, AllocError>
+    ensures { IfOk result (λ ranks. ranks ≡ certificate.now) }
 {
     match rule {
-        Rule::C10 => ranges_by_node(alloc, certificate, plan.nodes.len()),
-        _ => ranges_by_node(alloc, certificate, 0),
+        Rule::C10 => CertifiedRanks::of(alloc, certificate, plan.nodes.len()),
+        _ => CertifiedRanks::of(alloc, certificate, 0),
     }
 }
 
@@ -73,17 +72,17 @@ fn first_at(
     alloc: Global,
     plan: &Plan,
     certificate: &Certificate,
-    lists: &[NodeRanges<'_>],
+    ranks: &CertifiedRanks<'_>,
     rule: Rule,
     node: usize,
 ) -> Result<Option<Spot>, AllocError>
     requires within { node < length plan.now.nodes.items }
-    requires lists { AreRangesOf certificate.now lists.now }
+    requires ranks { ranks.now ≡ certificate.now }
     ensures { IfOk result (IsFirstSpot (Demands plan.now certificate.now rule node)) }
 {
     match rule {
         Rule::C07 => Ok(owners::unlawful_owner(plan, certificate, node)),
-        Rule::C10 => Ok(ranks::row_without_fall(plan, certificate, lists, node)),
+        Rule::C10 => Ok(ranks::row_without_fall(plan, ranks, node)),
         Rule::C14 => chains::unchained_record(alloc, plan, certificate, node),
         Rule::C16 => Ok(superfluous::superfluous_entry(
             &Plans { plan, after: None },

@@ -1,14 +1,13 @@
 //! The ranges that give a node its ranks, ready for look-ups.
-ghost use Rattle.std.specs.Prelude.{◌≡◌, ◌+◌, List, IsTrue, IfOk};
+ghost use Rattle.std.specs.Prelude.{◌≡◌, ◌+◌, List, IsTrue};
 ghost use Rattle.net_check.specs.Ranks.{rank_in};
-ghost use Rattle.net_check.specs.Stretches.{HasOneRank, ranges_of};
-ghost use Rattle.net_check.specs.Following.{RangesFollow, EndedBy, AreRangesOf};
+ghost use Rattle.net_check.specs.Stretches.{HasOneRank};
+ghost use Rattle.net_check.specs.Following.{RangesFollow, EndedBy};
 
 use crate::borders::rank_border;
-use crate::lookup::{range_end, ranges_at, rank_in_ranges};
+use crate::lookup::{range_end, rank_in_ranges};
 use mctp_transport::Eid;
-use net_plan::{Certificate, RankRange};
-use std::alloc::{AllocError, Global};
+use net_plan::RankRange;
 use std::marker::Model;
 
 /// The ranges that give a node its ranks. Where each ends before the next one begins, as a text's and those of
@@ -42,16 +41,6 @@ impl<'a> NodeRanges<'a> {
         }
     }
 
-    /// The same ranges once more.
-    pub fn again(&self) -> Self
-        ensures { result ≡ self.now }
-    {
-        NodeRanges {
-            ranges: self.ranges,
-            follow: self.follow,
-        }
-    }
-
     /// The rank that they give the endpoint ID.
     pub fn rank_of(&self, eid: Eid) -> u8
         ensures { result ≡ rank_in self.now eid.value }
@@ -72,36 +61,6 @@ impl<'a> NodeRanges<'a> {
         } else {
             rank_border(self.ranges, eid)
         }
-    }
-}
-
-/// The ranges of so many nodes, by place.
-pub fn ranges_by_node(
-    alloc: Global,
-    certificate: &Certificate,
-    count: usize,
-) -> Result<Vec<NodeRanges<'_>>, AllocError>
-    ensures { IfOk result (λ lists. AreRangesOf certificate.now lists.items) }
-{
-    let mut lists = Vec::new(alloc);
-    for node in 0..count {
-        lists.push(NodeRanges::of(ranges_at(certificate, node)))?;
-    }
-    Ok(lists)
-}
-
-/// The ranges of a node, from those by place where it has them there.
-pub fn ranges_in<'a>(
-    certificate: &'a Certificate,
-    lists: &[NodeRanges<'a>],
-    node: usize,
-) -> NodeRanges<'a>
-    requires { AreRangesOf certificate.now lists.now }
-    ensures { result ≡ ranges_of certificate.now node }
-{
-    match lists.get(node) {
-        Some(ranges) => ranges.again(),
-        None => NodeRanges::of(ranges_at(certificate, node)),
     }
 }
 

@@ -1,9 +1,9 @@
 //! The rows of a node by each of the plans, ready for look-ups.
-ghost use Rattle.std.specs.Prelude.{◌≡◌, ◌+◌, ◌↔◌, IsTrue};
-ghost use Rattle.net_check.specs.Routing.{rows_of, HasRow};
+ghost use Rattle.std.specs.Prelude.{◌≡◌, ◌+◌, ◌<◌, ◌↔◌, IsTrue, length};
+ghost use Rattle.net_check.specs.Routing.{rows_of, Covers, HasRow, OfItem};
 ghost use Rattle.net_check.specs.TwoPlans.{tables_of, HasRowEver};
 ghost use Rattle.net_check.specs.Stretches.{IsStretch};
-ghost use Rattle.net_check.specs.Following.{RowsFollow, EndedBy, DoRowsFollow};
+ghost use Rattle.net_check.specs.Following.{RowsFollow, EndedBy, DoRowsFollow, HaveRowsFor};
 
 use crate::borders::row_border;
 use crate::lookup::{has_row, row_end, rows_at};
@@ -152,7 +152,8 @@ fn has_row_by_halving(plan: &Plan, node: usize, eid: Eid) -> bool
     rows[ended].first.value <= eid.value
 }
 
-/// Where the node's first row that ends past the endpoint ID begins, if that lies further on, or else ends.
+/// Where the node's first row that ends past the endpoint ID begins, if that lies further on, or else where the rows end
+/// that follow it without a gap.
 fn border_by_halving(plan: &Plan, node: usize, eid: Eid) -> u16
     requires { RowsFollow (rows_of plan.now node) }
     ensures { IsStretch (HasRow plan.now node) eid.value result }
@@ -164,8 +165,26 @@ fn border_by_halving(plan: &Plan, node: usize, eid: Eid) -> u16
     }
     let row = &rows[ended];
     if row.first.value <= eid.value {
-        row_end(row).min(256)
+        end_of_joined(rows, ended, eid).min(256)
     } else {
         u16::from(row.first.value)
     }
+}
+
+/// Where the rows end that follow the row at a place, which has the endpoint ID, without a gap.
+fn end_of_joined(rows: &[Row], place: usize, eid: Eid) -> u16
+    requires within { place < length rows.now }
+    requires has { OfItem rows.now place (λ row. Covers row eid.value) }
+    ensures later { eid.value < result }
+    ensures joined { HaveRowsFor rows.now eid.value result }
+{
+    let mut end = row_end(&rows[place]);
+    for next in place + 1..rows.len() {
+        let row = &rows[next];
+        if u16::from(row.first.value) != end {
+            return end;
+        }
+        end = row_end(row);
+    }
+    end
 }

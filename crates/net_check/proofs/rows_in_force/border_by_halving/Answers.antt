@@ -1,11 +1,11 @@
-use Rattle.std.proofs.Common.{◌≡◌, ℕ, ◌+◌, ◌<◌, ◌≤◌, List, length, Some, refl, sym, subst, arith, inl, inr}
+use Rattle.std.proofs.Common.{◌≡◌, ℕ, ◌+◌, ◌<◌, ◌≤◌, ◌∙◌, List, length, Some, refl, sym, subst, arith}
 use Rattle.std.specs.Prelude.{slice_get}
-use Rattle.std.proofs.lemmas.Option.{slice_get_read}
+use Rattle.std.proofs.lemmas.Option.{slice_get_read, same_Some}
 use Rattle.net_plan.specs.declared.nodes.Row.{Row}
 use Rattle.net_check.specs.Following.{RowsFollow}
-use Rattle.net_check.specs.Routing.{HasRow}
+use Rattle.net_check.specs.Routing.{HasRow, Covers}
 use Rattle.net_check.specs.Stretches.{IsStretch}
-use Rattle.net_check.proofs.FollowingLaws.{row_border_past, row_border_here, row_border_later}
+use Rattle.net_check.proofs.FollowingLaws.{row_border_past, joined_border, row_border_later}
 use Rattle.net_check.proofs.rows_in_force.border_by_halving.Goals as goal
 
 pub returns-then-ended-rows : goal.returns-then-ended-rows
@@ -21,19 +21,21 @@ returns-then-ended-rows c =
 
 pub returns-then-row-eid : goal.returns-then-row-eid
 returns-then-row-eid c =
-    let plan = c.args.plan.now in
-    let n = c.args.node in
-    let e = c.args.eid.value in
+    let rows = c.rows_at-rows.result.now in
+    joined_border c.args.plan.now c.args.node rows c.args.eid.value c.min.result c.rows_at-rows.ensures
+    (omega (arith, c.end_of_joined.ensures.later, c.min.ensures)) (omega (arith, c.min.ensures))
+    (λ d low high small. c.end_of_joined.ensures.joined d low (omega (arith, high, c.min.ensures)) small)
+
+pub end_of_joined-requires-clause-has : goal.end_of_joined-requires-clause-has
+end_of_joined-requires-clause-has c =
     let rows = c.rows_at-rows.result.now in
     let count = c.rows_ended_by-ended.result in
-    let R : List Row → Type 0 = RowsFollow in
-    let follow : RowsFollow rows = subst R (sym c.rows_at-rows.ensures) c.requires in
     let within : count ≤ length rows = c.rows_ended_by-ended.ensures.within in
     let row = c.index-rows-ended.result in
+    let e = c.args.eid.value in
     let here : slice_get rows count ≡ Some row = slice_get_read rows (length rows) count row refl (omega arith) c.index-rows-ended.is in
     let past : e < row.first.value + row.size = c.rows_ended_by-ended.ensures.left count (omega arith) row here in
-    row_border_here plan n rows c.rows_at-rows.ensures follow e count c.rows_ended_by-ended.ensures row here c.min.result (omega arith)
-    (omega (arith, past, c.min.ensures, c.row_end.ensures)) (omega (arith, c.min.ensures, c.row_end.ensures)) (omega (arith, c.min.ensures))
+    λ x is. (let P : Row → Type 0 = λ y. Covers y e in subst P (same_Some row x (sym here ∙ is)) (omega (arith, c.if-row-eid.true), past, omega arith))
 
 pub returns-else-row-eid : goal.returns-else-row-eid
 returns-else-row-eid c =

@@ -1,4 +1,7 @@
-use Rattle.std.proofs.Common.{arith}
+use Rattle.std.proofs.Common.{ℕ, subst, arith}
+use Rattle.net_plan.specs.declared.plan.Plan.{Plan}
+use Rattle.net_check.specs.Routing.{Holds}
+use Rattle.net_check.specs.Stretches.{IsStretch}
 use Rattle.std.proofs.lemmas.Grind.{common_steps}
 use Rattle.net_check.specs.TwoPlans.{tables_of}
 use Rattle.net_check.proofs.RowsInForce.{led_alike, led_along_rows}
@@ -13,6 +16,9 @@ returns-then-is_routing_bridge c =
 pub returns-else-is_routing_bridge : goal.returns-else-is_routing_bridge
 returns-else-is_routing_bridge c =
     let way = c.args.self.now in
-    let some = (c.holder_border.ensures way.node).0 in
-    led_alike (tables_of way.plans.now) way.node way.next c.args.eid.value c.holder_border.result c.row_border-end.result c.min.result c.holder_border.ensures
+    let e = c.args.eid.value in
+    let H : Plan → Type 0 = λ plan. (holder : ℕ) → IsStretch (Holds plan holder) e c.border.result in
+    let held = subst H way.same c.border.ensures in
+    let some = (held way.node).0 in
+    led_alike (tables_of way.plans.now) way.node way.next e c.border.result c.row_border-end.result c.min.result held
     c.row_border-end.ensures.always (grind (arith, common_steps, some)) (grind (arith, common_steps)) (grind (arith, common_steps))
