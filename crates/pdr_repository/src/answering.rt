@@ -66,8 +66,10 @@ fn write<'a, W: Wire<'a>>(answer: &W, out: &mut ArrayVec<u8, MAX_ANSWER>)
     requires { length (W.spelling (W.meaning answer.now)) ≤ 4096 }
     ensures { out.new.items ≡ W.spelling (W.meaning answer.now) }
 {
-    out.clear();
-    for _byte in 0..answer.len() {
+    // What stands there is written over.
+    let len = answer.len();
+    out.truncate(len);
+    for _byte in out.len()..len {
         out.push(0);
     }
     let _ = answer.put(out.as_mut_slice());
