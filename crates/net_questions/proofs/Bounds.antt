@@ -12,15 +12,16 @@ use Rattle.net_questions.specs.declared.code.Code.{Code}
 use Rattle.net_questions.specs.declared.code.Code.TheVariants as code
 use Rattle.net_questions.specs.declared.finding.Finding.{Finding}
 use Rattle.net_questions.specs.declared.finding.Finding.TheVariants.{SharedAddress, MissingAddress, SharedTid}
-use Rattle.net_questions.specs.declared.finding.Finding.TheVariants.{MissingLocator, SharedSensorId, IdleRow, PoolEidNotLedOn, LonePort, EmptyReadableRange, Isolated}
+use Rattle.net_questions.specs.declared.finding.Finding.TheVariants.{MissingLocator, SharedSensorId, OwnerHasNoWay, NoWayToOwner, IdleRow, PoolEidNotLedOn, LonePort, EmptyReadableRange, Isolated}
 use Rattle.net_questions.specs.Findings.{IsSo, order_of, subject_of, key_of, items_of, others_of, other_items_of, BeginsWith, Adds, IsUnder, AreFindings}
-use Rattle.net_questions.proofs.Within.{port_within, row_within, record_within, terminus_within, holder_within, bridge_within}
+use Rattle.net_questions.proofs.Within.{port_within, row_within, record_within, terminus_within, holder_within, bridge_within, owned_within}
+use Rattle.net_questions.proofs.TopmostOwners.{topmost_within}
 use Rattle.net_questions.proofs.Ascending.{NextBelow, Below, start, one, nothing, all_pairs}
 
 -- ---- the codes in their order
 
 abbrev in_order : List Code
-in_order = code.SharedAddress ∷ code.MissingAddress ∷ code.SharedTid ∷ code.MissingLocator ∷ code.SharedSensorId ∷ code.IdleRow ∷ code.PoolEidNotLedOn ∷ code.LonePort ∷ code.EmptyReadableRange ∷ code.Isolated ∷ []
+in_order = code.SharedAddress ∷ code.MissingAddress ∷ code.SharedTid ∷ code.MissingLocator ∷ code.SharedSensorId ∷ code.OwnerHasNoWay ∷ code.NoWayToOwner ∷ code.IdleRow ∷ code.PoolEidNotLedOn ∷ code.LonePort ∷ code.EmptyReadableRange ∷ code.Isolated ∷ []
 
 stands_in_order : (c : Code) → slice_get in_order (order_of c) ≡ Some c
 stands_in_order code.SharedAddress = refl
@@ -28,6 +29,8 @@ stands_in_order code.MissingAddress = refl
 stands_in_order code.SharedTid = refl
 stands_in_order code.MissingLocator = refl
 stands_in_order code.SharedSensorId = refl
+stands_in_order code.OwnerHasNoWay = refl
+stands_in_order code.NoWayToOwner = refl
 stands_in_order code.IdleRow = refl
 stands_in_order code.PoolEidNotLedOn = refl
 stands_in_order code.LonePort = refl
@@ -37,7 +40,7 @@ stands_in_order code.Isolated = refl
 pub one_order : (a b : Code) → order_of a ≡ order_of b → a ≡ b
 one_order a b same = same_Some a b (sym (stands_in_order a) ∙ (ap (λ k. slice_get in_order k) same ∙ stands_in_order b))
 
-pub order_at : (k : ℕ) (d : Code) → k < 10 → order_of (get_or in_order k d) ≡ k
+pub order_at : (k : ℕ) (d : Code) → k < 12 → order_of (get_or in_order k d) ≡ k
 order_at zero d less = refl
 order_at (suc zero) d less = refl
 order_at (suc (suc zero)) d less = refl
@@ -48,14 +51,18 @@ order_at (suc (suc (suc (suc (suc (suc zero)))))) d less = refl
 order_at (suc (suc (suc (suc (suc (suc (suc zero))))))) d less = refl
 order_at (suc (suc (suc (suc (suc (suc (suc (suc zero)))))))) d less = refl
 order_at (suc (suc (suc (suc (suc (suc (suc (suc (suc zero))))))))) d less = refl
-order_at (suc (suc (suc (suc (suc (suc (suc (suc (suc (suc k)))))))))) d less = absurd (omega arith)
+order_at (suc (suc (suc (suc (suc (suc (suc (suc (suc (suc zero)))))))))) d less = refl
+order_at (suc (suc (suc (suc (suc (suc (suc (suc (suc (suc (suc zero))))))))))) d less = refl
+order_at (suc (suc (suc (suc (suc (suc (suc (suc (suc (suc (suc (suc k)))))))))))) d less = absurd (omega arith)
 
-order_within : (c : Code) → order_of c < 10
+order_within : (c : Code) → order_of c < 12
 order_within code.SharedAddress = omega arith
 order_within code.MissingAddress = omega arith
 order_within code.SharedTid = omega arith
 order_within code.MissingLocator = omega arith
 order_within code.SharedSensorId = omega arith
+order_within code.OwnerHasNoWay = omega arith
+order_within code.NoWayToOwner = omega arith
 order_within code.IdleRow = omega arith
 order_within code.PoolEidNotLedOn = omega arith
 order_within code.LonePort = omega arith
@@ -70,6 +77,8 @@ node_within plan (MissingAddress n p) (a, is, rest) = port_within plan n p a is
 node_within plan (SharedTid n m) (early, (t, is, rest)) = terminus_within plan n t is
 node_within plan (MissingLocator n) (t, is, rest) = terminus_within plan n t is
 node_within plan (SharedSensorId n j) (r, is, rest) = record_within plan n j r is
+node_within plan (OwnerHasNoWay n m) so = owned_within plan n so.0.1.0 so.0.1.1
+node_within plan (NoWayToOwner n m) so = owned_within plan n so.0.1.0 so.0.1.1
 node_within plan (IdleRow n r) (row, is, rest) = row_within plan n r row is
 node_within plan (PoolEidNotLedOn n eid) so = bridge_within plan n so.0
 node_within plan (LonePort n p) (a, is, rest) = port_within plan n p a is
@@ -82,6 +91,8 @@ item_within plan (MissingAddress n p) (a, is, rest) = slice_get_within (ports_of
 item_within plan (SharedTid n m) so = omega arith
 item_within plan (MissingLocator n) so = omega arith
 item_within plan (SharedSensorId n j) (r, is, rest) = slice_get_within (records_of plan n) j r is
+item_within plan (OwnerHasNoWay n m) so = omega arith
+item_within plan (NoWayToOwner n m) so = omega arith
 item_within plan (IdleRow n r) (row, is, rest) = slice_get_within (rows_of plan n) r row is
 item_within plan (PoolEidNotLedOn n eid) so = eid.in_range
 item_within plan (LonePort n p) (a, is, rest) = slice_get_within (ports_of plan n) p a is
@@ -94,6 +105,8 @@ other_within plan (MissingAddress n p) so = omega arith
 other_within plan (SharedTid n m) (early, (t, is, (u, at, rest))) = terminus_within plan m u at
 other_within plan (MissingLocator n) so = omega arith
 other_within plan (SharedSensorId n j) so = omega arith
+other_within plan (OwnerHasNoWay n m) so = topmost_within plan n m so.0
+other_within plan (NoWayToOwner n m) so = topmost_within plan n m so.0
 other_within plan (IdleRow n r) so = omega arith
 other_within plan (PoolEidNotLedOn n eid) so = omega arith
 other_within plan (LonePort n p) so = omega arith
@@ -106,6 +119,8 @@ other_item_within plan (MissingAddress n p) so = omega arith
 other_item_within plan (SharedTid n m) so = omega arith
 other_item_within plan (MissingLocator n) so = omega arith
 other_item_within plan (SharedSensorId n j) so = omega arith
+other_item_within plan (OwnerHasNoWay n m) so = omega arith
+other_item_within plan (NoWayToOwner n m) so = omega arith
 other_item_within plan (IdleRow n r) so = omega arith
 other_item_within plan (PoolEidNotLedOn n eid) so = omega arith
 other_item_within plan (LonePort n p) so = omega arith
@@ -115,7 +130,7 @@ other_item_within plan (Isolated n) so = omega arith
 -- ---- the ends of the loops
 
 module _ (plan : Plan) (f : Finding) (so : IsSo plan f) where
-  pub end_of_codes : NextBelow [] 10 (key_of f)
+  pub end_of_codes : NextBelow [] 12 (key_of f)
   end_of_codes = order_within (subject_of f).code
 
   pub end_of_nodes : (c : Code) → BeginsWith (order_of c ∷ []) (key_of f) → NextBelow (order_of c ∷ []) (length plan.nodes.items) (key_of f)
@@ -192,6 +207,8 @@ made code.MissingAddress n i m j = MissingAddress n i
 made code.SharedTid n i m j = SharedTid n m
 made code.MissingLocator n i m j = MissingLocator n
 made code.SharedSensorId n i m j = SharedSensorId n i
+made code.OwnerHasNoWay n i m j = OwnerHasNoWay n m
+made code.NoWayToOwner n i m j = NoWayToOwner n m
 made code.IdleRow n i m j = IdleRow n i
 made code.PoolEidNotLedOn n i m j = PoolEidNotLedOn n (eid_of i)
 made code.LonePort n i m j = LonePort n i
@@ -205,6 +222,8 @@ made_again (MissingAddress n p) = refl
 made_again (SharedTid n m) = refl
 made_again (MissingLocator n) = refl
 made_again (SharedSensorId n j) = refl
+made_again (OwnerHasNoWay n m) = refl
+made_again (NoWayToOwner n m) = refl
 made_again (IdleRow n r) = refl
 made_again (PoolEidNotLedOn n eid) = ap (λ e. PoolEidNotLedOn n e) (same_eid (eid_of eid.value) eid (value_of_eid eid))
 made_again (LonePort n p) = refl
@@ -233,7 +252,7 @@ none_added plan f old not = nothing (IsUnder plan (key_of f)) old (λ g at. not 
 
 -- ---- the whole list
 
-pub are_findings : (plan : Plan) (findings : List Finding) → Adds (Below plan [] 10) [] findings → AreFindings plan findings
+pub are_findings : (plan : Plan) (findings : List Finding) → Adds (Below plan [] 12) [] findings → AreFindings plan findings
 are_findings plan findings (more, is, all) =
     let whole : findings ≡ more = is in
     subst (λ fs. AreFindings plan fs) (sym whole) (record {

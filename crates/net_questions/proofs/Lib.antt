@@ -8,3 +8,6 @@ pub mod Within
 pub mod Bounds
 pub mod Numbers
 pub mod SensorIds
+pub mod Walks
+pub mod FirstRows
+pub mod TopmostOwners

@@ -3,7 +3,7 @@ use Rattle.std.proofs.Common.{◌≡◌, ◌⊎◌, ℕ, zero, suc, ◌+◌, ◌
 use Rattle.std.specs.Prelude.{slice_get}
 use Rattle.std.proofs.lemmas.Bool.{cases_order}
 use Rattle.std.proofs.lemmas.List.{get_or-map, get_or-take, length-take, length-map}
-use Rattle.std.proofs.lemmas.Option.{slice_get_within, get_or_from_slice_get, slice_get_read, same_Some}
+use Rattle.std.proofs.lemmas.Option.{slice_get_within, get_or_from_slice_get, same_Some}
 use Rattle.mctp_transport.specs.Frames.{IsAssignable}
 use Rattle.mctp_bridge.specs.declared.row.Hop.{Hop}
 use Rattle.mctp_bridge.specs.declared.decision.Obstacle.TheVariants.{Unassignable, NoBridge, NoRow}
@@ -16,7 +16,7 @@ use Rattle.net_plan.specs.declared.plan.Plan.{Plan}
 use Rattle.net_plan.specs.declared.nodes.Row.{Row}
 use Rattle.net_plan.specs.declared.certificate.Certificate.{Certificate}
 use Rattle.net_check.specs.declared.rule.Rule.TheVariants.{C04, C05}
-use Rattle.net_check.specs.Routing.{Holds, HasRow, IsBridge, MovesTo, rows_of, Covers, OfItem}
+use Rattle.net_check.specs.Routing.{Holds, HasRow, IsBridge, MovesTo, rows_of, Covers}
 use Rattle.net_check.specs.Rows.{AreApart, IsApartFromEarlier}
 use Rattle.net_check.specs.RoutingLoops.{RowsAreApart, RowsAreInRange}
 use Rattle.net_check.specs.HeldEids.{HeldAreLedOn, IsLedOn}
@@ -82,23 +82,9 @@ row_of rows e hop (k, x, lt, at, (covers, goes)) =
     (k, row.0, row.1, subst P (sym same) covers, ap (λ (r : bridge.Row). r.hop) same ∙ goes)
 
 -- and a row that covers e has a route
-hop_of : (rows : List Row) (e r : ℕ) (row : Row) → slice_get rows r ≡ Some row → Covers row e → rule.Routes (map table_row rows) e (table_row row).hop
+pub hop_of : (rows : List Row) (e r : ℕ) (row : Row) → slice_get rows r ≡ Some row → Covers row e → rule.Routes (map table_row rows) e (table_row row).hop
 hop_of rows e r row is covers =
     (r, table_row row, omega (arith, length-map rows table_row, slice_get_within rows r row is), row_at rows r (table_row row) row is, (covers, refl))
-
--- the same of the rows that were read
-pub hop_of_row : (plan : Plan) (n e r : ℕ) (row : Row) (rows : List Row) → rows ≡ rows_of plan n → r < length rows → row ≡ get_or rows r row → Covers row e
-    → rule.Routes (map table_row (rows_of plan n)) e (table_row row).hop
-hop_of_row plan n e r row rows same within is covers =
-    let P : List Row → Type 0 = λ rs. slice_get rs r ≡ Some row in
-    hop_of (rows_of plan n) e r row (subst P same (slice_get_read rows (length rows) r row refl within is)) covers
-
-pub no_hop : (plan : Plan) (n e : ℕ) (rows : List Row) → rows ≡ rows_of plan n → ((k : ℕ) → OfItem rows k (λ row. ¬ Covers row e))
-    → (hop : Hop) → ¬ rule.Routes (map table_row (rows_of plan n)) e hop
-no_hop plan n e rows same none hop routes =
-    let found = row_of (rows_of plan n) e hop routes in
-    let P : List Row → Type 0 = λ rs. slice_get rs found.0 ≡ Some found.1 in
-    none found.0 found.1 (subst P (sym same) found.2) found.3
 
 pub no_row : (plan : Plan) (n e : ℕ) → ((hop : Hop) → ¬ rule.Routes (map table_row (rows_of plan n)) e hop) → ¬ HasRow plan n e
 no_row plan n e none (m, (r, row, is, covers, next)) = none (table_row row).hop (hop_of (rows_of plan n) e r row is covers)

@@ -10,8 +10,10 @@ use Rattle.net_plan.specs.declared.nodes.Row.{Row}
 use Rattle.net_plan.specs.declared.terminus.Record.{Record}
 use Rattle.net_plan.specs.declared.terminus.Terminus.{Terminus}
 use Rattle.net_check.specs.Routing.{Holds, HasRow, IsBridge, rows_of}
+use Rattle.net_check.specs.Owners.{IsOwnedBy}
 use Rattle.net_check.specs.Pools.{pool_of, IsInPoolOf}
 use Rattle.net_check.specs.Repositories.{terminus_of, records_of}
+use Rattle.net_check.proofs.Beyond.{no_owner}
 use Rattle.net_questions.specs.Lint.{IsPort}
 
 by_past : (plan : Plan) (n : ℕ) → (length plan.nodes.items ≤ n → ⊥) → n < length plan.nodes.items
@@ -62,3 +64,6 @@ pool_within plan n e has = by_past plan n (λ past. none has.0 past has.1)
   where
     none : (pool : Pool) → length plan.nodes.items ≤ n → pool_of plan n ≡ Some pool → ⊥
     none pool past = rw (slice_get_past plan.nodes.items n past) (λ is. cc)
+
+pub owned_within : (plan : Plan) (n owner : ℕ) → IsOwnedBy plan n owner → n < length plan.nodes.items
+owned_within plan n owner is = by_past plan n (λ past. no_owner plan n owner past is)

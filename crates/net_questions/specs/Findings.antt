@@ -9,10 +9,12 @@ use Rattle.net_questions.specs.declared.code.Code.TheVariants as code
 use Rattle.net_questions.specs.declared.finding.Finding.{Finding}
 use Rattle.net_questions.specs.declared.finding.Finding.TheVariants.{SharedAddress, MissingAddress, SharedTid}
 use Rattle.net_questions.specs.declared.finding.Finding.TheVariants.{MissingLocator, SharedSensorId}
+use Rattle.net_questions.specs.declared.finding.Finding.TheVariants.{OwnerHasNoWay, NoWayToOwner}
 use Rattle.net_questions.specs.declared.finding.Finding.TheVariants.{IdleRow, PoolEidNotLedOn}
 use Rattle.net_questions.specs.declared.finding.Finding.TheVariants.{LonePort, EmptyReadableRange, Isolated}
 use Rattle.net_questions.specs.Lint.{ShareAddress, LacksAddress, IsAloneOnBus, ShareTid, LacksLocator}
-use Rattle.net_questions.specs.Lint.{SharesSensorId, HasIdleRow, LeavesHeld, HasEmptyReadableRange, IsIsolated}
+use Rattle.net_questions.specs.Lint.{SharesSensorId, HasNoWayFromOwner, HasNoWayToOwner, HasIdleRow, LeavesHeld}
+use Rattle.net_questions.specs.Lint.{HasEmptyReadableRange, IsIsolated}
 
 -- the finding is so in the plan
 abbrev pub IsSo : Plan → Finding → Type 0
@@ -21,6 +23,8 @@ IsSo plan (MissingAddress n p) = LacksAddress plan n p
 IsSo plan (SharedTid n m) = ShareTid plan n m
 IsSo plan (MissingLocator n) = LacksLocator plan n
 IsSo plan (SharedSensorId n j) = SharesSensorId plan n j
+IsSo plan (OwnerHasNoWay n m) = HasNoWayFromOwner plan n m
+IsSo plan (NoWayToOwner n m) = HasNoWayToOwner plan n m
 IsSo plan (IdleRow n r) = HasIdleRow plan n r
 IsSo plan (PoolEidNotLedOn n eid) = LeavesHeld plan n eid.value
 IsSo plan (LonePort n p) = IsAloneOnBus plan n p
@@ -34,11 +38,13 @@ order_of code.MissingAddress = 1
 order_of code.SharedTid = 2
 order_of code.MissingLocator = 3
 order_of code.SharedSensorId = 4
-order_of code.IdleRow = 5
-order_of code.PoolEidNotLedOn = 6
-order_of code.LonePort = 7
-order_of code.EmptyReadableRange = 8
-order_of code.Isolated = 9
+order_of code.OwnerHasNoWay = 5
+order_of code.NoWayToOwner = 6
+order_of code.IdleRow = 7
+order_of code.PoolEidNotLedOn = 8
+order_of code.LonePort = 9
+order_of code.EmptyReadableRange = 10
+order_of code.Isolated = 11
 
 -- What a finding is about: its code; a node, and one of its ports, rows, records or EIDs; another node, and one of its
 -- ports or records. What is not spoken of is 0.
@@ -56,6 +62,8 @@ subject_of (MissingAddress n p) = record { code = code.MissingAddress; node = n;
 subject_of (SharedTid n m) = record { code = code.SharedTid; node = n; item = 0; other = m; other_item = 0 }
 subject_of (MissingLocator n) = record { code = code.MissingLocator; node = n; item = 0; other = 0; other_item = 0 }
 subject_of (SharedSensorId n j) = record { code = code.SharedSensorId; node = n; item = j; other = 0; other_item = 0 }
+subject_of (OwnerHasNoWay n m) = record { code = code.OwnerHasNoWay; node = n; item = 0; other = m; other_item = 0 }
+subject_of (NoWayToOwner n m) = record { code = code.NoWayToOwner; node = n; item = 0; other = m; other_item = 0 }
 subject_of (IdleRow n r) = record { code = code.IdleRow; node = n; item = r; other = 0; other_item = 0 }
 subject_of (PoolEidNotLedOn n eid) =
     record { code = code.PoolEidNotLedOn; node = n; item = eid.value; other = 0; other_item = 0 }
@@ -111,6 +119,8 @@ items_of plan code.MissingAddress n = length (ports_of plan n)
 items_of plan code.SharedTid n = 1
 items_of plan code.MissingLocator n = 1
 items_of plan code.SharedSensorId n = length (records_of plan n)
+items_of plan code.OwnerHasNoWay n = 1
+items_of plan code.NoWayToOwner n = 1
 items_of plan code.IdleRow n = length (rows_of plan n)
 items_of plan code.PoolEidNotLedOn n = 256
 items_of plan code.LonePort n = length (ports_of plan n)
@@ -124,6 +134,8 @@ others_of plan code.MissingAddress = 1
 others_of plan code.SharedTid = length plan.nodes.items
 others_of plan code.MissingLocator = 1
 others_of plan code.SharedSensorId = 1
+others_of plan code.OwnerHasNoWay = length plan.nodes.items
+others_of plan code.NoWayToOwner = length plan.nodes.items
 others_of plan code.IdleRow = 1
 others_of plan code.PoolEidNotLedOn = 1
 others_of plan code.LonePort = 1
@@ -137,6 +149,8 @@ other_items_of plan code.MissingAddress m = 1
 other_items_of plan code.SharedTid m = 1
 other_items_of plan code.MissingLocator m = 1
 other_items_of plan code.SharedSensorId m = 1
+other_items_of plan code.OwnerHasNoWay m = 1
+other_items_of plan code.NoWayToOwner m = 1
 other_items_of plan code.IdleRow m = 1
 other_items_of plan code.PoolEidNotLedOn m = 1
 other_items_of plan code.LonePort m = 1

@@ -1,5 +1,5 @@
 -- What is lawful in a plan and still looks wrong.
-use Rattle.std.specs.Prelude.{◌≡◌, ◌≢◌, ◌⊎◌, ℕ, ◌<◌, ◌+◌, ◌*◌, ◌-◌, ◌^◌, nat_lt, nat_eq, if◌then◌else◌}
+use Rattle.std.specs.Prelude.{◌≡◌, ◌≢◌, ◌⊎◌, ℕ, suc, ◌<◌, ◌+◌, ◌*◌, ◌-◌, ◌^◌, nat_lt, nat_eq, if◌then◌else◌}
 use Rattle.std.specs.Prelude.{List, [], ◌∷◌, Option, Some, None, slice_get}
 use Rattle.net_plan.specs.declared.plan.Plan.{Plan}
 use Rattle.net_plan.specs.declared.nodes.Port.{Port}
@@ -8,7 +8,9 @@ use Rattle.net_plan.specs.declared.terminus.Record.{Record}
 use Rattle.net_plan.specs.declared.terminus.Terminus.{Terminus}
 use Rattle.pdr_record.specs.Layouts.{NumericValue}
 use Rattle.pdr_record.specs.Records.{RecordValue, BodyValue, Spelled}
-use Rattle.net_check.specs.Routing.{ports_of, rows_of, IsBridge, Holds, Covers, HasRow}
+use Rattle.net_check.specs.Routing.{ports_of, rows_of, IsBridge, Holds, Covers, HasRow, OfItem}
+use Rattle.net_check.specs.Moves.{Leads, IsEnd}
+use Rattle.net_check.specs.Owners.{IsOwnedBy}
 use Rattle.net_check.specs.Pools.{IsInPoolOf}
 use Rattle.net_check.specs.Repositories.{terminus_of, records_of}
 use Rattle.net_check.specs.Locators.{IsEidLocator}
@@ -205,3 +207,39 @@ IsUnknown plan n = (e : ℕ) × Holds plan n e × NobodyHasRow plan e
 -- n has no rows, and no node has a row for its EID
 abbrev pub IsIsolated : Plan → ℕ → Type 0
 IsIsolated plan n = (rows_of plan n ≡ []) × IsUnknown plan n
+
+-- ---- ways
+
+-- the row is for e, and no earlier one of n's is
+abbrev pub IsFirstRowFor : Plan → ℕ → ℕ → Row → Type 0
+IsFirstRowFor plan n e row =
+    (r : ℕ) × (slice_get (rows_of plan n) r ≡ Some row) × Covers row e
+    × ((i : ℕ) → i < r → OfItem (rows_of plan n) i (λ other. ¬ Covers other e))
+
+-- what is for e goes on from n to m: n doesn't hold e, and n's first row for e leads to m
+abbrev pub GoesOn : Plan → ℕ → ℕ → ℕ → Type 0
+GoesOn plan e n m = ¬ Holds plan n e × (row : Row) × IsFirstRowFor plan n e row × (row.next ≡ m)
+
+-- what is put in at a node for e comes to another one
+abbrev pub ComesTo : Plan → ℕ → ℕ → ℕ → Type 0
+ComesTo plan e from to = (moves : ℕ) × Leads (GoesOn plan e) from moves to
+
+-- what is put in at a node for the EID of another one comes to that one
+abbrev pub HasWayTo : Plan → ℕ → ℕ → Type 0
+HasWayTo plan from to = (e : ℕ) × Holds plan to e × ComesTo plan e from to
+
+-- nobody owns top, which is n, or n's owner, or that one's owner, and so on
+abbrev pub OwnersEndAt : Plan → ℕ → ℕ → Type 0
+OwnersEndAt plan n top = (k : ℕ) × Leads (IsOwnedBy plan) n k top × IsEnd (IsOwnedBy plan) top
+
+-- nobody owns top, which is n's owner, or that one's owner, and so on
+abbrev pub IsTopmostOwner : Plan → ℕ → ℕ → Type 0
+IsTopmostOwner plan n top = (k : ℕ) × Leads (IsOwnedBy plan) n (suc k) top × IsEnd (IsOwnedBy plan) top
+
+-- n's topmost owner is top, which has no way to n
+abbrev pub HasNoWayFromOwner : Plan → ℕ → ℕ → Type 0
+HasNoWayFromOwner plan n top = IsTopmostOwner plan n top × ¬ HasWayTo plan top n
+
+-- n's topmost owner is top, to which n has no way
+abbrev pub HasNoWayToOwner : Plan → ℕ → ℕ → Type 0
+HasNoWayToOwner plan n top = IsTopmostOwner plan n top × ¬ HasWayTo plan n top

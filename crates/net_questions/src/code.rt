@@ -8,6 +8,8 @@ pub enum Code {
     SharedTid,
     MissingLocator,
     SharedSensorId,
+    OwnerHasNoWay,
+    NoWayToOwner,
     IdleRow,
     PoolEidNotLedOn,
     LonePort,
@@ -16,12 +18,14 @@ pub enum Code {
 }
 
 /// The codes, in their order.
-pub const CODES: [Code; 10] = [
+pub const CODES: [Code; 12] = [
     Code::SharedAddress,
     Code::MissingAddress,
     Code::SharedTid,
     Code::MissingLocator,
     Code::SharedSensorId,
+    Code::OwnerHasNoWay,
+    Code::NoWayToOwner,
     Code::IdleRow,
     Code::PoolEidNotLedOn,
     Code::LonePort,

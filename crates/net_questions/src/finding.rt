@@ -31,6 +31,16 @@ pub enum Finding {
         node: usize,
         record: usize,
     },
+    /// H06: the topmost owner of a node has no way to it.
+    OwnerHasNoWay {
+        node: usize,
+        owner: usize,
+    },
+    /// H07: a node has no way to its topmost owner.
+    NoWayToOwner {
+        node: usize,
+        owner: usize,
+    },
     /// H08: none of a row's endpoint IDs is held by a node or lies in a pool.
     IdleRow {
         node: usize,

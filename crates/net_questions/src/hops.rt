@@ -1,10 +1,12 @@
 //! How many moves along rows lead to the holder of an endpoint ID.
-ghost use Rattle.std.specs.Prelude.{◌≡◌, length, IfOk};
+ghost use Rattle.std.specs.Prelude.{◌≡◌, length, IfOk, MatchOption};
+ghost use Rattle.net_check.specs.Moves.{IsEnd};
 ghost use Rattle.net_check.specs.RoutingLoops.{IsNext, AreNexts};
 ghost use Rattle.net_check.specs.Circles.{next_in};
+ghost use Rattle.net_questions.specs.Lint.{GoesOn};
 ghost use Rattle.net_questions.specs.Reaching.{IsReach, NeverCircles, AreHopsTo, AreHopsToEach, hops_in};
 
-use crate::lookup::{eid_at, holds, hop_at};
+use crate::lookup::{eid_at, holds, row_for};
 use mctp_transport::Eid;
 use net_plan::Plan;
 use std::alloc::{AllocError, Global};
@@ -87,15 +89,17 @@ fn next_nodes(alloc: Global, plan: &Plan, eid: Eid) -> Result<Vec<Option<usize>>
     Ok(nexts)
 }
 
-/// Where what is for the endpoint ID goes on to from a node; nowhere from its holder, nor without a row.
-fn next_node(plan: &Plan, node: usize, eid: Eid) -> Option<usize>
-    ensures { IsNext plan.now eid.value node result }
+/// Where what is for the endpoint ID goes on to from a node: where its first row for it leads. Nowhere from its holder,
+/// nor without a row.
+pub fn next_node(plan: &Plan, node: usize, eid: Eid) -> Option<usize>
+    ensures row { IsNext plan.now eid.value node result }
+    ensures first { MatchOption result (IsEnd (GoesOn plan.now eid.value) node) (GoesOn plan.now eid.value node) }
 {
     if holds(plan, node, eid) {
         return None;
     }
-    match hop_at(plan, node, eid) {
-        Some(hop) => Some(hop.next),
+    match row_for(plan, node, eid) {
+        Some(row) => Some(row.next),
         None => None,
     }
 }

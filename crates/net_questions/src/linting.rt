@@ -4,7 +4,7 @@ ghost use Rattle.net_questions.specs.Findings.{IsSo, AreFindings, Adds, IsUnder,
 
 use crate::code::{CODES, Code};
 use crate::finding::Finding;
-use crate::lints::{locators, ports, rows, sensors, termini};
+use crate::lints::{locators, ports, rows, sensors, termini, ways};
 use crate::lookup::{ports_at, records_at, rows_at};
 use mctp_transport::Eid;
 use net_plan::Plan;
@@ -105,6 +105,7 @@ fn items(plan: &Plan, code: Code, node: usize) -> usize
         Code::PoolEidNotLedOn => 256,
         Code::SharedSensorId | Code::EmptyReadableRange => records_at(plan, node).len(),
         Code::SharedTid | Code::MissingLocator | Code::Isolated => 1,
+        Code::OwnerHasNoWay | Code::NoWayToOwner => 1,
     }
 }
 
@@ -114,6 +115,7 @@ fn others(plan: &Plan, code: Code) -> usize
 {
     match code {
         Code::SharedAddress | Code::SharedTid => plan.nodes.len(),
+        Code::OwnerHasNoWay | Code::NoWayToOwner => plan.nodes.len(),
         _ => 1,
     }
 }
@@ -153,6 +155,8 @@ fn finding_at(
         Code::SharedTid => Finding::SharedTid { node, other },
         Code::MissingLocator => Finding::MissingLocator { node },
         Code::SharedSensorId => Finding::SharedSensorId { node, record: item },
+        Code::OwnerHasNoWay => Finding::OwnerHasNoWay { node, owner: other },
+        Code::NoWayToOwner => Finding::NoWayToOwner { node, owner: other },
         Code::IdleRow => Finding::IdleRow { node, row: item },
         Code::PoolEidNotLedOn => Finding::PoolEidNotLedOn {
             node,
@@ -179,6 +183,8 @@ fn is_so(plan: &Plan, finding: Finding) -> bool
         Finding::SharedTid { node, other } => termini::share_tid(plan, node, other),
         Finding::MissingLocator { node } => locators::lacks_locator(plan, node),
         Finding::SharedSensorId { node, record } => sensors::shares_sensor_id(plan, node, record),
+        Finding::OwnerHasNoWay { node, owner } => ways::has_no_way_from_owner(plan, node, owner),
+        Finding::NoWayToOwner { node, owner } => ways::has_no_way_to_owner(plan, node, owner),
         Finding::IdleRow { node, row } => rows::has_idle_row(plan, node, row),
         Finding::PoolEidNotLedOn { node, eid } => rows::leaves_held(plan, node, eid),
         Finding::LonePort { node, port } => ports::is_alone_on_bus(plan, node, port),

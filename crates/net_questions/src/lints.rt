@@ -4,3 +4,4 @@ pub mod ports;
 pub mod rows;
 pub mod sensors;
 pub mod termini;
+pub mod ways;

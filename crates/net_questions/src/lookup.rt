@@ -1,10 +1,12 @@
 //! What a plan says of a node, by the node's place in the plan's list.
-ghost use Rattle.std.specs.Prelude.{◌≡◌, ◌<◌, ◌↔◌, IsTrue, length, map, option_map, slice_get};
+ghost use Rattle.std.specs.Prelude.{◌≡◌, ◌<◌, ◌↔◌, IsTrue, length, map, option_map, slice_get, MatchOption};
 ghost use Rattle.mctp_bridge.specs.Rows.{IsNext};
 ghost use Rattle.net_check.specs.Routing.{Holds, Covers, HasRow, IsBridge, ports_of, rows_of};
+ghost use Rattle.net_check.specs.Owners.{owner_of};
 ghost use Rattle.net_check.specs.Pools.{pool_of};
 ghost use Rattle.net_check.specs.Repositories.{terminus_of, records_of};
 ghost use Rattle.net_check.specs.Tables.{table_row};
+ghost use Rattle.net_questions.specs.Lint.{IsFirstRowFor};
 
 use mctp_bridge::Hop;
 use mctp_transport::Eid;
@@ -32,6 +34,13 @@ pub fn eid_at(plan: &Plan, node: usize) -> Eid
     plan.nodes[node].eid
 }
 
+/// The owner of a node; none where nobody owns it, and where there is no such node.
+pub fn owner_at(plan: &Plan, node: usize) -> Option<usize>
+    ensures { result ≡ owner_of plan.now node }
+{
+    plan.nodes.get(node)?.owner
+}
+
 /// The rows of a node, none where there is no such node.
 pub fn rows_at(plan: &Plan, node: usize) -> &[Row]
     ensures { result.now ≡ rows_of plan.now node }
@@ -49,20 +58,30 @@ pub fn row_at(plan: &Plan, node: usize, row: usize) -> Option<&Row>
     rows_at(plan, node).get(row)
 }
 
-/// Where the first of the node's rows for the endpoint ID leads, if it has one.
-pub fn hop_at(plan: &Plan, node: usize, eid: Eid) -> Option<Hop>
-    ensures { IsNext (map table_row (rows_of plan.now node)) eid.value result }
+/// The first of the node's rows for the endpoint ID, if it has one.
+pub fn row_for(plan: &Plan, node: usize, eid: Eid) -> Option<&Row>
+    ensures { MatchOption result (¬ HasRow plan.now node eid.value) (λ row. IsFirstRowFor plan.now node eid.value row.now) }
 {
     let rows = rows_at(plan, node);
     for row in rows {
         if covers(row, eid) {
-            return Some(Hop {
-                port: row.port,
-                next: row.next,
-            });
+            return Some(row);
         }
     }
     None
+}
+
+/// Where the first of the node's rows for the endpoint ID leads, if it has one.
+pub fn hop_at(plan: &Plan, node: usize, eid: Eid) -> Option<Hop>
+    ensures { IsNext (map table_row (rows_of plan.now node)) eid.value result }
+{
+    match row_for(plan, node, eid) {
+        Some(row) => Some(Hop {
+            port: row.port,
+            next: row.next,
+        }),
+        None => None,
+    }
 }
 
 /// Whether the node has a row for the endpoint ID.

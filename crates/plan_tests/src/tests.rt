@@ -1,4 +1,4 @@
-//! Tests over the public calls of `net_plan`, `net_check` and `net_sim`.
+//! Tests over the public calls of `net_plan`, `net_check`, `net_questions` and `net_sim`.
 mod assigning;
 mod boxes;
 mod certificates;
@@ -20,6 +20,7 @@ mod owners_and_pools;
 mod planned;
 mod plans;
 mod playing;
+mod questions;
 mod records;
 mod refused;
 mod refused_networks;

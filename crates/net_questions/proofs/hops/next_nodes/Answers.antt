@@ -16,7 +16,7 @@ loop-node-preserved c =
         | inl old ↦ c.loop-node.invariant.1 n found old
         | inr (at, same) ↦ (
             let here : n ≡ c.loop-node.node = omega (arith, at, c.loop-node.invariant.0) in
-            subst (λ o. IsNext plan e n o) same (subst (λ k. IsNext plan e k next) (sym here) c.next_node.ensures))
+            subst (λ o. IsNext plan e n o) same (subst (λ k. IsNext plan e k next) (sym here) c.next_node.ensures.row))
       ],
     ) in
     rw c.in_ok-push.ensures.items more

@@ -1,22 +1,12 @@
-use Rattle.std.proofs.Common.{arith}
-use Rattle.net_plan.specs.declared.nodes.Row.{Row}
-use Rattle.net_check.specs.Routing.{Covers}
-use Rattle.net_check.proofs.OtherSearches.{of_one_more, of_all_items}
-use Rattle.net_questions.proofs.WayLaws.{hop_of_row, no_hop}
+use Rattle.net_check.specs.Routing.{rows_of}
+use Rattle.net_check.proofs.TableLaws.{named}
+use Rattle.net_questions.proofs.WayLaws.{hop_of}
 use Rattle.net_questions.proofs.lookup.hop_at.Goals as goal
 
-pub returns-then-covers : goal.returns-then-covers
-returns-then-covers c =
-    hop_of_row c.args.plan.now c.args.node c.args.eid.value c.loop-row.row-index c.row-item.result c.rows_at-rows.result.now c.rows_at-rows.ensures (omega arith)
-    c.row-item.is (c.covers.ensures.0 c.if-covers.true)
+pub returns-in-Some : goal.returns-in-Some
+returns-in-Some c =
+    let first = c.in-Some.ensures in
+    hop_of (rows_of c.args.plan.now c.args.node) c.args.eid.value first.0 c.in-Some.row.now first.1 first.2
 
-pub loop-row-preserved : goal.loop-row-preserved
-loop-row-preserved c =
-    of_one_more c.rows_at-rows.result.now c.loop-row.row-index c.row-item.result (λ (row : Row). ¬ Covers row c.args.eid.value) (omega arith) c.row-item.is
-    (λ covers. cc (c.covers.ensures.1 covers, c.if-covers.false)) c.loop-row.invariant
-
-pub returns : goal.returns
-returns c =
-    let rows = c.rows_at-rows.result.now in
-    no_hop c.args.plan.now c.args.node c.args.eid.value rows c.rows_at-rows.ensures
-    (of_all_items rows c.loop-row.row-index (λ (row : Row). ¬ Covers row c.args.eid.value) (omega arith) c.loop-row.invariant)
+pub returns-in-None : goal.returns-in-None
+returns-in-None c = λ hop routes. c.in-None.ensures (hop.next, named (rows_of c.args.plan.now c.args.node) c.args.eid.value hop routes)

@@ -1,0 +1,6 @@
+use Rattle.net_check.specs.Moves.{Leads}
+use Rattle.net_check.specs.Owners.{IsOwnedBy}
+use Rattle.net_questions.proofs.lints.ways.last_owner.Given as goal
+
+abbrev pub invariant-loop-owners : goal.invariant-loop-owners
+invariant-loop-owners l = Leads (IsOwnedBy l.plan) l.node l._owners l.last
