@@ -1,0 +1,6 @@
+use Rattle.std.proofs.Common.{◌≢◌, ℕ, ◌<◌}
+use Rattle.net_check.specs.Routing.{Holds}
+use Rattle.net_explained.proofs.causes.ways.other_holder.Given as goal
+
+abbrev pub invariant-loop-holder : goal.invariant-loop-holder
+invariant-loop-holder l = (k : ℕ) → k < l.holder → ¬ (Holds l.plan k l.eid.value × (k ≢ l.node))

@@ -1,0 +1,10 @@
+//! Why a plan breaks a rule: what is wrong at the place, and who else is involved.
+#![tactic(auto)]
+
+mod cause;
+mod causes;
+mod finding;
+mod lookup;
+
+pub use cause::Cause;
+pub use finding::find_cause;
