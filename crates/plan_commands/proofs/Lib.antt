@@ -12,3 +12,4 @@ pub mod MovePlayed
 pub mod Traced
 pub mod Ends
 pub mod Linted
+pub mod Drawn

@@ -12,6 +12,7 @@ pub mod Gathering
 pub mod Reaching
 pub mod Tracing
 pub mod Linting
+pub mod Drawing
 pub mod OutcomeLines
 pub mod Simulating
 pub mod Moving

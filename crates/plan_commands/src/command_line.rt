@@ -66,6 +66,11 @@ pub enum Command<'a> {
         from: &'a str,
         to: &'a str,
     },
+    /// What does the network of the plan in a file look like, with the certificate in another where that is given?
+    Draw {
+        plan: &'a str,
+        certificate: Option<&'a str>,
+    },
     /// What does a code mean? The text says it.
     Code {
         text: &'static str,
@@ -85,41 +90,46 @@ pub fn parse_command<'a>(alloc: Global, list: &'a [String]) -> Result<Command<'a
     chosen(&matches).ok_or(Refused::Usage)
 }
 
-/// The name of each command, and the names of its arguments.
-const COMMANDS: [(&str, &[&str]); 13] = [
-    ("check", &["plan", "certificate"]),
-    ("certify", &["plan"]),
-    ("assign", &["plan", "certificate"]),
-    ("sim", &["plan", "certificate", "events"]),
-    ("move", &["old", "new", "certificate"]),
-    ("simmove", &["old", "new", "certificate", "events"]),
-    ("walk", &["plan", "certificate", "node", "count"]),
-    ("reach", &["plan", "certificate"]),
-    ("trace", &["plan", "certificate", "from", "to"]),
-    ("lint", &["plan"]),
-    ("show", &["kind", "hex"]),
-    ("code", &["code"]),
-    ("guide", &[]),
+/// The name of each command, the names of its arguments, and those of the arguments that may be left out.
+const COMMANDS: [(&str, &[&str], &[&str]); 14] = [
+    ("check", &["plan", "certificate"], &[]),
+    ("certify", &["plan"], &[]),
+    ("assign", &["plan", "certificate"], &[]),
+    ("sim", &["plan", "certificate", "events"], &[]),
+    ("move", &["old", "new", "certificate"], &[]),
+    ("simmove", &["old", "new", "certificate", "events"], &[]),
+    ("walk", &["plan", "certificate", "node", "count"], &[]),
+    ("reach", &["plan", "certificate"], &[]),
+    ("trace", &["plan", "certificate", "from", "to"], &[]),
+    ("draw", &["plan"], &["certificate"]),
+    ("lint", &["plan"], &[]),
+    ("show", &["kind", "hex"], &[]),
+    ("code", &["code"], &[]),
+    ("guide", &[], &[]),
 ];
 
 /// The words of each command.
 fn grammar<'a>(alloc: Global) -> Result<clap::Command<'a>, AllocError> {
     let mut grammar = clap::Command::new(alloc, "mctpplan").subcommand_required(true);
-    for (name, arguments) in COMMANDS {
-        grammar = grammar.subcommand(with_arguments(alloc, name, arguments)?)?;
+    for (name, required, optional) in COMMANDS {
+        grammar = grammar.subcommand(with_arguments(alloc, name, required, optional)?)?;
     }
     Ok(grammar)
 }
 
-/// A command whose arguments are all required and stand in this order.
+/// A command with its arguments in this order: first those that are required, then those that may be left out.
 fn with_arguments<'a>(
     alloc: Global,
     name: &'a str,
-    arguments: &[&'a str],
+    required: &[&'a str],
+    optional: &[&'a str],
 ) -> Result<clap::Command<'a>, AllocError> {
     let mut command = clap::Command::new(alloc, name);
-    for id in arguments {
+    for id in required {
         command = command.arg(Arg::new(alloc, *id).required(true).action(ArgAction::Set))?;
+    }
+    for id in optional {
+        command = command.arg(Arg::new(alloc, *id).action(ArgAction::Set))?;
     }
     Ok(command)
 }
@@ -136,6 +146,7 @@ fn chosen<'a>(matches: &ArgMatches<'a>) -> Option<Command<'a>> {
         "walk" => walking(arguments),
         "reach" => reaching(arguments),
         "trace" => tracing(arguments),
+        "draw" => drawing(arguments),
         "lint" => linting(arguments),
         "show" => showing(arguments),
         "code" => explaining(arguments),
@@ -211,6 +222,13 @@ fn tracing<'a>(arguments: &ArgMatches<'a>) -> Option<Command<'a>> {
         certificate: arguments.get_str("certificate")?,
         from: arguments.get_str("from")?,
         to: arguments.get_str("to")?,
+    })
+}
+
+fn drawing<'a>(arguments: &ArgMatches<'a>) -> Option<Command<'a>> {
+    Some(Command::Draw {
+        plan: arguments.get_str("plan")?,
+        certificate: arguments.get_str("certificate"),
     })
 }
 

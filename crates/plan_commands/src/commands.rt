@@ -4,6 +4,7 @@ pub mod answer;
 pub mod assign;
 pub mod certify;
 pub mod check;
+pub mod draw;
 pub mod faults;
 pub mod gathered;
 pub mod inputs;

@@ -13,6 +13,8 @@ pub use commands::answer::refuse;
 pub use commands::assign::run_assign;
 pub use commands::certify::run_certify;
 pub use commands::check::run_check;
+pub use commands::draw::certified::run_draw_certified;
+pub use commands::draw::run_draw;
 pub use commands::known::run_known;
 pub use commands::lint::run_lint;
 pub use commands::moving::run_move;

@@ -5,6 +5,7 @@ ghost use Rattle.plan_commands.specs.Lines.{name_or_dash, bus_name_or_dash, name
 
 pub mod assignments;
 pub mod codes;
+pub mod drawings;
 pub mod findings;
 pub mod moves;
 pub mod outcomes;
@@ -39,6 +40,7 @@ simmove OLD NEW CERT EVENTS  the same while nodes go over to new rows
 walk PLAN CERT NODE COUNT    the records that a walk over a node's terminus collects
 reach PLAN CERT              who reaches whom, and in how many hops
 trace PLAN CERT FROM TO      the way of a packet from a node to another, or to an endpoint ID
+draw PLAN [CERT]             the planned network as a drawing for Graphviz
 lint PLAN                    what is lawful in the plan and still looks wrong, or clean
 show packet HEX              what the bytes of a packet are
 show record HEX              what the bytes of a platform descriptor record are

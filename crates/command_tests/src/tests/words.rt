@@ -39,7 +39,21 @@ fn gives_the_command_or_usage(rt: HostRuntime) -> Result<(), Fail> {
         certificate: "c",
         events: "d",
     };
-    let rows: [(&[&str], Result<Command, Refused>); 51] = [
+    let plain = Command::Draw {
+        plan: "a",
+        certificate: None,
+    };
+    let certified = Command::Draw {
+        plan: "a",
+        certificate: Some("b"),
+    };
+    let rows: [(&[&str], Result<Command, Refused>); 57] = [
+        (&["mctpplan", "draw", "a"], Ok(plain)),
+        (&["mctpplan", "draw", "a", "b"], Ok(certified)),
+        (&["mctpplan", "draw"], Err(Refused::Usage)),
+        (&["mctpplan", "draw", "a", "b", "c"], Err(Refused::Usage)),
+        (&["mctpplan", "lint"], Err(Refused::Usage)),
+        (&["mctpplan", "lint", "a", "b"], Err(Refused::Usage)),
         (&["mctpplan", "guide"], Ok(Command::Guide)),
         (&["mctpplan", "guide", "check"], Err(Refused::Usage)),
         (&["mctpplan", "code"], Err(Refused::Usage)),

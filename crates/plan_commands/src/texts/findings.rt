@@ -39,6 +39,12 @@ fn finding_line(alloc: Global, plan: &Plan, finding: &Finding) -> Result<String,
         Finding::SharedSensorId { node, record } => {
             item_finding(alloc, "H05", plan, node, "record", record)
         }
+        Finding::OwnerHasNoWay { node, owner } => {
+            pair_finding(alloc, "H06", plan, node, "owner", owner)
+        }
+        Finding::NoWayToOwner { node, owner } => {
+            pair_finding(alloc, "H07", plan, node, "owner", owner)
+        }
         Finding::IdleRow { node, row } => item_finding(alloc, "H08", plan, node, "row", row),
         Finding::PoolEidNotLedOn { node, eid } => {
             item_finding(alloc, "H09", plan, node, "eid", usize::from(eid.value))
