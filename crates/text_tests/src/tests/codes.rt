@@ -1,0 +1,25 @@
+//! The codes that users see of texts: each error's text begins with its own.
+use net_plan::PlanError;
+use std::test::Fail;
+
+const OF_TEXTS: [(PlanError, &str); 11] = [
+    (PlanError::NotJson, "J01"),
+    (PlanError::WrongKind, "J02"),
+    (PlanError::MissingKey, "J03"),
+    (PlanError::UnknownKey, "J04"),
+    (PlanError::OutOfRange, "J05"),
+    (PlanError::UnknownName, "J06"),
+    (PlanError::BadHex, "J07"),
+    (PlanError::OverLimit, "J08"),
+    (PlanError::Doubled, "J09"),
+    (PlanError::Device, "file"),
+    (PlanError::OutOfMemory, "no memory"),
+];
+
+#[test]
+fn errors_of_texts_print_their_codes(rt: HostRuntime) -> Result<(), Fail> {
+    for (error, code) in OF_TEXTS {
+        assert_eq!(rt; format!(in rt.alloc(); "{error}")?.as_str(), code);
+    }
+    Ok(())
+}
