@@ -24,7 +24,7 @@ use Rattle.net_sim.specs.Dealing.{planned_termini}
 use Rattle.net_sim.specs.Outcomes.{outcome_value}
 use Rattle.net_sim.specs.Played.{PlaysAll}
 use Rattle.net_sim.specs.WalkedStanding.{NetworkValue, StandsForWalked, without_walkers}
-use Rattle.plan_tests.specs.Planned.{IsAlone, IsRunFromStart}
+use Rattle.run_tests.specs.Planned.{IsAlone, IsRunFromStart}
 
 -- a list of one
 module _ {X : Type 0} (h : ℕ → Option X) (k : ℕ) (x : X) (here : h k ≡ Some x) (others : (m : ℕ) → m ≢ k → h m ≡ None) where

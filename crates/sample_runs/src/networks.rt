@@ -1,16 +1,29 @@
-//! Networks over termini, one for each node that has one.
-use net_check::{Checked, CheckedMove};
+//! Networks of plans over termini, one for each node that has one.
+use net_check::{CheckedMove, check};
+use net_plan::{Certificate, Plan, certificate_of_text, plan_of_text};
 use net_sim::{Network, planned_termini_count};
 use pdr_repository::Terminus;
 use std::alloc::Global;
 use std::test::Fail;
 
-/// The network of a checked plan, in which nothing has happened yet.
+/// The plan of a text.
+pub fn plan_of(alloc: Global, text: &str) -> Result<Plan, Fail> {
+    Ok(plan_of_text(alloc, text.as_bytes())?)
+}
+
+/// The certificate of a text, of this plan.
+pub fn certificate_of(alloc: Global, plan: &Plan, text: &str) -> Result<Certificate, Fail> {
+    Ok(certificate_of_text(alloc, plan, text.as_bytes())?)
+}
+
+/// The network of a plan and its certificate, in which nothing has happened yet.
 pub fn network_of<'a>(
     alloc: Global,
-    checked: Checked<'a>,
+    plan: &'a Plan,
+    certificate: &'a Certificate,
     termini: Vec<Box<dyn Terminus>>,
 ) -> Result<Network<'a>, Fail> {
+    let checked = check(alloc, plan, certificate)?;
     if termini.len() != planned_termini_count(checked.plan()) {
         return Err(Fail::new("not one terminus for each node that has one"));
     }

@@ -37,10 +37,7 @@ pub fn first_wrong_row(alloc: Global, rows: &[Changed]) -> Result<Option<usize>,
 pub type Case = (&'static str, &'static [Changed]);
 
 /// The first case with a row that has another fault, and the place of the row.
-pub fn first_wrong(
-    alloc: Global,
-    cases: &[Case],
-) -> Result<Option<(&'static str, usize)>, Fail> {
+pub fn first_wrong(alloc: Global, cases: &[Case]) -> Result<Option<(&'static str, usize)>, Fail> {
     for (what, rows) in cases {
         if let Some(place) = first_wrong_row(alloc, *rows)? {
             return Ok(Some((*what, place)));

@@ -86,7 +86,10 @@ const CASES: [Case; 4] = [
     ("a node without owner has no level", &LEVEL_OF_HOST),
     ("a record has one place", &MORE_PLACES),
     ("a held endpoint ID has no rank", &RANK_OF_ITS_OWN),
-    ("an endpoint ID without a row has no rank", &RANKS_WITHOUT_ROW),
+    (
+        "an endpoint ID without a row has no rank",
+        &RANKS_WITHOUT_ROW,
+    ),
 ];
 
 #[test]

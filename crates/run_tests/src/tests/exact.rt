@@ -1,11 +1,12 @@
 //! Messages of several packets from host to ssd in the riser network.
 use super::playing::{Scenario, play_on};
-use super::riser::{HOST, SSD};
 use mctp_transport::{
     DropCause, Eid, HEADER_LENGTH, Key, MAX_MESSAGE, MAX_UNIT, Packets, Seq, Tag,
 };
 use net_plan::Event;
 use net_sim::{Effect, Network, Outcome};
+use sample_runs::playing::{Way, outcomes_of};
+use sample_texts::riser::{HOST, SSD};
 use std::alloc::{AllocError, Global};
 use std::process::Abort;
 use std::test::Fail;
@@ -359,17 +360,8 @@ fn expect_ends_to_come(
     packets: &[Vec<u8>],
 ) -> Result<(), Fail> {
     let events = first_and_last(rt.alloc(), packets, 6)?;
-    let outcomes = outcomes_of(network, &events)?;
+    let outcomes = outcomes_of(rt.alloc(), network, &events, Way::Run)?;
     expect_ends(rt, message, &outcomes)
-}
-
-/// The outcomes of events, all of which are played.
-fn outcomes_of(network: &mut Network, events: &[Event]) -> Result<Vec<Outcome>, Fail> {
-    let played = network.run(events)?;
-    if played.stopped {
-        return Err(Fail::new("it stopped"));
-    }
-    Ok(played.outcomes)
 }
 
 /// Wants the packets to have these flag bytes.

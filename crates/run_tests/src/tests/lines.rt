@@ -1,10 +1,9 @@
 //! Lines of bridges. The one at place i has the endpoint ID 8 + i, shares a bus with each of its neighbors alone, and has
 //! one row towards each neighbor, for all endpoint IDs on that side.
-use super::boxes::network_of;
-use super::{expect_told, plan_of};
-use net_check::{certify, check};
+use net_check::certify;
 use net_plan::{Event, Plan};
-use net_sim::{Network, Outcome};
+use sample_runs::networks::{network_of, plan_of};
+use sample_runs::playing::{Way, told_of};
 use std::alloc::{AllocError, Global};
 use std::process::Abort;
 use std::test::Fail;
@@ -92,90 +91,42 @@ fn events_on(alloc: Global, count: u8) -> Result<Vec<Event>, AllocError> {
 }
 
 /// What comes of those events: the request is whole at the last bridge with the last move.
-fn wanted_on(alloc: Global, count: u8) -> Result<Vec<String>, AllocError> {
-    let mut wanted = Vec::new(alloc);
-    wanted.push(String::from_str(alloc, "put 1 at n0")?)?;
+fn wanted_on(alloc: Global, count: u8) -> Result<String, AllocError> {
+    let mut wanted = String::from_str(alloc, "put 1 at n0")?;
     for hop in 1..count {
-        wanted.push(format!(in alloc; "moved 1 to n{hop} hops {hop}")?)?;
+        wanted.push_str(format!(in alloc; ", moved 1 to n{hop} hops {hop}")?.as_str())?;
     }
     let last = count.saturating_sub(1);
-    wanted.push(format!(in alloc; "whole 1 at n{last} source 8 tag 3 owner 1 bytes 01800002")?)?;
+    let whole = format!(in alloc; ", whole 1 at n{last} source 8 tag 3 owner 1 bytes 01800002")?;
+    wanted.push_str(whole.as_str())?;
     Ok(wanted)
 }
 
-/// Wants this to have come of the events, one after another.
-fn expect_outcomes(
-    rt: &(impl Abort + AllocGlobal),
-    plan: &Plan,
-    outcomes: &[Outcome],
-    count: u8,
-) -> Result<(), Fail> {
-    let wanted = wanted_on(rt.alloc(), count)?;
-    assert_eq!(rt; outcomes.len(), wanted.len());
-    for (outcome, wanted) in outcomes.iter().zip(&wanted) {
-        expect_told(rt, plan, outcome, "an event on a line", wanted)?;
-    }
-    Ok(())
+/// What comes of the events in the network of a plan, with the certificate that it has.
+fn told_on(alloc: Global, plan: &Plan, events: &[Event], way: Way) -> Result<String, Fail> {
+    let certificate = certify(alloc, plan)?;
+    let mut network = network_of(alloc, plan, &certificate, Vec::new(alloc))?;
+    told_of(alloc, plan, &mut network, events, way)
 }
 
-/// The outcomes of the events, one by one.
-fn stepped(alloc: Global, network: &mut Network, events: &[Event]) -> Result<Vec<Outcome>, Fail> {
-    let mut outcomes = Vec::new(alloc);
-    for event in events {
-        outcomes.push(network.step(event)?)?;
-    }
-    Ok(outcomes)
-}
-
-/// The outcomes of the events as one list.
-fn ran(network: &mut Network, events: &[Event]) -> Result<Vec<Outcome>, Fail> {
-    let played = network.run(events)?;
-    if played.stopped {
-        return Err(Fail::new("it stopped"));
-    }
-    Ok(played.outcomes)
-}
-
-/// How events are played.
-#[derive(Clone, Copy)]
-enum Way {
-    OneByOne,
-    AsOneList,
+/// What comes of the events on a line of so many bridges.
+fn told_on_line(alloc: Global, count: u8, way: Way) -> Result<String, Fail> {
+    let plan = plan_of(alloc, &line_of(alloc, count)?)?;
+    told_on(alloc, &plan, &events_on(alloc, count)?, way)
 }
 
 /// Plays the events on a line of so many bridges, and wants the request to come to the last.
 fn expect_line(rt: &(impl Abort + AllocGlobal), count: u8, way: Way) -> Result<(), Fail> {
-    let plan = plan_of(rt.alloc(), &line_of(rt.alloc(), count)?)?;
-    let events = events_on(rt.alloc(), count)?;
-    let outcomes = played_on(rt.alloc(), &plan, &events, way)?;
-    expect_outcomes(rt, &plan, &outcomes, count)
-}
-
-/// The outcomes of the events in the network of a plan, with the certificate that it has.
-fn played_on(alloc: Global, plan: &Plan, events: &[Event], way: Way) -> Result<Vec<Outcome>, Fail> {
-    let certificate = certify(alloc, plan)?;
-    let checked = check(alloc, plan, &certificate)?;
-    let mut network = network_of(alloc, checked, Vec::new(alloc))?;
-    played_by(alloc, &mut network, events, way)
-}
-
-/// The outcomes of the events, played this way.
-fn played_by(
-    alloc: Global,
-    network: &mut Network,
-    events: &[Event],
-    way: Way,
-) -> Result<Vec<Outcome>, Fail> {
-    match way {
-        Way::OneByOne => stepped(alloc, network, events),
-        Way::AsOneList => ran(network, events),
-    }
+    let told = told_on_line(rt.alloc(), count, way)?;
+    let wanted = wanted_on(rt.alloc(), count)?;
+    assert_eq!(rt; told.as_str(), wanted.as_str());
+    Ok(())
 }
 
 #[test]
 fn steps_along_short_lines(rt: HostRuntime) -> Result<(), Fail> {
     for count in 2..=44u8 {
-        expect_line(&rt, count, Way::OneByOne)?;
+        expect_line(&rt, count, Way::Steps)?;
     }
     Ok(())
 }
@@ -183,7 +134,7 @@ fn steps_along_short_lines(rt: HostRuntime) -> Result<(), Fail> {
 #[test]
 fn steps_along_long_lines(rt: HostRuntime) -> Result<(), Fail> {
     for count in 45..=55u8 {
-        expect_line(&rt, count, Way::OneByOne)?;
+        expect_line(&rt, count, Way::Steps)?;
     }
     Ok(())
 }
@@ -191,7 +142,7 @@ fn steps_along_long_lines(rt: HostRuntime) -> Result<(), Fail> {
 #[test]
 fn steps_along_the_longest_lines(rt: HostRuntime) -> Result<(), Fail> {
     for count in 56..=64u8 {
-        expect_line(&rt, count, Way::OneByOne)?;
+        expect_line(&rt, count, Way::Steps)?;
     }
     Ok(())
 }
@@ -199,7 +150,7 @@ fn steps_along_the_longest_lines(rt: HostRuntime) -> Result<(), Fail> {
 #[test]
 fn runs_along_lines(rt: HostRuntime) -> Result<(), Fail> {
     for count in [2u8, 3, 33, 64] {
-        expect_line(&rt, count, Way::AsOneList)?;
+        expect_line(&rt, count, Way::Run)?;
     }
     Ok(())
 }

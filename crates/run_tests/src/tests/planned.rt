@@ -4,16 +4,17 @@ ghost use Rattle.pdr_repository.specs.Records.{entries, IsLawful};
 ghost use Rattle.net_check.specs.Repositories.{entry_of, terminus_of};
 ghost use Rattle.net_sim.specs.Dealing.{resting, planned_termini};
 ghost use Rattle.net_sim.specs.Outcomes.{event_value, outcome_value};
-ghost use Rattle.plan_tests.specs.Planned.{IsRunFromStart, IsAlone};
+ghost use Rattle.run_tests.specs.Planned.{IsRunFromStart, IsAlone};
 
-use super::playing::{certificate_of, events_of, expect_played, plan_of};
-use super::riser::{CERTIFICATE, NIC, PLAN};
 use super::rows::AND_BACK;
 use net_check::{Checked, check};
 use net_plan::{Event, Plan, Record, Terminus as PlannedTerminus};
 use net_sim::{Network, Played};
 use pdr_repository::{BlockTerminus, Terminus};
 use pldm_message::Tid;
+use sample_runs::networks::{certificate_of, plan_of};
+use sample_runs::playing::{all_told, events_of, wanted_of};
+use sample_texts::riser::{CERTIFICATE, NIC, PLAN};
 use std::alloc::{AllocError, Global};
 use std::test::Fail;
 
@@ -133,5 +134,8 @@ fn plays_from_the_start_over_a_planned_terminus(rt: HostRuntime) -> Result<(), F
     let plan = plan_of(rt.alloc(), PLAN)?;
     let events = events_of(rt.alloc(), &plan, &AND_BACK)?;
     let played = played_at_nic(rt.alloc(), &plan, &events)?;
-    expect_played(&rt, &plan, &played, &AND_BACK)
+    let told = all_told(rt.alloc(), &plan, &played.outcomes)?;
+    assert!(rt; !played.stopped);
+    assert_eq!(rt; told.as_str(), wanted_of(rt.alloc(), &AND_BACK)?.as_str());
+    Ok(())
 }

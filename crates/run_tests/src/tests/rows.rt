@@ -1,13 +1,13 @@
 //! Lists of events on the riser network.
-use super::Row;
 use super::playing::{Scenario, play_on};
-use super::riser_events::{
-    ANSWER_NIC, ANSWER_SSD, GET_TID_OF_NIC, GET_TID_OF_SSD, MOVE_1, MOVE_2, MOVE_3, MOVE_4, MOVE_5,
-    MOVE_6,
-};
 use mctp_transport::{Eid, Key, Tag};
 use net_plan::Event;
 use net_sim::{Effect, Network, Outcome, Refusal};
+use sample_runs::playing::{Row, Way};
+use sample_runs::riser_events::{
+    ANSWER_NIC, ANSWER_SSD, GET_TID_OF_NIC, GET_TID_OF_SSD, MOVE_1, MOVE_2, MOVE_3, MOVE_4, MOVE_5,
+    MOVE_6,
+};
 use std::alloc::{AllocError, Global};
 use std::process::Abort;
 use std::test::Fail;
@@ -294,7 +294,7 @@ pub const LISTS: [&[Row]; 6] = [
 #[test]
 fn plays_step_by_step(rt: HostRuntime) -> Result<(), Fail> {
     for rows in LISTS {
-        play_on(&rt, Scenario::Steps(rows))?;
+        play_on(&rt, Scenario::Rows(rows, Way::Steps))?;
     }
     Ok(())
 }
@@ -302,7 +302,7 @@ fn plays_step_by_step(rt: HostRuntime) -> Result<(), Fail> {
 #[test]
 fn runs_whole_lists(rt: HostRuntime) -> Result<(), Fail> {
     for rows in LISTS {
-        play_on(&rt, Scenario::Run(rows))?;
+        play_on(&rt, Scenario::Rows(rows, Way::Run))?;
     }
     Ok(())
 }

@@ -1,10 +1,12 @@
 //! Networks whose nodes switch to new rows while packets are on their way.
-use super::boxes::moving_network_of;
-use super::edited;
-use super::playing::{Scenario, Texts, certificate_of, plan_of, play, play_on_texts};
+use super::playing::{Scenario, Texts, play, play_on_texts};
 use net_check::check_move;
 use net_plan::{Certificate, Event, Plan};
 use net_sim::{Effect, Outcome, Refusal};
+use sample_runs::networks::{certificate_of, moving_network_of, plan_of};
+use sample_runs::playing::{Way, outcomes_of};
+use sample_texts::edited;
+use sample_texts::two_ways::{RANKS_OF_TWO_WAYS, TWO_WAYS};
 use std::alloc::{AllocError, Global};
 use std::ops::Range;
 use std::process::Abort;
@@ -97,20 +99,29 @@ fn nobody_switches_in_a_network_of_one_plan(rt: HostRuntime) -> Result<(), Fail>
 /// on.
 const BRIDGES: usize = 6;
 
+/// The text of the bridge at a place of that line, which passes on to a node.
+fn bridge_at(alloc: Global, place: usize, next: &str) -> Result<String, AllocError> {
+    let eid = place.saturating_add(8);
+    format!(in alloc;
+        r#"{{"name":"n{place}","kind":"bridge","eid":{eid},"owner":null,"pool":null,"ports":[{{"bus":"b","address":"1{place}"}}],"rows":[{{"first":17,"size":1,"port":0,"next":"{next}"}}],"terminus":null}}"#
+    )
+}
+
+/// The name of the node at a place of that line: behind the last bridge it is x.
+fn name_at(alloc: Global, place: usize) -> Result<String, AllocError> {
+    if place < BRIDGES {
+        format!(in alloc; "n{place}")
+    } else {
+        String::from_str(alloc, "x")
+    }
+}
+
 /// The plan of that line, where each bridge passes on to the one so many places on, or to x.
 fn line_of(alloc: Global, stride: usize) -> Result<String, AllocError> {
     let mut nodes = Vec::new(alloc);
     for place in 0..BRIDGES {
-        let eid = place + 8;
-        let place_on = place.saturating_add(stride);
-        let next = if place_on < BRIDGES {
-            format!(in alloc; "n{place_on}")?
-        } else {
-            String::from_str(alloc, "x")?
-        };
-        nodes.push(format!(in alloc;
-            r#"{{"name":"n{place}","kind":"bridge","eid":{eid},"owner":null,"pool":null,"ports":[{{"bus":"b","address":"1{place}"}}],"rows":[{{"first":17,"size":1,"port":0,"next":"{next}"}}],"terminus":null}}"#
-        )?)?;
+        let next = name_at(alloc, place.saturating_add(stride))?;
+        nodes.push(bridge_at(alloc, place, next.as_str())?)?;
     }
     let nodes = nodes.as_slice().join(alloc, ",")?;
     format!(in alloc;
@@ -119,17 +130,8 @@ fn line_of(alloc: Global, stride: usize) -> Result<String, AllocError> {
 }
 
 /// The ranks on that line.
-fn ranks_of_line(alloc: Global) -> Result<String, AllocError> {
-    let mut ranks = Vec::new(alloc);
-    for place in 0..BRIDGES {
-        let rank = BRIDGES - place;
-        ranks.push(format!(in alloc;
-            r#"{{"node":"n{place}","ranges":[{{"first":17,"rank":{rank},"size":1}}]}}"#
-        )?)?;
-    }
-    let ranks = ranks.as_slice().join(alloc, ",")?;
-    format!(in alloc; r#"{{"format":1,"levels":[],"places":[],"ranks":[{ranks}]}}"#)
-}
+const RANKS_OF_THE_LINE: &str =
+    r#"{"format":1,"levels":[],"places":[],"ranks":[{"node":"n0","ranges":[{"first":17,"rank":6,"size":1}]},{"node":"n1","ranges":[{"first":17,"rank":5,"size":1}]},{"node":"n2","ranges":[{"first":17,"rank":4,"size":1}]},{"node":"n3","ranges":[{"first":17,"rank":3,"size":1}]},{"node":"n4","ranges":[{"first":17,"rank":2,"size":1}]},{"node":"n5","ranges":[{"first":17,"rank":1,"size":1}]}]}"#;
 
 /// The order of this number, of the bridges' 720 orders.
 fn order_of(alloc: Global, number: usize) -> Result<Vec<usize>, AllocError> {
@@ -200,11 +202,10 @@ fn all_come(
     certificate: &Certificate,
     order: &[usize],
 ) -> Result<bool, Fail> {
-    let events = events_in(alloc, order)?;
     let checked = check_move(alloc, before, after, certificate)?;
     let mut network = moving_network_of(alloc, checked, Vec::new(alloc))?;
-    let played = network.run(&events)?;
-    Ok(are_lawful_and_whole(&played.outcomes))
+    let outcomes = outcomes_of(alloc, &mut network, &events_in(alloc, order)?, Way::Run)?;
+    Ok(are_lawful_and_whole(&outcomes))
 }
 
 /// Wants all packets to come between these plans where the bridges switch in the orders of these numbers.
@@ -233,7 +234,7 @@ fn line_plan_of(alloc: Global, stride: usize) -> Result<Plan, Fail> {
 fn expect_all_come(rt: &(impl Abort + AllocGlobal), numbers: Range<usize>) -> Result<(), Fail> {
     let before = line_plan_of(rt.alloc(), 1)?;
     let after = line_plan_of(rt.alloc(), 2)?;
-    let certificate = certificate_of(rt.alloc(), &before, &ranks_of_line(rt.alloc())?)?;
+    let certificate = certificate_of(rt.alloc(), &before, RANKS_OF_THE_LINE)?;
     expect_all_come_between(rt, &before, &after, &certificate, numbers)
 }
 

@@ -1,11 +1,11 @@
 //! Termini of either kind, whose terminus IDs are set and read in a run.
-use super::Row;
 use super::playing::{Scenario, Storage, Texts, play_on_texts};
-use super::riser::{CERTIFICATE, NIC, PLAN, SSD};
-use super::riser_events::{
+use sample_runs::playing::{Row, Way};
+use sample_runs::riser_events::{
     ANSWER_NIC, ANSWER_SSD, GET_TID_OF_NIC, GET_TID_OF_SSD, MOVE_1, MOVE_2, MOVE_3, MOVE_4, MOVE_5,
     MOVE_6, MOVE_7, MOVE_8,
 };
+use sample_texts::riser::{CERTIFICATE, NIC, PLAN, SSD};
 use std::alloc::{AllocError, Global};
 use std::process::Abort;
 use std::test::Fail;
@@ -163,12 +163,20 @@ fn expect_of_both(
 
 #[test]
 fn sets_the_terminus_id_of_a_list(rt: HostRuntime) -> Result<(), Fail> {
-    expect_of_nic(&rt, &[(NIC, Storage::List)], Scenario::Steps(&SET_AND_READ))
+    expect_of_nic(
+        &rt,
+        &[(NIC, Storage::List)],
+        Scenario::Rows(&SET_AND_READ, Way::Steps),
+    )
 }
 
 #[test]
 fn sets_the_terminus_id_of_a_block(rt: HostRuntime) -> Result<(), Fail> {
-    expect_of_nic(&rt, &[(NIC, Storage::Block)], Scenario::Run(&SET_AND_READ))
+    expect_of_nic(
+        &rt,
+        &[(NIC, Storage::Block)],
+        Scenario::Rows(&SET_AND_READ, Way::Run),
+    )
 }
 
 #[test]
@@ -176,7 +184,7 @@ fn plays_a_list_beside_a_block(rt: HostRuntime) -> Result<(), Fail> {
     expect_of_both(
         &rt,
         &[(NIC, Storage::List), (SSD, Storage::Block)],
-        Scenario::Steps(&SET_AND_READ_BOTH),
+        Scenario::Rows(&SET_AND_READ_BOTH, Way::Steps),
     )
 }
 
@@ -185,6 +193,6 @@ fn plays_a_block_beside_a_list(rt: HostRuntime) -> Result<(), Fail> {
     expect_of_both(
         &rt,
         &[(NIC, Storage::Block), (SSD, Storage::List)],
-        Scenario::Run(&SET_AND_READ_BOTH),
+        Scenario::Rows(&SET_AND_READ_BOTH, Way::Run),
     )
 }

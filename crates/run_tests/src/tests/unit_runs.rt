@@ -1,9 +1,11 @@
 //! Networks of other transmission units than the baseline: what may be put in, and how answers and requests are cut.
-use super::playing::{Row, Scenario, Storage, certificate_of, plan_of, play_on_plan};
-use super::riser::{CERTIFICATE, HOST, NIC, PLAN, SSD};
+use super::playing::{Scenario, Storage, play_on_plan};
 use mctp_transport::{Eid, HEADER_LENGTH, Key, MAX_UNIT, Packets, Seq, Tag};
 use net_plan::{Event, Plan};
 use net_sim::{Effect, Network, Outcome};
+use sample_runs::networks::{certificate_of, plan_of};
+use sample_runs::playing::{Row, Way};
+use sample_texts::riser::{CERTIFICATE, HOST, NIC, PLAN, SSD};
 use std::alloc::{AllocError, Global};
 use std::process::Abort;
 use std::test::Fail;
@@ -35,18 +37,26 @@ fn put_at(
     length: usize,
     wanted: &str,
 ) -> Result<(), Fail> {
-    let event = put_of(rt.alloc(), length)?;
-    play_at(rt, unit, Scenario::Step(&event, "put", wanted))
+    let events = [put_of(rt.alloc(), length)?];
+    play_at(rt, unit, Scenario::Events(&events, wanted))
 }
+
+/// Transmission units, how many payload bytes a packet has that is put in, and what comes of it.
+const PUTS: [(u16, usize, &str); 6] = [
+    (64, 64, "put 1 at host"),
+    (64, 65, "refused N02"),
+    (65, 65, "put 1 at host"),
+    (65, 66, "refused N02"),
+    (1024, 1024, "put 1 at host"),
+    (1024, 1025, "refused N02"),
+];
 
 #[test]
 fn puts_are_read_within_the_unit(rt: HostRuntime) -> Result<(), Fail> {
-    put_at(&rt, 64, 64, "put 1 at host")?;
-    put_at(&rt, 64, 65, "refused N02")?;
-    put_at(&rt, 65, 65, "put 1 at host")?;
-    put_at(&rt, 65, 66, "refused N02")?;
-    put_at(&rt, 1024, 1024, "put 1 at host")?;
-    put_at(&rt, 1024, 1025, "refused N02")
+    for (unit, length, wanted) in PUTS {
+        put_at(&rt, unit, length, wanted)?;
+    }
+    Ok(())
 }
 
 /// nic's record is read by one request for as many bytes as a part can have, and one packet answers it.
@@ -88,7 +98,7 @@ const ONE_REQUEST: [Row; 9] = [
 
 #[test]
 fn one_packet_answers_at_a_unit_of_1024(rt: HostRuntime) -> Result<(), Fail> {
-    play_at(&rt, 1024, Scenario::Steps(&ONE_REQUEST))
+    play_at(&rt, 1024, Scenario::Rows(&ONE_REQUEST, Way::Steps))
 }
 
 /// Walks, each with the transmission unit, and whether the count of bytes in its requests is refused.
@@ -116,7 +126,7 @@ fn walk_of(count: u16) -> Event {
 #[test]
 fn parts_fit_five_packets_of_the_unit(rt: HostRuntime) -> Result<(), Fail> {
     for (unit, count, wanted) in COUNTS {
-        play_at(&rt, unit, Scenario::Step(&walk_of(count), "walk", wanted))?;
+        play_at(&rt, unit, Scenario::Events(&[walk_of(count)], wanted))?;
     }
     Ok(())
 }

@@ -1,14 +1,14 @@
 //! Walks that are played to their end, over a network that loses each second packet and repeats every third.
-use super::boxes::{moving_network_of, network_of};
-use super::edited;
-use super::playing::plan_of;
-use super::riser::{HOST, NIC, PLAN};
 use mctp_transport::{Eid, Tag};
-use net_check::{certify, check, check_move};
-use net_plan::{Event, Plan};
+use net_check::{certify, check_move};
+use net_plan::{Certificate, Event, Plan};
 use net_sim::{Effect, Network, Outcome, WalkRefusal};
-use pdr_repository::{BlockTerminus, Terminus, is_lawful_list};
+use pdr_repository::Terminus;
 use pldm_message::Tid;
+use sample_runs::networks::{moving_network_of, network_of, plan_of};
+use sample_runs::repositories::block_of;
+use sample_texts::edited;
+use sample_texts::riser::{HOST, NIC, PLAN};
 use std::alloc::{AllocError, Global};
 use std::test::Fail;
 
@@ -44,11 +44,7 @@ fn records_by_place(alloc: Global, plan: &Plan) -> Result<Vec<(u32, Vec<u8>)>, F
 
 /// The terminus of nic, over a block.
 fn terminus_of_nic(alloc: Global, plan: &Plan) -> Result<Vec<Box<dyn Terminus>>, Fail> {
-    let records = records_by_place(alloc, plan)?;
-    if !is_lawful_list(&records) {
-        return Err(Fail::new("no lawful list"));
-    }
-    let terminus = BlockTerminus::new(alloc, Tid::new(1), records)?;
+    let terminus = block_of(alloc, Tid::new(1), records_by_place(alloc, plan)?)?;
     let mut termini: Vec<Box<dyn Terminus>> = Vec::new(alloc);
     termini.push(Box::new(alloc, terminus)?)?;
     Ok(termini)
@@ -147,14 +143,14 @@ fn ask(network: &mut Network, walker: u32, put_in: u32) -> Result<Option<u32>, F
     }
 }
 
-/// Lets the walkers ask in turn until all their walks are over. The nodes that are given switch one by one, after the
+/// Lets so many walkers ask in turn until all their walks are over. The nodes that are given switch one by one, after the
 /// requests of each turn.
-fn play_walks(network: &mut Network, walkers: &[u32], switching: &[usize]) -> Result<(), Fail> {
+fn play_walks(network: &mut Network, walkers: u32, switching: &[usize]) -> Result<(), Fail> {
     let mut put_in: u32 = 0;
     for round in 0..100usize {
         let before = put_in;
-        for walker in walkers {
-            put_in = ask(network, *walker, put_in)?.unwrap_or(put_in);
+        for walker in 1..=walkers {
+            put_in = ask(network, walker, put_in)?.unwrap_or(put_in);
         }
         if put_in == before {
             return Ok(());
@@ -179,45 +175,89 @@ pub fn has_collected(network: &Network, walker: usize, wanted: &[(u32, Vec<u8>)]
     }
 }
 
-#[test]
-fn a_walk_over_a_losing_network_collects_all(rt: HostRuntime) -> Result<(), Fail> {
-    let alloc = rt.alloc();
+/// Begins walks of host over nic under these tags. Tells how many.
+fn begin(network: &mut Network, tags: &[Tag]) -> Result<u32, AllocError> {
+    let mut begun: u32 = 0;
+    for tag in tags {
+        network.step(&walk_of_host(*tag))?;
+        begun = begun.saturating_add(1);
+    }
+    Ok(begun)
+}
+
+/// Whether so many walkers have collected exactly these records, and there is no other.
+fn have_collected(network: &Network, walkers: usize, wanted: &[(u32, Vec<u8>)]) -> bool {
+    for walker in 1..=walkers {
+        if !has_collected(network, walker, wanted) {
+            return false;
+        }
+    }
+    network.collected(0).is_none() && network.collected(walkers.saturating_add(1)).is_none()
+}
+
+/// Whether walks under these tags collect all records of nic, while these nodes switch.
+fn do_collect(
+    alloc: Global,
+    plan: &Plan,
+    network: &mut Network,
+    tags: &[Tag],
+    switching: &[usize],
+) -> Result<bool, Fail> {
+    let walkers = begin(network, tags)?;
+    play_walks(network, walkers, switching)?;
+    let wanted = records_by_place(alloc, plan)?;
+    Ok(have_collected(network, tags.len(), &wanted))
+}
+
+/// The same on the network of a plan.
+fn collect_on(
+    alloc: Global,
+    plan: &Plan,
+    certificate: &Certificate,
+    tags: &[Tag],
+) -> Result<bool, Fail> {
+    let mut network = network_of(alloc, plan, certificate, terminus_of_nic(alloc, plan)?)?;
+    do_collect(alloc, plan, &mut network, tags, &[])
+}
+
+/// The same on the network of a move from a plan to itself.
+fn collect_on_move(
+    alloc: Global,
+    plan: &Plan,
+    certificate: &Certificate,
+    tags: &[Tag],
+    switching: &[usize],
+) -> Result<bool, Fail> {
+    let checked = check_move(alloc, plan, plan, certificate)?;
+    let mut network = moving_network_of(alloc, checked, terminus_of_nic(alloc, plan)?)?;
+    do_collect(alloc, plan, &mut network, tags, switching)
+}
+
+/// Whether walks under these tags collect all three records: on the network of the plan, or where nodes switch, of a move.
+fn all_collect(alloc: Global, tags: &[Tag], switching: Option<&[usize]>) -> Result<bool, Fail> {
     let plan = plan_with_three_records(alloc)?;
     let certificate = certify(alloc, &plan)?;
-    let checked = check(alloc, &plan, &certificate)?;
-    let mut network = network_of(alloc, checked, terminus_of_nic(alloc, &plan)?)?;
-    network.step(&walk_of_host(Tag::new(2)))?;
-    play_walks(&mut network, &[1], &[])?;
-    assert!(rt; has_collected(&network, 1, &records_by_place(alloc, &plan)?));
-    assert!(rt; network.collected(0).is_none() && network.collected(2).is_none());
+    match switching {
+        None => collect_on(alloc, &plan, &certificate, tags),
+        Some(nodes) => collect_on_move(alloc, &plan, &certificate, tags, nodes),
+    }
+}
+
+#[test]
+fn a_walk_over_a_losing_network_collects_all(rt: HostRuntime) -> Result<(), Fail> {
+    assert!(rt; all_collect(rt.alloc(), &[Tag::new(2)], None)?);
     Ok(())
 }
 
 #[test]
 fn two_walks_at_once_collect_all(rt: HostRuntime) -> Result<(), Fail> {
-    let alloc = rt.alloc();
-    let plan = plan_with_three_records(alloc)?;
-    let certificate = certify(alloc, &plan)?;
-    let checked = check(alloc, &plan, &certificate)?;
-    let mut network = network_of(alloc, checked, terminus_of_nic(alloc, &plan)?)?;
-    network.step(&walk_of_host(Tag::new(2)))?;
-    network.step(&walk_of_host(Tag::new(3)))?;
-    play_walks(&mut network, &[1, 2], &[])?;
-    let wanted = records_by_place(alloc, &plan)?;
-    assert!(rt; has_collected(&network, 1, &wanted));
-    assert!(rt; has_collected(&network, 2, &wanted));
+    assert!(rt; all_collect(rt.alloc(), &[Tag::new(2), Tag::new(3)], None)?);
     Ok(())
 }
 
 #[test]
 fn a_walk_goes_on_while_every_node_switches(rt: HostRuntime) -> Result<(), Fail> {
-    let alloc = rt.alloc();
-    let plan = plan_with_three_records(alloc)?;
-    let certificate = certify(alloc, &plan)?;
-    let checked = check_move(alloc, &plan, &plan, &certificate)?;
-    let mut network = moving_network_of(alloc, checked, terminus_of_nic(alloc, &plan)?)?;
-    network.step(&walk_of_host(Tag::new(2)))?;
-    play_walks(&mut network, &[1], &[1, NIC, HOST, 3])?;
-    assert!(rt; has_collected(&network, 1, &records_by_place(alloc, &plan)?));
+    let switching = [1, NIC, HOST, 3];
+    assert!(rt; all_collect(rt.alloc(), &[Tag::new(2)], Some(&switching))?);
     Ok(())
 }

@@ -1,50 +1,14 @@
 //! Walkers at length: the instance IDs of their requests, answers of several packets, counts, many walkers.
 use super::losing::{deliver, has_collected, walk_of_host};
-use super::playing::{Scenario, Storage, network_over, plan_of, play, play_on_plan};
-use super::riser::{HOST, NIC, PLAN};
+use super::playing::{Scenario, play_as_planned, play_with};
 use mctp_transport::{Eid, Tag};
-use net_check::certify;
-use net_plan::{Certificate, Event, Plan};
+use net_plan::Event;
 use net_sim::{Effect, Network, Outcome, Refusal, WalkRefusal};
-use pdr_repository::{ListTerminus, Terminus, is_lawful_list};
-use pldm_message::Tid;
-use std::alloc::{AllocError, Global};
+use sample_runs::repositories::records_of;
+use sample_texts::riser::{HOST, NIC};
+use std::alloc::AllocError;
 use std::process::Abort;
 use std::test::Fail;
-
-/// A record of another type than those that are known, with so many bytes of data.
-fn record_of(alloc: Global, handle: u32, data: u16) -> Result<Vec<u8>, AllocError> {
-    let mut bytes = handle.to_le_bytes().to_vec(alloc)?;
-    bytes.extend_from_slice(&[1, 200, 0, 0])?;
-    bytes.extend_from_slice(&data.to_le_bytes())?;
-    for at in 0..data {
-        bytes.push((at % 251) as u8)?;
-    }
-    Ok(bytes)
-}
-
-/// Records with handles from 1 on, and how much data each one has.
-pub fn records_of(alloc: Global, sizes: &[u16]) -> Result<Vec<(u32, Vec<u8>)>, AllocError> {
-    let mut records = Vec::new(alloc);
-    let mut handle: u32 = 0;
-    for data in sizes {
-        handle = handle.saturating_add(1);
-        records.push((handle, record_of(alloc, handle, *data)?))?;
-    }
-    Ok(records)
-}
-
-/// The terminus of nic, over a list of such records.
-pub fn terminus_with(alloc: Global, sizes: &[u16]) -> Result<Vec<Box<dyn Terminus>>, Fail> {
-    let records = records_of(alloc, sizes)?;
-    if !is_lawful_list(&records) {
-        return Err(Fail::new("no lawful list"));
-    }
-    let terminus = ListTerminus::new(alloc, Tid::new(1), records)?;
-    let mut termini: Vec<Box<dyn Terminus>> = Vec::new(alloc);
-    termini.push(Box::new(alloc, terminus)?)?;
-    Ok(termini)
-}
 
 /// Lets the first walker ask, and tells the number of the flight.
 fn ask(network: &mut Network) -> Result<u32, Fail> {
@@ -125,32 +89,14 @@ pub fn expect_walks(
     }
 }
 
-/// Plays on the riser network over a list of such records at nic.
-pub fn play_over(
-    rt: &(impl Abort + AllocGlobal),
-    plan: &Plan,
-    certificate: &Certificate,
-    sizes: &[u16],
-    scenario: Scenario<'_>,
-) -> Result<(), Fail> {
-    let termini = terminus_with(rt.alloc(), sizes)?;
-    let mut network = network_over(rt.alloc(), plan, certificate, termini)?;
-    play(rt, plan, &mut network, scenario)
-}
-
-/// Wants this of walks over a list of such records at nic.
+/// Wants this of walks over a list of records at nic, of so many bytes of data each.
 fn walk_over(rt: &(impl Abort + AllocGlobal), sizes: &[u16], walks: Walks) -> Result<(), Fail> {
-    let plan = plan_of(rt.alloc(), PLAN)?;
-    let certificate = certify(rt.alloc(), &plan)?;
-    play_over(rt, &plan, &certificate, sizes, Scenario::Walks(walks))
+    play_with(rt, sizes, Scenario::Walks(walks))
 }
 
 /// Wants this of walks over the records that are planned.
 fn walk_as_planned(rt: &(impl Abort + AllocGlobal), walks: Walks) -> Result<(), Fail> {
-    let plan = plan_of(rt.alloc(), PLAN)?;
-    let certificate = certify(rt.alloc(), &plan)?;
-    let termini = [(NIC, Storage::List)];
-    play_on_plan(rt, &plan, &certificate, &termini, Scenario::Walks(walks))
+    play_as_planned(rt, Scenario::Walks(walks))
 }
 
 /// Wants the first walker to have collected such records.

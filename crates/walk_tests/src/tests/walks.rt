@@ -1,7 +1,12 @@
 //! Walks over a network that loses, repeats and delays packets.
-use super::Row;
-use super::playing::{Scenario, play_on};
+use super::playing::{Scenario, play_as_planned};
+use sample_runs::playing::{Row, Way};
+use sample_runs::riser_events::{ANSWER_NIC, MOVE_1, MOVE_2, MOVE_3, MOVE_4, MOVE_5, MOVE_6};
 use std::test::Fail;
+
+const ASK_1: &str = r#"{"do":"ask","walker":1}"#;
+
+const COLLECTED_1: &str = r#"{"do":"collected","walker":1}"#;
 
 /// nic's record is read in one part, and then nothing is left to ask.
 const IN_ONE_PART: [Row; 11] = [
@@ -9,40 +14,22 @@ const IN_ONE_PART: [Row; 11] = [
         r#"{"do":"walk","node":"host","eid":17,"tag":2,"count":32}"#,
         "walker 1",
     ),
-    (r#"{"do":"ask","walker":1}"#, "asked 1 flight 1"),
+    (ASK_1, "asked 1 flight 1"),
+    (MOVE_1, "moved 1 to riser hops 1"),
+    (MOVE_1, "moved 1 to nic hops 2"),
     (
-        r#"{"do":"move","flight":1,"keep":false}"#,
-        "moved 1 to riser hops 1",
-    ),
-    (
-        r#"{"do":"move","flight":1,"keep":false}"#,
-        "moved 1 to nic hops 2",
-    ),
-    (
-        r#"{"do":"move","flight":1,"keep":false}"#,
+        MOVE_1,
         "whole 1 at nic source 8 tag 2 owner 1 bytes 0180025100000000000000000120000000",
     ),
+    (ANSWER_NIC, "answered nic flights 2 to 2"),
+    (MOVE_2, "moved 2 to riser hops 1"),
+    (MOVE_2, "moved 2 to host hops 2"),
     (
-        r#"{"do":"answer","node":"nic"}"#,
-        "answered nic flights 2 to 2",
-    ),
-    (
-        r#"{"do":"move","flight":2,"keep":false}"#,
-        "moved 2 to riser hops 1",
-    ),
-    (
-        r#"{"do":"move","flight":2,"keep":false}"#,
-        "moved 2 to host hops 2",
-    ),
-    (
-        r#"{"do":"move","flight":2,"keep":false}"#,
+        MOVE_2,
         "whole 2 at host source 17 tag 2 owner 0 bytes 0100025100000000000000000005130001000000010100000900010001010000010111 walker 1 done",
     ),
-    (
-        r#"{"do":"collected","walker":1}"#,
-        "collected 1 records 1 done",
-    ),
-    (r#"{"do":"ask","walker":1}"#, "refused N13"),
+    (COLLECTED_1, "collected 1 records 1 done"),
+    (ASK_1, "refused N13"),
 ];
 
 /// In two parts. A copy of the first request stays at host, and the next one waits until it is lost.
@@ -51,74 +38,41 @@ const AFTER_A_LOST_FLIGHT: [Row; 21] = [
         r#"{"do":"walk","node":"host","eid":17,"tag":2,"count":16}"#,
         "walker 1",
     ),
-    (r#"{"do":"ask","walker":1}"#, "asked 1 flight 1"),
+    (ASK_1, "asked 1 flight 1"),
     (
         r#"{"do":"move","flight":1,"keep":true}"#,
         "moved 2 to riser hops 1",
     ),
+    (MOVE_2, "moved 2 to nic hops 2"),
     (
-        r#"{"do":"move","flight":2,"keep":false}"#,
-        "moved 2 to nic hops 2",
-    ),
-    (
-        r#"{"do":"move","flight":2,"keep":false}"#,
+        MOVE_2,
         "whole 2 at nic source 8 tag 2 owner 1 bytes 0180025100000000000000000110000000",
     ),
+    (ANSWER_NIC, "answered nic flights 3 to 3"),
+    (MOVE_3, "moved 3 to riser hops 1"),
+    (MOVE_3, "moved 3 to host hops 2"),
     (
-        r#"{"do":"answer","node":"nic"}"#,
-        "answered nic flights 3 to 3",
-    ),
-    (
-        r#"{"do":"move","flight":3,"keep":false}"#,
-        "moved 3 to riser hops 1",
-    ),
-    (
-        r#"{"do":"move","flight":3,"keep":false}"#,
-        "moved 3 to host hops 2",
-    ),
-    (
-        r#"{"do":"move","flight":3,"keep":false}"#,
+        MOVE_3,
         "whole 3 at host source 17 tag 2 owner 0 bytes 0100025100000000001000000000100001000000010100000900010001010000 walker 1 more",
     ),
-    (r#"{"do":"ask","walker":1}"#, "refused N12"),
+    (ASK_1, "refused N12"),
     (r#"{"do":"lose","flight":1}"#, "lost 1"),
-    (r#"{"do":"ask","walker":1}"#, "asked 1 flight 4"),
+    (ASK_1, "asked 1 flight 4"),
+    (COLLECTED_1, "collected 1 records 0 open"),
+    (MOVE_4, "moved 4 to riser hops 1"),
+    (MOVE_4, "moved 4 to nic hops 2"),
     (
-        r#"{"do":"collected","walker":1}"#,
-        "collected 1 records 0 open",
-    ),
-    (
-        r#"{"do":"move","flight":4,"keep":false}"#,
-        "moved 4 to riser hops 1",
-    ),
-    (
-        r#"{"do":"move","flight":4,"keep":false}"#,
-        "moved 4 to nic hops 2",
-    ),
-    (
-        r#"{"do":"move","flight":4,"keep":false}"#,
+        MOVE_4,
         "whole 4 at nic source 8 tag 2 owner 1 bytes 0181025100000000100000000010000000",
     ),
+    (ANSWER_NIC, "answered nic flights 5 to 5"),
+    (MOVE_5, "moved 5 to riser hops 1"),
+    (MOVE_5, "moved 5 to host hops 2"),
     (
-        r#"{"do":"answer","node":"nic"}"#,
-        "answered nic flights 5 to 5",
-    ),
-    (
-        r#"{"do":"move","flight":5,"keep":false}"#,
-        "moved 5 to riser hops 1",
-    ),
-    (
-        r#"{"do":"move","flight":5,"keep":false}"#,
-        "moved 5 to host hops 2",
-    ),
-    (
-        r#"{"do":"move","flight":5,"keep":false}"#,
+        MOVE_5,
         "whole 5 at host source 17 tag 2 owner 0 bytes 01010251000000000000000000040300010111e7 walker 1 done",
     ),
-    (
-        r#"{"do":"collected","walker":1}"#,
-        "collected 1 records 1 done",
-    ),
+    (COLLECTED_1, "collected 1 records 1 done"),
 ];
 
 /// The request is asked twice and answered twice. The second answer is taken, the first one comes late.
@@ -127,74 +81,38 @@ const A_LATE_ANSWER: [Row; 22] = [
         r#"{"do":"walk","node":"host","eid":17,"tag":2,"count":16}"#,
         "walker 1",
     ),
-    (r#"{"do":"ask","walker":1}"#, "asked 1 flight 1"),
+    (ASK_1, "asked 1 flight 1"),
+    (MOVE_1, "moved 1 to riser hops 1"),
+    (MOVE_1, "moved 1 to nic hops 2"),
     (
-        r#"{"do":"move","flight":1,"keep":false}"#,
-        "moved 1 to riser hops 1",
-    ),
-    (
-        r#"{"do":"move","flight":1,"keep":false}"#,
-        "moved 1 to nic hops 2",
-    ),
-    (
-        r#"{"do":"move","flight":1,"keep":false}"#,
+        MOVE_1,
         "whole 1 at nic source 8 tag 2 owner 1 bytes 0180025100000000000000000110000000",
     ),
-    (r#"{"do":"ask","walker":1}"#, "asked 1 flight 2"),
+    (ASK_1, "asked 1 flight 2"),
+    (MOVE_2, "moved 2 to riser hops 1"),
+    (MOVE_2, "moved 2 to nic hops 2"),
     (
-        r#"{"do":"move","flight":2,"keep":false}"#,
-        "moved 2 to riser hops 1",
-    ),
-    (
-        r#"{"do":"move","flight":2,"keep":false}"#,
-        "moved 2 to nic hops 2",
-    ),
-    (
-        r#"{"do":"move","flight":2,"keep":false}"#,
+        MOVE_2,
         "whole 2 at nic source 8 tag 2 owner 1 bytes 0180025100000000000000000110000000",
     ),
+    (ANSWER_NIC, "answered nic flights 3 to 3"),
+    (ANSWER_NIC, "answered nic flights 4 to 4"),
+    (MOVE_4, "moved 4 to riser hops 1"),
+    (MOVE_4, "moved 4 to host hops 2"),
     (
-        r#"{"do":"answer","node":"nic"}"#,
-        "answered nic flights 3 to 3",
-    ),
-    (
-        r#"{"do":"answer","node":"nic"}"#,
-        "answered nic flights 4 to 4",
-    ),
-    (
-        r#"{"do":"move","flight":4,"keep":false}"#,
-        "moved 4 to riser hops 1",
-    ),
-    (
-        r#"{"do":"move","flight":4,"keep":false}"#,
-        "moved 4 to host hops 2",
-    ),
-    (
-        r#"{"do":"move","flight":4,"keep":false}"#,
+        MOVE_4,
         "whole 4 at host source 17 tag 2 owner 0 bytes 0100025100000000001000000000100001000000010100000900010001010000 walker 1 more",
     ),
+    (COLLECTED_1, "collected 1 records 0 open"),
+    (ASK_1, "refused N12"),
+    (MOVE_3, "moved 3 to riser hops 1"),
+    (MOVE_3, "moved 3 to host hops 2"),
     (
-        r#"{"do":"collected","walker":1}"#,
-        "collected 1 records 0 open",
-    ),
-    (r#"{"do":"ask","walker":1}"#, "refused N12"),
-    (
-        r#"{"do":"move","flight":3,"keep":false}"#,
-        "moved 3 to riser hops 1",
-    ),
-    (
-        r#"{"do":"move","flight":3,"keep":false}"#,
-        "moved 3 to host hops 2",
-    ),
-    (
-        r#"{"do":"move","flight":3,"keep":false}"#,
+        MOVE_3,
         "whole 3 at host source 17 tag 2 owner 0 bytes 0100025100000000001000000000100001000000010100000900010001010000 walker 1 G03",
     ),
-    (
-        r#"{"do":"collected","walker":1}"#,
-        "collected 1 records 0 open",
-    ),
-    (r#"{"do":"ask","walker":1}"#, "asked 1 flight 5"),
+    (COLLECTED_1, "collected 1 records 0 open"),
+    (ASK_1, "asked 1 flight 5"),
     (r#"{"do":"collected","walker":9}"#, "refused N11"),
 ];
 
@@ -204,56 +122,32 @@ const A_REQUEST_THAT_WAITS: [Row; 18] = [
         r#"{"do":"walk","node":"host","eid":17,"tag":2,"count":16}"#,
         "walker 1",
     ),
-    (r#"{"do":"ask","walker":1}"#, "asked 1 flight 1"),
+    (ASK_1, "asked 1 flight 1"),
+    (MOVE_1, "moved 1 to riser hops 1"),
+    (MOVE_1, "moved 1 to nic hops 2"),
     (
-        r#"{"do":"move","flight":1,"keep":false}"#,
-        "moved 1 to riser hops 1",
-    ),
-    (
-        r#"{"do":"move","flight":1,"keep":false}"#,
-        "moved 1 to nic hops 2",
-    ),
-    (
-        r#"{"do":"move","flight":1,"keep":false}"#,
+        MOVE_1,
         "whole 1 at nic source 8 tag 2 owner 1 bytes 0180025100000000000000000110000000",
     ),
-    (r#"{"do":"ask","walker":1}"#, "asked 1 flight 2"),
+    (ASK_1, "asked 1 flight 2"),
+    (MOVE_2, "moved 2 to riser hops 1"),
+    (MOVE_2, "moved 2 to nic hops 2"),
     (
-        r#"{"do":"move","flight":2,"keep":false}"#,
-        "moved 2 to riser hops 1",
-    ),
-    (
-        r#"{"do":"move","flight":2,"keep":false}"#,
-        "moved 2 to nic hops 2",
-    ),
-    (
-        r#"{"do":"move","flight":2,"keep":false}"#,
+        MOVE_2,
         "whole 2 at nic source 8 tag 2 owner 1 bytes 0180025100000000000000000110000000",
     ),
+    (ANSWER_NIC, "answered nic flights 3 to 3"),
+    (MOVE_3, "moved 3 to riser hops 1"),
+    (MOVE_3, "moved 3 to host hops 2"),
     (
-        r#"{"do":"answer","node":"nic"}"#,
-        "answered nic flights 3 to 3",
-    ),
-    (
-        r#"{"do":"move","flight":3,"keep":false}"#,
-        "moved 3 to riser hops 1",
-    ),
-    (
-        r#"{"do":"move","flight":3,"keep":false}"#,
-        "moved 3 to host hops 2",
-    ),
-    (
-        r#"{"do":"move","flight":3,"keep":false}"#,
+        MOVE_3,
         "whole 3 at host source 17 tag 2 owner 0 bytes 0100025100000000001000000000100001000000010100000900010001010000 walker 1 more",
     ),
-    (r#"{"do":"ask","walker":1}"#, "refused N12"),
-    (
-        r#"{"do":"answer","node":"nic"}"#,
-        "answered nic flights 4 to 4",
-    ),
-    (r#"{"do":"ask","walker":1}"#, "refused N12"),
+    (ASK_1, "refused N12"),
+    (ANSWER_NIC, "answered nic flights 4 to 4"),
+    (ASK_1, "refused N12"),
     (r#"{"do":"lose","flight":4}"#, "lost 4"),
-    (r#"{"do":"ask","walker":1}"#, "asked 1 flight 5"),
+    (ASK_1, "asked 1 flight 5"),
 ];
 
 /// Somebody else puts an answer in under the walker's second key: it ends the walk, and more is told so.
@@ -262,60 +156,33 @@ const LIES_UNDER_THE_KEY: [Row; 16] = [
         r#"{"do":"walk","node":"host","eid":17,"tag":2,"count":32}"#,
         "walker 1",
     ),
-    (r#"{"do":"ask","walker":1}"#, "asked 1 flight 1"),
+    (ASK_1, "asked 1 flight 1"),
     (
         r#"{"do":"put","node":"nic","bytes":"010811c20100025101"}"#,
         "put 2 at nic",
     ),
+    (MOVE_2, "moved 2 to riser hops 1"),
+    (MOVE_2, "moved 2 to host hops 2"),
     (
-        r#"{"do":"move","flight":2,"keep":false}"#,
-        "moved 2 to riser hops 1",
-    ),
-    (
-        r#"{"do":"move","flight":2,"keep":false}"#,
-        "moved 2 to host hops 2",
-    ),
-    (
-        r#"{"do":"move","flight":2,"keep":false}"#,
+        MOVE_2,
         "whole 2 at host source 17 tag 2 owner 0 bytes 0100025101 walker 1 G01",
     ),
+    (COLLECTED_1, "collected 1 records 0 G01"),
+    (ASK_1, "refused N13"),
+    (MOVE_1, "moved 1 to riser hops 1"),
+    (MOVE_1, "moved 1 to nic hops 2"),
     (
-        r#"{"do":"collected","walker":1}"#,
-        "collected 1 records 0 G01",
-    ),
-    (r#"{"do":"ask","walker":1}"#, "refused N13"),
-    (
-        r#"{"do":"move","flight":1,"keep":false}"#,
-        "moved 1 to riser hops 1",
-    ),
-    (
-        r#"{"do":"move","flight":1,"keep":false}"#,
-        "moved 1 to nic hops 2",
-    ),
-    (
-        r#"{"do":"move","flight":1,"keep":false}"#,
+        MOVE_1,
         "whole 1 at nic source 8 tag 2 owner 1 bytes 0180025100000000000000000120000000",
     ),
+    (ANSWER_NIC, "answered nic flights 3 to 3"),
+    (MOVE_3, "moved 3 to riser hops 1"),
+    (MOVE_3, "moved 3 to host hops 2"),
     (
-        r#"{"do":"answer","node":"nic"}"#,
-        "answered nic flights 3 to 3",
-    ),
-    (
-        r#"{"do":"move","flight":3,"keep":false}"#,
-        "moved 3 to riser hops 1",
-    ),
-    (
-        r#"{"do":"move","flight":3,"keep":false}"#,
-        "moved 3 to host hops 2",
-    ),
-    (
-        r#"{"do":"move","flight":3,"keep":false}"#,
+        MOVE_3,
         "whole 3 at host source 17 tag 2 owner 0 bytes 0100025100000000000000000005130001000000010100000900010001010000010111 walker 1 G11",
     ),
-    (
-        r#"{"do":"collected","walker":1}"#,
-        "collected 1 records 0 G01",
-    ),
+    (COLLECTED_1, "collected 1 records 0 G01"),
 ];
 
 /// A message under the second key before anything was asked, and one under another tag.
@@ -328,55 +195,34 @@ const BEFORE_ANYTHING_IS_ASKED: [Row; 15] = [
         r#"{"do":"put","node":"nic","bytes":"010811c20100025100000000000000000005130001000000010100000900010001010000010111"}"#,
         "put 1 at nic",
     ),
+    (MOVE_1, "moved 1 to riser hops 1"),
+    (MOVE_1, "moved 1 to host hops 2"),
     (
-        r#"{"do":"move","flight":1,"keep":false}"#,
-        "moved 1 to riser hops 1",
-    ),
-    (
-        r#"{"do":"move","flight":1,"keep":false}"#,
-        "moved 1 to host hops 2",
-    ),
-    (
-        r#"{"do":"move","flight":1,"keep":false}"#,
+        MOVE_1,
         "whole 1 at host source 17 tag 2 owner 0 bytes 0100025100000000000000000005130001000000010100000900010001010000010111 walker 1 G03",
     ),
     (
         r#"{"do":"put","node":"nic","bytes":"010811c30100025101"}"#,
         "put 2 at nic",
     ),
+    (MOVE_2, "moved 2 to riser hops 1"),
+    (MOVE_2, "moved 2 to host hops 2"),
     (
-        r#"{"do":"move","flight":2,"keep":false}"#,
-        "moved 2 to riser hops 1",
-    ),
-    (
-        r#"{"do":"move","flight":2,"keep":false}"#,
-        "moved 2 to host hops 2",
-    ),
-    (
-        r#"{"do":"move","flight":2,"keep":false}"#,
+        MOVE_2,
         "whole 2 at host source 17 tag 3 owner 0 bytes 0100025101",
     ),
     (
         r#"{"do":"put","node":"nic","bytes":"010811ca0180000205"}"#,
         "put 3 at nic",
     ),
+    (MOVE_3, "moved 3 to riser hops 1"),
+    (MOVE_3, "moved 3 to host hops 2"),
     (
-        r#"{"do":"move","flight":3,"keep":false}"#,
-        "moved 3 to riser hops 1",
-    ),
-    (
-        r#"{"do":"move","flight":3,"keep":false}"#,
-        "moved 3 to host hops 2",
-    ),
-    (
-        r#"{"do":"move","flight":3,"keep":false}"#,
+        MOVE_3,
         "whole 3 at host source 17 tag 2 owner 1 bytes 0180000205",
     ),
-    (
-        r#"{"do":"collected","walker":1}"#,
-        "collected 1 records 0 open",
-    ),
-    (r#"{"do":"ask","walker":1}"#, "asked 1 flight 4"),
+    (COLLECTED_1, "collected 1 records 0 open"),
+    (ASK_1, "asked 1 flight 4"),
 ];
 
 /// Two walkers at once over one terminus, under two tags.
@@ -390,105 +236,54 @@ const TWO_AT_ONCE: [Row; 31] = [
         "walker 2",
     ),
     (r#"{"do":"ask","walker":2}"#, "asked 2 flight 1"),
-    (r#"{"do":"ask","walker":1}"#, "asked 1 flight 2"),
+    (ASK_1, "asked 1 flight 2"),
+    (MOVE_1, "moved 1 to riser hops 1"),
+    (MOVE_2, "moved 2 to riser hops 1"),
+    (MOVE_2, "moved 2 to nic hops 2"),
+    (MOVE_1, "moved 1 to nic hops 2"),
     (
-        r#"{"do":"move","flight":1,"keep":false}"#,
-        "moved 1 to riser hops 1",
-    ),
-    (
-        r#"{"do":"move","flight":2,"keep":false}"#,
-        "moved 2 to riser hops 1",
-    ),
-    (
-        r#"{"do":"move","flight":2,"keep":false}"#,
-        "moved 2 to nic hops 2",
-    ),
-    (
-        r#"{"do":"move","flight":1,"keep":false}"#,
-        "moved 1 to nic hops 2",
-    ),
-    (
-        r#"{"do":"move","flight":1,"keep":false}"#,
+        MOVE_1,
         "whole 1 at nic source 8 tag 3 owner 1 bytes 0180025100000000000000000120000000",
     ),
     (
-        r#"{"do":"move","flight":2,"keep":false}"#,
+        MOVE_2,
         "whole 2 at nic source 8 tag 2 owner 1 bytes 0180025100000000000000000110000000",
     ),
+    (ANSWER_NIC, "answered nic flights 3 to 3"),
+    (ANSWER_NIC, "answered nic flights 4 to 4"),
+    (MOVE_4, "moved 4 to riser hops 1"),
+    (MOVE_4, "moved 4 to host hops 2"),
     (
-        r#"{"do":"answer","node":"nic"}"#,
-        "answered nic flights 3 to 3",
-    ),
-    (
-        r#"{"do":"answer","node":"nic"}"#,
-        "answered nic flights 4 to 4",
-    ),
-    (
-        r#"{"do":"move","flight":4,"keep":false}"#,
-        "moved 4 to riser hops 1",
-    ),
-    (
-        r#"{"do":"move","flight":4,"keep":false}"#,
-        "moved 4 to host hops 2",
-    ),
-    (
-        r#"{"do":"move","flight":4,"keep":false}"#,
+        MOVE_4,
         "whole 4 at host source 17 tag 2 owner 0 bytes 0100025100000000001000000000100001000000010100000900010001010000 walker 1 more",
     ),
+    (MOVE_3, "moved 3 to riser hops 1"),
+    (MOVE_3, "moved 3 to host hops 2"),
     (
-        r#"{"do":"move","flight":3,"keep":false}"#,
-        "moved 3 to riser hops 1",
-    ),
-    (
-        r#"{"do":"move","flight":3,"keep":false}"#,
-        "moved 3 to host hops 2",
-    ),
-    (
-        r#"{"do":"move","flight":3,"keep":false}"#,
+        MOVE_3,
         "whole 3 at host source 17 tag 3 owner 0 bytes 0100025100000000000000000005130001000000010100000900010001010000010111 walker 2 done",
     ),
-    (
-        r#"{"do":"collected","walker":1}"#,
-        "collected 1 records 0 open",
-    ),
+    (COLLECTED_1, "collected 1 records 0 open"),
     (
         r#"{"do":"collected","walker":2}"#,
         "collected 2 records 1 done",
     ),
-    (r#"{"do":"ask","walker":1}"#, "asked 1 flight 5"),
+    (ASK_1, "asked 1 flight 5"),
     (r#"{"do":"ask","walker":2}"#, "refused N13"),
+    (MOVE_5, "moved 5 to riser hops 1"),
+    (MOVE_5, "moved 5 to nic hops 2"),
     (
-        r#"{"do":"move","flight":5,"keep":false}"#,
-        "moved 5 to riser hops 1",
-    ),
-    (
-        r#"{"do":"move","flight":5,"keep":false}"#,
-        "moved 5 to nic hops 2",
-    ),
-    (
-        r#"{"do":"move","flight":5,"keep":false}"#,
+        MOVE_5,
         "whole 5 at nic source 8 tag 2 owner 1 bytes 0181025100000000100000000010000000",
     ),
+    (ANSWER_NIC, "answered nic flights 6 to 6"),
+    (MOVE_6, "moved 6 to riser hops 1"),
+    (MOVE_6, "moved 6 to host hops 2"),
     (
-        r#"{"do":"answer","node":"nic"}"#,
-        "answered nic flights 6 to 6",
-    ),
-    (
-        r#"{"do":"move","flight":6,"keep":false}"#,
-        "moved 6 to riser hops 1",
-    ),
-    (
-        r#"{"do":"move","flight":6,"keep":false}"#,
-        "moved 6 to host hops 2",
-    ),
-    (
-        r#"{"do":"move","flight":6,"keep":false}"#,
+        MOVE_6,
         "whole 6 at host source 17 tag 2 owner 0 bytes 01010251000000000000000000040300010111e7 walker 1 done",
     ),
-    (
-        r#"{"do":"collected","walker":1}"#,
-        "collected 1 records 1 done",
-    ),
+    (COLLECTED_1, "collected 1 records 1 done"),
     (
         r#"{"do":"collected","walker":2}"#,
         "collected 2 records 1 done",
@@ -501,23 +296,17 @@ const AT_THE_TERMINUS: [Row; 6] = [
         r#"{"do":"walk","node":"nic","eid":17,"tag":0,"count":303}"#,
         "walker 1",
     ),
-    (r#"{"do":"ask","walker":1}"#, "asked 1 flight 1"),
+    (ASK_1, "asked 1 flight 1"),
     (
-        r#"{"do":"move","flight":1,"keep":false}"#,
+        MOVE_1,
         "whole 1 at nic source 17 tag 0 owner 1 bytes 018002510000000000000000012f010000",
     ),
+    (ANSWER_NIC, "answered nic flights 2 to 2"),
     (
-        r#"{"do":"answer","node":"nic"}"#,
-        "answered nic flights 2 to 2",
-    ),
-    (
-        r#"{"do":"move","flight":2,"keep":false}"#,
+        MOVE_2,
         "whole 2 at nic source 17 tag 0 owner 0 bytes 0100025100000000000000000005130001000000010100000900010001010000010111 walker 1 done",
     ),
-    (
-        r#"{"do":"collected","walker":1}"#,
-        "collected 1 records 1 done",
-    ),
+    (COLLECTED_1, "collected 1 records 1 done"),
 ];
 
 /// Why events of walks are refused: bounds of the count, doubled walkers, no terminus, no walker.
@@ -570,12 +359,9 @@ const REFUSED: [Row; 18] = [
         r#"{"do":"collected","walker":4}"#,
         "collected 4 records 0 open",
     ),
-    (r#"{"do":"ask","walker":1}"#, "asked 1 flight 1"),
-    (r#"{"do":"ask","walker":1}"#, "asked 1 flight 2"),
-    (
-        r#"{"do":"collected","walker":1}"#,
-        "collected 1 records 0 open",
-    ),
+    (ASK_1, "asked 1 flight 1"),
+    (ASK_1, "asked 1 flight 2"),
+    (COLLECTED_1, "collected 1 records 0 open"),
 ];
 
 pub const LISTS: [&[Row]; 9] = [
@@ -593,7 +379,7 @@ pub const LISTS: [&[Row]; 9] = [
 #[test]
 fn walks_step_by_step(rt: HostRuntime) -> Result<(), Fail> {
     for rows in LISTS {
-        play_on(&rt, Scenario::Steps(rows))?;
+        play_as_planned(&rt, Scenario::Rows(rows, Way::Steps))?;
     }
     Ok(())
 }
@@ -601,7 +387,7 @@ fn walks_step_by_step(rt: HostRuntime) -> Result<(), Fail> {
 #[test]
 fn walks_in_whole_lists(rt: HostRuntime) -> Result<(), Fail> {
     for rows in LISTS {
-        play_on(&rt, Scenario::Run(rows))?;
+        play_as_planned(&rt, Scenario::Rows(rows, Way::Run))?;
     }
     Ok(())
 }

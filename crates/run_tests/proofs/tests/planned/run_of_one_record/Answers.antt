@@ -1,8 +1,8 @@
 use Rattle.std.proofs.Common.{rules}
 use Rattle.pdr_repository.specs.Records.{entries}
-use Rattle.plan_tests.specs.Planned.{IsAlone}
-use Rattle.plan_tests.proofs.Alone.{planned_here, lawful_here}
-use Rattle.plan_tests.proofs.tests.planned.run_of_one_record.Goals as goal
+use Rattle.run_tests.specs.Planned.{IsAlone}
+use Rattle.run_tests.proofs.Alone.{planned_here, lawful_here}
+use Rattle.run_tests.proofs.tests.planned.run_of_one_record.Goals as goal
 
 pub run_alone-requires-clause-lawful : goal.run_alone-requires-clause-lawful
 run_alone-requires-clause-lawful c =

@@ -1,7 +1,7 @@
 use Rattle.std.proofs.Common.{map, ap}
 use Rattle.net_sim.specs.Outcomes.{event_value}
-use Rattle.plan_tests.proofs.Alone.{started}
-use Rattle.plan_tests.proofs.tests.planned.run_planned.Goals as goal
+use Rattle.run_tests.proofs.Alone.{started}
+use Rattle.run_tests.proofs.tests.planned.run_planned.Goals as goal
 
 pub returns : goal.returns
 returns g c =

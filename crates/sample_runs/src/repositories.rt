@@ -1,0 +1,85 @@
+//! Termini with the records that a plan lists for a node, and with others.
+use net_plan::Plan;
+use pdr_repository::{BlockTerminus, ListTerminus, is_lawful_list};
+use pldm_message::Tid;
+use std::alloc::{AllocError, Global};
+use std::test::Fail;
+
+/// The terminus ID and the records of a node's terminus, as the plan lists them.
+fn repository_at(
+    alloc: Global,
+    plan: &Plan,
+    place: usize,
+) -> Result<(Tid, Vec<(u32, Vec<u8>)>), Fail> {
+    let node = plan.nodes.get(place).ok_or("no such node")?;
+    let terminus = node.terminus.as_ref().ok_or("no terminus")?;
+    let mut records = Vec::new(alloc);
+    for record in &terminus.records {
+        records.push((record.handle, record.bytes.as_slice().to_vec(alloc)?))?;
+    }
+    Ok((Tid::new(terminus.tid), records))
+}
+
+/// A record of another type than those that are known, with so many bytes of data.
+fn record_of(alloc: Global, handle: u32, data: u16) -> Result<Vec<u8>, AllocError> {
+    let mut bytes = handle.to_le_bytes().to_vec(alloc)?;
+    bytes.extend_from_slice(&[1, 200, 0, 0])?;
+    bytes.extend_from_slice(&data.to_le_bytes())?;
+    for at in 0..data {
+        bytes.push((at % 251) as u8)?;
+    }
+    Ok(bytes)
+}
+
+/// Records with handles from 1 on, and how much data each one has.
+pub fn records_of(alloc: Global, sizes: &[u16]) -> Result<Vec<(u32, Vec<u8>)>, AllocError> {
+    let mut records = Vec::new(alloc);
+    let mut handle: u32 = 0;
+    for data in sizes {
+        handle = handle.saturating_add(1);
+        records.push((handle, record_of(alloc, handle, *data)?))?;
+    }
+    Ok(records)
+}
+
+/// How much data each of 20 records has.
+pub const TWENTY: [u16; 20] = [
+    0, 1, 2, 3, 4, 5, 6, 7, 8, 9, 10, 11, 12, 13, 14, 15, 16, 17, 18, 19,
+];
+
+/// A terminus over a list of such records.
+pub fn list_with(alloc: Global, sizes: &[u16]) -> Result<ListTerminus, Fail> {
+    list_of(alloc, Tid::new(1), records_of(alloc, sizes)?)
+}
+
+/// A terminus over a list of records.
+fn list_of(alloc: Global, tid: Tid, records: Vec<(u32, Vec<u8>)>) -> Result<ListTerminus, Fail> {
+    if !is_lawful_list(&records) {
+        return Err(Fail::new("no lawful list"));
+    }
+    Ok(ListTerminus::new(alloc, tid, records)?)
+}
+
+/// A terminus over a block of records.
+pub fn block_of(
+    alloc: Global,
+    tid: Tid,
+    records: Vec<(u32, Vec<u8>)>,
+) -> Result<BlockTerminus, Fail> {
+    if !is_lawful_list(&records) {
+        return Err(Fail::new("no lawful list"));
+    }
+    Ok(BlockTerminus::new(alloc, tid, records)?)
+}
+
+/// The terminus of a node, over a list.
+pub fn list_at(alloc: Global, plan: &Plan, place: usize) -> Result<ListTerminus, Fail> {
+    let (tid, records) = repository_at(alloc, plan, place)?;
+    list_of(alloc, tid, records)
+}
+
+/// The terminus of a node, over a block.
+pub fn block_at(alloc: Global, plan: &Plan, place: usize) -> Result<BlockTerminus, Fail> {
+    let (tid, records) = repository_at(alloc, plan, place)?;
+    block_of(alloc, tid, records)
+}

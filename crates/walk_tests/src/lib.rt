@@ -1,0 +1,5 @@
+//! Tests of walks through networks.
+#![tactic(auto)]
+
+#[cfg(test)]
+mod tests;

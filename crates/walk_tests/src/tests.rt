@@ -1,0 +1,6 @@
+//! Tests over the walkers of `net_sim`.
+mod losing;
+mod playing;
+mod refused_walks;
+mod walkers;
+mod walks;
