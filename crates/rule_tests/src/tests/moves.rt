@@ -158,12 +158,19 @@ const MOVES: [Move; 7] = [
     ),
 ];
 
+/// What the first row shows of which something else is found.
+fn first_wrong(alloc: Global) -> Result<Option<&'static str>, Fail> {
+    for (what, before, after, ranks, wanted) in MOVES {
+        if found(alloc, before, after, ranks)? != wanted.map(error_of) {
+            return Ok(Some(what));
+        }
+    }
+    Ok(None)
+}
+
 #[test]
 fn moves_between_two_ways_are_checked(rt: HostRuntime) -> Result<(), Fail> {
-    for (what, before, after, ranks, wanted) in MOVES {
-        let found = found(rt.alloc(), before, after, ranks)?;
-        assert_eq!(rt; found, wanted.map(error_of), "{what}");
-    }
+    assert_eq!(rt; first_wrong(rt.alloc())?, None);
     Ok(())
 }
 

@@ -3,7 +3,7 @@
 use super::networks::{FaultAt, found, is_at};
 use mctp_transport::Eid;
 use net_check::{CertifyError, MoveError, MoveFault, MoveRule, Rule, certify, check_move};
-use net_plan::{Plan, certificate_of_text, plan_of_text};
+use net_plan::{Certificate, Plan, certificate_of_text, plan_of_text};
 use sample_texts::certificates::is_the_riser_certificate;
 use sample_texts::marks::{Mark, lacked, set_mark};
 use sample_texts::riser::{CERTIFICATE, PLAN};
@@ -12,14 +12,15 @@ use sample_texts::{Changes, edited};
 use std::alloc::Global;
 use std::test::Fail;
 
-/// Whether the check finds this fault, or none.
+/// Whether the check finds this fault, or none, with these changes of the certificate.
 fn is_found(
     alloc: Global,
     plan: &Plan,
-    text: &str,
+    changes: Changes,
     wanted: &Option<FaultAt>,
 ) -> Result<bool, Fail> {
-    let certificate = certificate_of_text(alloc, plan, text.as_bytes())?;
+    let text = edited(alloc, CERTIFICATE, changes)?;
+    let certificate = certificate_of_text(alloc, plan, text.as_str().as_bytes())?;
     set_mark(alloc, Mark::Begins);
     let found = found(alloc, plan, &certificate);
     set_mark(alloc, Mark::Ends);
@@ -29,59 +30,62 @@ fn is_found(
     }
 }
 
+/// The rank of nic for host's endpoint ID is no higher than riser's.
+const TOO_LOW_A_RANK: (&str, &str) = (r#"[{"first":8,"rank":2"#, r#"[{"first":8,"rank":1"#);
+
 #[test]
 fn refused_check(rt: HostRuntime) -> Result<(), Fail> {
     let alloc = rt.alloc();
     let plan = plan_of_text(alloc, PLAN.as_bytes())?;
-    assert!(rt; is_found(alloc, &plan, CERTIFICATE, &None)?);
-    // nic's rank for host's endpoint ID is no higher than riser's
-    let text = edited(
-        alloc,
-        CERTIFICATE,
-        &[(r#"[{"first":8,"rank":2"#, r#"[{"first":8,"rank":1"#)],
-    )?;
-    assert!(rt; is_found(alloc, &plan, &text, &Some((Rule::C10, 2, Some(0), Some(8))))?);
+    assert!(rt; is_found(alloc, &plan, &[], &None)?);
+    let found = Some((Rule::C10, 2, Some(0), Some(8)));
+    assert!(rt; is_found(alloc, &plan, &[TOO_LOW_A_RANK], &found)?);
     Ok(())
 }
 
-/// The certificate of the riser network, which `certify` makes as well.
-#[test]
-fn refused_certify(rt: HostRuntime) -> Result<(), Fail> {
-    let alloc = rt.alloc();
-    let plan = plan_of_text(alloc, PLAN.as_bytes())?;
+/// What `certify` answers, between marks.
+fn certified(alloc: Global, plan: &Plan) -> Result<Certificate, CertifyError> {
     set_mark(alloc, Mark::Begins);
-    let made = certify(alloc, &plan);
+    let made = certify(alloc, plan);
     set_mark(alloc, Mark::Ends);
-    let is_right = match made {
+    made
+}
+
+/// Whether the certificate of the riser network is made, which its text gives as well.
+fn is_certified(alloc: Global, plan: &Plan) -> bool {
+    match certified(alloc, plan) {
         Ok(certificate) => is_the_riser_certificate(&certificate),
         Err(error) => matches!(error, CertifyError::OutOfMemory) && lacked(alloc),
-    };
-    assert!(rt; is_right);
-    Ok(())
-}
-
-/// Whether what `certify` finds is that host and riser own one another.
-fn is_owner_loop(alloc: Global, error: &CertifyError) -> bool {
-    match error {
-        CertifyError::OwnerLoop(nodes) => nodes.as_slice() == [0, 1, 0].as_slice(),
-        CertifyError::OutOfMemory => lacked(alloc),
-        _ => false,
     }
 }
 
 #[test]
+fn refused_certify(rt: HostRuntime) -> Result<(), Fail> {
+    let plan = plan_of_text(rt.alloc(), PLAN.as_bytes())?;
+    assert!(rt; is_certified(rt.alloc(), &plan));
+    Ok(())
+}
+
+/// Whether `certify` finds that host and riser own one another.
+fn is_owner_loop(alloc: Global, plan: &Plan) -> bool {
+    match certified(alloc, plan) {
+        Err(CertifyError::OwnerLoop(nodes)) => nodes.as_slice() == [0, 1, 0].as_slice(),
+        Err(CertifyError::OutOfMemory) => lacked(alloc),
+        _ => false,
+    }
+}
+
+/// The riser network's plan with this change.
+fn changed(alloc: Global, change: (&str, &str)) -> Result<Plan, Fail> {
+    let text = edited(alloc, PLAN, &[change])?;
+    Ok(plan_of_text(alloc, text.as_str().as_bytes())?)
+}
+
+#[test]
 fn refused_certify_of_a_loop(rt: HostRuntime) -> Result<(), Fail> {
-    let alloc = rt.alloc();
     let owned = (r#""eid":8,"owner":null"#, r#""eid":8,"owner":"riser""#);
-    let plan = plan_of_text(alloc, edited(alloc, PLAN, &[owned])?.as_bytes())?;
-    set_mark(alloc, Mark::Begins);
-    let made = certify(alloc, &plan);
-    set_mark(alloc, Mark::Ends);
-    let is_right = match made {
-        Ok(_) => false,
-        Err(error) => is_owner_loop(alloc, &error),
-    };
-    assert!(rt; is_right);
+    let plan = changed(rt.alloc(), owned)?;
+    assert!(rt; is_owner_loop(rt.alloc(), &plan));
     Ok(())
 }
 

@@ -1,10 +1,12 @@
 //! The assignment of the riser network.
 use mctp_transport::Wire;
 use net_check::check;
-use net_plan::{Plan, certificate_of_text, plan_of_text};
+use net_plan::{Certificate, Plan};
 use net_sim::{Assignment, assign};
+use sample_runs::networks::{certificate_of, plan_of};
 use sample_texts::marks::{Mark, lacked, set_mark};
 use sample_texts::riser::{CERTIFICATE, PLAN};
+use std::alloc::Global;
 use std::test::Fail;
 
 /// A request by the names of its bus and its node, and its bytes.
@@ -46,31 +48,42 @@ fn asks_all(plan: &Plan, list: &[Assignment], wanted: &[Asked]) -> bool {
     list.len() == wanted.len()
 }
 
+/// Whether just these requests assign the riser network.
+fn is_assigned(alloc: Global, plan: &Plan, certificate: &Certificate) -> Result<bool, Fail> {
+    let checked = check(alloc, plan, certificate)?;
+    let list = assign(alloc, &checked)?;
+    Ok(asks_all(plan, &list, &WANTED))
+}
+
 #[test]
 fn assigns_the_riser_network(rt: HostRuntime) -> Result<(), Fail> {
-    let alloc = rt.alloc();
-    let plan = plan_of_text(alloc, PLAN.as_bytes())?;
-    let certificate = certificate_of_text(alloc, &plan, CERTIFICATE.as_bytes())?;
-    let checked = check(alloc, &plan, &certificate)?;
-    let list = assign(alloc, &checked)?;
-    assert!(rt; asks_all(&plan, &list, &WANTED));
+    let plan = plan_of(rt.alloc(), PLAN)?;
+    let certificate = certificate_of(rt.alloc(), &plan, CERTIFICATE)?;
+    assert!(rt; is_assigned(rt.alloc(), &plan, &certificate)?);
     Ok(())
+}
+
+/// The same, or memory ran out between the marks.
+fn is_assigned_or_lacked(
+    alloc: Global,
+    plan: &Plan,
+    certificate: &Certificate,
+) -> Result<bool, Fail> {
+    let checked = check(alloc, plan, certificate)?;
+    set_mark(alloc, Mark::Begins);
+    let list = assign(alloc, &checked);
+    set_mark(alloc, Mark::Ends);
+    match list {
+        Ok(list) => Ok(asks_all(plan, &list, &WANTED)),
+        Err(_) => Ok(lacked(alloc)),
+    }
 }
 
 /// `tools/refuse-growths` refuses its growths one after another.
 #[test]
 fn refused_assign(rt: HostRuntime) -> Result<(), Fail> {
-    let alloc = rt.alloc();
-    let plan = plan_of_text(alloc, PLAN.as_bytes())?;
-    let certificate = certificate_of_text(alloc, &plan, CERTIFICATE.as_bytes())?;
-    let checked = check(alloc, &plan, &certificate)?;
-    set_mark(alloc, Mark::Begins);
-    let list = assign(alloc, &checked);
-    set_mark(alloc, Mark::Ends);
-    let is_right = match list {
-        Ok(list) => asks_all(&plan, &list, &WANTED),
-        Err(_) => lacked(alloc),
-    };
-    assert!(rt; is_right);
+    let plan = plan_of(rt.alloc(), PLAN)?;
+    let certificate = certificate_of(rt.alloc(), &plan, CERTIFICATE)?;
+    assert!(rt; is_assigned_or_lacked(rt.alloc(), &plan, &certificate)?);
     Ok(())
 }

@@ -213,17 +213,13 @@ fn comes_again(places: &[usize], at: usize, place: usize) -> bool {
         .any(|later| *later == place)
 }
 
-/// Sends a message of five packets that come in this order; those that don't come are lost. Tells how often the message
-/// came, and leaves the key quiet.
-fn send(
-    alloc: Global,
+/// Delivers the packets at these places, in this order, and tells how often the message came.
+fn deliver_all(
     network: &mut Network,
     message: &[u8],
-    packets: &[Vec<u8>],
+    numbers: &[u32],
     places: &[usize],
 ) -> Result<u32, Fail> {
-    let numbers = put_in(alloc, network, packets)?;
-    lose_others(network, &numbers, places)?;
     let mut come: u32 = 0;
     for (at, place) in places.iter().enumerate() {
         let again = comes_again(places, at, *place);
@@ -235,6 +231,21 @@ fn send(
             None => return Err(Fail::new("another outcome")),
         }
     }
+    Ok(come)
+}
+
+/// Sends a message of five packets that come in this order; those that don't come are lost. Tells how often the message
+/// came, and leaves the key quiet.
+fn send(
+    alloc: Global,
+    network: &mut Network,
+    message: &[u8],
+    packets: &[Vec<u8>],
+    places: &[usize],
+) -> Result<u32, Fail> {
+    let numbers = put_in(alloc, network, packets)?;
+    lose_others(network, &numbers, places)?;
+    let come = deliver_all(network, message, &numbers, places)?;
     network.step(&Event::Expire {
         node: SSD,
         key: key(),
@@ -249,31 +260,74 @@ struct Sent {
     whole: u32,
 }
 
-/// Sends the packets in the orders of these many numbers, as far as one packet at most comes twice. The message comes
-/// where its packets come in a row.
+impl Sent {
+    /// Both together.
+    fn and(self, other: Sent) -> Sent {
+        Sent {
+            orders: self.orders.saturating_add(other.orders),
+            whole: self.whole.saturating_add(other.whole),
+        }
+    }
+}
+
+/// Sends the packets in this order, if one packet at most comes twice. The message has to come where its packets come in
+/// a row.
+fn send_in_order(
+    alloc: Global,
+    network: &mut Network,
+    message: &[u8],
+    packets: &[Vec<u8>],
+    places: &[usize],
+) -> Result<Sent, Fail> {
+    if !repeats_one_at_most(places) {
+        return Ok(Sent {
+            orders: 0,
+            whole: 0,
+        });
+    }
+    let whole = send(alloc, network, message, packets, places)?;
+    let in_a_row = places.starts_with(&IN_A_ROW) || places.ends_with(&IN_A_ROW);
+    if whole != u32::from(in_a_row) {
+        return Err(Fail::new("it comes in no row, or doesn't in one"));
+    }
+    Ok(Sent { orders: 1, whole })
+}
+
+/// Sends the packets in the orders of these many numbers.
 fn send_in_orders(
-    rt: &(impl Abort + AllocGlobal),
+    alloc: Global,
     network: &mut Network,
     message: &[u8],
     packets: &[Vec<u8>],
     (count, numbers): (usize, usize),
 ) -> Result<Sent, Fail> {
-    let mut sent = Sent {
+    let mut all = Sent {
         orders: 0,
         whole: 0,
     };
     for number in 0..numbers {
-        let places = digits(rt.alloc(), count, number)?;
-        if !repeats_one_at_most(&places) {
-            continue;
-        }
-        let come = send(rt.alloc(), network, message, packets, &places)?;
-        let in_a_row = places.starts_with(&IN_A_ROW) || places.ends_with(&IN_A_ROW);
-        assert_eq!(rt; come, u32::from(in_a_row), "{places:?}");
-        sent.orders = sent.orders.saturating_add(1);
-        sent.whole = sent.whole.saturating_add(come);
+        let places = digits(alloc, count, number)?;
+        let sent = send_in_order(alloc, network, message, packets, &places)?;
+        all = all.and(sent);
     }
-    Ok(sent)
+    Ok(all)
+}
+
+/// Sends the packets of a message in all orders.
+fn send_in_all_orders(
+    alloc: Global,
+    network: &mut Network,
+    message: &[u8],
+    packets: &[Vec<u8>],
+) -> Result<Sent, Fail> {
+    let mut all = Sent {
+        orders: 0,
+        whole: 0,
+    };
+    for order in ORDERS {
+        all = all.and(send_in_orders(alloc, network, message, packets, order)?);
+    }
+    Ok(all)
 }
 
 /// How many packets come, and how many numbers of so many digits to base 5 there are.
@@ -295,15 +349,9 @@ pub fn expect_whole_or_nothing(
     let message = message_of(rt.alloc(), 320)?;
     let packets = written(rt.alloc(), &message)?;
     expect_flags(rt, &packets, &[0x89, 0x19, 0x29, 0x39, 0x49])?;
-    let mut orders: u32 = 0;
-    let mut whole: u32 = 0;
-    for order in ORDERS {
-        let sent = send_in_orders(rt, network, &message, &packets, order)?;
-        orders = orders.saturating_add(sent.orders);
-        whole = whole.saturating_add(sent.whole);
-    }
+    let sent = send_in_all_orders(rt.alloc(), network, &message, &packets)?;
     // without a packet twice 1 + 5 + 20 + 60 + 120 + 120, with one twice 5 + 60 + 360 + 1200 + 1800
-    assert_eq!(rt; (message.len(), orders, whole), (320, 3751, 11));
+    assert_eq!(rt; (message.len(), sent.orders, sent.whole), (320, 3751, 11));
     Ok(())
 }
 

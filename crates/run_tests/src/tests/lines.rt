@@ -8,19 +8,29 @@ use std::alloc::{AllocError, Global};
 use std::process::Abort;
 use std::test::Fail;
 
-/// The plan of a line of so many bridges.
-fn line_of(alloc: Global, count: u8) -> Result<String, AllocError> {
+/// The buses of a line of so many bridges.
+fn buses_of(alloc: Global, count: u8) -> Result<String, AllocError> {
     let mut buses = Vec::new(alloc);
+    for place in 1..count {
+        let bus = format!(in alloc; r#"{{"name":"b{place}","binding":1,"media":4}}"#)?;
+        buses.push(bus)?;
+    }
+    buses.as_slice().join(alloc, ",")
+}
+
+/// The nodes of a line of so many bridges.
+fn nodes_of(alloc: Global, count: u8) -> Result<String, AllocError> {
     let mut nodes = Vec::new(alloc);
     for place in 0..count {
-        if place > 0 {
-            let bus = format!(in alloc; r#"{{"name":"b{place}","binding":1,"media":4}}"#)?;
-            buses.push(bus)?;
-        }
         nodes.push(bridge_at(alloc, u16::from(place), u16::from(count))?)?;
     }
-    let buses = buses.as_slice().join(alloc, ",")?;
-    let nodes = nodes.as_slice().join(alloc, ",")?;
+    nodes.as_slice().join(alloc, ",")
+}
+
+/// The plan of a line of so many bridges.
+fn line_of(alloc: Global, count: u8) -> Result<String, AllocError> {
+    let buses = buses_of(alloc, count)?;
+    let nodes = nodes_of(alloc, count)?;
     format!(in alloc; r#"{{"format":1,"buses":[{buses}],"nodes":[{nodes}]}}"#)
 }
 

@@ -1,16 +1,15 @@
 //! Networks in which any growth of memory may be refused. An event that is asked again then has the outcome that it has
 //! with ample memory. `tools/refuse-growths` refuses the growths one after another.
-use super::playing::{Scenario, play, play_on};
-use super::rows::{AND_BACK, LISTS};
-use super::switching::{by_right, play_on_two_ways};
+use super::playing::{Scenario, play};
+use super::rows::{AND_BACK, play_lists};
+use super::switching::{SWITCHED, by_right, play_on_two_ways};
 use net_check::{Checked, CheckedMove, check, check_move};
 use net_plan::{Certificate, Plan};
 use net_sim::{Network, planned_termini_count};
 use pdr_repository::Terminus;
 use sample_runs::networks::{certificate_of, plan_of};
-use sample_runs::playing::{Row, Way};
+use sample_runs::playing::Way;
 use sample_runs::repositories::{TWENTY, list_with};
-use sample_runs::riser_events::{GET_TID_OF_NIC, MOVE_1, MOVE_2};
 use sample_texts::marks::{Mark, set_mark};
 use sample_texts::riser::{CERTIFICATE, PLAN};
 use sample_texts::two_ways::{RANKS_OF_TWO_WAYS, TWO_WAYS};
@@ -20,18 +19,12 @@ use std::test::Fail;
 
 #[test]
 fn refused_step(rt: HostRuntime) -> Result<(), Fail> {
-    for rows in LISTS {
-        play_on(&rt, Scenario::Rows(rows, Way::RefusedSteps))?;
-    }
-    Ok(())
+    play_lists(&rt, Way::RefusedSteps)
 }
 
 #[test]
 fn refused_run(rt: HostRuntime) -> Result<(), Fail> {
-    for rows in LISTS {
-        play_on(&rt, Scenario::Rows(rows, Way::RefusedRun))?;
-    }
-    Ok(())
+    play_lists(&rt, Way::RefusedRun)
 }
 
 /// The network of a checked plan; none where memory ran out.
@@ -105,21 +98,6 @@ fn new_move<'a>(
     }
     Ok(made.ok())
 }
-
-const SWITCH_HOST: &str = r#"{"do":"switch","node":"host"}"#;
-
-/// Host switches while a request is on its way, and then sends another.
-const SWITCHED: [Row; 9] = [
-    (GET_TID_OF_NIC, "put 1 at host"),
-    (MOVE_1, "moved 1 to left hops 1"),
-    (SWITCH_HOST, "switched host"),
-    (MOVE_1, "moved 1 to x hops 2"),
-    (MOVE_1, "whole 1 at x source 8 tag 3 owner 1 bytes 01800002"),
-    (GET_TID_OF_NIC, "put 2 at host"),
-    (MOVE_2, "moved 2 to right hops 1"),
-    (SWITCH_HOST, "refused N07"),
-    (MOVE_2, "moved 2 to x hops 2"),
-];
 
 /// Plays the switch on the network of a move; on none where memory ran out.
 fn expect_switched(

@@ -282,7 +282,7 @@ const SIXTEEN_OPEN: [Row; 37] = [
     ),
 ];
 
-pub const LISTS: [&[Row]; 6] = [
+const LISTS: [&[Row]; 6] = [
     &TO_SSD,
     &AND_BACK,
     &COPIED_AND_LOST,
@@ -291,20 +291,22 @@ pub const LISTS: [&[Row]; 6] = [
     &SIXTEEN_OPEN,
 ];
 
-#[test]
-fn plays_step_by_step(rt: HostRuntime) -> Result<(), Fail> {
+/// Plays all lists in a way.
+pub fn play_lists(rt: &(impl Abort + AllocGlobal), way: Way) -> Result<(), Fail> {
     for rows in LISTS {
-        play_on(&rt, Scenario::Rows(rows, Way::Steps))?;
+        play_on(rt, Scenario::Rows(rows, way))?;
     }
     Ok(())
 }
 
 #[test]
+fn plays_step_by_step(rt: HostRuntime) -> Result<(), Fail> {
+    play_lists(&rt, Way::Steps)
+}
+
+#[test]
 fn runs_whole_lists(rt: HostRuntime) -> Result<(), Fail> {
-    for rows in LISTS {
-        play_on(&rt, Scenario::Rows(rows, Way::Run))?;
-    }
-    Ok(())
+    play_lists(&rt, Way::Run)
 }
 
 /// Whether an event is refused since there is no such node.
@@ -331,6 +333,7 @@ fn events_at(alloc: Global, node: usize) -> Result<Vec<Event>, AllocError> {
     events.push(Event::Put { node, bytes })?;
     events.push(Event::Expire { node, key })?;
     events.push(Event::Answer { node })?;
+    events.push(Event::Switch { node })?;
     Ok(events)
 }
 

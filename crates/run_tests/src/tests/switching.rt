@@ -2,9 +2,10 @@
 use super::playing::{Scenario, Texts, play, play_on_texts};
 use net_check::check_move;
 use net_plan::{Certificate, Event, Plan};
-use net_sim::{Effect, Outcome, Refusal};
+use net_sim::{Effect, Network, Outcome, Refusal};
 use sample_runs::networks::{certificate_of, moving_network_of, plan_of};
-use sample_runs::playing::{Way, outcomes_of};
+use sample_runs::playing::{Row, Way, outcomes_of};
+use sample_runs::riser_events::{GET_TID_OF_NIC, MOVE_1, MOVE_2};
 use sample_texts::edited;
 use sample_texts::two_ways::{RANKS_OF_TWO_WAYS, TWO_WAYS};
 use std::alloc::{AllocError, Global};
@@ -13,9 +14,6 @@ use std::process::Abort;
 use std::test::Fail;
 
 const HOST: usize = 0;
-
-/// The place behind the last node.
-const NOWHERE: usize = 4;
 
 /// GetTID for endpoint ID 17, put in at the first node.
 fn request(alloc: Global) -> Result<Event, AllocError> {
@@ -60,23 +58,37 @@ fn play_over_move(
     play(rt, before, &mut network, scenario)
 }
 
+const SWITCH_HOST: &str = r#"{"do":"switch","node":"host"}"#;
+
+/// Host switches while a request is on its way, and then sends another.
+pub const SWITCHED: [Row; 9] = [
+    (GET_TID_OF_NIC, "put 1 at host"),
+    (MOVE_1, "moved 1 to left hops 1"),
+    (SWITCH_HOST, "switched host"),
+    (MOVE_1, "moved 1 to x hops 2"),
+    (MOVE_1, "whole 1 at x source 8 tag 3 owner 1 bytes 01800002"),
+    (GET_TID_OF_NIC, "put 2 at host"),
+    (MOVE_2, "moved 2 to right hops 1"),
+    (SWITCH_HOST, "refused N07"),
+    (MOVE_2, "moved 2 to x hops 2"),
+];
+
 #[test]
 fn host_goes_by_its_new_row_once_it_has_switched(rt: HostRuntime) -> Result<(), Fail> {
-    let events = [
-        request(rt.alloc())?,
-        move_of(1),
-        Event::Switch { node: NOWHERE },
-        Event::Switch { node: HOST },
-        move_of(1),
-        move_of(1),
-        request(rt.alloc())?,
-        move_of(2),
-        Event::Switch { node: HOST },
-    ];
-    let wanted =
-        "put 1 at host, moved 1 to left hops 1, refused N01, switched host, moved 1 to x hops 2, whole 1 at x source 8 tag 3 owner 1 bytes 01800002, put 2 at host, moved 2 to right hops 1, refused N07";
-    play_on_two_ways(&rt, Scenario::Events(&events, wanted))
+    play_on_two_ways(&rt, Scenario::Rows(&SWITCHED, Way::Steps))
 }
+
+#[test]
+fn refuses_nodes_beyond_the_plans(rt: HostRuntime) -> Result<(), Fail> {
+    play_on_two_ways(&rt, Scenario::BeyondThePlan)
+}
+
+/// Host can't switch, and goes by its row.
+const NOT_SWITCHED: [Row; 3] = [
+    (SWITCH_HOST, "refused N07"),
+    (GET_TID_OF_NIC, "put 1 at host"),
+    (MOVE_1, "moved 1 to left hops 1"),
+];
 
 #[test]
 fn nobody_switches_in_a_network_of_one_plan(rt: HostRuntime) -> Result<(), Fail> {
@@ -85,14 +97,7 @@ fn nobody_switches_in_a_network_of_one_plan(rt: HostRuntime) -> Result<(), Fail>
         certificate: RANKS_OF_TWO_WAYS,
         termini: &[],
     };
-    let events = [
-        Event::Switch { node: HOST },
-        Event::Switch { node: NOWHERE },
-        request(rt.alloc())?,
-        move_of(1),
-    ];
-    let wanted = "refused N07, refused N01, put 1 at host, moved 1 to left hops 1";
-    play_on_texts(&rt, texts, Scenario::Events(&events, wanted))
+    play_on_texts(&rt, texts, Scenario::Rows(&NOT_SWITCHED, Way::Steps))
 }
 
 /// How many bridges there are in a line to endpoint x, all on one bus. The rank of each is the number of bridges from it
@@ -194,18 +199,25 @@ fn are_lawful_and_whole(outcomes: &[Outcome]) -> bool {
     come == BRIDGES + 1
 }
 
-/// Whether all packets come whole, within their ranks, where the bridges switch in this order.
+/// Whether all packets come whole, within their ranks, on a network where the bridges switch in the order of this number.
+fn do_all_come(alloc: Global, network: &mut Network, number: usize) -> Result<bool, Fail> {
+    let order = order_of(alloc, number)?;
+    let events = events_in(alloc, &order)?;
+    let outcomes = outcomes_of(alloc, network, &events, Way::Run)?;
+    Ok(are_lawful_and_whole(&outcomes))
+}
+
+/// Whether they do on the network that moves between these plans.
 fn all_come(
     alloc: Global,
     before: &Plan,
     after: &Plan,
     certificate: &Certificate,
-    order: &[usize],
+    number: usize,
 ) -> Result<bool, Fail> {
     let checked = check_move(alloc, before, after, certificate)?;
     let mut network = moving_network_of(alloc, checked, Vec::new(alloc))?;
-    let outcomes = outcomes_of(alloc, &mut network, &events_in(alloc, order)?, Way::Run)?;
-    Ok(are_lawful_and_whole(&outcomes))
+    do_all_come(alloc, &mut network, number)
 }
 
 /// Wants all packets to come between these plans where the bridges switch in the orders of these numbers.
@@ -217,8 +229,7 @@ fn expect_all_come_between(
     numbers: Range<usize>,
 ) -> Result<(), Fail> {
     for number in numbers {
-        let order = order_of(rt.alloc(), number)?;
-        let come = all_come(rt.alloc(), before, after, certificate, &order)?;
+        let come = all_come(rt.alloc(), before, after, certificate, number)?;
         assert!(rt; come, "{number}");
     }
     Ok(())

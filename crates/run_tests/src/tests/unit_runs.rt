@@ -202,6 +202,18 @@ fn comes_as_due(come: Option<&Vec<u8>>, place: usize, message: &[u8]) -> bool {
     }
 }
 
+/// Whether the packet at a place brings the message if it is the fourth, and none otherwise.
+fn is_brought_as_due(
+    alloc: Global,
+    network: &mut Network,
+    place: usize,
+    packet: &[u8],
+    message: &[u8],
+) -> Result<bool, Fail> {
+    let come = bring(network, packet.to_vec(alloc)?)?;
+    Ok(comes_as_due(come.as_ref(), place, message))
+}
+
 /// Wants a message to come with the fourth of its four packets.
 fn expect_whole_with_fourth(
     rt: &(impl Abort + AllocGlobal),
@@ -211,8 +223,8 @@ fn expect_whole_with_fourth(
 ) -> Result<(), Fail> {
     assert_eq!(rt; packets.len(), 4);
     for (place, packet) in packets.iter().enumerate() {
-        let come = bring(network, packet.as_slice().to_vec(rt.alloc())?)?;
-        assert!(rt; comes_as_due(come.as_ref(), place, message), "at {place}");
+        let is_due = is_brought_as_due(rt.alloc(), network, place, packet, message)?;
+        assert!(rt; is_due, "at {place}");
     }
     Ok(())
 }

@@ -3,8 +3,8 @@
 use super::events::are_the_riser_events;
 use super::plans::is_the_riser_network;
 use net_plan::{
-    Counted, Plan, PlanError, certificate_of_text, plan_of_text, read_certificate, read_events,
-    read_plan, write_certificate,
+    Certificate, Counted, Plan, PlanError, certificate_of_text, plan_of_text, read_certificate,
+    read_events, read_plan, write_certificate,
 };
 use sample_texts::certificates::is_the_riser_certificate;
 use sample_texts::edited;
@@ -89,21 +89,23 @@ fn refused_read_events(rt: HostRuntime) -> Result<(), Fail> {
     Ok(())
 }
 
-/// The sink has its room from the start.
-#[test]
-fn refused_write_certificate(rt: HostRuntime) -> Result<(), Fail> {
-    let alloc = rt.alloc();
-    let plan = plan_of_text(alloc, PLAN.as_bytes())?;
-    let certificate = certificate_of_text(alloc, &plan, CERTIFICATE.as_bytes())?;
+/// Whether the certificate is written, or for want of memory nothing. The sink has its room from the start.
+fn is_written(alloc: Global, plan: &Plan, certificate: &Certificate) -> Result<bool, Fail> {
     let mut sink = Counted::new(Vec::with_capacity(alloc, CERTIFICATE.len())?);
     set_mark(alloc, Mark::Begins);
-    let written = write_certificate(alloc, &plan, &certificate, &mut sink);
+    let written = write_certificate(alloc, plan, certificate, &mut sink);
     set_mark(alloc, Mark::Ends);
     let text = sink.inner().as_slice();
-    let is_right = match written {
+    Ok(match written {
         Ok(()) => text == CERTIFICATE.as_bytes(),
         Err(error) => text.is_empty() && is_error(alloc, error, None),
-    };
-    assert!(rt; is_right);
+    })
+}
+
+#[test]
+fn refused_write_certificate(rt: HostRuntime) -> Result<(), Fail> {
+    let plan = plan_of_text(rt.alloc(), PLAN.as_bytes())?;
+    let certificate = certificate_of_text(rt.alloc(), &plan, CERTIFICATE.as_bytes())?;
+    assert!(rt; is_written(rt.alloc(), &plan, &certificate)?);
     Ok(())
 }

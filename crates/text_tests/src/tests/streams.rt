@@ -99,46 +99,69 @@ fn events_error(alloc: Global, plan: &Plan, fails_at: usize) -> Option<PlanError
     read_events(alloc, plan, &mut source).err()
 }
 
+/// Whether the certificate is read one byte a call.
+fn is_certificate_read(alloc: Global, plan: &Plan) -> Result<bool, PlanError> {
+    let mut source = Counted::new(one_byte_a_call(riser::CERTIFICATE, 0));
+    let certificate = read_certificate(alloc, plan, &mut source)?;
+    Ok(is_the_riser_certificate(&certificate))
+}
+
+/// Whether the events are read one byte a call.
+fn are_events_read(alloc: Global, plan: &Plan) -> Result<bool, PlanError> {
+    let mut source = Counted::new(one_byte_a_call(riser::EVENTS, 0));
+    let events = read_events(alloc, plan, &mut source)?;
+    Ok(are_the_riser_events(&events))
+}
+
 #[test]
 fn reads_one_byte_a_call(rt: HostRuntime) -> Result<(), Fail> {
     let alloc = rt.alloc();
     let plan = read_plan(alloc, &mut Counted::new(one_byte_a_call(riser::PLAN, 0)))?;
-    let mut source = Counted::new(one_byte_a_call(riser::CERTIFICATE, 0));
-    let certificate = read_certificate(alloc, &plan, &mut source)?;
-    let mut source = Counted::new(one_byte_a_call(riser::EVENTS, 0));
-    let events = read_events(alloc, &plan, &mut source)?;
     assert!(rt; is_the_riser_network(&plan));
-    assert!(rt; is_the_riser_certificate(&certificate) && are_the_riser_events(&events));
+    assert!(rt; is_certificate_read(alloc, &plan)? && are_events_read(alloc, &plan)?);
     Ok(())
 }
 
-/// Each call, up to that which would tell the end. The failure is one that std's own loops try again.
-#[test]
-fn tells_a_failure_in_a_plan(rt: HostRuntime) -> Result<(), Fail> {
+/// The first call up to that which would tell the end at which a failure is told otherwise, for a plan.
+fn first_other_in_a_plan(alloc: Global) -> Option<usize> {
     for fails_at in 1..=riser::PLAN.len() + 1 {
-        let error = plan_error(rt.alloc(), fails_at);
-        assert_eq!(rt; error, Some(PlanError::Device), "at {fails_at}");
+        if plan_error(alloc, fails_at) != Some(PlanError::Device) {
+            return Some(fails_at);
+        }
     }
-    Ok(())
+    None
 }
 
-#[test]
-fn tells_a_failure_in_a_certificate(rt: HostRuntime) -> Result<(), Fail> {
-    let plan = plan_of_text(rt.alloc(), riser::PLAN.as_bytes())?;
+/// The same of a certificate.
+fn first_other_in_a_certificate(alloc: Global, plan: &Plan) -> Option<usize> {
     for fails_at in 1..=riser::CERTIFICATE.len() + 1 {
-        let error = certificate_error(rt.alloc(), &plan, fails_at);
-        assert_eq!(rt; error, Some(PlanError::Device), "at {fails_at}");
+        if certificate_error(alloc, plan, fails_at) != Some(PlanError::Device) {
+            return Some(fails_at);
+        }
     }
-    Ok(())
+    None
 }
 
-#[test]
-fn tells_a_failure_in_events(rt: HostRuntime) -> Result<(), Fail> {
-    let plan = plan_of_text(rt.alloc(), riser::PLAN.as_bytes())?;
+/// The same of events.
+fn first_other_in_events(alloc: Global, plan: &Plan) -> Option<usize> {
     for fails_at in 1..=riser::EVENTS.len() + 1 {
-        let error = events_error(rt.alloc(), &plan, fails_at);
-        assert_eq!(rt; error, Some(PlanError::Device), "at {fails_at}");
+        if events_error(alloc, plan, fails_at) != Some(PlanError::Device) {
+            return Some(fails_at);
+        }
     }
+    None
+}
+
+/// The failure is one that std's own loops try again.
+#[test]
+fn tells_a_failure_at_each_call(rt: HostRuntime) -> Result<(), Fail> {
+    let plan = plan_of_text(rt.alloc(), riser::PLAN.as_bytes())?;
+    let others = (
+        first_other_in_a_plan(rt.alloc()),
+        first_other_in_a_certificate(rt.alloc(), &plan),
+        first_other_in_events(rt.alloc(), &plan),
+    );
+    assert_eq!(rt; others, (None, None, None));
     Ok(())
 }
 
@@ -181,15 +204,18 @@ fn is_begun(kept: &[u8], text: &[u8], fails_at: usize) -> bool {
     text.starts_with(kept) && kept.len() == fails_at.saturating_sub(1)
 }
 
+/// Whether `hello` is written up to the call that fails.
+fn is_hello_begun(alloc: Global, fails_at: usize) -> bool {
+    let mut sink = Counted::new(failing_at(alloc, fails_at));
+    let written = write_whole(&mut sink, b"hello");
+    written == Err(Failed) && is_begun(sink.inner().kept.as_slice(), b"hello", fails_at)
+}
+
 #[test]
-fn writes_a_beginning_of_a_text(rt: HostRuntime) -> Result<(), Fail> {
+fn writes_a_beginning_of_a_text(rt: HostRuntime) {
     for fails_at in 1..6 {
-        let mut sink = Counted::new(failing_at(rt.alloc(), fails_at));
-        let written = write_whole(&mut sink, b"hello");
-        let is_begun = is_begun(sink.inner().kept.as_slice(), b"hello", fails_at);
-        assert!(rt; written == Err(Failed) && is_begun, "at {fails_at}");
+        assert!(rt; is_hello_begun(rt.alloc(), fails_at), "at {fails_at}");
     }
-    Ok(())
 }
 
 #[test]
@@ -214,14 +240,24 @@ fn is_written(alloc: Global, plan: &Plan, certificate: &Certificate, fails_at: u
     }
 }
 
+/// The first call at which a failure leaves something else; 0 where something else is written without one.
+fn first_otherwise_written(alloc: Global, plan: &Plan, certificate: &Certificate) -> Option<usize> {
+    for fails_at in 0..=riser::CERTIFICATE.len() {
+        if !is_written(alloc, plan, certificate, fails_at) {
+            return Some(fails_at);
+        }
+    }
+    None
+}
+
 #[test]
 fn writes_a_certificate_or_its_beginning(rt: HostRuntime) -> Result<(), Fail> {
     let plan = plan_of_text(rt.alloc(), riser::PLAN.as_bytes())?;
     let certificate = certificate_of_text(rt.alloc(), &plan, riser::CERTIFICATE.as_bytes())?;
-    for fails_at in 0..=riser::CERTIFICATE.len() {
-        let is_written = is_written(rt.alloc(), &plan, &certificate, fails_at);
-        assert!(rt; is_written, "at {fails_at}");
-    }
+    assert_eq!(rt;
+        first_otherwise_written(rt.alloc(), &plan, &certificate),
+        None
+    );
     Ok(())
 }
 

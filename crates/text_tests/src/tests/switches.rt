@@ -86,12 +86,22 @@ fn fault_of(
     Ok(events_of_text(alloc, plan, text.as_str().as_bytes()).err())
 }
 
+/// The format and the event of the first row that is something else.
+fn first_wrong(
+    alloc: Global,
+    plan: &Plan,
+) -> Result<Option<(&'static str, &'static str)>, AllocError> {
+    for (format, event, wanted) in CASES {
+        if fault_of(alloc, plan, format, event)? != wanted {
+            return Ok(Some((format, event)));
+        }
+    }
+    Ok(None)
+}
+
 #[test]
 fn tells_the_first_fault_of_a_switch(rt: HostRuntime) -> Result<(), Fail> {
     let plan = plan_of_text(rt.alloc(), riser::PLAN.as_bytes())?;
-    for (format, event, wanted) in CASES {
-        let fault = fault_of(rt.alloc(), &plan, format, event)?;
-        assert_eq!(rt; fault, wanted, "{format} {event}");
-    }
+    assert_eq!(rt; first_wrong(rt.alloc(), &plan)?, None);
     Ok(())
 }

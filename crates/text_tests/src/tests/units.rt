@@ -1,6 +1,6 @@
 //! The transmission units of plans: what format 2 says of it, and the baseline of format 1.
 use super::plans::is_the_riser_network;
-use net_plan::{LARGEST_UNIT, Plan, PlanError, plan_of_text};
+use net_plan::{BASELINE_UNIT, LARGEST_UNIT, Plan, PlanError, plan_of_text};
 use sample_texts::{edited, riser};
 use std::alloc::Global;
 use std::test::Fail;
@@ -14,12 +14,19 @@ const UNITS: [(&str, u16); 5] = [
     (r#"{"nodes":[],"unit":128,"buses":[],"format":2}"#, 128),
 ];
 
+/// The first text whose plan has another unit.
+fn first_other(alloc: Global) -> Result<Option<&'static str>, PlanError> {
+    for (text, wanted) in UNITS {
+        if plan_of_text(alloc, text.as_bytes())?.unit != wanted {
+            return Ok(Some(text));
+        }
+    }
+    Ok(None)
+}
+
 #[test]
 fn reads_units(rt: HostRuntime) -> Result<(), Fail> {
-    for (text, wanted) in UNITS {
-        let plan = plan_of_text(rt.alloc(), text.as_bytes())?;
-        assert_eq!(rt; plan.unit, wanted, "{text}");
-    }
+    assert_eq!(rt; first_other(rt.alloc())?, None);
     Ok(())
 }
 
@@ -95,42 +102,59 @@ const NO_PLANS: [(&str, PlanError); 17] = [
     ),
 ];
 
-#[test]
-fn tells_the_first_fault_of_a_unit(rt: HostRuntime) -> Result<(), Fail> {
+/// The first text with another fault.
+fn first_wrong(alloc: Global) -> Option<&'static str> {
     for (text, wanted) in NO_PLANS {
-        let error = plan_of_text(rt.alloc(), text.as_bytes()).err();
-        assert_eq!(rt; error, Some(wanted), "{text}");
+        if plan_of_text(alloc, text.as_bytes()).err() != Some(wanted) {
+            return Some(text);
+        }
     }
-    Ok(())
+    None
 }
 
-/// The riser network's plan in format 2.
-fn riser_with(alloc: Global, format: &str) -> Result<Plan, Fail> {
+#[test]
+fn tells_the_first_fault_of_a_unit(rt: HostRuntime) {
+    assert_eq!(rt; first_wrong(rt.alloc()), None);
+}
+
+/// Whether the riser network's plan in this format has its nodes, and this unit.
+fn is_the_riser_network_of(alloc: Global, format: &str, unit: u16) -> Result<bool, Fail> {
     let text = edited(alloc, riser::PLAN, &[(r#""format":1"#, format)])?;
-    Ok(plan_of_text(alloc, text.as_str().as_bytes())?)
+    let plan = plan_of_text(alloc, text.as_str().as_bytes())?;
+    Ok(is_the_riser_network(&plan) && plan.unit == unit)
+}
+
+/// Formats of the riser network's plan, each with its unit.
+const FORMATS: [(&str, u16); 3] = [
+    (r#""format":1"#, BASELINE_UNIT),
+    (r#""format":2,"unit":64"#, BASELINE_UNIT),
+    (r#""unit":1024,"format":2"#, LARGEST_UNIT),
+];
+
+/// The first format in which the plan is another.
+fn first_other_format(alloc: Global) -> Result<Option<&'static str>, Fail> {
+    for (format, unit) in FORMATS {
+        if !is_the_riser_network_of(alloc, format, unit)? {
+            return Ok(Some(format));
+        }
+    }
+    Ok(None)
 }
 
 #[test]
 fn both_formats_have_the_same_nodes(rt: HostRuntime) -> Result<(), Fail> {
-    let alloc = rt.alloc();
-    let baseline = riser_with(alloc, r#""format":2,"unit":64"#)?;
-    assert!(rt; is_the_riser_network(&baseline));
-    assert_eq!(rt;
-        baseline.unit,
-        plan_of_text(alloc, riser::PLAN.as_bytes())?.unit
-    );
-    let larger = riser_with(alloc, r#""unit":1024,"format":2"#)?;
-    assert!(rt; is_the_riser_network(&larger));
-    assert_eq!(rt; larger.unit, LARGEST_UNIT);
+    assert_eq!(rt; first_other_format(rt.alloc())?, None);
     Ok(())
 }
 
+/// Whether there is a plan of this unit.
+fn is_plan(alloc: Global, unit: u16) -> bool {
+    Plan::of(unit, Vec::new(alloc), Vec::new(alloc)).is_some()
+}
+
 #[test]
-fn a_plan_has_a_unit_within_its_bounds(rt: HostRuntime) -> Result<(), Fail> {
-    let alloc = rt.alloc();
-    for (unit, is_plan) in [(63, false), (64, true), (1024, true), (1025, false)] {
-        let plan = Plan::of(unit, Vec::new(alloc), Vec::new(alloc));
-        assert_eq!(rt; plan.is_some(), is_plan, "{unit}");
+fn a_plan_has_a_unit_within_its_bounds(rt: HostRuntime) {
+    for (unit, wanted) in [(63, false), (64, true), (1024, true), (1025, false)] {
+        assert_eq!(rt; is_plan(rt.alloc(), unit), wanted, "{unit}");
     }
-    Ok(())
 }

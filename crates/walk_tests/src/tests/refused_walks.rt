@@ -1,8 +1,8 @@
 //! Walks in which any growth of memory may be refused. An event that is asked again then has the outcome that it has
 //! with ample memory. `tools/refuse-growths` refuses the growths one after another.
-use super::playing::{Scenario, expect_rows, play_as_planned, play_with};
+use super::playing::{Scenario, expect_rows, play_with};
 use super::walkers::expect_collected;
-use super::walks::LISTS;
+use super::walks::play_lists;
 use mctp_transport::{Eid, Tag};
 use net_plan::{Event, Plan};
 use net_sim::Network;
@@ -16,18 +16,12 @@ use std::test::Fail;
 
 #[test]
 fn refused_step_of_walkers(rt: HostRuntime) -> Result<(), Fail> {
-    for rows in LISTS {
-        play_as_planned(&rt, Scenario::Rows(rows, Way::RefusedSteps))?;
-    }
-    Ok(())
+    play_lists(&rt, Way::RefusedSteps)
 }
 
 #[test]
 fn refused_run_of_walkers(rt: HostRuntime) -> Result<(), Fail> {
-    for rows in LISTS {
-        play_as_planned(&rt, Scenario::Rows(rows, Way::RefusedRun))?;
-    }
-    Ok(())
+    play_lists(&rt, Way::RefusedRun)
 }
 
 /// Carries a flight over the three steps from host to nic, or back.

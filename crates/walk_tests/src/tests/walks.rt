@@ -2,6 +2,7 @@
 use super::playing::{Scenario, play_as_planned};
 use sample_runs::playing::{Row, Way};
 use sample_runs::riser_events::{ANSWER_NIC, MOVE_1, MOVE_2, MOVE_3, MOVE_4, MOVE_5, MOVE_6};
+use std::process::Abort;
 use std::test::Fail;
 
 const ASK_1: &str = r#"{"do":"ask","walker":1}"#;
@@ -364,7 +365,7 @@ const REFUSED: [Row; 18] = [
     (COLLECTED_1, "collected 1 records 0 open"),
 ];
 
-pub const LISTS: [&[Row]; 9] = [
+const LISTS: [&[Row]; 9] = [
     &IN_ONE_PART,
     &AFTER_A_LOST_FLIGHT,
     &A_LATE_ANSWER,
@@ -376,18 +377,20 @@ pub const LISTS: [&[Row]; 9] = [
     &REFUSED,
 ];
 
-#[test]
-fn walks_step_by_step(rt: HostRuntime) -> Result<(), Fail> {
+/// Plays all lists in a way.
+pub fn play_lists(rt: &(impl Abort + AllocGlobal), way: Way) -> Result<(), Fail> {
     for rows in LISTS {
-        play_as_planned(&rt, Scenario::Rows(rows, Way::Steps))?;
+        play_as_planned(rt, Scenario::Rows(rows, way))?;
     }
     Ok(())
 }
 
 #[test]
+fn walks_step_by_step(rt: HostRuntime) -> Result<(), Fail> {
+    play_lists(&rt, Way::Steps)
+}
+
+#[test]
 fn walks_in_whole_lists(rt: HostRuntime) -> Result<(), Fail> {
-    for rows in LISTS {
-        play_as_planned(&rt, Scenario::Rows(rows, Way::Run))?;
-    }
-    Ok(())
+    play_lists(&rt, Way::Run)
 }
