@@ -270,8 +270,8 @@ impl Sent {
     }
 }
 
-/// Sends the packets in this order, if one packet at most comes twice. The message has to come where its packets come in
-/// a row.
+/// Sends the packets in this order, if one packet at most comes twice. The message has to come just where its packets
+/// come in a row.
 fn send_in_order(
     alloc: Global,
     network: &mut Network,
@@ -288,7 +288,7 @@ fn send_in_order(
     let whole = send(alloc, network, message, packets, places)?;
     let in_a_row = places.starts_with(&IN_A_ROW) || places.ends_with(&IN_A_ROW);
     if whole != u32::from(in_a_row) {
-        return Err(Fail::new("it comes in no row, or doesn't in one"));
+        return Err(Fail::new("the message comes without a row of its packets, or not with one"));
     }
     Ok(Sent { orders: 1, whole })
 }
