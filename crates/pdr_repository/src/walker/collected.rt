@@ -1,5 +1,5 @@
 //! The records that a walker has collected, and their handles.
-ghost use Rattle.std.specs.Prelude.{◌≡◌, ◌≤◌, map, vec_len, vec_capacity};
+ghost use Rattle.std.specs.Prelude.{◌≡◌, ◌<◌, ◌≤◌, ℕ, IsTrue, length, map, slice_index, vec_len, vec_capacity};
 ghost use Rattle.std.specs.List.Sorted.{IsNonDecreasing};
 ghost use Rattle.pdr_repository.specs.Records.{handle_in};
 ghost use Rattle.pdr_repository.specs.Handles.{AreHandlesOf};
@@ -29,8 +29,19 @@ fn handle_of_record(bytes: &[u8]) -> u32
     handle_of(bytes, &[])
 }
 
+/// Whether the handle is greater than the last one, and so than each, as they ascend.
+fn comes_last(handles: &[u32], handle: u32) -> bool
+    requires { IsNonDecreasing handles.now }
+    ensures { IsTrue result → ((i : ℕ) → i < length handles.now → slice_index handles.now i < handle) }
+{
+    match handles.last() {
+        Some(last) => *last < handle,
+        None => true,
+    }
+}
+
 impl Collected {
-    ghost use Rattle.std.specs.Prelude.{◌<◌, ◌==◌, [], ◌∷◌, ◌++◌, OnOk, OnErr};
+    ghost use Rattle.std.specs.Prelude.{◌==◌, [], ◌∷◌, ◌++◌, OnOk, OnErr};
     ghost use Rattle.std.specs.List.{list_any};
     ghost use Rattle.pdr_repository.specs.Handles.{IsPlaceFor, StandsAt};
 
@@ -44,10 +55,14 @@ impl Collected {
         }
     }
 
-    /// Where a handle stands among the handles, or else where it is to be inserted.
+    /// Where a handle stands among the handles, or else where it is to be inserted. Where handles come in ascending
+    /// order, that is behind the last one, which is seen at once.
     fn place_of(&self, handle: u32) -> Result<usize, usize>
         ensures { StandsAt self.now.handles.items handle result }
     {
+        if comes_last(self.handles.as_slice(), handle) {
+            return Err(self.handles.len());
+        }
         self.handles.as_slice().binary_search(&handle)
     }
 
