@@ -68,7 +68,7 @@ module _ (Move : ℕ → ℕ → Type 0) (places : ℕ) (within : (n p : ℕ) �
       (x, (two.1 - two.0 - 1, subst P same back))
 
   -- and is not needed to get there
-  shorter : (n k m : ℕ) → Leads Move n k m → places < k → (l : ℕ) × (l < k) × (0 < l) × Leads Move n l m
+  pub shorter : (n k m : ℕ) → Leads Move n k m → places < k → (l : ℕ) × (l < k) × (0 < l) × Leads Move n l m
   shorter n k m way long =
       let two = repeats n k m way long in
       let i = two.0 in

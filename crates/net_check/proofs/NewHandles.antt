@@ -1,16 +1,19 @@
--- Handles that ascend from above 0 on, as they stand or once they are sorted, and new handles.
-use Rattle.std.proofs.Common.{Bool, true, false, ◌≡◌, ◌≢◌, ℕ, zero, suc, ◌<◌, List, ◌∷◌, length, refl, sym, ◌∙◌, arith, get_or}
-use Rattle.std.specs.Prelude.{◌==◌}
+-- Handles that ascend from above 0 on, as they stand or once they are sorted, or that are ticked off, and new handles.
+use Rattle.std.proofs.Common.{Bool, true, false, ◌≡◌, ◌≢◌, ℕ, zero, suc, ◌+◌, ◌<◌, List, ◌∷◌, length, Some, refl, sym, ◌∙◌, ap, subst, inl, inr, arith, get_or, slice_set}
+use Rattle.std.specs.Prelude.{◌==◌, slice_get}
 use Rattle.std.specs.List.{AllPairs}
 use Rattle.std.specs.List.Sorted.{IsPermutation, IsStrictlyIncreasing, IsNonDecreasing}
+use Rattle.std.proofs.lemmas.Bool.{cases_lt}
 use Rattle.std.proofs.lemmas.Bool.Decides.{Decides-eqb}
 use Rattle.std.proofs.lemmas.List.Kept.{AllPairs-from_increasing}
 use Rattle.std.proofs.lemmas.List.Sorted.{IsPermutation-cons, IsPermutation-sym}
 use Rattle.std.proofs.lemmas.Map.Keys.{IsDistinct-IsPermutation, IsStrictlyIncreasing-from_distinct}
 use Rattle.std.proofs.lemmas.Map.Made.{AllPairs-from_IsDistinct, IsDistinct-from_AllPairs}
-use Rattle.std.proofs.lemmas.Option.{slice_get_within, slice_get-get_or, get_or_from_slice_get}
+use Rattle.std.proofs.lemmas.Option.{same_Some, slice_get_within, slice_get-get_or, get_or_from_slice_get}
 use Rattle.net_plan.specs.declared.terminus.Record.{Record}
 use Rattle.net_check.specs.RecordChains.{HaveNewHandles}
+use Rattle.net_check.specs.Repositories.{HasNewHandle}
+use Rattle.net_check.proofs.Elements.{set_there, set_other}
 use Rattle.net_check.proofs.Handles.{handles_of, handle_of_record, record_of_handle}
 
 -- none of the numbers is 0, and no two are the same
@@ -70,3 +73,36 @@ module _ (records : List Record) where
       let r = record_of_handle records j (get_or (handles_of records) j d) (slice_get-get_or (handles_of records) j d lt) in
       let other = record_of_handle records i (get_or (handles_of records) i d) (slice_get-get_or (handles_of records) i d before) in
       (new j r.0 r.1).1 i other.0 (omega (arith, less)) other.1 (other.2 ∙ (same ∙ sym r.2))
+
+-- the first so many records have new handles, and each of these is ticked off
+pub record AreTicked (records : List Record) (count : ℕ) (ticks : List Bool) : Type 0 where
+  pub new : (k : ℕ) (r : Record) → k < count → slice_get records k ≡ Some r → HasNewHandle records k r
+  pub ticked : (k : ℕ) (r : Record) → k < count → slice_get records k ≡ Some r → slice_get ticks r.handle ≡ Some true
+
+module _ (records : List Record) (count : ℕ) (ticks : List Bool) (before : AreTicked records count ticks) (r : Record) (is : slice_get records count ≡ Some r) where
+  module _ (some : r.handle ≢ 0) (free : slice_get ticks r.handle ≡ Some false) where
+    new_at_last : HasNewHandle records count r
+    new_at_last = (
+      some,
+      λ i other less at same.
+          let old : slice_get ticks r.handle ≡ Some true = subst (λ (h : ℕ). slice_get ticks h ≡ Some true) same (before.ticked i other less at) in
+          let twice : true ≡ false = same_Some true false (sym old ∙ free) in
+          absurd (cc),
+    )
+
+    pub one_ticked : AreTicked records (count + 1) (slice_set ticks r.handle true)
+    one_ticked = record {
+      new = λ k s lt at. elim (cases_lt k count) [
+        | inl less ↦ before.new k s less at
+        | inr last ↦ (let same : count ≡ k = omega arith in
+            let one : r ≡ s = same_Some r s (sym is ∙ (ap (λ i. slice_get records i) same ∙ at)) in
+            subst (λ (p : ℕ × Record). HasNewHandle records p.0 p.1) (ap (λ (x : Record). (count, x)) one ∙ ap (λ (i : ℕ). (i, s)) same) new_at_last)
+      ];
+      ticked = λ k s lt at. elim (cases_lt k count) [
+        | inl less ↦ (let old = before.ticked k s less at in
+            set_other ticks true r.handle s.handle true (λ same. let twice : true ≡ false = same_Some true false (sym old ∙ (ap (λ h. slice_get ticks h) same ∙ free)) in absurd (cc)) old)
+        | inr last ↦ (let same : count ≡ k = omega arith in
+            let one : r ≡ s = same_Some r s (sym is ∙ (ap (λ i. slice_get records i) same ∙ at)) in
+            subst (λ (x : Record). slice_get (slice_set ticks r.handle true) x.handle ≡ Some true) one (set_there ticks true r.handle (slice_get_within ticks r.handle false free)))
+      ];
+    }

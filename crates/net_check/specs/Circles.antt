@@ -16,6 +16,9 @@ IsOnCircle Move n = (k : ℕ) × Leads Move n (suc k) n
 abbrev pub HasNoCircle : (ℕ → ℕ → Type 0) → Type 0
 HasNoCircle Move = (n : ℕ) → ¬ IsOnCircle Move n
 
+abbrev pub HasCircle : (ℕ → ℕ → Type 0) → Type 0
+HasCircle Move = (n : ℕ) × IsOnCircle Move n
+
 -- A loop: at least two places, the last is the first, and each but the last moves to the one after it.
 pub record IsLoop (Move : ℕ → ℕ → Type 0) (places : List ℕ) : Type 0 where
   pub two : 2 ≤ length places
@@ -47,6 +50,10 @@ MovesBy table n m = next_in table n ≡ Some m
 abbrev pub AreMovesToEnds : (ℕ → ℕ → Type 0) → ℕ → List ℕ → Type 0
 AreMovesToEnds Move places counts =
     (length counts ≡ places) × ((n k : ℕ) → slice_get counts n ≡ Some k → EndsAfter Move n k)
+
+-- each number that is given for a place is that of the moves from it to its end
+abbrev pub AreKnown : (ℕ → ℕ → Type 0) → List (Option ℕ) → Type 0
+AreKnown Move known = (n k : ℕ) → slice_get known n ≡ Some (Some k) → EndsAfter Move n k
 
 -- either no place is on a circle, and these are the numbers of moves to the ends; or this is the loop from the least
 -- place on a circle

@@ -1,11 +1,13 @@
 -- Rows and rank ranges that follow one another along the endpoint IDs.
-use Rattle.std.specs.Prelude.{◌≡◌, ℕ, ◌+◌, ◌<◌, ◌≤◌, List, Bool, length, slice_get, slice_index_or}
-use Rattle.std.specs.Prelude.{Some, option_map, IsTrue}
+use Rattle.std.specs.Prelude.{◌≡◌, ℕ, ◌+◌, ◌<◌, ◌≤◌, List, length, slice_get, slice_index_or}
+use Rattle.std.specs.Prelude.{Some, option_map}
 use Rattle.net_plan.specs.declared.plan.Plan.{Plan}
 use Rattle.net_plan.specs.declared.nodes.Row.{Row}
 use Rattle.net_plan.specs.declared.certificate.RankRange.{RankRange}
 use Rattle.net_plan.specs.declared.certificate.Certificate.{Certificate}
 use Rattle.net_check.specs.declared.plans.Plans.{Plans}
+use Rattle.net_check.specs.declared.rows_in_force.RowOrder.{RowOrder}
+use Rattle.net_check.specs.declared.rows_in_force.RowOrder.TheVariants.{Following}
 use Rattle.net_check.specs.Routing.{OfItem, Covers, rows_of}
 use Rattle.net_check.specs.Ranks.{rank}
 
@@ -32,14 +34,14 @@ abbrev pub HaveRowsFor : List Row → ℕ → ℕ → Type 0
 HaveRowsFor rows first end = (e : ℕ) → first ≤ e → e < end → e ≤ 255
     → (r : ℕ) × (row : Row) × (slice_get rows r ≡ Some row) × Covers row e
 
--- if it is told so, the rows of n follow one another
-abbrev pub DoRowsFollow : Plan → ℕ → Bool → Type 0
-DoRowsFollow plan n follow = IsTrue follow → RowsFollow (rows_of plan n)
+-- where it is known of their order, the rows of n follow one another
+abbrev pub DoRowsFollow : Plan → ℕ → RowOrder → Type 0
+DoRowsFollow plan n order = order ≡ Following → RowsFollow (rows_of plan n)
 
--- if it is told so, the rows of n follow one another in the plan after, if there is one
-abbrev pub DoNewRowsFollow : Plans → ℕ → Bool → Type 0
-DoNewRowsFollow plans n follow =
-    (after : Plan) → option_map (λ a. a.now) plans.after ≡ Some after → DoRowsFollow after n follow
+-- the same in the plan after, if there is one
+abbrev pub DoNewRowsFollow : Plans → ℕ → RowOrder → Type 0
+DoNewRowsFollow plans n order =
+    (after : Plan) → option_map (λ a. a.now) plans.after ≡ Some after → DoRowsFollow after n order
 
 -- tables of ranks by EID, each as the certificate gives them to the node of its place
 abbrev pub AreRankTables : Certificate → List (List ℕ) → Type 0

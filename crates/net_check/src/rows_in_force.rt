@@ -12,14 +12,23 @@ use mctp_transport::Eid;
 use net_plan::{Plan, Row};
 use std::marker::Model;
 
+/// What is known of the order of a node's rows.
+#[derive(Clone, Copy, Debug, PartialEq, Eq)]
+pub enum RowOrder {
+    /// Each row ends before the next one begins.
+    Following,
+    /// Nothing is known.
+    Unknown,
+}
+
 /// The rows of a node by each of the plans. Where each row ends before the next one begins, that of an endpoint ID is
 /// found by halving.
 #[derive(Drop)]
 pub struct RowsInForce<'a> {
     plans: &'a Plans<'a>,
     node: usize,
-    follow: bool,
-    follow_after: bool,
+    order: RowOrder,
+    order_after: RowOrder,
 }
 
 impl<'a> Model for RowsInForce<'a> {
@@ -31,7 +40,7 @@ impl<'a> Model for RowsInForce<'a> {
 
     ghost view = { λ r. (r.plans.now, r.node) };
 
-    ghost invariant = { λ r. DoRowsFollow r.plans.now.plan.now r.node r.follow × DoNewRowsFollow r.plans.now r.node r.follow_after };
+    ghost invariant = { λ r. DoRowsFollow r.plans.now.plan.now r.node r.order × DoNewRowsFollow r.plans.now r.node r.order_after };
 }
 
 impl<'a> RowsInForce<'a> {
@@ -41,15 +50,15 @@ impl<'a> RowsInForce<'a> {
     pub fn of(plans: &'a Plans<'a>, node: usize) -> Self
         ensures { result ≡ (plans.now, node) }
     {
-        let follow_after = match plans.after {
-            Some(after) => rows_follow(rows_at(after, node)),
-            None => false,
+        let order_after = match plans.after {
+            Some(after) => order_of(rows_at(after, node)),
+            None => RowOrder::Unknown,
         };
         RowsInForce {
             plans,
             node,
-            follow: rows_follow(rows_at(plans.plan, node)),
-            follow_after,
+            order: order_of(rows_at(plans.plan, node)),
+            order_after,
         }
     }
 
@@ -71,9 +80,9 @@ impl<'a> RowsInForce<'a> {
     pub fn has_in_one(&self, eid: Eid) -> bool
         ensures { IsTrue result ↔ HasRowEver (tables_of self.now.0) self.now.1 eid.value }
     {
-        let one = finds_row(self.plans.plan, self.node, self.follow, eid);
+        let one = finds_row(self.plans.plan, self.node, self.order, eid);
         match self.plans.after {
-            Some(after) => one || finds_row(after, self.node, self.follow_after, eid),
+            Some(after) => one || finds_row(after, self.node, self.order_after, eid),
             None => one,
         }
     }
@@ -82,36 +91,45 @@ impl<'a> RowsInForce<'a> {
     pub fn border(&self, eid: Eid) -> u16
         ensures { IsStretch (HasRowEver (tables_of self.now.0) self.now.1) eid.value result }
     {
-        let end = finds_border(self.plans.plan, self.node, self.follow, eid);
+        let end = finds_border(self.plans.plan, self.node, self.order, eid);
         match self.plans.after {
-            Some(after) => end.min(finds_border(after, self.node, self.follow_after, eid)),
+            Some(after) => end.min(finds_border(after, self.node, self.order_after, eid)),
             None => end,
         }
     }
 }
 
 /// Whether the node has a row for the endpoint ID: by halving, where its rows are known to follow one another.
-fn finds_row(plan: &Plan, node: usize, follow: bool, eid: Eid) -> bool
-    requires { DoRowsFollow plan.now node follow }
+fn finds_row(plan: &Plan, node: usize, order: RowOrder, eid: Eid) -> bool
+    requires { DoRowsFollow plan.now node order }
     ensures { IsTrue result ↔ HasRow plan.now node eid.value }
 {
-    if follow {
-        has_row_by_halving(plan, node, eid)
-    } else {
-        has_row(plan, node, eid)
+    match order {
+        RowOrder::Following => has_row_by_halving(plan, node, eid),
+        RowOrder::Unknown => has_row(plan, node, eid),
     }
 }
 
 /// The end of a stretch from the endpoint ID on for which the node has rows, or has none: by halving, where its rows
 /// are known to follow one another.
-fn finds_border(plan: &Plan, node: usize, follow: bool, eid: Eid) -> u16
-    requires { DoRowsFollow plan.now node follow }
+fn finds_border(plan: &Plan, node: usize, order: RowOrder, eid: Eid) -> u16
+    requires { DoRowsFollow plan.now node order }
     ensures { IsStretch (HasRow plan.now node) eid.value result }
 {
-    if follow {
-        border_by_halving(plan, node, eid)
+    match order {
+        RowOrder::Following => border_by_halving(plan, node, eid),
+        RowOrder::Unknown => row_border(plan, node, eid),
+    }
+}
+
+/// What is known of the order of the rows, once they have been looked through.
+fn order_of(rows: &[Row]) -> RowOrder
+    ensures { result ≡ RowOrder.Following → RowsFollow rows.now }
+{
+    if rows_follow(rows) {
+        RowOrder::Following
     } else {
-        row_border(plan, node, eid)
+        RowOrder::Unknown
     }
 }
 

@@ -1,6 +1,6 @@
 //! Where moves from place to place lead, by a table of next places.
-ghost use Rattle.std.specs.Prelude.{◌≡◌, ◌↔◌, length, IsTrue, IfOk, MatchOption};
-ghost use Rattle.net_check.specs.Circles.{next_in, MovesBy, IsOnCircle, IsLeastOnCircle, HasNoCircle, IsLoopFrom, EndsAfter, AreMovesToEnds, IsWalked};
+ghost use Rattle.std.specs.Prelude.{◌≡◌, ◌↔◌, length, IsTrue, IfOk, IfSome, MatchOption, Some, None, replicate, slice_get};
+ghost use Rattle.net_check.specs.Circles.{next_in, MovesBy, IsOnCircle, IsLeastOnCircle, HasNoCircle, HasCircle, IsLoopFrom, EndsAfter, AreKnown, AreMovesToEnds, IsWalked};
 
 use std::alloc::{AllocError, Global};
 
@@ -67,38 +67,86 @@ fn loop_from(alloc: Global, table: &[Option<usize>], start: usize) -> Result<Vec
     Ok(places)
 }
 
-/// The number of moves from a place to its end.
-fn moves_to_end(table: &[Option<usize>], start: usize) -> usize
-    requires { HasNoCircle (MovesBy table.now) }
-    ensures { EndsAfter (MovesBy table.now) start result }
+/// The number of moves from a place to its end, where it is known.
+fn known_at(known: &[Option<usize>], place: usize) -> Option<usize>
+    ensures { IfSome result (λ count. slice_get known.now place ≡ Some (Some count)) }
 {
-    let mut at = start;
-    let mut count = 0;
-    while let Some(next) = next_of(table, at) {
-        at = next;
-        count += 1;
-    }
-    count
+    *known.get(place)?
 }
 
-/// The numbers of moves from each place to its end.
-fn moves_to_ends(alloc: Global, table: &[Option<usize>]) -> Result<Vec<usize>, AllocError>
-    requires { HasNoCircle (MovesBy table.now) }
-    ensures { IfOk result (λ counts. AreMovesToEnds (MovesBy table.now) (length table.now) counts.items) }
+/// The number of moves from a place to its end: up to a place whose number is known, if it comes to one. None where the
+/// moves are more than the places, so that they go round a circle.
+fn moves_to_end(table: &[Option<usize>], known: &[Option<usize>], start: usize) -> Option<usize>
+    requires { AreKnown (MovesBy table.now) known.now }
+    ensures { MatchOption result (HasCircle (MovesBy table.now)) (EndsAfter (MovesBy table.now) start) }
 {
+    let mut at = start;
+    for count in 0..table.len() + 1 {
+        if let Some(rest) = known_at(known, at) {
+            return Some(count + rest);
+        }
+        let Some(next) = next_of(table, at) else {
+            return Some(count);
+        };
+        at = next;
+    }
+    None
+}
+
+/// Notes the number of moves from a place to its end, and those of the places on its way, up to one whose number is
+/// known.
+#[tactic(auto, using(crate::proofs::KnownEnds::knows_more))]
+fn note_moves(table: &[Option<usize>], known: &mut [Option<usize>], start: usize, count: usize)
+    requires known { AreKnown (MovesBy table.now) known.old }
+    requires ends { EndsAfter (MovesBy table.now) start count }
+    ensures long { length known.new ≡ length known.old }
+    ensures known { AreKnown (MovesBy table.now) known.new }
+{
+    let mut at = start;
+    let mut left = count;
+    while known.get(at) == Some(&None) {
+        known[at] = Some(left);
+        let Some(next) = next_of(table, at) else {
+            return;
+        };
+        at = next;
+        left -= 1;
+    }
+}
+
+/// `count` places from which no number of moves is known.
+fn none_known(alloc: Global, count: usize) -> Result<Vec<Option<usize>>, AllocError>
+    ensures { IfOk result (λ known. known.items ≡ replicate count None) }
+{
+    vec![in alloc; None; count]
+}
+
+/// The numbers of moves from each place to its end; none where some lead round a circle. Each move is followed twice at
+/// most.
+fn moves_to_ends(alloc: Global, table: &[Option<usize>]) -> Result<Option<Vec<usize>>, AllocError>
+    ensures { IfOk result (λ found. MatchOption found (HasCircle (MovesBy table.now)) (λ counts. AreMovesToEnds (MovesBy table.now) (length table.now) counts.items)) }
+{
+    let mut known = none_known(alloc, table.len())?;
     let mut counts = Vec::new(alloc);
     for place in 0..table.len() {
-        counts.push(moves_to_end(table, place))?;
+        let Some(count) = moves_to_end(table, &known, place) else {
+            return Ok(None);
+        };
+        note_moves(table, &mut known, place, count);
+        counts.push(count)?;
     }
-    Ok(counts)
+    Ok(Some(counts))
 }
 
 /// Where the moves lead: to ends, or round the circle of the least place on one.
 pub fn walk(alloc: Global, table: &[Option<usize>]) -> Result<Walked, AllocError>
     ensures { IfOk result (λ walked. IsWalked (MovesBy table.now) (length table.now) walked) }
 {
+    if let Some(counts) = moves_to_ends(alloc, table)? {
+        return Ok(Walked::Ended(counts));
+    }
     match first_on_circle(table) {
         Some(start) => Ok(Walked::Circled(loop_from(alloc, table, start)?)),
-        None => Ok(Walked::Ended(moves_to_ends(alloc, table)?)),
+        None => unreachable!(),
     }
 }

@@ -1,5 +1,5 @@
 //! C12 and C13: the records of a terminus have handles of their own, and bytes that are those of a record.
-ghost use Rattle.std.specs.Prelude.{◌≡◌, ◌≢◌, ℕ, ◌<◌, ◌↔◌, ◌∷◌, true, false, IsTrue, IfOk, OnOk, map};
+ghost use Rattle.std.specs.Prelude.{◌≡◌, ◌≢◌, ℕ, ◌<◌, ◌↔◌, ◌∷◌, true, false, IsTrue, IfOk, OnOk, Some, map, replicate, slice_get};
 ghost use Rattle.std.specs.BTreeSet.{contains, Updates};
 ghost use Rattle.std.specs.List.Sorted.{IsStrictlyIncreasing};
 ghost use Rattle.std.specs.Ordering.{nat_cmp};
@@ -16,6 +16,9 @@ use mctp_transport::Wire;
 use net_plan::{Plan, Record};
 use std::alloc::{AllocError, Global};
 use std::collections::BTreeSet;
+
+/// How many places the list has for each record in which handles are ticked off.
+const PLACES_EACH: usize = 4;
 
 /// Where a terminus has no record, or a record's handle is 0 or an earlier record's.
 pub fn unlawful_handle(alloc: Global, plan: &Plan, node: usize) -> Result<Option<Spot>, AllocError>
@@ -46,14 +49,44 @@ fn has_records(plan: &Plan, node: usize) -> bool
     }
 }
 
-/// The first record whose handle is 0 or an earlier record's.
+/// The first record whose handle is 0 or an earlier record's. Most lists have none, which is found without sorting where
+/// the handles are small.
 fn first_without_new_handle(alloc: Global, records: &[Record]) -> Result<Option<usize>, AllocError>
     ensures { IfOk result (IsFirstItem records.now (HasNewHandle records.now)) }
 {
-    if have_new_handles(alloc, records)? {
+    if are_ticked_off_once(alloc, records)? || have_new_handles(alloc, records)? {
         return Ok(None);
     }
     first_with_old_handle(alloc, records)
+}
+
+/// Whether each handle is above 0, and is ticked off once in a list that has four places for each record. A handle past
+/// its end is not looked for.
+fn are_ticked_off_once(alloc: Global, records: &[Record]) -> Result<bool, AllocError>
+    ensures { IfOk result (λ once. IsTrue once → HaveNewHandles records.now) }
+{
+    let mut ticks = no_ticks(alloc, records.len().saturating_mul(PLACES_EACH))?;
+    for record in records {
+        if !can_be_ticked(&ticks, record.handle) {
+            return Ok(false);
+        }
+        ticks[record.handle as usize] = true;
+    }
+    Ok(true)
+}
+
+/// `count` places that are not ticked off.
+fn no_ticks(alloc: Global, count: usize) -> Result<Vec<bool>, AllocError>
+    ensures { IfOk result (λ ticks. ticks.items ≡ replicate count false) }
+{
+    vec![in alloc; false; count]
+}
+
+/// Whether the handle is above 0, and its place is there and is not ticked off.
+fn can_be_ticked(ticks: &[bool], handle: u32) -> bool
+    ensures { IsTrue result ↔ ((handle ≢ 0) × (slice_get ticks.now handle ≡ Some false)) }
+{
+    handle != 0 && ticks.get(handle as usize) == Some(&false)
 }
 
 /// Whether no handle is 0, and no two are the same: they ascend from above 0 on, as they stand or once they are sorted.

@@ -1,5 +1,4 @@
-use Rattle.std.proofs.Common.{◌≡◌, ℕ, ◌+◌, ◌≤◌, length, arith, List, sym, ◌∙◌, ap, subst, take, drop, ◌++◌}
-use Rattle.std.proofs.lemmas.List.{take_all, drop_all, append-nil}
+use Rattle.std.proofs.Common.{◌≡◌, ℕ, ◌+◌, ◌≤◌, length, arith, List, sym, ◌∙◌, subst}
 use Rattle.net_check.specs.declared.certifying.walks.Walked.{Walked}
 use Rattle.net_check.specs.declared.certifying.walks.Walked.TheVariants.{Ended}
 use Rattle.net_plan.specs.declared.certificate.NodeRanks.{NodeRanks}
@@ -7,15 +6,10 @@ use Rattle.net_check.specs.Routing.{MovesTo}
 use Rattle.net_check.specs.Circles.{IsWalked}
 use Rattle.net_check.specs.RankRuns.{AreNone, AreGrown}
 use Rattle.net_check.specs.Certificates.{AreRoutedBelow}
+use Rattle.net_check.proofs.KnownEnds.{written_whole}
 use Rattle.net_check.proofs.RankLaws.{routed_start, routed_step, routed_all, counts_small}
 use Rattle.net_check.proofs.certifying.exact_ranks.exact_ranks.Goals.{After-stretch_from-stretch, In-Ended}
 use Rattle.net_check.proofs.certifying.exact_ranks.exact_ranks.Goals as goal
-
--- a list written over as a whole
-written_whole : {X : Type 0} (n : ℕ) (new items : List X) → length new ≡ length items → n ≡ length items → take n (new ++ drop (length new) items) ≡ new
-written_whole n new items long all =
-    let none = drop_all (length new) items (omega (arith, long)) in
-    ap (λ rest. take n (new ++ rest)) none ∙ (ap (λ xs. take n xs) (append-nil new) ∙ take_all n new (omega (arith, long, all)))
 
 -- all EIDs below the stretch are done
 routed_before : (c : After-stretch_from-stretch) → AreRoutedBelow c.args.plan.now c.stretch_from-stretch.result.first.value c.loop-first.given.items
