@@ -173,17 +173,22 @@ fn bounds_certificates(rt: HostRuntime) -> Result<(), Fail> {
     Ok(())
 }
 
-#[test]
-fn means_the_first_node_of_a_name(rt: HostRuntime) -> Result<(), Fail> {
+/// The riser network's plan in which ssd is called nic, too.
+fn plan_of_two_nics(alloc: Global) -> Result<Plan, Fail> {
     let text = edited(
-        rt.alloc(),
+        alloc,
         riser::PLAN,
         &[
             (r#""name":"ssd""#, r#""name":"nic""#),
             (r#""next":"ssd""#, r#""next":"nic""#),
         ],
     )?;
-    let plan = plan_of_text(rt.alloc(), text.as_str().as_bytes())?;
+    Ok(plan_of_text(alloc, text.as_str().as_bytes())?)
+}
+
+#[test]
+fn means_the_first_node_of_a_name(rt: HostRuntime) -> Result<(), Fail> {
+    let plan = plan_of_two_nics(rt.alloc())?;
     let text = r#"{"format":1,"levels":[],"places":[],"ranks":[{"node":"nic","ranges":[]}]}"#;
     let certificate = certificate_of_text(rt.alloc(), &plan, text.as_bytes())?;
     assert!(rt; certificate.ranks.len() == 1 && certificate.ranks[0].node == 2);

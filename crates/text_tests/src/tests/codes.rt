@@ -22,10 +22,18 @@ fn prints(alloc: Global, error: PlanError, code: &str) -> Result<bool, AllocErro
     Ok(format!(in alloc; "{error}")?.as_str() == code)
 }
 
+/// The code of the first error that prints another.
+fn first_other(alloc: Global) -> Result<Option<&'static str>, AllocError> {
+    for (error, code) in OF_TEXTS {
+        if !prints(alloc, error, code)? {
+            return Ok(Some(code));
+        }
+    }
+    Ok(None)
+}
+
 #[test]
 fn errors_of_texts_print_their_codes(rt: HostRuntime) -> Result<(), Fail> {
-    for (error, code) in OF_TEXTS {
-        assert!(rt; prints(rt.alloc(), error, code)?, "{code}");
-    }
+    assert_eq!(rt; first_other(rt.alloc())?, None);
     Ok(())
 }
