@@ -20,9 +20,17 @@ const OF_RULES: [(Rule, &str); 16] = [
     (Rule::C16, "C16"),
 ];
 
+/// The code of the first rule that has another.
+fn first_other(rows: &[(Rule, &'static str)]) -> Option<&'static str> {
+    for (rule, code) in rows {
+        if rule.code() != *code {
+            return Some(*code);
+        }
+    }
+    None
+}
+
 #[test]
 fn rules_have_their_codes(rt: HostRuntime) {
-    for (rule, code) in OF_RULES {
-        assert_eq!(rt; rule.code(), code);
-    }
+    assert_eq!(rt; first_other(&OF_RULES), None);
 }

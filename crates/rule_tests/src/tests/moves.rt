@@ -159,10 +159,10 @@ const MOVES: [Move; 7] = [
 ];
 
 /// What the first row shows of which something else is found.
-fn first_wrong(alloc: Global) -> Result<Option<&'static str>, Fail> {
-    for (what, before, after, ranks, wanted) in MOVES {
-        if found(alloc, before, after, ranks)? != wanted.map(error_of) {
-            return Ok(Some(what));
+fn first_wrong(alloc: Global, rows: &[Move]) -> Result<Option<&'static str>, Fail> {
+    for (what, before, after, ranks, wanted) in rows {
+        if found(alloc, *before, *after, *ranks)? != wanted.map(error_of) {
+            return Ok(Some(*what));
         }
     }
     Ok(None)
@@ -170,7 +170,7 @@ fn first_wrong(alloc: Global) -> Result<Option<&'static str>, Fail> {
 
 #[test]
 fn moves_between_two_ways_are_checked(rt: HostRuntime) -> Result<(), Fail> {
-    assert_eq!(rt; first_wrong(rt.alloc())?, None);
+    assert_eq!(rt; first_wrong(rt.alloc(), &MOVES)?, None);
     Ok(())
 }
 

@@ -324,8 +324,8 @@ fn send_in_all_orders(
         orders: 0,
         whole: 0,
     };
-    for order in ORDERS {
-        all = all.and(send_in_orders(alloc, network, message, packets, order)?);
+    for order in &ORDERS {
+        all = all.and(send_in_orders(alloc, network, message, packets, *order)?);
     }
     Ok(all)
 }

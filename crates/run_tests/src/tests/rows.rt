@@ -293,8 +293,8 @@ const LISTS: [&[Row]; 6] = [
 
 /// Plays all lists in a way.
 pub fn play_lists(rt: &(impl Abort + AllocGlobal), way: Way) -> Result<(), Fail> {
-    for rows in LISTS {
-        play_on(rt, Scenario::Rows(rows, way))?;
+    for rows in &LISTS {
+        play_on(rt, Scenario::Rows(*rows, way))?;
     }
     Ok(())
 }

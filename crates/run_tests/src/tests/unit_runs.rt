@@ -53,8 +53,8 @@ const PUTS: [(u16, usize, &str); 6] = [
 
 #[test]
 fn puts_are_read_within_the_unit(rt: HostRuntime) -> Result<(), Fail> {
-    for (unit, length, wanted) in PUTS {
-        put_at(&rt, unit, length, wanted)?;
+    for (unit, length, wanted) in &PUTS {
+        put_at(&rt, *unit, *length, wanted)?;
     }
     Ok(())
 }
@@ -125,8 +125,8 @@ fn walk_of(count: u16) -> Event {
 
 #[test]
 fn parts_fit_five_packets_of_the_unit(rt: HostRuntime) -> Result<(), Fail> {
-    for (unit, count, wanted) in COUNTS {
-        play_at(&rt, unit, Scenario::Events(&[walk_of(count)], wanted))?;
+    for (unit, count, wanted) in &COUNTS {
+        play_at(&rt, *unit, Scenario::Events(&[walk_of(*count)], wanted))?;
     }
     Ok(())
 }

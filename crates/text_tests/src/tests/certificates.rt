@@ -212,10 +212,14 @@ fn is_kept(alloc: Global, plan: &Plan, text: &str) -> Result<bool, Fail> {
 }
 
 /// The first text that is written otherwise.
-fn first_other(alloc: Global, plan: &Plan) -> Result<Option<&'static str>, Fail> {
-    for text in KEPT {
+fn first_other(
+    alloc: Global,
+    plan: &Plan,
+    texts: &[&'static str],
+) -> Result<Option<&'static str>, Fail> {
+    for text in texts {
         if !is_kept(alloc, plan, text)? {
-            return Ok(Some(text));
+            return Ok(Some(*text));
         }
     }
     Ok(None)
@@ -224,6 +228,6 @@ fn first_other(alloc: Global, plan: &Plan) -> Result<Option<&'static str>, Fail>
 #[test]
 fn writes_what_was_read(rt: HostRuntime) -> Result<(), Fail> {
     let plan = plan_of_text(rt.alloc(), riser::PLAN.as_bytes())?;
-    assert_eq!(rt; first_other(rt.alloc(), &plan)?, None);
+    assert_eq!(rt; first_other(rt.alloc(), &plan, &KEPT)?, None);
     Ok(())
 }

@@ -23,10 +23,13 @@ fn prints(alloc: Global, error: PlanError, code: &str) -> Result<bool, AllocErro
 }
 
 /// The code of the first error that prints another.
-fn first_other(alloc: Global) -> Result<Option<&'static str>, AllocError> {
-    for (error, code) in OF_TEXTS {
-        if !prints(alloc, error, code)? {
-            return Ok(Some(code));
+fn first_other(
+    alloc: Global,
+    rows: &[(PlanError, &'static str)],
+) -> Result<Option<&'static str>, AllocError> {
+    for (error, code) in rows {
+        if !prints(alloc, *error, code)? {
+            return Ok(Some(*code));
         }
     }
     Ok(None)
@@ -34,6 +37,6 @@ fn first_other(alloc: Global) -> Result<Option<&'static str>, AllocError> {
 
 #[test]
 fn errors_of_texts_print_their_codes(rt: HostRuntime) -> Result<(), Fail> {
-    assert_eq!(rt; first_other(rt.alloc())?, None);
+    assert_eq!(rt; first_other(rt.alloc(), &OF_TEXTS)?, None);
     Ok(())
 }

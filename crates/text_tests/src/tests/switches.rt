@@ -23,8 +23,10 @@ fn reads_switches(rt: HostRuntime) -> Result<(), Fail> {
     Ok(())
 }
 
-/// Lists, each of one event in a format, and what is wrong with it.
-const CASES: [(&str, &str, Option<PlanError>); 16] = [
+/// A format, an event, and what is wrong with a list of it alone.
+type Case = (&'static str, &'static str, Option<PlanError>);
+
+const CASES: [Case; 16] = [
     ("2", "{\"do\":\"switch\",\"node\":\"nic\"}", None),
     (
         "1",
@@ -90,10 +92,11 @@ fn fault_of(
 fn first_wrong(
     alloc: Global,
     plan: &Plan,
+    rows: &[Case],
 ) -> Result<Option<(&'static str, &'static str)>, AllocError> {
-    for (format, event, wanted) in CASES {
-        if fault_of(alloc, plan, format, event)? != wanted {
-            return Ok(Some((format, event)));
+    for (format, event, wanted) in rows {
+        if fault_of(alloc, plan, format, event)? != *wanted {
+            return Ok(Some((*format, *event)));
         }
     }
     Ok(None)
@@ -102,6 +105,6 @@ fn first_wrong(
 #[test]
 fn tells_the_first_fault_of_a_switch(rt: HostRuntime) -> Result<(), Fail> {
     let plan = plan_of_text(rt.alloc(), riser::PLAN.as_bytes())?;
-    assert_eq!(rt; first_wrong(rt.alloc(), &plan)?, None);
+    assert_eq!(rt; first_wrong(rt.alloc(), &plan, &CASES)?, None);
     Ok(())
 }

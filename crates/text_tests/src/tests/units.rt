@@ -15,10 +15,13 @@ const UNITS: [(&str, u16); 5] = [
 ];
 
 /// The first text whose plan has another unit.
-fn first_other(alloc: Global) -> Result<Option<&'static str>, PlanError> {
-    for (text, wanted) in UNITS {
-        if plan_of_text(alloc, text.as_bytes())?.unit != wanted {
-            return Ok(Some(text));
+fn first_other(
+    alloc: Global,
+    rows: &[(&'static str, u16)],
+) -> Result<Option<&'static str>, PlanError> {
+    for (text, wanted) in rows {
+        if plan_of_text(alloc, text.as_bytes())?.unit != *wanted {
+            return Ok(Some(*text));
         }
     }
     Ok(None)
@@ -26,7 +29,7 @@ fn first_other(alloc: Global) -> Result<Option<&'static str>, PlanError> {
 
 #[test]
 fn reads_units(rt: HostRuntime) -> Result<(), Fail> {
-    assert_eq!(rt; first_other(rt.alloc())?, None);
+    assert_eq!(rt; first_other(rt.alloc(), &UNITS)?, None);
     Ok(())
 }
 
@@ -103,10 +106,10 @@ const NO_PLANS: [(&str, PlanError); 17] = [
 ];
 
 /// The first text with another fault.
-fn first_wrong(alloc: Global) -> Option<&'static str> {
-    for (text, wanted) in NO_PLANS {
-        if plan_of_text(alloc, text.as_bytes()).err() != Some(wanted) {
-            return Some(text);
+fn first_wrong(alloc: Global, rows: &[(&'static str, PlanError)]) -> Option<&'static str> {
+    for (text, wanted) in rows {
+        if plan_of_text(alloc, text.as_bytes()).err() != Some(*wanted) {
+            return Some(*text);
         }
     }
     None
@@ -114,7 +117,7 @@ fn first_wrong(alloc: Global) -> Option<&'static str> {
 
 #[test]
 fn tells_the_first_fault_of_a_unit(rt: HostRuntime) {
-    assert_eq!(rt; first_wrong(rt.alloc()), None);
+    assert_eq!(rt; first_wrong(rt.alloc(), &NO_PLANS), None);
 }
 
 /// Whether the riser network's plan in this format has its nodes, and this unit.
@@ -132,10 +135,13 @@ const FORMATS: [(&str, u16); 3] = [
 ];
 
 /// The first format in which the plan is another.
-fn first_other_format(alloc: Global) -> Result<Option<&'static str>, Fail> {
-    for (format, unit) in FORMATS {
-        if !is_the_riser_network_of(alloc, format, unit)? {
-            return Ok(Some(format));
+fn first_other_format(
+    alloc: Global,
+    rows: &[(&'static str, u16)],
+) -> Result<Option<&'static str>, Fail> {
+    for (format, unit) in rows {
+        if !is_the_riser_network_of(alloc, format, *unit)? {
+            return Ok(Some(*format));
         }
     }
     Ok(None)
@@ -143,7 +149,7 @@ fn first_other_format(alloc: Global) -> Result<Option<&'static str>, Fail> {
 
 #[test]
 fn both_formats_have_the_same_nodes(rt: HostRuntime) -> Result<(), Fail> {
-    assert_eq!(rt; first_other_format(rt.alloc())?, None);
+    assert_eq!(rt; first_other_format(rt.alloc(), &FORMATS)?, None);
     Ok(())
 }
 

@@ -267,10 +267,14 @@ const FORMATS: [(&str, Option<PlanError>); 6] = [
 ];
 
 /// The first format that is known or unknown otherwise.
-fn first_wrong_format(alloc: Global, plan: &Plan) -> Result<Option<&'static str>, AllocError> {
-    for (format, wanted) in FORMATS {
-        if first_wrong(alloc, plan, format, &[("", wanted)])?.is_some() {
-            return Ok(Some(format));
+fn first_wrong_format(
+    alloc: Global,
+    plan: &Plan,
+    rows: &[(&'static str, Option<PlanError>)],
+) -> Result<Option<&'static str>, AllocError> {
+    for (format, wanted) in rows {
+        if first_wrong(alloc, plan, format, &[("", *wanted)])?.is_some() {
+            return Ok(Some(*format));
         }
     }
     Ok(None)
@@ -279,6 +283,6 @@ fn first_wrong_format(alloc: Global, plan: &Plan) -> Result<Option<&'static str>
 #[test]
 fn knows_three_formats(rt: HostRuntime) -> Result<(), Fail> {
     let plan = plan_of_text(rt.alloc(), riser::PLAN.as_bytes())?;
-    assert_eq!(rt; first_wrong_format(rt.alloc(), &plan)?, None);
+    assert_eq!(rt; first_wrong_format(rt.alloc(), &plan, &FORMATS)?, None);
     Ok(())
 }

@@ -192,8 +192,8 @@ const ANSWERS: [(Option<u32>, (u32, u32)); 5] = [
 /// Wants an answer of five packets to come whole or not.
 fn expect_five_packets(rt: &(impl Abort + AllocGlobal), network: &mut Network) -> Result<(), Fail> {
     network.step(&walk_by(303))?;
-    for (twice, wanted) in ANSWERS {
-        assert_eq!(rt; exchange_with_copy(network, twice)?, wanted, "{twice:?}");
+    for (twice, wanted) in &ANSWERS {
+        assert_eq!(rt; exchange_with_copy(network, *twice)?, *wanted, "{twice:?}");
     }
     expect_collected(rt, network, &[320])
 }

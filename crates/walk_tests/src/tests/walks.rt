@@ -379,8 +379,8 @@ const LISTS: [&[Row]; 9] = [
 
 /// Plays all lists in a way.
 pub fn play_lists(rt: &(impl Abort + AllocGlobal), way: Way) -> Result<(), Fail> {
-    for rows in LISTS {
-        play_as_planned(rt, Scenario::Rows(rows, way))?;
+    for rows in &LISTS {
+        play_as_planned(rt, Scenario::Rows(*rows, way))?;
     }
     Ok(())
 }
