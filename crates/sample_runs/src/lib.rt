@@ -1,9 +1,8 @@
-//! Networks that are played from rows, which the crates of tests share.
+//! Rows of events, networks and outcomes as texts, which the crates of tests share.
 #![tactic(auto)]
 
-pub mod asking_again;
 pub mod networks;
-pub mod playing;
 pub mod repositories;
 pub mod riser_events;
+pub mod rows;
 pub mod telling;

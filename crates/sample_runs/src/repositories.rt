@@ -1,5 +1,6 @@
 //! Termini with the records that a plan lists for a node, and with others.
 use net_plan::Plan;
+use net_sim::Network;
 use pdr_repository::{BlockTerminus, ListTerminus, is_lawful_list};
 use pldm_message::Tid;
 use std::alloc::{AllocError, Global};
@@ -82,4 +83,16 @@ pub fn list_at(alloc: Global, plan: &Plan, place: usize) -> Result<ListTerminus,
 pub fn block_at(alloc: Global, plan: &Plan, place: usize) -> Result<BlockTerminus, Fail> {
     let (tid, records) = repository_at(alloc, plan, place)?;
     block_of(alloc, tid, records)
+}
+
+/// Whether the walker has collected exactly these records.
+pub fn has_collected(network: &Network, walker: usize, wanted: &[(u32, Vec<u8>)]) -> bool {
+    match network.collected(walker) {
+        Some(records) => {
+            records.len() == wanted.len()
+                && records.iter().zip(wanted).all(|(record, wanted)| record.as_slice()
+                    == wanted.1.as_slice())
+        }
+        None => false,
+    }
 }

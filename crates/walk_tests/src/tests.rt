@@ -1,6 +1,4 @@
 //! Tests over the walkers of `net_sim`.
 mod losing;
 mod playing;
-mod refused_walks;
 mod walkers;
-mod walks;

@@ -1,11 +1,11 @@
 //! Messages of several packets from host to ssd in the riser network.
 use super::playing::{Scenario, play_on};
+use super::ways::{Way, outcomes_of};
 use mctp_transport::{
     DropCause, Eid, HEADER_LENGTH, Key, MAX_MESSAGE, MAX_UNIT, Packets, Seq, Tag,
 };
 use net_plan::Event;
 use net_sim::{Effect, Network, Outcome};
-use sample_runs::playing::{Way, outcomes_of};
 use sample_texts::riser::{HOST, SSD};
 use std::alloc::{AllocError, Global};
 use std::process::Abort;

@@ -1,9 +1,9 @@
 //! Lines of bridges. The one at place i has the endpoint ID 8 + i, shares a bus with each of its neighbors alone, and has
 //! one row towards each neighbor, for all endpoint IDs on that side.
+use super::ways::{Way, told_of};
 use net_check::certify;
 use net_plan::{Event, Plan};
 use sample_runs::networks::{network_of, plan_of};
-use sample_runs::playing::{Way, told_of};
 use std::alloc::{AllocError, Global};
 use std::process::Abort;
 use std::test::Fail;

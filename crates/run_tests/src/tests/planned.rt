@@ -13,7 +13,7 @@ use net_sim::{Network, Played};
 use pdr_repository::{BlockTerminus, Terminus};
 use pldm_message::Tid;
 use sample_runs::networks::{certificate_of, plan_of};
-use sample_runs::playing::{all_told, events_of, wanted_of};
+use sample_runs::rows::{all_told, events_of, wanted_of};
 use sample_texts::riser::{CERTIFICATE, NIC, PLAN};
 use std::alloc::{AllocError, Global};
 use std::test::Fail;

@@ -1,13 +1,15 @@
 //! Networks that are played from texts.
 use super::exact::{expect_two_of_six, expect_whole_or_nothing};
+use super::refused_walks::expect_20_records;
 use super::rows::expect_refusals;
 use super::unit_runs::expect_four_packets;
+use super::ways::{Way, told_of, told_of_rows};
 use net_plan::{Certificate, Event, Plan};
 use net_sim::Network;
 use pdr_repository::Terminus;
 use sample_runs::networks::{certificate_of, network_of, plan_of};
-use sample_runs::playing::{Row, Way, told_of, told_of_rows, wanted_of};
-use sample_runs::repositories::{block_at, list_at};
+use sample_runs::repositories::{block_at, list_at, list_with};
+use sample_runs::rows::{Row, wanted_of};
 use sample_texts::riser::{CERTIFICATE, NIC, PLAN};
 use std::alloc::Global;
 use std::process::Abort;
@@ -35,6 +37,8 @@ pub enum Scenario<'a> {
     FourPackets,
     /// Events at nodes beyond the plan.
     BeyondThePlan,
+    /// A walk over 20 records, each event of which is asked again where memory ran out.
+    Refused20Records,
 }
 
 /// The texts of a plan and a certificate, and the places of the nodes with termini.
@@ -75,6 +79,41 @@ pub fn play_on_plan(
     scenario: Scenario<'_>,
 ) -> Result<(), Fail> {
     let termini = termini_of(rt.alloc(), plan, places)?;
+    play_over(rt, plan, certificate, termini, scenario)
+}
+
+/// Plays on the riser network with a list of records at nic, of so many bytes of data each.
+pub fn play_with(
+    rt: &(impl Abort + AllocGlobal),
+    sizes: &[u16],
+    scenario: Scenario<'_>,
+) -> Result<(), Fail> {
+    let plan = plan_of(rt.alloc(), PLAN)?;
+    let certificate = certificate_of(rt.alloc(), &plan, CERTIFICATE)?;
+    play_over(
+        rt,
+        &plan,
+        &certificate,
+        termini_with(rt.alloc(), sizes)?,
+        scenario,
+    )
+}
+
+/// A list of such records at nic, as the only terminus.
+pub fn termini_with(alloc: Global, sizes: &[u16]) -> Result<Vec<Box<dyn Terminus>>, Fail> {
+    let mut termini: Vec<Box<dyn Terminus>> = Vec::new(alloc);
+    termini.push(Box::new(alloc, list_with(alloc, sizes)?)?)?;
+    Ok(termini)
+}
+
+/// Plays on the network of this plan and this certificate over these termini.
+fn play_over(
+    rt: &(impl Abort + AllocGlobal),
+    plan: &Plan,
+    certificate: &Certificate,
+    termini: Vec<Box<dyn Terminus>>,
+    scenario: Scenario<'_>,
+) -> Result<(), Fail> {
     let mut network = network_of(rt.alloc(), plan, certificate, termini)?;
     play(rt, plan, &mut network, scenario)
 }
@@ -109,11 +148,12 @@ pub fn play(
         Scenario::SixPackets => expect_two_of_six(rt, network),
         Scenario::FourPackets => expect_four_packets(rt, network),
         Scenario::BeyondThePlan => expect_refusals(rt, network),
+        Scenario::Refused20Records => expect_20_records(rt, plan, network),
     }
 }
 
 /// Plays the rows' events in a way, and wants what their rows say.
-fn expect_rows(
+pub fn expect_rows(
     rt: &(impl Abort + AllocGlobal),
     plan: &Plan,
     network: &mut Network,

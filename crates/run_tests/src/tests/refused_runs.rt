@@ -1,15 +1,15 @@
 //! Networks in which any growth of memory may be refused. An event that is asked again then has the outcome that it has
 //! with ample memory. `tools/refuse-growths` refuses the growths one after another.
-use super::playing::{Scenario, play};
+use super::playing::{Scenario, play, termini_with};
 use super::rows::{AND_BACK, play_lists};
 use super::switching::{SWITCHED, by_right, play_on_two_ways};
+use super::ways::Way;
 use net_check::{Checked, CheckedMove, check, check_move};
 use net_plan::{Certificate, Plan};
 use net_sim::{Network, planned_termini_count};
 use pdr_repository::Terminus;
 use sample_runs::networks::{certificate_of, plan_of};
-use sample_runs::playing::Way;
-use sample_runs::repositories::{TWENTY, list_with};
+use sample_runs::repositories::TWENTY;
 use sample_texts::marks::{Mark, set_mark};
 use sample_texts::riser::{CERTIFICATE, PLAN};
 use sample_texts::two_ways::{RANKS_OF_TWO_WAYS, TWO_WAYS};
@@ -51,10 +51,8 @@ fn over_20_records<'a>(
     plan: &'a Plan,
     certificate: &'a Certificate,
 ) -> Result<Option<Network<'a>>, Fail> {
-    let mut termini: Vec<Box<dyn Terminus>> = Vec::new(alloc);
-    termini.push(Box::new(alloc, list_with(alloc, &TWENTY)?)?)?;
     let checked = check(alloc, plan, certificate)?;
-    new(alloc, checked, termini)
+    new(alloc, checked, termini_with(alloc, &TWENTY)?)
 }
 
 /// Plays there and back on the network over 20 records; on none where memory ran out.

@@ -1,13 +1,14 @@
 //! Lists of events on the riser network.
 use super::playing::{Scenario, play_on};
+use super::ways::Way;
 use mctp_transport::{Eid, Key, Tag};
 use net_plan::Event;
 use net_sim::{Effect, Network, Outcome, Refusal};
-use sample_runs::playing::{Row, Way};
 use sample_runs::riser_events::{
     ANSWER_NIC, ANSWER_SSD, GET_TID_OF_NIC, GET_TID_OF_SSD, MOVE_1, MOVE_2, MOVE_3, MOVE_4, MOVE_5,
     MOVE_6,
 };
+use sample_runs::rows::Row;
 use std::alloc::{AllocError, Global};
 use std::process::Abort;
 use std::test::Fail;

@@ -1,11 +1,12 @@
 //! Networks whose nodes switch to new rows while packets are on their way.
 use super::playing::{Scenario, Texts, play, play_on_texts};
+use super::ways::{Way, outcomes_of};
 use net_check::check_move;
 use net_plan::{Certificate, Event, Plan};
 use net_sim::{Effect, Network, Outcome, Refusal};
 use sample_runs::networks::{certificate_of, moving_network_of, plan_of};
-use sample_runs::playing::{Row, Way, outcomes_of};
 use sample_runs::riser_events::{GET_TID_OF_NIC, MOVE_1, MOVE_2};
+use sample_runs::rows::Row;
 use sample_texts::edited;
 use sample_texts::two_ways::{RANKS_OF_TWO_WAYS, TWO_WAYS};
 use std::alloc::{AllocError, Global};

@@ -1,10 +1,11 @@
 //! Termini of either kind, whose terminus IDs are set and read in a run.
 use super::playing::{Scenario, Storage, Texts, play_on_texts};
-use sample_runs::playing::{Row, Way};
+use super::ways::Way;
 use sample_runs::riser_events::{
     ANSWER_NIC, ANSWER_SSD, GET_TID_OF_NIC, GET_TID_OF_SSD, MOVE_1, MOVE_2, MOVE_3, MOVE_4, MOVE_5,
     MOVE_6, MOVE_7, MOVE_8,
 };
+use sample_runs::rows::Row;
 use sample_texts::riser::{CERTIFICATE, NIC, PLAN, SSD};
 use std::alloc::{AllocError, Global};
 use std::process::Abort;

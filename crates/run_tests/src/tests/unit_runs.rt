@@ -1,10 +1,11 @@
 //! Networks of other transmission units than the baseline: what may be put in, and how answers and requests are cut.
 use super::playing::{Scenario, Storage, play_on_plan};
+use super::ways::Way;
 use mctp_transport::{Eid, HEADER_LENGTH, Key, MAX_UNIT, Packets, Seq, Tag};
 use net_plan::{Event, Plan};
 use net_sim::{Effect, Network, Outcome};
 use sample_runs::networks::{certificate_of, plan_of};
-use sample_runs::playing::{Row, Way};
+use sample_runs::rows::Row;
 use sample_texts::riser::{CERTIFICATE, HOST, NIC, PLAN, SSD};
 use std::alloc::{AllocError, Global};
 use std::process::Abort;

@@ -6,7 +6,7 @@ use net_sim::{Effect, Network, Outcome, WalkRefusal};
 use pdr_repository::Terminus;
 use pldm_message::Tid;
 use sample_runs::networks::{moving_network_of, network_of, plan_of};
-use sample_runs::repositories::block_of;
+use sample_runs::repositories::{block_of, has_collected};
 use sample_texts::edited;
 use sample_texts::riser::{HOST, NIC, PLAN};
 use std::alloc::{AllocError, Global};
@@ -161,18 +161,6 @@ fn play_walks(network: &mut Network, walkers: u32, switching: &[usize]) -> Resul
         put_in = answer_all(network, put_in)?;
     }
     Err(Fail::new("a walk isn't over"))
-}
-
-/// Whether the walker has collected exactly these records.
-pub fn has_collected(network: &Network, walker: usize, wanted: &[(u32, Vec<u8>)]) -> bool {
-    match network.collected(walker) {
-        Some(records) => {
-            records.len() == wanted.len()
-                && records.iter().zip(wanted).all(|(record, wanted)| record.as_slice()
-                    == wanted.1.as_slice())
-        }
-        None => false,
-    }
 }
 
 /// Begins walks of host over nic under these tags. Tells how many.

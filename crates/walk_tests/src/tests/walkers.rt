@@ -1,10 +1,10 @@
 //! Walkers at length: the instance IDs of their requests, answers of several packets, counts, many walkers.
-use super::losing::{deliver, has_collected, walk_of_host};
-use super::playing::{Scenario, play_as_planned, play_with};
+use super::losing::{deliver, walk_of_host};
+use super::playing::{walk_as_planned, walk_over};
 use mctp_transport::{Eid, Tag};
 use net_plan::Event;
 use net_sim::{Effect, Network, Outcome, Refusal, WalkRefusal};
-use sample_runs::repositories::records_of;
+use sample_runs::repositories::{has_collected, records_of};
 use sample_texts::riser::{HOST, NIC};
 use std::alloc::AllocError;
 use std::process::Abort;
@@ -89,18 +89,8 @@ pub fn expect_walks(
     }
 }
 
-/// Wants this of walks over a list of records at nic, of so many bytes of data each.
-fn walk_over(rt: &(impl Abort + AllocGlobal), sizes: &[u16], walks: Walks) -> Result<(), Fail> {
-    play_with(rt, sizes, Scenario::Walks(walks))
-}
-
-/// Wants this of walks over the records that are planned.
-fn walk_as_planned(rt: &(impl Abort + AllocGlobal), walks: Walks) -> Result<(), Fail> {
-    play_as_planned(rt, Scenario::Walks(walks))
-}
-
 /// Wants the first walker to have collected such records.
-pub fn expect_collected(
+fn expect_collected(
     rt: &(impl Abort + AllocGlobal),
     network: &Network,
     sizes: &[u16],

@@ -1,12 +1,11 @@
-//! Rows that are played on networks. A row is an event, as its text stands in a list of events, and what comes of it.
+//! Ways in which events are played. These functions stand in a crate of tests: a library's may not give out a network
+//! that they changed, whose termini are boxed.
 use super::asking_again;
-use super::telling::told;
-use net_plan::{Event, Plan, events_of_text};
+use net_plan::{Event, Plan};
 use net_sim::{Network, Outcome};
+use sample_runs::rows::{Row, all_told, events_of};
 use std::alloc::{AllocError, Global};
 use std::test::Fail;
-
-pub type Row = (&'static str, &'static str);
 
 /// How events are played.
 #[derive(Clone, Copy)]
@@ -19,17 +18,6 @@ pub enum Way {
     RefusedSteps,
     /// As one list, of which what is left is asked again where memory ran out.
     RefusedRun,
-}
-
-/// The events of these rows, in a list of format 3, which has all.
-pub fn events_of(alloc: Global, plan: &Plan, rows: &[Row]) -> Result<Vec<Event>, Fail> {
-    let mut list = Vec::new(alloc);
-    for (event, _) in rows {
-        list.push(*event)?;
-    }
-    let list = list.as_slice().join(alloc, ",")?;
-    let text = format!(in alloc; r#"{{"format":3,"events":[{list}]}}"#)?;
-    Ok(events_of_text(alloc, plan, text.as_str().as_bytes())?)
 }
 
 /// The outcomes of events that are played this way.
@@ -69,15 +57,6 @@ fn run(network: &mut Network, events: &[Event]) -> Result<Vec<Outcome>, Fail> {
     Ok(played.outcomes)
 }
 
-/// What the outcomes say, one after another.
-pub fn all_told(alloc: Global, plan: &Plan, outcomes: &[Outcome]) -> Result<String, AllocError> {
-    let mut texts = Vec::new(alloc);
-    for outcome in outcomes {
-        texts.push(told(alloc, plan, outcome)?)?;
-    }
-    texts.as_slice().join(alloc, ", ")
-}
-
 /// What comes of events that are played this way, one text after another.
 pub fn told_of(
     alloc: Global,
@@ -100,13 +79,4 @@ pub fn told_of_rows(
 ) -> Result<String, Fail> {
     let events = events_of(alloc, plan, rows)?;
     told_of(alloc, plan, network, &events, way)
-}
-
-/// What is to come of the rows' events.
-pub fn wanted_of(alloc: Global, rows: &[Row]) -> Result<String, AllocError> {
-    let mut texts = Vec::new(alloc);
-    for (_, wanted) in rows {
-        texts.push(*wanted)?;
-    }
-    texts.as_slice().join(alloc, ", ")
 }

@@ -1,14 +1,14 @@
 //! Walks in which any growth of memory may be refused. An event that is asked again then has the outcome that it has
 //! with ample memory. `tools/refuse-growths` refuses the growths one after another.
+use super::asking_again::step;
 use super::playing::{Scenario, expect_rows, play_with};
-use super::walkers::expect_collected;
 use super::walks::play_lists;
+use super::ways::Way;
 use mctp_transport::{Eid, Tag};
 use net_plan::{Event, Plan};
 use net_sim::Network;
-use sample_runs::asking_again::step;
-use sample_runs::playing::{Row, Way};
-use sample_runs::repositories::TWENTY;
+use sample_runs::repositories::{TWENTY, has_collected, records_of};
+use sample_runs::rows::Row;
 use sample_texts::riser::{HOST, NIC};
 use std::alloc::{AllocError, Global};
 use std::process::Abort;
@@ -71,7 +71,8 @@ pub fn expect_20_records(
 ) -> Result<(), Fail> {
     walk(rt.alloc(), network)?;
     expect_rows(rt, plan, network, &ALL, Way::RefusedSteps)?;
-    expect_collected(rt, network, &TWENTY)
+    assert!(rt; has_collected(network, 1, &records_of(rt.alloc(), &TWENTY)?));
+    Ok(())
 }
 
 #[test]

@@ -1,7 +1,8 @@
 //! Walks over a network that loses, repeats and delays packets.
-use super::playing::{Scenario, play_as_planned};
-use sample_runs::playing::{Row, Way};
+use super::playing::{Scenario, play_on};
+use super::ways::Way;
 use sample_runs::riser_events::{ANSWER_NIC, MOVE_1, MOVE_2, MOVE_3, MOVE_4, MOVE_5, MOVE_6};
+use sample_runs::rows::Row;
 use std::process::Abort;
 use std::test::Fail;
 
@@ -380,7 +381,7 @@ const LISTS: [&[Row]; 9] = [
 /// Plays all lists in a way.
 pub fn play_lists(rt: &(impl Abort + AllocGlobal), way: Way) -> Result<(), Fail> {
     for rows in &LISTS {
-        play_as_planned(rt, Scenario::Rows(*rows, way))?;
+        play_on(rt, Scenario::Rows(*rows, way))?;
     }
     Ok(())
 }
