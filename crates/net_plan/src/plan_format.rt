@@ -28,7 +28,7 @@ pub fn read_unit(value: &Value) -> Result<u16, Fault>
 }
 
 /// The format by whose tests a plan is read: 2 where it says so, else 1.
-fn format_of(value: &Value) -> PlanFormat
+pub fn format_of(value: &Value) -> PlanFormat
     ensures { result ≡ plan_format (view value.now) }
 {
     match at(value, "format") {
