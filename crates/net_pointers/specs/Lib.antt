@@ -3,4 +3,5 @@ pub mod Shapes
 pub mod Pointers
 pub mod PlanShapes
 pub mod Views
+pub mod Plans
 pub mod Positions

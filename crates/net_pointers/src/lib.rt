@@ -5,9 +5,11 @@ mod faults;
 mod found;
 mod own;
 mod part;
+mod plans;
 mod position;
 
 pub use faults::first_fault;
 pub use found::{Found, Step};
 pub use part::{Field, Part, fields_of, item_of};
+pub use plans::{plan_fault, plan_text_fault};
 pub use position::{Position, position_of};

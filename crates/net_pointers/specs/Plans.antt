@@ -1,0 +1,25 @@
+-- The first fault of a plan's text, with its pointer.
+use Rattle.std.specs.Prelude.{◌≡◌, ◌⊎◌, ℕ, List, Err, Option, Some, None, MatchOption}
+use Rattle.serde_json.specs.Data.{Data}
+use Rattle.net_plan.specs.PlanReading.{plan, plan_format}
+use Rattle.net_plan.specs.Texts.{IsJson}
+use Rattle.net_plan.specs.declared.error.Fault.{Fault}
+use Rattle.net_plan.specs.declared.error.Fault.TheVariants.{UnknownName, Doubled}
+use Rattle.net_pointers.specs.Pointers.{Located, HasFaultAt}
+use Rattle.net_pointers.specs.PlanShapes.{a_plan}
+
+-- no value of the plan is wrong in itself: what is wrong, if anything, are names
+abbrev pub IsRightButForNames : Data → Type 0
+IsRightButForNames d = (f : Fault) → plan d ≡ Err f → (f ≡ Doubled) ⊎ (f ≡ UnknownName)
+
+-- the fault for which the plan is refused, and the pointer to the value that has it
+abbrev pub IsFaultOfPlan : Data → Located → Type 0
+IsFaultOfPlan d l = (plan d ≡ Err l.fault) × HasFaultAt (a_plan (plan_format d)) d l
+
+-- what is found in a plan
+abbrev pub IsFoundInPlan : Data → Option Located → Type 0
+IsFoundInPlan d found = MatchOption found (IsRightButForNames d) (IsFaultOfPlan d)
+
+-- what is found in the text of a plan
+abbrev pub IsFoundInPlanText : List ℕ → Option Located → Type 0
+IsFoundInPlanText text found = (d : Data) × IsJson text d × IsFoundInPlan d found
