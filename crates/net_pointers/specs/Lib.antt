@@ -5,3 +5,4 @@ pub mod PlanShapes
 pub mod Views
 pub mod Plans
 pub mod Positions
+pub mod Offsets

@@ -5,8 +5,8 @@ use Rattle.serde_json.specs.Data.{Data}
 use Rattle.net_plan.specs.PlanReading.{plan_format}
 use Rattle.net_plan.specs.declared.plan_format.PlanFormat.{PlanFormat}
 use Rattle.net_plan.specs.declared.plan_format.PlanFormat.TheVariants.{One, Two}
-use Rattle.net_pointers.specs.Shapes.{Shape, a_number, a_name, a_kind, a_hex, an_address, a_list, an_optional, an_object}
-use Rattle.net_pointers.specs.Shapes.{Fields, no_fields, field}
+use Rattle.net_pointers.specs.Shapes.{Shape, a_number, a_name, a_kind, a_hex, an_address}
+use Rattle.net_pointers.specs.Shapes.{a_list, an_optional, an_object, Fields, no_fields, field}
 use Rattle.net_pointers.specs.declared.part.Part.{Part}
 use Rattle.net_pointers.specs.declared.part.Part.TheVariants as part
 use Rattle.net_pointers.specs.declared.part.Field.{Field}
@@ -19,7 +19,8 @@ abbrev pub a_word : Shape
 a_word = a_number 0 4294967295
 
 abbrev pub a_bus : Shape
-a_bus = an_object (field (codes "name") a_name (field (codes "binding") a_byte (field (codes "media") a_byte no_fields)))
+a_bus =
+    an_object (field (codes "name") a_name (field (codes "binding") a_byte (field (codes "media") a_byte no_fields)))
 
 abbrev pub a_port : Shape
 a_port = an_object (field (codes "bus") a_name (field (codes "address") an_address no_fields))
@@ -36,10 +37,12 @@ abbrev pub a_pool : Shape
 a_pool = an_object (field (codes "first") a_byte (field (codes "size") a_byte no_fields))
 
 abbrev pub a_record : Shape
-a_record = an_object (field (codes "handle") a_word (field (codes "next") a_word (field (codes "bytes") a_hex no_fields)))
+a_record =
+    an_object (field (codes "handle") a_word (field (codes "next") a_word (field (codes "bytes") a_hex no_fields)))
 
 abbrev pub a_terminus : Shape
-a_terminus = an_object (field (codes "tid") (a_number 0 254) (field (codes "records") (a_list 4096 a_record) no_fields))
+a_terminus =
+    an_object (field (codes "tid") (a_number 0 254) (field (codes "records") (a_list 4096 a_record) no_fields))
 
 abbrev pub a_node : Shape
 a_node =

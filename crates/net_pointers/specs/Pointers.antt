@@ -4,8 +4,8 @@ use Rattle.std.specs.Option.{option_or}
 use Rattle.serde_json.specs.Data.{Data, null, boolean, number, string, array, object, Items, no_items, item}
 use Rattle.serde_json.specs.Find.{get, at}
 use Rattle.net_plan.specs.declared.error.Fault.{Fault}
-use Rattle.net_pointers.specs.Shapes.{Shape, a_number, a_name, a_kind, a_hex, an_address, a_list, an_optional, an_object}
-use Rattle.net_pointers.specs.Shapes.{Fields, no_fields, field, fields_of, item_of, own_fault}
+use Rattle.net_pointers.specs.Shapes.{Shape, a_number, a_name, a_kind, a_hex, an_address, a_list}
+use Rattle.net_pointers.specs.Shapes.{an_optional, an_object, Fields, no_fields, field, fields_of, item_of, own_fault}
 
 -- a step of a JSON pointer: to the value at a key, or to the item at an index, from 0
 pub data Step : Type 0 where
@@ -89,7 +89,9 @@ abbrev mutual
   pub in_fields : Fields → Data → Option Located
   in_fields no_fields d = None
   in_fields (field k s fs) d =
-      option_or (under (key k) (option_and_then (λ e. option_or (here s (own_fault s e)) (inside s e)) (get k d))) (in_fields fs d)
+      option_or
+        (under (key k) (option_and_then (λ e. option_or (here s (own_fault s e)) (inside s e)) (get k d)))
+        (in_fields fs d)
 
 -- the first fault of a value in the order of tests
 abbrev pub first_fault : Shape → Data → Option Located

@@ -3,6 +3,7 @@
 
 mod faults;
 mod found;
+mod offset;
 mod own;
 mod part;
 mod plans;
@@ -10,6 +11,7 @@ mod position;
 
 pub use faults::first_fault;
 pub use found::{Found, Step};
+pub use offset::offset_of;
 pub use part::{Field, Part, fields_of, item_of};
 pub use plans::{plan_fault, plan_text_fault};
 pub use position::{Position, position_of};
