@@ -247,8 +247,8 @@ begins_at k f s rest fs d h there more = by (get k d) refl there
     by None e there = absurd (true≢false (sym there))
     by (Some v) e there =
         subst (Begins (fault_of (then_with (f v) rest)))
-          (ap (λ o. option_or o (code (in_fields fs d))) (h v ∙ sym (code_under (key k) (first_fault s v))) ∙ sym (code_or (under (key k) (first_fault s v)) (in_fields fs d)))
-          (begins_then (f v) rest (code (in_fields fs d)) more)
+        (ap (λ o. option_or o (code (in_fields fs d))) (h v ∙ sym (code_under (key k) (first_fault s v))) ∙ sym (code_or (under (key k) (first_fault s v)) (in_fields fs d)))
+        (begins_then (f v) rest (code (in_fields fs d)) more)
 
 begins_object : {B : Type 0} (fs : Fields) (d : Data) (rest : Result B Fault) → (Given fs d → Begins (fault_of rest) (code (in_fields fs d)))
     → Begins (fault_of (then_with (keyed (keys_of fs) d) (λ _. rest))) (code (first_fault (an_object fs) d))
@@ -297,10 +297,10 @@ after_then (Err f) k l = refl
 format_one : (d : Data) → Begins (fault_of (then_with (unit_by One d) (lists d))) (code (first_fault (a_plan One) d))
 format_one d =
     subst (λ r. Begins (fault_of r) (code (first_fault (a_plan One) d)))
-      (sym (after_then (keyed (plan_keys One) d) (λ _. then_with (at_key (codes "format") (whole_number 1 1) d) (λ _. Ok 64)) (lists d)
-        ∙ ap (λ r. then_with (keyed (plan_keys One) d) (λ _. r)) (after_then (at_key (codes "format") (whole_number 1 1) d) (λ _. Ok 64) (lists d))))
-      (begins_object {B = PlanValue} (fields_of (a_plan One)) d (then_with (at_key (codes "format") (whole_number 1 1) d) (λ n. lists d 64)) (λ there.
-        begins_at {B = PlanValue} (codes "format") (whole_number 1 1) (a_number 1 1) (λ n. lists d 64) list_fields d (number_agrees 1 1) there.0 (λ n. lists_begin d 64 there.1)))
+    (sym (after_then (keyed (plan_keys One) d) (λ _. then_with (at_key (codes "format") (whole_number 1 1) d) (λ _. Ok 64)) (lists d)
+    ∙ ap (λ r. then_with (keyed (plan_keys One) d) (λ _. r)) (after_then (at_key (codes "format") (whole_number 1 1) d) (λ _. Ok 64) (lists d))))
+    (begins_object {B = PlanValue} (fields_of (a_plan One)) d (then_with (at_key (codes "format") (whole_number 1 1) d) (λ n. lists d 64)) (λ there.
+    begins_at {B = PlanValue} (codes "format") (whole_number 1 1) (a_number 1 1) (λ n. lists d 64) list_fields d (number_agrees 1 1) there.0 (λ n. lists_begin d 64 there.1)))
 
 is_two : (d : Data) → plan_format d ≡ Two → is_ok (at_key (codes "format") (whole_number 2 2) d) ≡ true
 is_two d e = by (is_ok (at_key (codes "format") (whole_number 2 2) d)) e
@@ -317,11 +317,11 @@ format_two : (d : Data) → plan_format d ≡ Two → Begins (fault_of (then_wit
 format_two d two =
     let rest = then_with (at_key (codes "unit") (whole_number 64 1024) d) (lists d) in
     subst (λ r. Begins (fault_of r) (code (first_fault (a_plan Two) d)))
-      (sym (after_then (keyed (plan_keys Two) d) (λ _. at_key (codes "unit") (whole_number 64 1024) d) (lists d)
-        ∙ ap (λ r. then_with (keyed (plan_keys Two) d) (λ _. r)) (sym (passes (at_key (codes "format") (whole_number 2 2) d) rest (is_two d two)))))
-      (begins_object {B = PlanValue} (fields_of (a_plan Two)) d (then_with (at_key (codes "format") (whole_number 2 2) d) (λ n. rest)) (λ there.
-        begins_at {B = PlanValue} (codes "format") (whole_number 2 2) (a_number 2 2) (λ n. rest) (field (codes "unit") (a_number 64 1024) list_fields) d (number_agrees 2 2) there.0 (λ n.
-        begins_at {B = PlanValue} (codes "unit") (whole_number 64 1024) (a_number 64 1024) (lists d) list_fields d (number_agrees 64 1024) there.1.0 (λ u. lists_begin d u there.1.1))))
+    (sym (after_then (keyed (plan_keys Two) d) (λ _. at_key (codes "unit") (whole_number 64 1024) d) (lists d)
+    ∙ ap (λ r. then_with (keyed (plan_keys Two) d) (λ _. r)) (sym (passes (at_key (codes "format") (whole_number 2 2) d) rest (is_two d two)))))
+    (begins_object {B = PlanValue} (fields_of (a_plan Two)) d (then_with (at_key (codes "format") (whole_number 2 2) d) (λ n. rest)) (λ there.
+    begins_at {B = PlanValue} (codes "format") (whole_number 2 2) (a_number 2 2) (λ n. rest) (field (codes "unit") (a_number 64 1024) list_fields) d (number_agrees 2 2) there.0 (λ n.
+    begins_at {B = PlanValue} (codes "unit") (whole_number 64 1024) (a_number 64 1024) (lists d) list_fields d (number_agrees 64 1024) there.1.0 (λ u. lists_begin d u there.1.1))))
 
 plan_begins : (d : Data) → Begins (fault_of (plan d)) (code (first_fault (a_plan (plan_format d)) d))
 plan_begins d = by (plan_format d) refl

@@ -120,15 +120,19 @@ mutual
     where
       Later : Type 0
       Later = in_fields fs d ≡ Some l → FieldLed fs d l
+
       Here : Type 0
       Here = (v : Data) (m : Located) → first_fault s v ≡ Some m → HasFaultAt s v m
+
       after : Later → in_fields fs d ≡ Some l → FieldLed (field k s fs) d l
       after later e =
           let led = later e in
           (led.0, led.1, led.2, led.3, led.4, inr led.5, led.6, led.7)
+
       at_it : Later → Here → (v : Data) → get k d ≡ Some v → (o : Option Located) → first_fault s v ≡ o → option_or (under (key k) o) (in_fields fs d) ≡ Some l → FieldLed (field k s fs) d l
       at_it later h v there (Some m) found e = (k, s, v, m, there, inl (refl, refl), h v m found, sym (same_Some _ _ e))
       at_it later h v there None found e = after later e
+
       by : Later → Here → (o : Option Data) → get k d ≡ o → option_or (under (key k) (option_and_then (first_fault s) o)) (in_fields fs d) ≡ Some l → FieldLed (field k s fs) d l
       by later h None there e = after later e
       by later h (Some v) there e = at_it later h v there (first_fault s v) refl e

@@ -28,10 +28,10 @@ a_port = an_object (field (codes "bus") a_name (field (codes "address") an_addre
 abbrev pub a_row : Shape
 a_row =
     an_object
-      (field (codes "first") a_byte
-      (field (codes "size") a_byte
-      (field (codes "port") (a_number 0 31)
-      (field (codes "next") a_name no_fields))))
+    (field (codes "first") a_byte
+    (field (codes "size") a_byte
+    (field (codes "port") (a_number 0 31)
+    (field (codes "next") a_name no_fields))))
 
 abbrev pub a_pool : Shape
 a_pool = an_object (field (codes "first") a_byte (field (codes "size") a_byte no_fields))
@@ -47,28 +47,28 @@ a_terminus =
 abbrev pub a_node : Shape
 a_node =
     an_object
-      (field (codes "name") a_name
-      (field (codes "kind") a_kind
-      (field (codes "eid") a_byte
-      (field (codes "owner") (an_optional a_name)
-      (field (codes "pool") (an_optional a_pool)
-      (field (codes "ports") (a_list 32 a_port)
-      (field (codes "rows") (a_list 256 a_row)
-      (field (codes "terminus") (an_optional a_terminus) no_fields))))))))
+    (field (codes "name") a_name
+    (field (codes "kind") a_kind
+    (field (codes "eid") a_byte
+    (field (codes "owner") (an_optional a_name)
+    (field (codes "pool") (an_optional a_pool)
+    (field (codes "ports") (a_list 32 a_port)
+    (field (codes "rows") (a_list 256 a_row)
+    (field (codes "terminus") (an_optional a_terminus) no_fields))))))))
 
 -- a plan of a format
 abbrev pub a_plan : PlanFormat → Shape
 a_plan One =
     an_object
-      (field (codes "format") (a_number 1 1)
-      (field (codes "buses") (a_list 64 a_bus)
-      (field (codes "nodes") (a_list 64 a_node) no_fields)))
+    (field (codes "format") (a_number 1 1)
+    (field (codes "buses") (a_list 64 a_bus)
+    (field (codes "nodes") (a_list 64 a_node) no_fields)))
 a_plan Two =
     an_object
-      (field (codes "format") (a_number 2 2)
-      (field (codes "unit") (a_number 64 1024)
-      (field (codes "buses") (a_list 64 a_bus)
-      (field (codes "nodes") (a_list 64 a_node) no_fields))))
+    (field (codes "format") (a_number 2 2)
+    (field (codes "unit") (a_number 64 1024)
+    (field (codes "buses") (a_list 64 a_bus)
+    (field (codes "nodes") (a_list 64 a_node) no_fields))))
 
 -- what may stand there as a part of a plan
 abbrev pub shape : Part → Shape

@@ -90,8 +90,8 @@ abbrev mutual
   in_fields no_fields d = None
   in_fields (field k s fs) d =
       option_or
-        (under (key k) (option_and_then (λ e. option_or (here s (own_fault s e)) (inside s e)) (get k d)))
-        (in_fields fs d)
+      (under (key k) (option_and_then (λ e. option_or (here s (own_fault s e)) (inside s e)) (get k d)))
+      (in_fields fs d)
 
 -- the first fault of a value in the order of tests
 abbrev pub first_fault : Shape → Data → Option Located

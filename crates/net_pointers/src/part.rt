@@ -9,10 +9,7 @@ use net_plan::PlanFormat;
 #[derive(Clone, Copy, Debug, PartialEq, Eq)]
 pub enum Part {
     /// A whole number between two bounds.
-    Number {
-        least: u64,
-        most: u64,
-    },
+    Number { least: u64, most: u64 },
     BusName,
     NodeName,
     Kind,
@@ -85,61 +82,160 @@ fn plan_fields(format: PlanFormat) -> &'static [Field]
 }
 
 static PLAN_ONE: [Field; 3] = [
-    Field { key: "format", part: Part::Number { least: 1, most: 1 } },
-    Field { key: "buses", part: Part::Buses },
-    Field { key: "nodes", part: Part::Nodes },
+    Field {
+        key: "format",
+        part: Part::Number { least: 1, most: 1 },
+    },
+    Field {
+        key: "buses",
+        part: Part::Buses,
+    },
+    Field {
+        key: "nodes",
+        part: Part::Nodes,
+    },
 ];
 
 static PLAN_TWO: [Field; 4] = [
-    Field { key: "format", part: Part::Number { least: 2, most: 2 } },
-    Field { key: "unit", part: Part::Number { least: 64, most: 1024 } },
-    Field { key: "buses", part: Part::Buses },
-    Field { key: "nodes", part: Part::Nodes },
+    Field {
+        key: "format",
+        part: Part::Number { least: 2, most: 2 },
+    },
+    Field {
+        key: "unit",
+        part: Part::Number {
+            least: 64,
+            most: 1024,
+        },
+    },
+    Field {
+        key: "buses",
+        part: Part::Buses,
+    },
+    Field {
+        key: "nodes",
+        part: Part::Nodes,
+    },
 ];
 
 static NODE: [Field; 8] = [
-    Field { key: "name", part: Part::NodeName },
-    Field { key: "kind", part: Part::Kind },
-    Field { key: "eid", part: BYTE },
-    Field { key: "owner", part: Part::Owner },
-    Field { key: "pool", part: Part::Pool },
-    Field { key: "ports", part: Part::Ports },
-    Field { key: "rows", part: Part::Rows },
-    Field { key: "terminus", part: Part::Terminus },
+    Field {
+        key: "name",
+        part: Part::NodeName,
+    },
+    Field {
+        key: "kind",
+        part: Part::Kind,
+    },
+    Field {
+        key: "eid",
+        part: BYTE,
+    },
+    Field {
+        key: "owner",
+        part: Part::Owner,
+    },
+    Field {
+        key: "pool",
+        part: Part::Pool,
+    },
+    Field {
+        key: "ports",
+        part: Part::Ports,
+    },
+    Field {
+        key: "rows",
+        part: Part::Rows,
+    },
+    Field {
+        key: "terminus",
+        part: Part::Terminus,
+    },
 ];
 
 static BUS: [Field; 3] = [
-    Field { key: "name", part: Part::BusName },
-    Field { key: "binding", part: BYTE },
-    Field { key: "media", part: BYTE },
+    Field {
+        key: "name",
+        part: Part::BusName,
+    },
+    Field {
+        key: "binding",
+        part: BYTE,
+    },
+    Field {
+        key: "media",
+        part: BYTE,
+    },
 ];
 
 static PORT: [Field; 2] = [
-    Field { key: "bus", part: Part::BusName },
-    Field { key: "address", part: Part::Address },
+    Field {
+        key: "bus",
+        part: Part::BusName,
+    },
+    Field {
+        key: "address",
+        part: Part::Address,
+    },
 ];
 
 static ROW: [Field; 4] = [
-    Field { key: "first", part: BYTE },
-    Field { key: "size", part: BYTE },
-    Field { key: "port", part: Part::Number { least: 0, most: 31 } },
-    Field { key: "next", part: Part::NodeName },
+    Field {
+        key: "first",
+        part: BYTE,
+    },
+    Field {
+        key: "size",
+        part: BYTE,
+    },
+    Field {
+        key: "port",
+        part: Part::Number { least: 0, most: 31 },
+    },
+    Field {
+        key: "next",
+        part: Part::NodeName,
+    },
 ];
 
 static POOL: [Field; 2] = [
-    Field { key: "first", part: BYTE },
-    Field { key: "size", part: BYTE },
+    Field {
+        key: "first",
+        part: BYTE,
+    },
+    Field {
+        key: "size",
+        part: BYTE,
+    },
 ];
 
 static TERMINUS: [Field; 2] = [
-    Field { key: "tid", part: Part::Number { least: 0, most: 254 } },
-    Field { key: "records", part: Part::Records },
+    Field {
+        key: "tid",
+        part: Part::Number {
+            least: 0,
+            most: 254,
+        },
+    },
+    Field {
+        key: "records",
+        part: Part::Records,
+    },
 ];
 
 static RECORD: [Field; 3] = [
-    Field { key: "handle", part: WORD },
-    Field { key: "next", part: WORD },
-    Field { key: "bytes", part: Part::Hex },
+    Field {
+        key: "handle",
+        part: WORD,
+    },
+    Field {
+        key: "next",
+        part: WORD,
+    },
+    Field {
+        key: "bytes",
+        part: Part::Hex,
+    },
 ];
 
 /// What each item of a part that is a list is.

@@ -35,7 +35,10 @@ fn count_characters(bytes: &[u8]) -> usize
     ensures count { result ≡ count_by begins_character bytes.now }
     ensures within { result ≤ length bytes.now }
 {
-    bytes.iter().filter(|byte| **byte < 128 || 192 <= **byte).count()
+    bytes
+        .iter()
+        .filter(|byte| **byte < 128 || 192 <= **byte)
+        .count()
 }
 
 /// The bytes after the last line feed.

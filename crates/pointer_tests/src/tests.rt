@@ -28,19 +28,47 @@ const ROWS: [Row; 16] = [
     ("\"eid\": 9", "\"eid\": 300", "J05 /nodes/1/eid 10:46"),
     ("\"eid\": 8", "\"eid\": \"8\"", "J02 /nodes/0/eid 5:44"),
     ("\"eid\": 8", "\"eid\": -8", "J05 /nodes/0/eid 5:44"),
-    ("\"name\": \"B\"", "\"name\": \"B B\"", "J05 /nodes/1/name 10:14"),
-    ("\"name\": \"b\"", "\"name\": \"\"", "J05 /buses/0/name 3:22"),
+    (
+        "\"name\": \"B\"",
+        "\"name\": \"B B\"",
+        "J05 /nodes/1/name 10:14",
+    ),
+    (
+        "\"name\": \"b\"",
+        "\"name\": \"\"",
+        "J05 /buses/0/name 3:22",
+    ),
     ("endpoint", "end", "J05 /nodes/1/kind 10:27"),
     ("\"owner\": \"A\", ", "", "J03 /nodes/1 10:5"),
     ("\"pool\": null", "\"pool\": 4", "J02 /nodes/1/pool 10:71"),
     ("\"size\": 4", "\"length\": 4", "J04 /nodes/0/pool 6:14"),
-    ("\"port\": 0", "\"port\": 32", "J05 /nodes/0/rows/0/port 8:47"),
-    ("\"00ff\"", "\"00f\"", "J07 /nodes/0/terminus/records/0/bytes 9:75"),
-    ("\"address\": \"\"", "\"address\": \"001122334455667788\"", "J08 /nodes/0/ports/1/address 7:71"),
+    (
+        "\"port\": 0",
+        "\"port\": 32",
+        "J05 /nodes/0/rows/0/port 8:47",
+    ),
+    (
+        "\"00ff\"",
+        "\"00f\"",
+        "J07 /nodes/0/terminus/records/0/bytes 9:75",
+    ),
+    (
+        "\"address\": \"\"",
+        "\"address\": \"001122334455667788\"",
+        "J08 /nodes/0/ports/1/address 7:71",
+    ),
     ("\"format\": 1", "\"format\": 3", "J05 /format 2:13"),
     ("\"format\": 1", "\"format\": 2", "J03  1:1"),
-    ("\"format\": 1", "\"format\": 2, \"unit\": 63", "J05 /unit 2:24"),
-    ("\"tid\": 1", "\"tid\": 1, \"tid\": 255", "J05 /nodes/0/terminus/tid 9:36"),
+    (
+        "\"format\": 1",
+        "\"format\": 2, \"unit\": 63",
+        "J05 /unit 2:24",
+    ),
+    (
+        "\"tid\": 1",
+        "\"tid\": 1, \"tid\": 255",
+        "J05 /nodes/0/terminus/tid 9:36",
+    ),
 ];
 
 #[test]

@@ -16,10 +16,10 @@ loop-index-preserved c =
     let next : drop index bytes ≡ byte ∷ drop (index + 1) bytes = drop-cons bytes index 0 c.loop-index-test.true ∙ ap (λ n. byte ∷ drop n bytes) one in
     let before : last_line bytes ≡ last_of (byte ∷ drop (index + 1) bytes) (drop c.loop-index.start bytes) = c.loop-index.invariant.1 ∙ ap (λ left. last_of left (drop c.loop-index.start bytes)) next in
     elim c.if-byte-eq10.branch [
-      then-byte-eq10 w ↦
-        let is : is_line_feed byte ≡ true = search (rules, w.if-byte-eq10) in
-        (search rules, before ∙ line_feed byte (drop (index + 1) bytes) (drop c.loop-index.start bytes) is ∙ ap (λ start. last_of (drop (index + 1) bytes) (drop start bytes)) (sym w.start-is))
-    | else-byte-eq10 w ↦
-        let not_it : is_line_feed byte ≡ false = search (rules, w.if-byte-eq10) in
-        (search rules, before ∙ other_byte byte (drop (index + 1) bytes) (drop c.loop-index.start bytes) not_it ∙ ap (λ start. last_of (drop (index + 1) bytes) (drop start bytes)) (sym w.start-is))
+      | then-byte-eq10 w ↦
+          let is : is_line_feed byte ≡ true = search (rules, w.if-byte-eq10) in
+          (search rules, before ∙ line_feed byte (drop (index + 1) bytes) (drop c.loop-index.start bytes) is ∙ ap (λ start. last_of (drop (index + 1) bytes) (drop start bytes)) (sym w.start-is))
+      | else-byte-eq10 w ↦
+          let not_it : is_line_feed byte ≡ false = search (rules, w.if-byte-eq10) in
+          (search rules, before ∙ other_byte byte (drop (index + 1) bytes) (drop c.loop-index.start bytes) not_it ∙ ap (λ start. last_of (drop (index + 1) bytes) (drop start bytes)) (sym w.start-is))
     ]
