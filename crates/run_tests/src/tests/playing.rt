@@ -79,7 +79,8 @@ pub fn play_on_plan(
     scenario: Scenario<'_>,
 ) -> Result<(), Fail> {
     let termini = termini_of(rt.alloc(), plan, places)?;
-    play_over(rt, plan, certificate, termini, scenario)
+    let mut network = network_of(rt.alloc(), plan, certificate, termini)?;
+    play(rt, plan, &mut network, scenario)
 }
 
 /// Plays on the riser network with a list of records at nic, of so many bytes of data each.
@@ -90,13 +91,9 @@ pub fn play_with(
 ) -> Result<(), Fail> {
     let plan = plan_of(rt.alloc(), PLAN)?;
     let certificate = certificate_of(rt.alloc(), &plan, CERTIFICATE)?;
-    play_over(
-        rt,
-        &plan,
-        &certificate,
-        termini_with(rt.alloc(), sizes)?,
-        scenario,
-    )
+    let termini = termini_with(rt.alloc(), sizes)?;
+    let mut network = network_of(rt.alloc(), &plan, &certificate, termini)?;
+    play(rt, &plan, &mut network, scenario)
 }
 
 /// A list of such records at nic, as the only terminus.
@@ -104,18 +101,6 @@ pub fn termini_with(alloc: Global, sizes: &[u16]) -> Result<Vec<Box<dyn Terminus
     let mut termini: Vec<Box<dyn Terminus>> = Vec::new(alloc);
     termini.push(Box::new(alloc, list_with(alloc, sizes)?)?)?;
     Ok(termini)
-}
-
-/// Plays on the network of this plan and this certificate over these termini.
-fn play_over(
-    rt: &(impl Abort + AllocGlobal),
-    plan: &Plan,
-    certificate: &Certificate,
-    termini: Vec<Box<dyn Terminus>>,
-    scenario: Scenario<'_>,
-) -> Result<(), Fail> {
-    let mut network = network_of(rt.alloc(), plan, certificate, termini)?;
-    play(rt, plan, &mut network, scenario)
 }
 
 /// The termini of the nodes at these places.

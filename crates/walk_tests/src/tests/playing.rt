@@ -1,6 +1,6 @@
 //! Walks through the riser network.
 use super::walkers::{Walks, expect_walks};
-use net_plan::{Certificate, Plan};
+use net_plan::Plan;
 use pdr_repository::{ListTerminus, Terminus};
 use sample_runs::networks::{certificate_of, network_of, plan_of};
 use sample_runs::repositories::{list_at, list_with};
@@ -39,17 +39,6 @@ fn walk_at_nic(
 ) -> Result<(), Fail> {
     let certificate = certificate_of(rt.alloc(), plan, CERTIFICATE)?;
     let termini = alone(rt.alloc(), terminus)?;
-    walk_on(rt, plan, &certificate, termini, walks)
-}
-
-/// Wants this of walks on the network of this plan and this certificate over these termini.
-fn walk_on(
-    rt: &(impl Abort + AllocGlobal),
-    plan: &Plan,
-    certificate: &Certificate,
-    termini: Vec<Box<dyn Terminus>>,
-    walks: Walks,
-) -> Result<(), Fail> {
-    let mut network = network_of(rt.alloc(), plan, certificate, termini)?;
+    let mut network = network_of(rt.alloc(), plan, &certificate, termini)?;
     expect_walks(rt, &mut network, walks)
 }
