@@ -12,6 +12,8 @@ pub mod Gathering
 pub mod Reaching
 pub mod Tracing
 pub mod Linting
+pub mod CauseLines
+pub mod EditLines
 pub mod Drawing
 pub mod OutcomeLines
 pub mod Simulating

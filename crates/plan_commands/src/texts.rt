@@ -4,6 +4,7 @@ ghost use Rattle.plan_commands.specs.declared.refused.Refused.TheVariants.{Unwri
 ghost use Rattle.plan_commands.specs.Lines.{name_or_dash, bus_name_or_dash, names_text, fault_text, owner_loop_text, loop_text, chain_text, obstacle_text};
 
 pub mod assignments;
+pub mod causes;
 pub mod codes;
 pub mod drawings;
 pub mod findings;

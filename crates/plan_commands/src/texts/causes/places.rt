@@ -1,0 +1,171 @@
+//! The names and numbers of a plan that a cause is told by.
+ghost use Rattle.std.specs.Prelude.{◌≡◌, option_map, IfOk, string_bytes};
+ghost use Rattle.net_check.specs.Faults.{eid_number};
+ghost use Rattle.net_check.specs.Pools.{pool_of};
+ghost use Rattle.net_check.specs.Routing.{eid_of};
+ghost use Rattle.plan_commands.specs.CauseLines.{span_text, first_of_row, size_of_row, port_of_row, row_at, row_text, next_text, first_of_pool, size_of_pool, pool_text, handle_at, tid_of, has_tid, node_with_tid, meant_text};
+
+use crate::texts::{OrDash, name_or_dash};
+use net_check::Fault;
+use net_explained::{pool_at, record_at, row_at, terminus_at};
+use net_plan::{Node, Plan};
+use std::alloc::{AllocError, Global};
+
+/// So many endpoint IDs from the first on: the first and the last, or the one, or none.
+fn span_text(alloc: Global, first: u8, size: u8) -> Result<String, AllocError>
+    ensures { IfOk result (λ text. string_bytes text ≡ span_text first size) }
+{
+    if size == 0 {
+        "none".to_string(alloc)
+    } else if size == 1 {
+        format!(in alloc; "{first}")
+    } else {
+        let last = u16::from(first) + u16::from(size) - 1;
+        format!(in alloc; "{first} to {last}")
+    }
+}
+
+/// The number of the endpoint ID that a fault names.
+pub fn eid_of_fault(fault: &Fault) -> Option<u8>
+    ensures { result ≡ eid_number fault.now.eid }
+{
+    Some(fault.eid?.value)
+}
+
+// ---- rows
+
+/// The first endpoint ID that the row at an entry covers.
+pub fn first_of_row(plan: &Plan, node: usize, entry: Option<usize>) -> Option<u8>
+    ensures { result ≡ first_of_row plan.now node entry }
+{
+    Some(row_at(plan, node, entry?)?.first.value)
+}
+
+/// How many it covers.
+pub fn size_of_row(plan: &Plan, node: usize, entry: Option<usize>) -> Option<u8>
+    ensures { result ≡ size_of_row plan.now node entry }
+{
+    Some(row_at(plan, node, entry?)?.size)
+}
+
+/// The port by which it leaves.
+pub fn port_of_row(plan: &Plan, node: usize, entry: Option<usize>) -> Option<u8>
+    ensures { result ≡ port_of_row plan.now node entry }
+{
+    Some(row_at(plan, node, entry?)?.port)
+}
+
+/// The node to which the row at an entry leads.
+fn next_at(plan: &Plan, node: usize, entry: Option<usize>) -> Option<usize>
+    ensures { result ≡ option_map (λ row. row.next) (row_at plan.now node entry) }
+{
+    Some(row_at(plan, node, entry?)?.next)
+}
+
+/// What the row at an entry covers, or a dash where there is none.
+pub fn row_span(
+    alloc: Global,
+    plan: &Plan,
+    node: usize,
+    entry: Option<usize>,
+) -> Result<String, AllocError>
+    ensures { IfOk result (λ text. string_bytes text ≡ row_text (row_at plan.now node entry)) }
+{
+    match (
+        first_of_row(plan, node, entry),
+        size_of_row(plan, node, entry),
+    ) {
+        (Some(first), Some(size)) => span_text(alloc, first, size),
+        _ => "-".to_string(alloc),
+    }
+}
+
+/// The name of the node to which the row at an entry leads, or a dash where there is none.
+pub fn next_of_row(plan: &Plan, node: usize, entry: Option<usize>) -> &str
+    ensures { result.now ≡ next_text plan.now (row_at plan.now node entry) }
+{
+    match next_at(plan, node, entry) {
+        Some(next) => name_or_dash(plan, next),
+        None => "-",
+    }
+}
+
+// ---- pools
+
+/// The first endpoint ID of a node's pool.
+pub fn first_of_pool(plan: &Plan, node: usize) -> Option<u8>
+    ensures { result ≡ first_of_pool plan.now node }
+{
+    Some(pool_at(plan, node)?.first.value)
+}
+
+/// How many it has.
+pub fn size_of_pool(plan: &Plan, node: usize) -> Option<u8>
+    ensures { result ≡ size_of_pool plan.now node }
+{
+    Some(pool_at(plan, node)?.size)
+}
+
+/// What the pool of a node has, null where it has none.
+pub fn pool_span(alloc: Global, plan: &Plan, node: usize) -> Result<String, AllocError>
+    ensures { IfOk result (λ text. string_bytes text ≡ pool_text (pool_of plan.now node)) }
+{
+    match pool_at(plan, node) {
+        Some(pool) => span_text(alloc, pool.first.value, pool.size),
+        None => "null".to_string(alloc),
+    }
+}
+
+// ---- records
+
+/// The handle of the record at an entry.
+pub fn handle_at(plan: &Plan, node: usize, entry: Option<usize>) -> Option<u32>
+    ensures { result ≡ handle_at plan.now node entry }
+{
+    Some(record_at(plan, node, entry?)?.handle)
+}
+
+/// The terminus ID of a node.
+pub fn tid_of(plan: &Plan, node: usize) -> Option<u8>
+    ensures { result ≡ tid_of plan.now node }
+{
+    Some(terminus_at(plan, node)?.tid)
+}
+
+/// The endpoint ID that a node holds.
+fn eid_of(plan: &Plan, node: usize) -> Option<u8>
+    ensures { result ≡ eid_of plan.now node }
+{
+    Some(plan.nodes.get(node)?.eid.value)
+}
+
+/// Whose terminus has the terminus ID, and which endpoint ID that node holds.
+pub fn meant_text(alloc: Global, plan: &Plan, tid: u8) -> Result<String, AllocError>
+    ensures { IfOk result (λ text. string_bytes text ≡ meant_text plan.now tid) }
+{
+    match node_with_tid(plan, tid) {
+        Some(node) => {
+            let name = name_or_dash(plan, node);
+            let eid = OrDash(eid_of(plan, node));
+            format!(in alloc; "Terminus {tid} is that of {name}, which holds endpoint ID {eid}.\n")
+        }
+        None => format!(in alloc; "No node has terminus {tid}.\n"),
+    }
+}
+
+/// The first node whose terminus has the terminus ID.
+fn node_with_tid(plan: &Plan, tid: u8) -> Option<usize>
+    ensures { result ≡ node_with_tid plan.now tid }
+{
+    plan.nodes.iter().position(|node| has_tid(node, tid))
+}
+
+/// Whether the node has a terminus with this terminus ID.
+fn has_tid(node: &Node, tid: u8) -> bool
+    ensures { result ≡ has_tid tid node.now }
+{
+    match &node.terminus {
+        Some(terminus) => terminus.tid == tid,
+        None => false,
+    }
+}
