@@ -4,8 +4,8 @@
 use net_plan::Counted;
 use plan_commands::{
     Command, FileAtPath, GUIDE, Refused, Status, parse_command, refuse, run_assign, run_certify,
-    run_check, run_draw, run_draw_certified, run_known, run_lint, run_move, run_reach, run_show,
-    run_trace, run_walk, simulate, simulate_move,
+    run_check, run_draw, run_draw_certified, run_explain, run_explain_certified, run_known,
+    run_lint, run_move, run_reach, run_show, run_trace, run_walk, simulate, simulate_move,
 };
 use std::env;
 use std::process::ExitCode;
@@ -145,6 +145,29 @@ fn run(rt: &HostRuntime) -> Status {
                 certificate: None,
             },
         ) => run_draw(
+            alloc,
+            &mut Counted::new(FileAtPath::new(rt, plan)),
+            &mut output,
+            &mut errors,
+        ),
+        Ok(
+            Command::Explain {
+                plan,
+                certificate: Some(certificate),
+            },
+        ) => run_explain_certified(
+            alloc,
+            &mut Counted::new(FileAtPath::new(rt, plan)),
+            &mut Counted::new(FileAtPath::new(rt, certificate)),
+            &mut output,
+            &mut errors,
+        ),
+        Ok(
+            Command::Explain {
+                plan,
+                certificate: None,
+            },
+        ) => run_explain(
             alloc,
             &mut Counted::new(FileAtPath::new(rt, plan)),
             &mut output,

@@ -8,4 +8,4 @@ mod lookup;
 
 pub use cause::Cause;
 pub use finding::find_cause;
-pub use lookup::{pool_at, record_at, row_at, terminus_at};
+pub use lookup::{owner_at, pool_at, record_at, row_at, rows_at, terminus_at};

@@ -14,6 +14,7 @@ pub mod Tracing
 pub mod Linting
 pub mod CauseLines
 pub mod EditLines
+pub mod Explaining
 pub mod Drawing
 pub mod OutcomeLines
 pub mod Simulating

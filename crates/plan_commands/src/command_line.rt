@@ -71,6 +71,11 @@ pub enum Command<'a> {
         plan: &'a str,
         certificate: Option<&'a str>,
     },
+    /// What does `certify` say of the plan in a file, or `check` with the certificate in another, and why?
+    Explain {
+        plan: &'a str,
+        certificate: Option<&'a str>,
+    },
     /// What does a code mean? The text says it.
     Code {
         text: &'static str,
@@ -91,7 +96,7 @@ pub fn parse_command<'a>(alloc: Global, list: &'a [String]) -> Result<Command<'a
 }
 
 /// The name of each command, the names of its arguments, and those of the arguments that may be left out.
-const COMMANDS: [(&str, &[&str], &[&str]); 14] = [
+const COMMANDS: [(&str, &[&str], &[&str]); 15] = [
     ("check", &["plan", "certificate"], &[]),
     ("certify", &["plan"], &[]),
     ("assign", &["plan", "certificate"], &[]),
@@ -102,6 +107,7 @@ const COMMANDS: [(&str, &[&str], &[&str]); 14] = [
     ("reach", &["plan", "certificate"], &[]),
     ("trace", &["plan", "certificate", "from", "to"], &[]),
     ("draw", &["plan"], &["certificate"]),
+    ("explain", &["plan"], &["certificate"]),
     ("lint", &["plan"], &[]),
     ("show", &["kind", "hex"], &[]),
     ("code", &["code"], &[]),
@@ -147,9 +153,10 @@ fn chosen<'a>(matches: &ArgMatches<'a>) -> Option<Command<'a>> {
         "reach" => reaching(arguments),
         "trace" => tracing(arguments),
         "draw" => drawing(arguments),
+        "explain" => explaining(arguments),
         "lint" => linting(arguments),
         "show" => showing(arguments),
-        "code" => explaining(arguments),
+        "code" => telling(arguments),
         "guide" => Some(Command::Guide),
         _ => None,
     }
@@ -232,6 +239,13 @@ fn drawing<'a>(arguments: &ArgMatches<'a>) -> Option<Command<'a>> {
     })
 }
 
+fn explaining<'a>(arguments: &ArgMatches<'a>) -> Option<Command<'a>> {
+    Some(Command::Explain {
+        plan: arguments.get_str("plan")?,
+        certificate: arguments.get_str("certificate"),
+    })
+}
+
 fn linting<'a>(arguments: &ArgMatches<'a>) -> Option<Command<'a>> {
     Some(Command::Lint {
         plan: arguments.get_str("plan")?,
@@ -261,7 +275,7 @@ fn part_size_of(word: &str) -> Option<PartSize> {
     PartSize::of(word.parse().ok()?)
 }
 
-fn explaining<'a>(arguments: &ArgMatches<'a>) -> Option<Command<'a>> {
+fn telling<'a>(arguments: &ArgMatches<'a>) -> Option<Command<'a>> {
     let text = text_of(arguments.get_str("code")?)?;
     Some(Command::Code { text })
 }

@@ -5,6 +5,7 @@ pub mod assign;
 pub mod certify;
 pub mod check;
 pub mod draw;
+pub mod explain;
 pub mod faults;
 pub mod gathered;
 pub mod inputs;

@@ -15,6 +15,8 @@ pub use commands::certify::run_certify;
 pub use commands::check::run_check;
 pub use commands::draw::certified::run_draw_certified;
 pub use commands::draw::run_draw;
+pub use commands::explain::certified::run_explain_certified;
+pub use commands::explain::run_explain;
 pub use commands::known::run_known;
 pub use commands::lint::run_lint;
 pub use commands::moving::run_move;

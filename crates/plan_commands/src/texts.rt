@@ -7,6 +7,7 @@ pub mod assignments;
 pub mod causes;
 pub mod codes;
 pub mod drawings;
+pub mod explanations;
 pub mod findings;
 pub mod moves;
 pub mod outcomes;
@@ -27,6 +28,13 @@ pub const YES: &str = "yes\n";
 /// The answer where nothing in a plan looks wrong.
 pub const CLEAN: &str = "clean\n";
 
+/// What is said where a certificate is at fault, and its plan has another.
+pub const REMEDY: &str = "This plan has a certificate: mctpplan certify makes it.\n";
+
+/// What is said where a certificate is at fault, and its plan has none.
+pub const NO_CERTIFICATE: &str =
+    "This plan has no certificate, whatever this one says. mctpplan certify says:\n";
+
 /// What is said where there is too little memory, also too little for any other line.
 pub const NO_MEMORY: &str = "no memory\n";
 
@@ -42,6 +50,7 @@ walk PLAN CERT NODE COUNT    the records that a walk over a node's terminus coll
 reach PLAN CERT              who reaches whom, and in how many hops
 trace PLAN CERT FROM TO      the way of a packet from a node to another, or to an endpoint ID
 draw PLAN [CERT]             the planned network as a drawing for Graphviz
+explain PLAN [CERT]          what certify says of the plan, or check of both, and why
 lint PLAN                    what is lawful in the plan and still looks wrong, or clean
 show packet HEX              what the bytes of a packet are
 show record HEX              what the bytes of a platform descriptor record are

@@ -4,7 +4,7 @@ ghost use Rattle.plan_commands.specs.CauseLines.{cause_text};
 
 pub mod edit_lines;
 mod names;
-mod places;
+pub mod places;
 mod pools;
 mod records;
 mod rows;

@@ -105,7 +105,7 @@ pub fn bus_text(plan: &Plan, bus: Option<usize>) -> &str
 }
 
 /// The address of a node's first port on a bus; empty where it has none there.
-fn address_on(plan: &Plan, node: usize, bus: Option<usize>) -> &[u8]
+pub fn address_on(plan: &Plan, node: usize, bus: Option<usize>) -> &[u8]
     ensures { result.now ≡ address_on plan.now node bus }
 {
     match bus {

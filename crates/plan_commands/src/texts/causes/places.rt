@@ -56,7 +56,7 @@ pub fn port_of_row(plan: &Plan, node: usize, entry: Option<usize>) -> Option<u8>
 }
 
 /// The node to which the row at an entry leads.
-fn next_at(plan: &Plan, node: usize, entry: Option<usize>) -> Option<usize>
+pub fn next_at(plan: &Plan, node: usize, entry: Option<usize>) -> Option<usize>
     ensures { result ≡ option_map (λ row. row.next) (row_at plan.now node entry) }
 {
     Some(row_at(plan, node, entry?)?.next)

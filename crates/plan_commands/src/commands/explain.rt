@@ -1,0 +1,78 @@
+//! The command `explain`: what `certify` answers of a plan, and why.
+ghost use Rattle.std.specs.Prelude.{◌≡◌, ◌⊎◌, ◌<◌, ◌^◌, ◌-◌, ◌++◌, IfOk, IfErr, string_bytes};
+ghost use Rattle.std.specs.Cow.{cow_str_bytes};
+ghost use Rattle.net_check.specs.Certificates.{NamesObstacle, RulesOutCertificates};
+ghost use Rattle.plan_commands.specs.declared.status.Status.TheVariants.{Yes, Fault, Unreadable, NoMemory};
+ghost use Rattle.plan_commands.specs.Answers.{stream, BreaksOff, IsPlanUnread};
+ghost use Rattle.plan_commands.specs.Explaining.{summary_text, IsObstacleText, IsExplainAnswer, ExplainsSo, Explains};
+ghost use Rattle.plan_commands.specs.Statuses.{yes_line};
+
+pub mod certified;
+
+use crate::commands::answer::{Answer, tell};
+use crate::commands::inputs::given_plan;
+use crate::refused::Refused;
+use crate::status::Status;
+use crate::texts::explanations::{obstacle_lines, summary_line};
+use crate::texts::{YES, obstacle_line};
+use net_check::{CertifyError, certify};
+use net_plan::{Plan, Sink, Source};
+use std::alloc::{AllocError, Global};
+
+/// Says on `output` what `certify` says of a plan, `yes` in place of the certificate, and explains it. Where the plan can't
+/// be read, says so on `errors`.
+pub fn run_explain<P: Source, O: Sink, E: Sink>(
+    alloc: Global,
+    plan: &mut P,
+    output: &mut O,
+    errors: &mut E,
+) -> Status
+    requires plan { P.failures plan.old < 2 ^ 64 - 1 }
+    requires output { O.failures output.old < 2 ^ 64 - 1 }
+    requires errors { E.failures errors.old < 2 ^ 64 - 1 }
+    ensures explains { let plans = stream (P.remaining plan.old) (P.failures plan.old) (P.remaining plan.new) (P.failures plan.new) in
+        let outputs = stream (O.contents output.old) (O.failures output.old) (O.contents output.new) (O.failures output.new) in
+        Explains result plans outputs }
+    ensures silent { (result ≡ Yes) ⊎ (result ≡ Fault) → errors.new ≡ errors.old }
+    ensures unwritten { let plans = stream (P.remaining plan.old) (P.failures plan.old) (P.remaining plan.new) (P.failures plan.new) in
+        let outputs = stream (O.contents output.old) (O.failures output.old) (O.contents output.new) (O.failures output.new) in
+        result ≡ Unreadable → (output.new ≡ output.old) ⊎ BreaksOff (IsExplainAnswer plans) outputs }
+    ensures no_memory { result ≡ NoMemory → output.new ≡ output.old }
+{
+    let answered = answer_explain(alloc, plan);
+    tell(alloc, answered, output, errors)
+}
+
+fn answer_explain<P: Source>(alloc: Global, plan: &mut P) -> Result<Answer, Refused>
+    requires { P.failures plan.old < 2 ^ 64 - 1 }
+    ensures answers { let plans = stream (P.remaining plan.old) (P.failures plan.old) (P.remaining plan.new) (P.failures plan.new) in
+        IfOk result (λ answer. ExplainsSo plans answer.status (cow_str_bytes answer.text)) }
+    ensures unread { let plans = stream (P.remaining plan.old) (P.failures plan.old) (P.remaining plan.new) (P.failures plan.new) in
+        IfErr result (λ why. IsPlanUnread why plans) }
+{
+    let plan = given_plan(alloc, plan)?;
+    match certify(alloc, &plan) {
+        Ok(_certificate) => Ok(Answer::found(sound_text(alloc, &plan)?)),
+        Err(obstacle) => Ok(Answer::fault(obstacle_text(alloc, &plan, &obstacle)?)),
+    }
+}
+
+/// Says yes, and sums a plan up.
+fn sound_text(alloc: Global, plan: &Plan) -> Result<String, AllocError>
+    ensures { IfOk result (λ text. string_bytes text ≡ yes_line ++ summary_text plan.now) }
+{
+    let mut text = YES.to_string(alloc)?;
+    text.push_str(&summary_line(alloc, plan)?)?;
+    Ok(text)
+}
+
+/// Says what rules certificates of a plan out, and explains it.
+fn obstacle_text(alloc: Global, plan: &Plan, obstacle: &CertifyError) -> Result<String, AllocError>
+    requires names { NamesObstacle plan.now obstacle.now }
+    requires none { RulesOutCertificates plan.now obstacle.now }
+    ensures { IfOk result (λ text. IsObstacleText plan.now (string_bytes text)) }
+{
+    let mut text = obstacle_line(alloc, plan, obstacle)?;
+    text.push_str(&obstacle_lines(alloc, plan, obstacle)?)?;
+    Ok(text)
+}

@@ -1,0 +1,138 @@
+//! The command `explain` of a plan with its certificate: what `check` answers, and why.
+ghost use Rattle.std.specs.Prelude.{◌≡◌, ◌⊎◌, ◌<◌, ◌^◌, ◌-◌, IfOk, IfErr, string_bytes};
+ghost use Rattle.std.specs.Cow.{cow_str_bytes};
+ghost use Rattle.net_check.specs.Errors.{NamesFirstFault};
+ghost use Rattle.net_check.specs.Faults.{IsFirstFault, place_of};
+ghost use Rattle.plan_commands.specs.declared.refused.Refused.TheVariants as refused;
+ghost use Rattle.plan_commands.specs.declared.status.Status.TheVariants.{Yes, Fault, Unreadable, NoMemory};
+ghost use Rattle.plan_commands.specs.Answers.{stream, AreUnread, BreaksOff};
+ghost use Rattle.plan_commands.specs.Explaining.{IsFaultExplained, IsFaultTold, IsCertificateTold, IsCertifiedAnswer, ExplainsWithSo, ExplainsWith};
+
+use super::{obstacle_text, sound_text};
+use crate::commands::answer::{Answer, tell};
+use crate::commands::inputs::read_inputs;
+use crate::refused::Refused;
+use crate::status::Status;
+use crate::texts::explanations::cause_lines;
+use crate::texts::{NO_CERTIFICATE, REMEDY, fault_line};
+use net_check::{CheckError, Fault, certify, check};
+use net_explained::{Cause, find_cause};
+use net_plan::{Certificate, Plan, Sink, Source};
+use std::alloc::{AllocError, Global};
+
+/// Says on `output` what `check` says of a plan and its certificate, and explains it. Where a file can't be read, says so
+/// on `errors`; of two such files, the plan is told and the certificate is not read.
+pub fn run_explain_certified<P: Source, C: Source, O: Sink, E: Sink>(
+    alloc: Global,
+    plan: &mut P,
+    certificate: &mut C,
+    output: &mut O,
+    errors: &mut E,
+) -> Status
+    requires plan { P.failures plan.old < 2 ^ 64 - 1 }
+    requires certificate { C.failures certificate.old < 2 ^ 64 - 1 }
+    requires output { O.failures output.old < 2 ^ 64 - 1 }
+    requires errors { E.failures errors.old < 2 ^ 64 - 1 }
+    ensures explains { let plans = stream (P.remaining plan.old) (P.failures plan.old) (P.remaining plan.new) (P.failures plan.new) in
+        let certificates = stream (C.remaining certificate.old) (C.failures certificate.old)
+        (C.remaining certificate.new) (C.failures certificate.new) in
+        let outputs = stream (O.contents output.old) (O.failures output.old) (O.contents output.new) (O.failures output.new) in
+        ExplainsWith result plans certificates outputs }
+    ensures silent { (result ≡ Yes) ⊎ (result ≡ Fault) → errors.new ≡ errors.old }
+    ensures unwritten { let plans = stream (P.remaining plan.old) (P.failures plan.old) (P.remaining plan.new) (P.failures plan.new) in
+        let certificates = stream (C.remaining certificate.old) (C.failures certificate.old)
+        (C.remaining certificate.new) (C.failures certificate.new) in
+        let outputs = stream (O.contents output.old) (O.failures output.old) (O.contents output.new) (O.failures output.new) in
+        result ≡ Unreadable → (output.new ≡ output.old) ⊎ BreaksOff (IsCertifiedAnswer plans certificates) outputs }
+    ensures no_memory { result ≡ NoMemory → output.new ≡ output.old }
+{
+    let answered = answer_explain_certified(alloc, plan, certificate);
+    tell(alloc, answered, output, errors)
+}
+
+fn answer_explain_certified<P: Source, C: Source>(
+    alloc: Global,
+    plan: &mut P,
+    certificate: &mut C,
+) -> Result<Answer, Refused>
+    requires plan { P.failures plan.old < 2 ^ 64 - 1 }
+    requires certificate { C.failures certificate.old < 2 ^ 64 - 1 }
+    ensures answers { let plans = stream (P.remaining plan.old) (P.failures plan.old) (P.remaining plan.new) (P.failures plan.new) in
+        let certificates = stream (C.remaining certificate.old) (C.failures certificate.old)
+        (C.remaining certificate.new) (C.failures certificate.new) in
+        IfOk result (λ answer. ExplainsWithSo plans certificates answer.status (cow_str_bytes answer.text)) }
+    ensures unread { let plans = stream (P.remaining plan.old) (P.failures plan.old) (P.remaining plan.new) (P.failures plan.new) in
+        let certificates = stream (C.remaining certificate.old) (C.failures certificate.old)
+        (C.remaining certificate.new) (C.failures certificate.new) in
+        IfErr result (λ why. AreUnread why plans certificates) }
+{
+    let (plan, certificate) = read_inputs(alloc, plan, certificate)?;
+    match check(alloc, &plan, &certificate) {
+        Ok(_checked) => Ok(Answer::found(sound_text(alloc, &plan)?)),
+        Err(error) => explained(alloc, &plan, &certificate, &error),
+    }
+}
+
+/// The answer where a plan and its certificate are not accepted.
+fn explained(
+    alloc: Global,
+    plan: &Plan,
+    certificate: &Certificate,
+    error: &CheckError,
+) -> Result<Answer, Refused>
+    requires { NamesFirstFault plan.now certificate.now error.now }
+    ensures answers { IfOk result (λ answer. (answer.status ≡ Fault) × IsFaultExplained plan.now certificate.now (cow_str_bytes answer.text)) }
+    ensures refused { IfErr result (λ refused. refused ≡ refused.NoMemory) }
+{
+    match error {
+        CheckError::Fault(fault) => {
+            let text = fault_text(alloc, plan, certificate, fault)?;
+            Ok(Answer::fault(text))
+        }
+        CheckError::OutOfMemory => Err(Refused::NoMemory),
+    }
+}
+
+/// The line of the first fault, and what explains it.
+fn fault_text(
+    alloc: Global,
+    plan: &Plan,
+    certificate: &Certificate,
+    fault: &Fault,
+) -> Result<String, AllocError>
+    requires { IsFirstFault plan.now certificate.now (place_of fault.now) }
+    ensures { IfOk result (λ text. IsFaultExplained plan.now certificate.now (string_bytes text)) }
+{
+    let mut text = fault_line(alloc, plan, fault)?;
+    text.push_str(&lines_of(alloc, plan, fault, find_cause(plan, fault))?)?;
+    Ok(text)
+}
+
+/// Explains a fault of a plan, by its cause, or of its certificate, where it has none in the plan.
+fn lines_of(
+    alloc: Global,
+    plan: &Plan,
+    fault: &Fault,
+    cause: Option<Cause>,
+) -> Result<String, AllocError>
+    ensures { IfOk result (λ text. IsFaultTold plan.now fault.now cause (string_bytes text)) }
+{
+    match cause {
+        Some(cause) => cause_lines(alloc, plan, fault, cause),
+        None => certificate_lines(alloc, plan),
+    }
+}
+
+/// Says that another certificate fits the plan, or what rules all of them out.
+fn certificate_lines(alloc: Global, plan: &Plan) -> Result<String, AllocError>
+    ensures { IfOk result (λ text. IsCertificateTold plan.now (string_bytes text)) }
+{
+    match certify(alloc, plan) {
+        Ok(_certificate) => REMEDY.to_string(alloc),
+        Err(obstacle) => {
+            let mut text = NO_CERTIFICATE.to_string(alloc)?;
+            text.push_str(&obstacle_text(alloc, plan, &obstacle)?)?;
+            Ok(text)
+        }
+    }
+}
