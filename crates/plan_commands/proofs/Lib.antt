@@ -13,5 +13,4 @@ pub mod Traced
 pub mod Ends
 pub mod Linted
 pub mod Drawn
-pub mod Dashed
 pub mod Explained

@@ -8,9 +8,9 @@ ghost use Rattle.plan_commands.specs.Tracing.{address_text, bus_text};
 
 use super::causes::cause_text;
 use super::causes::edit_lines::edits_text;
-use super::causes::places::{next_at, next_of_row, port_of_row};
+use super::causes::places::{next_at, next_of_row, number_text, port_of_row};
+use super::name_or_dash;
 use super::ways::{address_on, address_text, bus_text, ports_at};
-use super::{OrDash, name_or_dash};
 use mctp_transport::Eid;
 use net_check::{CertifyError, ChainFault, Fault};
 use net_explained::{Cause, find_cause, owner_at, record_at, rows_at};
@@ -128,9 +128,9 @@ fn row_way(
 ) -> Result<String, AllocError>
     ensures { IfOk result (λ line. string_bytes line ≡ row_way plan.now node entry) }
 {
-    let row = OrDash(entry);
+    let row = number_text(alloc, entry)?;
     let name = name_or_dash(plan, node);
-    let port = OrDash(port_of_row(plan, node, entry));
+    let port = number_text(alloc, port_of_row(plan, node, entry))?;
     let bus = bus_text(plan, bus_of_row(plan, node, entry));
     let address = address_to(alloc, plan, node, entry)?;
     let next = next_of_row(plan, node, entry);
@@ -142,7 +142,7 @@ fn bus_of_row(plan: &Plan, node: usize, entry: Option<usize>) -> Option<usize>
     ensures { result ≡ bus_of_row plan.now node entry }
 {
     let port = port_of_row(plan, node, entry)?;
-    Some(ports_at(plan, node).get(usize::from(port))?.bus)
+    Some(ports_at(plan, node).get(port)?.bus)
 }
 
 /// The address to which a node sends by the row at an entry, in hex, or a dash where it is empty.
@@ -238,13 +238,13 @@ fn next_handle_text(
     ensures { IfOk result (λ text. string_bytes text ≡ next_handle_text plan.now node index) }
 {
     let name = name_or_dash(plan, node);
-    let next = OrDash(next_handle(plan, node, index));
+    let next = number_text(alloc, next_handle(plan, node, index))?;
     format!(in alloc; "Record {index} of {name} has next handle {next}")
 }
 
 /// The next handle of a node's record.
-fn next_handle(plan: &Plan, node: usize, index: usize) -> Option<u32>
+fn next_handle(plan: &Plan, node: usize, index: usize) -> Option<usize>
     ensures { result ≡ next_handle plan.now node index }
 {
-    Some(record_at(plan, node, index)?.next)
+    Some(record_at(plan, node, index)?.next as usize)
 }

@@ -6,8 +6,8 @@ ghost use Rattle.plan_commands.specs.CauseLines.{row_at, next_text, handle_at};
 ghost use Rattle.plan_commands.specs.EditLines.{name_edit_text, eid_edit_text, row_range_edit_text, overlap_edit_text, neighbor_edit_text, several_edit_text, owner_edit_text, owned_eid_edit_text, peer_edit_text, no_pool_edit_text, pool_within_edit_text, pools_apart_edit_text, lead_edit_text, row_edit_text, no_terminus_edit_text, handle_edit_text, bytes_edit_text, header_edit_text, locator_edit_text, meant_edit_text, edits_text};
 ghost use Rattle.plan_commands.specs.Lines.{name_or_dash, number_or_dash};
 
-use super::places::{eid_of_fault, handle_at, next_of_row};
-use crate::texts::{OrDash, name_or_dash};
+use super::places::{eid_of_fault, handle_at, next_of_row, number_text};
+use crate::texts::name_or_dash;
 use net_check::Fault;
 use net_explained::Cause;
 use net_plan::Plan;
@@ -78,7 +78,7 @@ fn row_range_edit(alloc: Global) -> Result<String, AllocError>
 fn overlap_edit(alloc: Global, plan: &Plan, fault: &Fault) -> Result<String, AllocError>
     ensures { IfOk result (λ text. string_bytes text ≡ overlap_edit_text (number_or_dash fault.now.entry) (name_or_dash plan.now fault.now.node)) }
 {
-    let row = OrDash(fault.entry);
+    let row = number_text(alloc, fault.entry)?;
     let name = name_or_dash(plan, fault.node);
     format!(in alloc;
         "Edit: let row {row} cover no endpoint ID that an earlier row of {name} covers.\n"
@@ -117,7 +117,7 @@ fn owned_eid_edit(
 {
     let name = name_or_dash(plan, fault.node);
     let owner = name_or_dash(plan, owner);
-    let eid = OrDash(eid_of_fault(fault));
+    let eid = number_text(alloc, eid_of_fault(fault))?;
     format!(in alloc;
         "Edit: give {name} an eid of the pool of {owner} that is in no pool handed on from it.\nEdit: or let the pool of {owner} have {eid}, and no pool handed on from it.\n"
     )
@@ -127,7 +127,7 @@ fn peer_edit(alloc: Global, plan: &Plan, fault: &Fault, peer: usize) -> Result<S
     ensures { IfOk result (λ text. string_bytes text ≡ peer_edit_text (name_or_dash plan.now peer) (number_or_dash (eid_number fault.now.eid))) }
 {
     let peer = name_or_dash(plan, peer);
-    let eid = OrDash(eid_of_fault(fault));
+    let eid = number_text(alloc, eid_of_fault(fault))?;
     format!(in alloc; "Edit: let the pool of {peer} leave {eid} out.\n")
 }
 
@@ -165,9 +165,9 @@ fn pools_apart_edit(alloc: Global, plan: &Plan, fault: &Fault) -> Result<String,
 fn lead_edit(alloc: Global, plan: &Plan, fault: &Fault, holder: usize) -> Result<String, AllocError>
     ensures { IfOk result (λ text. string_bytes text ≡ lead_edit_text (number_or_dash (eid_number fault.now.eid)) (name_or_dash plan.now holder) (number_or_dash fault.now.entry) (name_or_dash plan.now fault.now.node)) }
 {
-    let eid = OrDash(eid_of_fault(fault));
+    let eid = number_text(alloc, eid_of_fault(fault))?;
     let holder = name_or_dash(plan, holder);
-    let row = OrDash(fault.entry);
+    let row = number_text(alloc, fault.entry)?;
     let name = name_or_dash(plan, fault.node);
     format!(in alloc;
         "Edit: lead {eid} to {holder}, or to a bridge that has a row for it.\nEdit: or take {eid} out of row {row} of {name}.\n"
@@ -178,8 +178,8 @@ fn row_edit(alloc: Global, plan: &Plan, fault: &Fault) -> Result<String, AllocEr
     ensures { IfOk result (λ text. string_bytes text ≡ row_edit_text (next_text plan.now (row_at plan.now fault.now.node fault.now.entry)) (number_or_dash (eid_number fault.now.eid)) (number_or_dash fault.now.entry) (name_or_dash plan.now fault.now.node)) }
 {
     let next = next_of_row(plan, fault.node, fault.entry);
-    let eid = OrDash(eid_of_fault(fault));
-    let row = OrDash(fault.entry);
+    let eid = number_text(alloc, eid_of_fault(fault))?;
+    let row = number_text(alloc, fault.entry)?;
     let name = name_or_dash(plan, fault.node);
     format!(in alloc;
         "Edit: give {next} a row for {eid}.\nEdit: or take {eid} out of row {row} of {name}.\n"
@@ -196,7 +196,7 @@ fn no_terminus_edit(alloc: Global, plan: &Plan, fault: &Fault) -> Result<String,
 fn handle_edit(alloc: Global, plan: &Plan, fault: &Fault) -> Result<String, AllocError>
     ensures { IfOk result (λ text. string_bytes text ≡ handle_edit_text (number_or_dash fault.now.entry) (name_or_dash plan.now fault.now.node)) }
 {
-    let entry = OrDash(fault.entry);
+    let entry = number_text(alloc, fault.entry)?;
     let name = name_or_dash(plan, fault.node);
     format!(in alloc;
         "Edit: give record {entry} a handle of at least 1 that no other record of {name} has.\n"
@@ -214,7 +214,7 @@ fn bytes_edit(alloc: Global) -> Result<String, AllocError>
 fn header_edit(alloc: Global, plan: &Plan, fault: &Fault, handle: u32) -> Result<String, AllocError>
     ensures { IfOk result (λ text. string_bytes text ≡ header_edit_text (decimal handle) (number_or_dash (handle_at plan.now fault.now.node fault.now.entry))) }
 {
-    let own = OrDash(handle_at(plan, fault.node, fault.entry));
+    let own = number_text(alloc, handle_at(plan, fault.node, fault.entry))?;
     format!(in alloc;
         "Edit: let handle be {handle}.\nEdit: or let bytes 0 to 3 give {own}, the lowest byte first.\n"
     )

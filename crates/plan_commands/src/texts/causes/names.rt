@@ -3,8 +3,8 @@ ghost use Rattle.std.specs.Prelude.{◌≡◌, IfOk, string_bytes};
 ghost use Rattle.net_explained.specs.declared.cause.Cause.TheVariants.{SharedName, UnassignableEid, SharedEid};
 ghost use Rattle.plan_commands.specs.CauseLines.{cause_text};
 
-use super::places::eid_of_fault;
-use crate::texts::{OrDash, name_or_dash};
+use super::places::{eid_of_fault, number_text};
+use crate::texts::name_or_dash;
 use net_check::Fault;
 use net_plan::Plan;
 use std::alloc::{AllocError, Global};
@@ -30,7 +30,7 @@ pub fn unassignable(alloc: Global, plan: &Plan, fault: &Fault) -> Result<String,
     ensures { IfOk result (λ text. string_bytes text ≡ cause_text plan.now fault.now UnassignableEid) }
 {
     let name = name_or_dash(plan, fault.node);
-    let eid = OrDash(eid_of_fault(fault));
+    let eid = number_text(alloc, eid_of_fault(fault))?;
     format!(in alloc; "{name} holds endpoint ID {eid}. A node holds one of 8 to 254.\n")
 }
 
@@ -45,6 +45,6 @@ pub fn shared_eid(
 {
     let name = name_or_dash(plan, fault.node);
     let earlier = name_or_dash(plan, earlier);
-    let eid = OrDash(eid_of_fault(fault));
+    let eid = number_text(alloc, eid_of_fault(fault))?;
     format!(in alloc; "{name} and the earlier node {earlier} both hold endpoint ID {eid}.\n")
 }

@@ -3,12 +3,13 @@ ghost use Rattle.std.specs.Prelude.{◌≡◌, option_map, IfOk, string_bytes};
 ghost use Rattle.net_check.specs.Faults.{eid_number};
 ghost use Rattle.net_check.specs.Pools.{pool_of};
 ghost use Rattle.net_check.specs.Routing.{eid_of};
+ghost use Rattle.plan_commands.specs.Lines.{number_or_dash};
 ghost use Rattle.plan_commands.specs.CauseLines.{span_text, first_of_row, size_of_row, port_of_row, row_at, row_text, next_text, first_of_pool, size_of_pool, pool_text, handle_at, tid_of, has_tid, node_with_tid, meant_text};
 
-use crate::texts::{OrDash, name_or_dash};
+use crate::texts::name_or_dash;
 use net_check::Fault;
 use net_explained::{pool_at, record_at, row_at, terminus_at};
-use net_plan::{Node, Plan};
+use net_plan::{Node, Plan, Row};
 use std::alloc::{AllocError, Global};
 
 /// So many endpoint IDs from the first on: the first and the last, or the one, or none.
@@ -25,41 +26,58 @@ fn span_text(alloc: Global, first: u8, size: u8) -> Result<String, AllocError>
     }
 }
 
+/// A number, or a dash where there is none.
+pub fn number_text(alloc: Global, number: Option<usize>) -> Result<String, AllocError>
+    ensures { IfOk result (λ text. string_bytes text ≡ number_or_dash number) }
+{
+    match number {
+        Some(number) => format!(in alloc; "{number}"),
+        None => "-".to_string(alloc),
+    }
+}
+
 /// The number of the endpoint ID that a fault names.
-pub fn eid_of_fault(fault: &Fault) -> Option<u8>
+pub fn eid_of_fault(fault: &Fault) -> Option<usize>
     ensures { result ≡ eid_number fault.now.eid }
 {
-    Some(fault.eid?.value)
+    Some(usize::from(fault.eid?.value))
 }
 
 // ---- rows
 
+/// The row at an entry of a node.
+fn row_found(plan: &Plan, node: usize, entry: Option<usize>) -> Option<&Row>
+    ensures { option_map (λ r. r.now) result ≡ row_at plan.now node entry }
+{
+    row_at(plan, node, entry?)
+}
+
 /// The first endpoint ID that the row at an entry covers.
-pub fn first_of_row(plan: &Plan, node: usize, entry: Option<usize>) -> Option<u8>
+pub fn first_of_row(plan: &Plan, node: usize, entry: Option<usize>) -> Option<usize>
     ensures { result ≡ first_of_row plan.now node entry }
 {
-    Some(row_at(plan, node, entry?)?.first.value)
+    Some(usize::from(row_found(plan, node, entry)?.first.value))
 }
 
 /// How many it covers.
-pub fn size_of_row(plan: &Plan, node: usize, entry: Option<usize>) -> Option<u8>
+pub fn size_of_row(plan: &Plan, node: usize, entry: Option<usize>) -> Option<usize>
     ensures { result ≡ size_of_row plan.now node entry }
 {
-    Some(row_at(plan, node, entry?)?.size)
+    Some(usize::from(row_found(plan, node, entry)?.size))
 }
 
 /// The port by which it leaves.
-pub fn port_of_row(plan: &Plan, node: usize, entry: Option<usize>) -> Option<u8>
+pub fn port_of_row(plan: &Plan, node: usize, entry: Option<usize>) -> Option<usize>
     ensures { result ≡ port_of_row plan.now node entry }
 {
-    Some(row_at(plan, node, entry?)?.port)
+    Some(usize::from(row_found(plan, node, entry)?.port))
 }
 
 /// The node to which the row at an entry leads.
 pub fn next_at(plan: &Plan, node: usize, entry: Option<usize>) -> Option<usize>
     ensures { result ≡ option_map (λ row. row.next) (row_at plan.now node entry) }
 {
-    Some(row_at(plan, node, entry?)?.next)
+    Some(row_found(plan, node, entry)?.next)
 }
 
 /// What the row at an entry covers, or a dash where there is none.
@@ -71,12 +89,9 @@ pub fn row_span(
 ) -> Result<String, AllocError>
     ensures { IfOk result (λ text. string_bytes text ≡ row_text (row_at plan.now node entry)) }
 {
-    match (
-        first_of_row(plan, node, entry),
-        size_of_row(plan, node, entry),
-    ) {
-        (Some(first), Some(size)) => span_text(alloc, first, size),
-        _ => "-".to_string(alloc),
+    match row_found(plan, node, entry) {
+        Some(row) => span_text(alloc, row.first.value, row.size),
+        None => "-".to_string(alloc),
     }
 }
 
@@ -93,17 +108,17 @@ pub fn next_of_row(plan: &Plan, node: usize, entry: Option<usize>) -> &str
 // ---- pools
 
 /// The first endpoint ID of a node's pool.
-pub fn first_of_pool(plan: &Plan, node: usize) -> Option<u8>
+pub fn first_of_pool(plan: &Plan, node: usize) -> Option<usize>
     ensures { result ≡ first_of_pool plan.now node }
 {
-    Some(pool_at(plan, node)?.first.value)
+    Some(usize::from(pool_at(plan, node)?.first.value))
 }
 
 /// How many it has.
-pub fn size_of_pool(plan: &Plan, node: usize) -> Option<u8>
+pub fn size_of_pool(plan: &Plan, node: usize) -> Option<usize>
     ensures { result ≡ size_of_pool plan.now node }
 {
-    Some(pool_at(plan, node)?.size)
+    Some(usize::from(pool_at(plan, node)?.size))
 }
 
 /// What the pool of a node has, null where it has none.
@@ -119,24 +134,24 @@ pub fn pool_span(alloc: Global, plan: &Plan, node: usize) -> Result<String, Allo
 // ---- records
 
 /// The handle of the record at an entry.
-pub fn handle_at(plan: &Plan, node: usize, entry: Option<usize>) -> Option<u32>
+pub fn handle_at(plan: &Plan, node: usize, entry: Option<usize>) -> Option<usize>
     ensures { result ≡ handle_at plan.now node entry }
 {
-    Some(record_at(plan, node, entry?)?.handle)
+    Some(record_at(plan, node, entry?)?.handle as usize)
 }
 
 /// The terminus ID of a node.
-pub fn tid_of(plan: &Plan, node: usize) -> Option<u8>
+pub fn tid_of(plan: &Plan, node: usize) -> Option<usize>
     ensures { result ≡ tid_of plan.now node }
 {
-    Some(terminus_at(plan, node)?.tid)
+    Some(usize::from(terminus_at(plan, node)?.tid))
 }
 
 /// The endpoint ID that a node holds.
-fn eid_of(plan: &Plan, node: usize) -> Option<u8>
+fn eid_of(plan: &Plan, node: usize) -> Option<usize>
     ensures { result ≡ eid_of plan.now node }
 {
-    Some(plan.nodes.get(node)?.eid.value)
+    Some(usize::from(plan.nodes.get(node)?.eid.value))
 }
 
 /// Whose terminus has the terminus ID, and which endpoint ID that node holds.
@@ -146,7 +161,7 @@ pub fn meant_text(alloc: Global, plan: &Plan, tid: u8) -> Result<String, AllocEr
     match node_with_tid(plan, tid) {
         Some(node) => {
             let name = name_or_dash(plan, node);
-            let eid = OrDash(eid_of(plan, node));
+            let eid = number_text(alloc, eid_of(plan, node))?;
             format!(in alloc; "Terminus {tid} is that of {name}, which holds endpoint ID {eid}.\n")
         }
         None => format!(in alloc; "No node has terminus {tid}.\n"),

@@ -3,8 +3,8 @@ ghost use Rattle.std.specs.Prelude.{◌≡◌, IfOk, string_bytes};
 ghost use Rattle.net_explained.specs.declared.cause.Cause.TheVariants.{OwnerIsEndpoint, OwnerSharesNoBus, OutsideOwnersPool, InPeersPool, PoolOfEndpoint, PoolOutOfRange, PoolBeyondOwners, PoolsMeet};
 ghost use Rattle.plan_commands.specs.CauseLines.{cause_text};
 
-use super::places::{eid_of_fault, first_of_pool, pool_span, size_of_pool};
-use crate::texts::{OrDash, name_or_dash};
+use super::places::{eid_of_fault, first_of_pool, number_text, pool_span, size_of_pool};
+use crate::texts::name_or_dash;
 use mctp_transport::Eid;
 use net_check::Fault;
 use net_plan::Plan;
@@ -50,7 +50,7 @@ pub fn outside_owners_pool(
     ensures { IfOk result (λ text. string_bytes text ≡ cause_text plan.now fault.now (OutsideOwnersPool owner)) }
 {
     let name = name_or_dash(plan, fault.node);
-    let eid = OrDash(eid_of_fault(fault));
+    let eid = number_text(alloc, eid_of_fault(fault))?;
     let span = pool_span(alloc, plan, owner)?;
     let owner = name_or_dash(plan, owner);
     format!(in alloc;
@@ -68,7 +68,7 @@ pub fn in_peers_pool(
     ensures { IfOk result (λ text. string_bytes text ≡ cause_text plan.now fault.now (InPeersPool peer)) }
 {
     let name = name_or_dash(plan, fault.node);
-    let eid = OrDash(eid_of_fault(fault));
+    let eid = number_text(alloc, eid_of_fault(fault))?;
     let span = pool_span(alloc, plan, peer)?;
     let peer = name_or_dash(plan, peer);
     format!(in alloc;
@@ -90,8 +90,8 @@ pub fn pool_out_of_range(alloc: Global, plan: &Plan, fault: &Fault) -> Result<St
     ensures { IfOk result (λ text. string_bytes text ≡ cause_text plan.now fault.now PoolOutOfRange) }
 {
     let name = name_or_dash(plan, fault.node);
-    let first = OrDash(first_of_pool(plan, fault.node));
-    let size = OrDash(size_of_pool(plan, fault.node));
+    let first = number_text(alloc, first_of_pool(plan, fault.node))?;
+    let size = number_text(alloc, size_of_pool(plan, fault.node))?;
     format!(in alloc;
         "The pool of {name} has first {first} and size {size}. A pool has one of 8 to 254 or more, and no other.\n"
     )

@@ -3,8 +3,8 @@ ghost use Rattle.std.specs.Prelude.{◌≡◌, IfOk, string_bytes};
 ghost use Rattle.net_explained.specs.declared.cause.Cause.TheVariants.{NoRecords, HandleIsZero, SharedHandle, UnreadableRecord, OtherHandle, LongLocator, NobodyHolds, OtherTerminus};
 ghost use Rattle.plan_commands.specs.CauseLines.{cause_text};
 
-use super::places::{eid_of_fault, handle_at, meant_text, tid_of};
-use crate::texts::{OrDash, name_or_dash};
+use super::places::{eid_of_fault, handle_at, meant_text, number_text, tid_of};
+use crate::texts::name_or_dash;
 use net_check::Fault;
 use net_plan::Plan;
 use std::alloc::{AllocError, Global};
@@ -21,7 +21,7 @@ pub fn no_records(alloc: Global, plan: &Plan, fault: &Fault) -> Result<String, A
 pub fn handle_is_zero(alloc: Global, plan: &Plan, fault: &Fault) -> Result<String, AllocError>
     ensures { IfOk result (λ text. string_bytes text ≡ cause_text plan.now fault.now HandleIsZero) }
 {
-    let entry = OrDash(fault.entry);
+    let entry = number_text(alloc, fault.entry)?;
     let name = name_or_dash(plan, fault.node);
     format!(in alloc;
         "Record {entry} of {name} has handle 0, by which no record can be asked for.\n"
@@ -37,9 +37,9 @@ pub fn shared_handle(
 ) -> Result<String, AllocError>
     ensures { IfOk result (λ text. string_bytes text ≡ cause_text plan.now fault.now (SharedHandle earlier)) }
 {
-    let entry = OrDash(fault.entry);
+    let entry = number_text(alloc, fault.entry)?;
     let name = name_or_dash(plan, fault.node);
-    let own = OrDash(handle_at(plan, fault.node, fault.entry));
+    let own = number_text(alloc, handle_at(plan, fault.node, fault.entry))?;
     format!(in alloc; "Records {earlier} and {entry} of {name} both have handle {own}.\n")
 }
 
@@ -47,7 +47,7 @@ pub fn shared_handle(
 pub fn unreadable(alloc: Global, plan: &Plan, fault: &Fault) -> Result<String, AllocError>
     ensures { IfOk result (λ text. string_bytes text ≡ cause_text plan.now fault.now UnreadableRecord) }
 {
-    let entry = OrDash(fault.entry);
+    let entry = number_text(alloc, fault.entry)?;
     let name = name_or_dash(plan, fault.node);
     format!(in alloc; "The bytes of record {entry} of {name} are those of no record.\n")
 }
@@ -61,9 +61,9 @@ pub fn other_handle(
 ) -> Result<String, AllocError>
     ensures { IfOk result (λ text. string_bytes text ≡ cause_text plan.now fault.now (OtherHandle handle)) }
 {
-    let entry = OrDash(fault.entry);
+    let entry = number_text(alloc, fault.entry)?;
     let name = name_or_dash(plan, fault.node);
-    let own = OrDash(handle_at(plan, fault.node, fault.entry));
+    let own = number_text(alloc, handle_at(plan, fault.node, fault.entry))?;
     format!(in alloc;
         "Record {entry} of {name} has handle {own}, and the header of its bytes has {handle}.\n"
     )
@@ -73,7 +73,7 @@ pub fn other_handle(
 pub fn long_locator(alloc: Global, plan: &Plan, fault: &Fault) -> Result<String, AllocError>
     ensures { IfOk result (λ text. string_bytes text ≡ cause_text plan.now fault.now LongLocator) }
 {
-    let entry = OrDash(fault.entry);
+    let entry = number_text(alloc, fault.entry)?;
     let name = name_or_dash(plan, fault.node);
     format!(in alloc;
         "Record {entry} of {name} locates a terminus by MCTP, and its value is not one byte long.\n"
@@ -89,9 +89,9 @@ pub fn nobody_holds(
 ) -> Result<String, AllocError>
     ensures { IfOk result (λ text. string_bytes text ≡ cause_text plan.now fault.now (NobodyHolds tid)) }
 {
-    let entry = OrDash(fault.entry);
+    let entry = number_text(alloc, fault.entry)?;
     let name = name_or_dash(plan, fault.node);
-    let eid = OrDash(eid_of_fault(fault));
+    let eid = number_text(alloc, eid_of_fault(fault))?;
     let meant = meant_text(alloc, plan, tid)?;
     format!(in alloc;
         "Record {entry} of {name} locates terminus {tid} at endpoint ID {eid}, which no node holds.\n{meant}"
@@ -108,10 +108,10 @@ pub fn other_terminus(
 ) -> Result<String, AllocError>
     ensures { IfOk result (λ text. string_bytes text ≡ cause_text plan.now fault.now (OtherTerminus holder tid)) }
 {
-    let entry = OrDash(fault.entry);
+    let entry = number_text(alloc, fault.entry)?;
     let name = name_or_dash(plan, fault.node);
-    let eid = OrDash(eid_of_fault(fault));
-    let held = OrDash(tid_of(plan, holder));
+    let eid = number_text(alloc, eid_of_fault(fault))?;
+    let held = number_text(alloc, tid_of(plan, holder))?;
     let holder = name_or_dash(plan, holder);
     let meant = meant_text(alloc, plan, tid)?;
     format!(in alloc;

@@ -3,9 +3,11 @@ ghost use Rattle.std.specs.Prelude.{◌≡◌, IfOk, string_bytes};
 ghost use Rattle.net_explained.specs.declared.cause.Cause.TheVariants.{RowOutOfRange, OverlappedRow, NextIsItself, NoSuchPort, NextNotOnBus, EndpointForSeveral, NextIsEndpoint, NextHasNoRow};
 ghost use Rattle.plan_commands.specs.CauseLines.{cause_text};
 
-use super::places::{eid_of_fault, first_of_row, next_of_row, port_of_row, row_span, size_of_row};
+use super::places::{
+    eid_of_fault, first_of_row, next_of_row, number_text, port_of_row, row_span, size_of_row,
+};
 use crate::texts::ways::ports_at;
-use crate::texts::{OrDash, bus_name_or_dash, name_or_dash};
+use crate::texts::{bus_name_or_dash, name_or_dash};
 use mctp_transport::Eid;
 use net_check::Fault;
 use net_plan::Plan;
@@ -15,10 +17,10 @@ use std::alloc::{AllocError, Global};
 pub fn row_out_of_range(alloc: Global, plan: &Plan, fault: &Fault) -> Result<String, AllocError>
     ensures { IfOk result (λ text. string_bytes text ≡ cause_text plan.now fault.now RowOutOfRange) }
 {
-    let row = OrDash(fault.entry);
+    let row = number_text(alloc, fault.entry)?;
     let name = name_or_dash(plan, fault.node);
-    let first = OrDash(first_of_row(plan, fault.node, fault.entry));
-    let size = OrDash(size_of_row(plan, fault.node, fault.entry));
+    let first = number_text(alloc, first_of_row(plan, fault.node, fault.entry))?;
+    let size = number_text(alloc, size_of_row(plan, fault.node, fault.entry))?;
     format!(in alloc;
         "Row {row} of {name} has first {first} and size {size}. A row covers one of 8 to 254 or more, and no other.\n"
     )
@@ -34,7 +36,7 @@ pub fn overlapped(
 ) -> Result<String, AllocError>
     ensures { IfOk result (λ text. string_bytes text ≡ cause_text plan.now fault.now (OverlappedRow earlier eid)) }
 {
-    let row = OrDash(fault.entry);
+    let row = number_text(alloc, fault.entry)?;
     let name = name_or_dash(plan, fault.node);
     let eid = eid.value;
     let earlier_span = row_span(alloc, plan, fault.node, Some(earlier))?;
@@ -48,7 +50,7 @@ pub fn overlapped(
 pub fn next_is_itself(alloc: Global, plan: &Plan, fault: &Fault) -> Result<String, AllocError>
     ensures { IfOk result (λ text. string_bytes text ≡ cause_text plan.now fault.now NextIsItself) }
 {
-    let row = OrDash(fault.entry);
+    let row = number_text(alloc, fault.entry)?;
     let name = name_or_dash(plan, fault.node);
     format!(in alloc; "Row {row} of {name} leads to {name} itself.\n")
 }
@@ -57,9 +59,9 @@ pub fn next_is_itself(alloc: Global, plan: &Plan, fault: &Fault) -> Result<Strin
 pub fn no_such_port(alloc: Global, plan: &Plan, fault: &Fault) -> Result<String, AllocError>
     ensures { IfOk result (λ text. string_bytes text ≡ cause_text plan.now fault.now NoSuchPort) }
 {
-    let row = OrDash(fault.entry);
+    let row = number_text(alloc, fault.entry)?;
     let name = name_or_dash(plan, fault.node);
-    let port = OrDash(port_of_row(plan, fault.node, fault.entry));
+    let port = number_text(alloc, port_of_row(plan, fault.node, fault.entry))?;
     let count = ports_at(plan, fault.node).len();
     format!(in alloc;
         "Row {row} of {name} leaves by port {port}. The ports of {name} are counted from 0; it has {count}.\n"
@@ -75,9 +77,9 @@ pub fn next_not_on_bus(
 ) -> Result<String, AllocError>
     ensures { IfOk result (λ text. string_bytes text ≡ cause_text plan.now fault.now (NextNotOnBus bus)) }
 {
-    let row = OrDash(fault.entry);
+    let row = number_text(alloc, fault.entry)?;
     let name = name_or_dash(plan, fault.node);
-    let port = OrDash(port_of_row(plan, fault.node, fault.entry));
+    let port = number_text(alloc, port_of_row(plan, fault.node, fault.entry))?;
     let bus = bus_name_or_dash(plan, bus);
     let next = next_of_row(plan, fault.node, fault.entry);
     format!(in alloc;
@@ -89,7 +91,7 @@ pub fn next_not_on_bus(
 pub fn endpoint_for_several(alloc: Global, plan: &Plan, fault: &Fault) -> Result<String, AllocError>
     ensures { IfOk result (λ text. string_bytes text ≡ cause_text plan.now fault.now EndpointForSeveral) }
 {
-    let row = OrDash(fault.entry);
+    let row = number_text(alloc, fault.entry)?;
     let name = name_or_dash(plan, fault.node);
     let span = row_span(alloc, plan, fault.node, fault.entry)?;
     let next = next_of_row(plan, fault.node, fault.entry);
@@ -107,9 +109,9 @@ pub fn next_is_endpoint(
 ) -> Result<String, AllocError>
     ensures { IfOk result (λ text. string_bytes text ≡ cause_text plan.now fault.now (NextIsEndpoint holder)) }
 {
-    let row = OrDash(fault.entry);
+    let row = number_text(alloc, fault.entry)?;
     let name = name_or_dash(plan, fault.node);
-    let eid = OrDash(eid_of_fault(fault));
+    let eid = number_text(alloc, eid_of_fault(fault))?;
     let next = next_of_row(plan, fault.node, fault.entry);
     let holder = name_or_dash(plan, holder);
     format!(in alloc;
@@ -126,9 +128,9 @@ pub fn next_has_no_row(
 ) -> Result<String, AllocError>
     ensures { IfOk result (λ text. string_bytes text ≡ cause_text plan.now fault.now (NextHasNoRow holder)) }
 {
-    let row = OrDash(fault.entry);
+    let row = number_text(alloc, fault.entry)?;
     let name = name_or_dash(plan, fault.node);
-    let eid = OrDash(eid_of_fault(fault));
+    let eid = number_text(alloc, eid_of_fault(fault))?;
     let next = next_of_row(plan, fault.node, fault.entry);
     let holder = name_or_dash(plan, holder);
     format!(in alloc;
