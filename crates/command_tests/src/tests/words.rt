@@ -47,7 +47,19 @@ fn gives_the_command_or_usage(rt: HostRuntime) -> Result<(), Fail> {
         plan: "a",
         certificate: Some("b"),
     };
-    let rows: [(&[&str], Result<Command, Refused>); 57] = [
+    let explained = Command::Explain {
+        plan: "a",
+        certificate: None,
+    };
+    let both = Command::Explain {
+        plan: "a",
+        certificate: Some("b"),
+    };
+    let rows: [(&[&str], Result<Command, Refused>); 61] = [
+        (&["mctpplan", "explain", "a"], Ok(explained)),
+        (&["mctpplan", "explain", "a", "b"], Ok(both)),
+        (&["mctpplan", "explain"], Err(Refused::Usage)),
+        (&["mctpplan", "explain", "a", "b", "c"], Err(Refused::Usage)),
         (&["mctpplan", "draw", "a"], Ok(plain)),
         (&["mctpplan", "draw", "a", "b"], Ok(certified)),
         (&["mctpplan", "draw"], Err(Refused::Usage)),
