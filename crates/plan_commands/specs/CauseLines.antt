@@ -90,7 +90,8 @@ node_with_tid plan tid = position (has_tid tid) plan.nodes.items
 -- whose terminus has the terminus ID, and which endpoint ID that node holds
 abbrev pub meant_node_text : Plan → ℕ → Option ℕ → List ℕ
 meant_node_text plan tid (Some m) = codes "Terminus " ++ (decimal tid ++ (codes " is that of "
-    ++ (name_or_dash plan m ++ (codes ", which holds endpoint ID " ++ (number_or_dash (eid_of plan m) ++ codes ".\n")))))
+    ++ (name_or_dash plan m ++ (codes ", which holds endpoint ID " ++ (number_or_dash (eid_of plan m)
+    ++ codes ".\n")))))
 meant_node_text plan tid None = codes "No node has terminus " ++ (decimal tid ++ codes ".\n")
 
 -- which terminus was meant by a terminus ID

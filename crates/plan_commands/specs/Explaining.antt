@@ -86,7 +86,8 @@ way_text row name port bus address next = codes "Row " ++ (row ++ (codes " of " 
 abbrev pub row_way : Plan → ℕ → Option ℕ → List ℕ
 row_way plan n entry = way_text (number_or_dash entry) (name_or_dash plan n) (number_or_dash (port_of_row plan n entry))
     (bus_text plan (bus_of_row plan n entry))
-    (address_text (address_to plan (bus_of_row plan n entry) (row_at plan n entry))) (next_text plan (row_at plan n entry))
+    (address_text (address_to plan (bus_of_row plan n entry) (row_at plan n entry)))
+    (next_text plan (row_at plan n entry))
 
 -- how it sends what is for e
 abbrev pub way_line : Plan → ℕ → ℕ → List ℕ
@@ -187,8 +188,8 @@ Explains status.NoMemory plans output = ⊤
 
 -- ---- a plan with a certificate
 
--- what is told where the certificate is at fault and the plan meets the rule: that another certificate fits the plan, or
--- what rules all of them out
+-- what is told where the certificate is at fault and the plan meets the rule: that another certificate fits the plan,
+-- or what rules all of them out
 abbrev pub IsCertificateTold : Plan → List ℕ → Type 0
 IsCertificateTold plan text = ((certificate : Certificate) × Accepts plan certificate × (text ≡ remedy_text))
     ⊎ ((lines : List ℕ) × IsObstacleText plan lines × (text ≡ no_certificate_text ++ lines))
