@@ -4,7 +4,7 @@ ghost use Rattle.std.specs.Cow.{cow_str_bytes};
 ghost use Rattle.net_check.specs.Errors.{NamesFirstFault};
 ghost use Rattle.net_check.specs.Faults.{IsFirstFault, place_of};
 ghost use Rattle.plan_commands.specs.declared.refused.Refused.TheVariants as refused;
-ghost use Rattle.plan_commands.specs.declared.status.Status.TheVariants.{Yes, Fault, Unreadable, NoMemory};
+ghost use Rattle.plan_commands.specs.declared.status.Status.TheVariants as status;
 ghost use Rattle.plan_commands.specs.Answers.{stream, AreUnread, BreaksOff};
 ghost use Rattle.plan_commands.specs.Explaining.{IsFaultExplained, IsFaultTold, IsCertificateTold, IsCertifiedAnswer, ExplainsWithSo, ExplainsWith};
 
@@ -38,13 +38,13 @@ pub fn run_explain_certified<P: Source, C: Source, O: Sink, E: Sink>(
         (C.remaining certificate.new) (C.failures certificate.new) in
         let outputs = stream (O.contents output.old) (O.failures output.old) (O.contents output.new) (O.failures output.new) in
         ExplainsWith result plans certificates outputs }
-    ensures silent { (result ≡ Yes) ⊎ (result ≡ Fault) → errors.new ≡ errors.old }
+    ensures silent { (result ≡ status.Yes) ⊎ (result ≡ status.Fault) → errors.new ≡ errors.old }
     ensures unwritten { let plans = stream (P.remaining plan.old) (P.failures plan.old) (P.remaining plan.new) (P.failures plan.new) in
         let certificates = stream (C.remaining certificate.old) (C.failures certificate.old)
         (C.remaining certificate.new) (C.failures certificate.new) in
         let outputs = stream (O.contents output.old) (O.failures output.old) (O.contents output.new) (O.failures output.new) in
-        result ≡ Unreadable → (output.new ≡ output.old) ⊎ BreaksOff (IsCertifiedAnswer plans certificates) outputs }
-    ensures no_memory { result ≡ NoMemory → output.new ≡ output.old }
+        result ≡ status.Unreadable → (output.new ≡ output.old) ⊎ BreaksOff (IsCertifiedAnswer plans certificates) outputs }
+    ensures no_memory { result ≡ status.NoMemory → output.new ≡ output.old }
 {
     let answered = answer_explain_certified(alloc, plan, certificate);
     tell(alloc, answered, output, errors)
@@ -81,8 +81,8 @@ fn explained(
     error: &CheckError,
 ) -> Result<Answer, Refused>
     requires { NamesFirstFault plan.now certificate.now error.now }
-    ensures answers { IfOk result (λ answer. (answer.status ≡ Fault) × IsFaultExplained plan.now certificate.now (cow_str_bytes answer.text)) }
-    ensures refused { IfErr result (λ refused. refused ≡ refused.NoMemory) }
+    ensures answers { IfOk result (λ answer. (answer.status ≡ status.Fault) × IsFaultExplained plan.now certificate.now (cow_str_bytes answer.text)) }
+    ensures refused { IfErr result (λ why. why ≡ refused.NoMemory) }
 {
     match error {
         CheckError::Fault(fault) => {
