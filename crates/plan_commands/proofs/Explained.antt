@@ -5,14 +5,16 @@ use Rattle.std.specs.Cow.{cow_str_bytes}
 use Rattle.std.specs.Io.KnownBytes.{Appends}
 use Rattle.net_check.specs.declared.certify_error.CertifyError.{CertifyError}
 use Rattle.net_check.specs.declared.certify_error.CertifyError.TheVariants as error
+use Rattle.net_check.specs.Rules.{Accepts}
+use Rattle.net_plan.specs.declared.certificate.Certificate.{Certificate}
 use Rattle.net_plan.specs.declared.plan.Plan.{Plan}
 use Rattle.plan_commands.specs.declared.commands.answer.Answer.{Answer}
 use Rattle.plan_commands.specs.declared.refused.Refused.{Refused}
 use Rattle.plan_commands.specs.declared.refused.Refused.TheVariants as refused
 use Rattle.plan_commands.specs.declared.status.Status.{Status}
 use Rattle.plan_commands.specs.declared.status.Status.TheVariants as status
-use Rattle.plan_commands.specs.Answers.{Stream, Fails, IsUnread, IsUnreadPlan, IsPlanUnread, AreUnread}
-use Rattle.plan_commands.specs.Explaining.{ExplainsSo, IsExplainAnswer, Explains, ExplainsWithSo, IsCertifiedAnswer, ExplainsWith}
+use Rattle.plan_commands.specs.Answers.{Stream, AreGiven, Fails, IsUnread, IsUnreadPlan, IsPlanUnread, AreUnread}
+use Rattle.plan_commands.specs.Explaining.{ExplainsSo, IsExplainAnswer, Explains, ExplainsWithSo, IsCertifiedAnswer, ExplainsWith, IsFaultExplained, IsCertificateTold, remedy_text}
 use Rattle.plan_commands.specs.Lines.{obstacle_text}
 use Rattle.plan_commands.specs.Statuses.{status_of}
 use Rattle.plan_commands.specs.Told.{IsTold}
@@ -71,3 +73,17 @@ module _ (plans certificates : Stream) where
       out status.Fault text (plan, cert, given, told) written = (plan, cert, text, given, told, written)
       out status.Unreadable text (plan, cert, given, h) written = absurd h
       out status.NoMemory text (plan, cert, given, h) written = absurd h
+
+  -- the answer of a fault
+  pub explained_so : (plan : Plan) (cert : Certificate) (result : Result Answer Refused) → AreGiven plans certificates plan cert
+      → IfOk result (λ (a : Answer). (a.status ≡ status.Fault) × IsFaultExplained plan cert (cow_str_bytes a.text))
+      → IfOk result (λ (a : Answer). ExplainsWithSo plans certificates a.status (cow_str_bytes a.text))
+  explained_so plan cert (Ok a) given (is, told) =
+      let S : Status → Type 0 = λ s. ExplainsWithSo plans certificates s (cow_str_bytes a.text) in subst S (sym is) (plan, cert, given, told)
+  explained_so plan cert (Err why) given told = tt
+
+-- the certificate alone is at fault
+pub remedied : {A E : Type 0} (text : A → List ℕ) (plan : Plan) (cert : Certificate) (result : Result A E) → Accepts plan cert
+    → IfOk result (λ t. text t ≡ remedy_text) → IfOk result (λ t. IsCertificateTold plan (text t))
+remedied text plan cert (Err e) accepted written = tt
+remedied text plan cert (Ok t) accepted written = inl (cert, accepted, written)
