@@ -1,7 +1,8 @@
 //! What is told of the causes of C04 to C06 and C11: rows.
 ghost use Rattle.std.specs.Prelude.{◌≡◌, IfOk, string_bytes};
+ghost use Rattle.std.specs.Fmt.{decimal};
 ghost use Rattle.net_explained.specs.declared.cause.Cause.TheVariants.{RowOutOfRange, OverlappedRow, NextIsItself, NoSuchPort, NextNotOnBus, EndpointForSeveral, NextIsEndpoint, NextHasNoRow};
-ghost use Rattle.plan_commands.specs.CauseLines.{cause_text};
+ghost use Rattle.plan_commands.specs.CauseLines.{cause_text, overlapped_text};
 
 use super::places::{
     eid_of_fault, first_of_row, next_of_row, number_text, port_of_row, row_span, size_of_row,
@@ -41,6 +42,21 @@ pub fn overlapped(
     let eid = eid.value;
     let earlier_span = row_span(alloc, plan, fault.node, Some(earlier))?;
     let span = row_span(alloc, plan, fault.node, fault.entry)?;
+    overlapped_text(alloc, earlier, &row, name, eid, &earlier_span, &span)
+}
+
+/// The rows by their places and what they cover, and the endpoint ID that both do.
+fn overlapped_text(
+    alloc: Global,
+    earlier: usize,
+    row: &str,
+    name: &str,
+    eid: u8,
+    earlier_span: &str,
+    span: &str,
+) -> Result<String, AllocError>
+    ensures { IfOk result (λ text. string_bytes text ≡ overlapped_text (decimal earlier) row.now name.now (decimal eid) earlier_span.now span.now) }
+{
     format!(in alloc;
         "Rows {earlier} and {row} of {name} both cover endpoint ID {eid}: they cover {earlier_span} and {span}.\n"
     )

@@ -8,7 +8,7 @@ returns-in-Ok c = remedied (λ t. string_bytes t) c.args.plan.now c.in-Ok._certi
 
 pub returns-in-Err : goal.returns-in-Err
 returns-in-Err c = inr (
-    c.deref.result.now,
-    subst (IsObstacleText c.args.plan.now) (sym c.deref.ensures) c.in_ok-obstacle_text.ensures,
-    c.in_ok-push_str.ensures.bytes ∙ ap (λ z. z ++ c.deref.result.now) c.in_ok-text.ensures.ok,
-  )
+  c.deref.result.now,
+  subst (IsObstacleText c.args.plan.now) (sym c.deref.ensures) c.in_ok-obstacle_text.ensures,
+  c.in_ok-push_str.ensures.bytes ∙ ap (λ z. z ++ c.deref.result.now) c.in_ok-text.ensures.ok,
+)
