@@ -123,14 +123,20 @@ shared_eid_text name earlier eid =
 abbrev pub row_out_of_range_text : (row name first size : List ℕ) → List ℕ
 row_out_of_range_text row name first size =
     codes "Row " ++ (row ++ (codes " of " ++ (name ++ (codes " has first " ++ (first ++ (codes " and size "
-    ++ (size ++ codes ". A row covers one of 8 to 254 or more, and no other.\n")))))))
+    ++ (size ++ codes ". A row covers one or more of 8 to 254, and no other.\n")))))))
 
 -- an earlier row covers one of the endpoint IDs
+abbrev pub both_cover_line : (earlier row name eid : List ℕ) → List ℕ
+both_cover_line earlier row name eid =
+    codes "Rows " ++ (earlier ++ (codes " and " ++ (row ++ (codes " of " ++ (name
+    ++ (codes " both cover endpoint ID " ++ (eid ++ codes ".\n")))))))
+
+abbrev pub spans_line : (earlier_span span : List ℕ) → List ℕ
+spans_line earlier_span span = codes "They cover " ++ (earlier_span ++ (codes " and " ++ (span ++ codes ".\n")))
+
 abbrev pub overlapped_text : (earlier row name eid earlier_span span : List ℕ) → List ℕ
 overlapped_text earlier row name eid earlier_span span =
-    codes "Rows " ++ (earlier ++ (codes " and " ++ (row ++ (codes " of " ++ (name
-    ++ (codes " both cover endpoint ID " ++ (eid ++ (codes ": they cover " ++ (earlier_span ++ (codes " and "
-    ++ (span ++ codes ".\n")))))))))))
+    both_cover_line earlier row name eid ++ spans_line earlier_span span
 
 -- the row leads back to its node
 abbrev pub next_is_itself_text : (row name : List ℕ) → List ℕ
@@ -201,7 +207,7 @@ pool_of_endpoint_text name span =
 abbrev pub pool_out_of_range_text : (name first size : List ℕ) → List ℕ
 pool_out_of_range_text name first size =
     codes "The pool of " ++ (name ++ (codes " has first " ++ (first ++ (codes " and size " ++ (size
-    ++ codes ". A pool has one of 8 to 254 or more, and no other.\n")))))
+    ++ codes ". A pool has one or more of 8 to 254, and no other.\n")))))
 
 -- the owner's pool lacks one of the pool
 abbrev pub pool_beyond_owners_text : (name span eid around owner : List ℕ) → List ℕ
@@ -258,11 +264,17 @@ nobody_holds_text entry name tid eid meant =
     ++ (codes " at endpoint ID " ++ (eid ++ (codes ", which no node holds.\n" ++ meant))))))))
 
 -- the holder of the endpoint ID has another terminus
+abbrev pub located_line : (entry name tid eid : List ℕ) → List ℕ
+located_line entry name tid eid =
+    codes "Record " ++ (entry ++ (codes " of " ++ (name ++ (codes " locates terminus " ++ (tid
+    ++ (codes " at endpoint ID " ++ (eid ++ codes ".\n")))))))
+
+abbrev pub held_line : (holder held : List ℕ) → List ℕ
+held_line holder held = holder ++ (codes " holds it; its tid is " ++ (held ++ codes ".\n"))
+
 abbrev pub other_terminus_text : (entry name tid eid held holder meant : List ℕ) → List ℕ
 other_terminus_text entry name tid eid held holder meant =
-    codes "Record " ++ (entry ++ (codes " of " ++ (name ++ (codes " locates terminus " ++ (tid
-    ++ (codes " at endpoint ID " ++ (eid ++ (codes ". " ++ (holder ++ (codes " holds it; its tid is " ++ (held
-    ++ (codes ".\n" ++ meant))))))))))))
+    located_line entry name tid eid ++ (held_line holder held ++ meant)
 
 -- ---- causes
 

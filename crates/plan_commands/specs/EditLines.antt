@@ -19,8 +19,8 @@ abbrev pub eid_edit_text : (name : List ℕ) → List ℕ
 eid_edit_text name =
     codes "Edit: give " ++ (name ++ codes " an eid of 8 to 254 that no other node holds.\n")
 
-abbrev pub row_range_edit_text : List ℕ
-row_range_edit_text =
+abbrev pub range_edit_text : List ℕ
+range_edit_text =
     codes "Edit: let first be at least 8, size at least 1, and first + size at most 255.\n"
 
 abbrev pub overlap_edit_text : (row name : List ℕ) → List ℕ
@@ -108,7 +108,7 @@ abbrev pub edits_text : Plan → Fault → Cause → List ℕ
 edits_text plan fault (cause.SharedName earlier) = name_edit_text (decimal fault.node)
 edits_text plan fault cause.UnassignableEid = eid_edit_text (name_or_dash plan fault.node)
 edits_text plan fault (cause.SharedEid earlier) = eid_edit_text (name_or_dash plan fault.node)
-edits_text plan fault cause.RowOutOfRange = row_range_edit_text
+edits_text plan fault cause.RowOutOfRange = range_edit_text
 edits_text plan fault (cause.OverlappedRow earlier eid) =
     overlap_edit_text (number_or_dash fault.entry) (name_or_dash plan fault.node)
 edits_text plan fault cause.NextIsItself = neighbor_edit_text (name_or_dash plan fault.node)
@@ -123,7 +123,7 @@ edits_text plan fault (cause.OutsideOwnersPool owner) =
 edits_text plan fault (cause.InPeersPool peer) =
     peer_edit_text (name_or_dash plan peer) (number_or_dash (eid_number fault.eid))
 edits_text plan fault cause.PoolOfEndpoint = no_pool_edit_text (name_or_dash plan fault.node)
-edits_text plan fault cause.PoolOutOfRange = no_pool_edit_text (name_or_dash plan fault.node)
+edits_text plan fault cause.PoolOutOfRange = range_edit_text
 edits_text plan fault (cause.PoolBeyondOwners owner eid) =
     pool_within_edit_text (name_or_dash plan fault.node) (name_or_dash plan owner)
 edits_text plan fault (cause.PoolsMeet earlier eid) = pools_apart_edit_text (name_or_dash plan fault.node)

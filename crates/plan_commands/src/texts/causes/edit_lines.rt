@@ -3,7 +3,7 @@ ghost use Rattle.std.specs.Prelude.{◌≡◌, IfOk, string_bytes};
 ghost use Rattle.std.specs.Fmt.{decimal};
 ghost use Rattle.net_check.specs.Faults.{eid_number};
 ghost use Rattle.plan_commands.specs.CauseLines.{row_at, next_text, handle_at};
-ghost use Rattle.plan_commands.specs.EditLines.{name_edit_text, eid_edit_text, row_range_edit_text, overlap_edit_text, neighbor_edit_text, several_edit_text, owner_edit_text, owned_eid_edit_text, peer_edit_text, no_pool_edit_text, pool_within_edit_text, pools_apart_edit_text, lead_edit_text, row_edit_text, no_terminus_edit_text, handle_edit_text, bytes_edit_text, header_edit_text, locator_edit_text, meant_edit_text, edits_text};
+ghost use Rattle.plan_commands.specs.EditLines.{name_edit_text, eid_edit_text, range_edit_text, overlap_edit_text, neighbor_edit_text, several_edit_text, owner_edit_text, owned_eid_edit_text, peer_edit_text, no_pool_edit_text, pool_within_edit_text, pools_apart_edit_text, lead_edit_text, row_edit_text, no_terminus_edit_text, handle_edit_text, bytes_edit_text, header_edit_text, locator_edit_text, meant_edit_text, edits_text};
 ghost use Rattle.plan_commands.specs.Lines.{name_or_dash, number_or_dash};
 
 use super::places::{eid_of_fault, handle_at, next_of_row, number_text};
@@ -26,7 +26,7 @@ pub fn edits_text(
         Cause::SharedName { .. } => name_edit(alloc, fault),
         Cause::UnassignableEid => eid_edit(alloc, plan, fault),
         Cause::SharedEid { .. } => eid_edit(alloc, plan, fault),
-        Cause::RowOutOfRange => row_range_edit(alloc),
+        Cause::RowOutOfRange => range_edit(alloc),
         Cause::OverlappedRow { .. } => overlap_edit(alloc, plan, fault),
         Cause::NextIsItself => neighbor_edit(alloc, plan, fault),
         Cause::NoSuchPort => neighbor_edit(alloc, plan, fault),
@@ -37,7 +37,7 @@ pub fn edits_text(
         Cause::OutsideOwnersPool { owner } => owned_eid_edit(alloc, plan, fault, owner),
         Cause::InPeersPool { peer } => peer_edit(alloc, plan, fault, peer),
         Cause::PoolOfEndpoint => no_pool_edit(alloc, plan, fault),
-        Cause::PoolOutOfRange => no_pool_edit(alloc, plan, fault),
+        Cause::PoolOutOfRange => range_edit(alloc),
         Cause::PoolBeyondOwners { owner, .. } => pool_within_edit(alloc, plan, fault, owner),
         Cause::PoolsMeet { .. } => pools_apart_edit(alloc, plan, fault),
         Cause::NextIsEndpoint { holder } => lead_edit(alloc, plan, fault, holder),
@@ -67,8 +67,8 @@ fn eid_edit(alloc: Global, plan: &Plan, fault: &Fault) -> Result<String, AllocEr
     format!(in alloc; "Edit: give {name} an eid of 8 to 254 that no other node holds.\n")
 }
 
-fn row_range_edit(alloc: Global) -> Result<String, AllocError>
-    ensures { IfOk result (λ text. string_bytes text ≡ row_range_edit_text) }
+fn range_edit(alloc: Global) -> Result<String, AllocError>
+    ensures { IfOk result (λ text. string_bytes text ≡ range_edit_text) }
 {
     "Edit: let first be at least 8, size at least 1, and first + size at most 255.\n".to_string(
         alloc,

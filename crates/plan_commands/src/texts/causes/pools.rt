@@ -93,7 +93,7 @@ pub fn pool_out_of_range(alloc: Global, plan: &Plan, fault: &Fault) -> Result<St
     let first = number_text(alloc, first_of_pool(plan, fault.node))?;
     let size = number_text(alloc, size_of_pool(plan, fault.node))?;
     format!(in alloc;
-        "The pool of {name} has first {first} and size {size}. A pool has one of 8 to 254 or more, and no other.\n"
+        "The pool of {name} has first {first} and size {size}. A pool has one or more of 8 to 254, and no other.\n"
     )
 }
 

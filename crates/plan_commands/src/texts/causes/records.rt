@@ -2,7 +2,7 @@
 ghost use Rattle.std.specs.Prelude.{◌≡◌, IfOk, string_bytes};
 ghost use Rattle.std.specs.Fmt.{decimal};
 ghost use Rattle.net_explained.specs.declared.cause.Cause.TheVariants.{NoRecords, HandleIsZero, SharedHandle, UnreadableRecord, OtherHandle, LongLocator, NobodyHolds, OtherTerminus};
-ghost use Rattle.plan_commands.specs.CauseLines.{cause_text, other_terminus_text};
+ghost use Rattle.plan_commands.specs.CauseLines.{cause_text, located_line, held_line};
 
 use super::places::{eid_of_fault, handle_at, meant_text, number_text, tid_of};
 use crate::texts::name_or_dash;
@@ -115,23 +115,28 @@ pub fn other_terminus(
     let held = number_text(alloc, tid_of(plan, holder))?;
     let holder = name_or_dash(plan, holder);
     let meant = meant_text(alloc, plan, tid)?;
-    other_terminus_text(alloc, &entry, name, tid, &eid, &held, holder, &meant)
+    let mut text = located_line(alloc, &entry, name, tid, &eid)?;
+    text.push_str(&held_line(alloc, holder, &held)?)?;
+    text.push_str(&meant)?;
+    Ok(text)
 }
 
-/// The record, what it locates, who holds the endpoint ID, and which terminus was meant.
-fn other_terminus_text(
+/// What a record locates, and where.
+fn located_line(
     alloc: Global,
     entry: &str,
     name: &str,
     tid: u8,
     eid: &str,
-    held: &str,
-    holder: &str,
-    meant: &str,
 ) -> Result<String, AllocError>
-    ensures { IfOk result (λ text. string_bytes text ≡ other_terminus_text entry.now name.now (decimal tid) eid.now held.now holder.now meant.now) }
+    ensures { IfOk result (λ text. string_bytes text ≡ located_line entry.now name.now (decimal tid) eid.now) }
 {
-    format!(in alloc;
-        "Record {entry} of {name} locates terminus {tid} at endpoint ID {eid}. {holder} holds it; its tid is {held}.\n{meant}"
-    )
+    format!(in alloc; "Record {entry} of {name} locates terminus {tid} at endpoint ID {eid}.\n")
+}
+
+/// Who holds the endpoint ID, and which terminus ID it has.
+fn held_line(alloc: Global, holder: &str, held: &str) -> Result<String, AllocError>
+    ensures { IfOk result (λ text. string_bytes text ≡ held_line holder.now held.now) }
+{
+    format!(in alloc; "{holder} holds it; its tid is {held}.\n")
 }

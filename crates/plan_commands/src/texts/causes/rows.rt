@@ -2,7 +2,7 @@
 ghost use Rattle.std.specs.Prelude.{◌≡◌, IfOk, string_bytes};
 ghost use Rattle.std.specs.Fmt.{decimal};
 ghost use Rattle.net_explained.specs.declared.cause.Cause.TheVariants.{RowOutOfRange, OverlappedRow, NextIsItself, NoSuchPort, NextNotOnBus, EndpointForSeveral, NextIsEndpoint, NextHasNoRow};
-ghost use Rattle.plan_commands.specs.CauseLines.{cause_text, overlapped_text};
+ghost use Rattle.plan_commands.specs.CauseLines.{cause_text, both_cover_line, spans_line};
 
 use super::places::{
     eid_of_fault, first_of_row, next_of_row, number_text, port_of_row, row_span, size_of_row,
@@ -23,7 +23,7 @@ pub fn row_out_of_range(alloc: Global, plan: &Plan, fault: &Fault) -> Result<Str
     let first = number_text(alloc, first_of_row(plan, fault.node, fault.entry))?;
     let size = number_text(alloc, size_of_row(plan, fault.node, fault.entry))?;
     format!(in alloc;
-        "Row {row} of {name} has first {first} and size {size}. A row covers one of 8 to 254 or more, and no other.\n"
+        "Row {row} of {name} has first {first} and size {size}. A row covers one or more of 8 to 254, and no other.\n"
     )
 }
 
@@ -39,27 +39,31 @@ pub fn overlapped(
 {
     let row = number_text(alloc, fault.entry)?;
     let name = name_or_dash(plan, fault.node);
-    let eid = eid.value;
     let earlier_span = row_span(alloc, plan, fault.node, Some(earlier))?;
     let span = row_span(alloc, plan, fault.node, fault.entry)?;
-    overlapped_text(alloc, earlier, &row, name, eid, &earlier_span, &span)
+    let mut text = both_cover_line(alloc, earlier, &row, name, eid.value)?;
+    text.push_str(&spans_line(alloc, &earlier_span, &span)?)?;
+    Ok(text)
 }
 
-/// The rows by their places and what they cover, and the endpoint ID that both do.
-fn overlapped_text(
+/// Two rows of a node, and an endpoint ID that both cover.
+fn both_cover_line(
     alloc: Global,
     earlier: usize,
     row: &str,
     name: &str,
     eid: u8,
-    earlier_span: &str,
-    span: &str,
 ) -> Result<String, AllocError>
-    ensures { IfOk result (λ text. string_bytes text ≡ overlapped_text (decimal earlier) row.now name.now (decimal eid) earlier_span.now span.now) }
+    ensures { IfOk result (λ text. string_bytes text ≡ both_cover_line (decimal earlier) row.now name.now (decimal eid)) }
 {
-    format!(in alloc;
-        "Rows {earlier} and {row} of {name} both cover endpoint ID {eid}: they cover {earlier_span} and {span}.\n"
-    )
+    format!(in alloc; "Rows {earlier} and {row} of {name} both cover endpoint ID {eid}.\n")
+}
+
+/// What two rows cover.
+fn spans_line(alloc: Global, earlier_span: &str, span: &str) -> Result<String, AllocError>
+    ensures { IfOk result (λ text. string_bytes text ≡ spans_line earlier_span.now span.now) }
+{
+    format!(in alloc; "They cover {earlier_span} and {span}.\n")
 }
 
 /// The row leads back to its node.
