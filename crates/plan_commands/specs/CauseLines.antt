@@ -87,11 +87,14 @@ has_tid tid node = is_tid tid node.terminus
 abbrev pub node_with_tid : Plan → ℕ → Option ℕ
 node_with_tid plan tid = position (has_tid tid) plan.nodes.items
 
+-- a node's terminus, and the endpoint ID that it holds
+abbrev pub terminus_line : (tid name eid : List ℕ) → List ℕ
+terminus_line tid name eid = codes "Terminus " ++ (tid ++ (codes " is that of " ++ (name
+    ++ (codes ", which holds endpoint ID " ++ (eid ++ codes ".\n")))))
+
 -- whose terminus has the terminus ID, and which endpoint ID that node holds
 abbrev pub meant_node_text : Plan → ℕ → Option ℕ → List ℕ
-meant_node_text plan tid (Some m) = codes "Terminus " ++ (decimal tid ++ (codes " is that of "
-    ++ (name_or_dash plan m ++ (codes ", which holds endpoint ID " ++ (number_or_dash (eid_of plan m)
-    ++ codes ".\n")))))
+meant_node_text plan tid (Some m) = terminus_line (decimal tid) (name_or_dash plan m) (number_or_dash (eid_of plan m))
 meant_node_text plan tid None = codes "No node has terminus " ++ (decimal tid ++ codes ".\n")
 
 -- which terminus was meant by a terminus ID

@@ -6,6 +6,7 @@ use Rattle.std.specs.Io.KnownBytes.{Appends}
 use Rattle.std.specs.List.{flat_map}
 use Rattle.net_check.specs.Faults.{IsFirstFault, place_of}
 use Rattle.net_check.specs.Owners.{owner_of}
+use Rattle.net_check.specs.RecordChains.{chain_entry_of}
 use Rattle.net_check.specs.Routing.{rows_of}
 use Rattle.net_check.specs.Rows.{bus_of}
 use Rattle.net_check.specs.Rules.{Accepts}
@@ -126,14 +127,15 @@ abbrev pub next_handle_text : Plan → ℕ → ℕ → List ℕ
 next_handle_text plan n j = codes "Record " ++ (decimal j ++ (codes " of " ++ (name_or_dash plan n
     ++ (codes " has next handle " ++ number_or_dash (next_handle plan n j)))))
 
+-- what is wrong with it, and an edit
+abbrev pub chain_rest : ChainFault → List ℕ
+chain_rest (Missing j) = codes ", and no record has that handle.\nEdit: let next be the handle of the record that follows, or 0.\n"
+chain_rest (Doubled j) = codes ", and so has an earlier one.\nEdit: let next be the handle of the record that follows, or 0.\n"
+chain_rest (Circle j) = codes ", from which the next handles lead back to it.\nEdit: let next be 0 at one record of this circle.\n"
+
 -- where a bad chain goes
 abbrev pub chain_lines : Plan → ℕ → ChainFault → List ℕ
-chain_lines plan n (Missing j) = next_handle_text plan n j
-    ++ codes ", and no record has that handle.\nEdit: let next be the handle of the record that follows, or 0.\n"
-chain_lines plan n (Doubled j) = next_handle_text plan n j
-    ++ codes ", and so has an earlier one.\nEdit: let next be the handle of the record that follows, or 0.\n"
-chain_lines plan n (Circle j) = next_handle_text plan n j
-    ++ codes ", from which the next handles lead back to it.\nEdit: let next be 0 at one record of this circle.\n"
+chain_lines plan n fault = next_handle_text plan n (chain_entry_of fault) ++ chain_rest fault
 
 -- ---- what rules certificates out
 

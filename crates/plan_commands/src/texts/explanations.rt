@@ -3,7 +3,7 @@ ghost use Rattle.std.specs.Prelude.{◌≡◌, IfOk, Some, string_bytes};
 ghost use Rattle.std.specs.List.{flat_map};
 ghost use Rattle.net_check.specs.Owners.{owner_of};
 ghost use Rattle.plan_commands.specs.CauseLines.{row_at};
-ghost use Rattle.plan_commands.specs.Explaining.{summary_text, IsCauseTold, IsObstacleTold, covers_eid, row_for, bus_of_row, address_to, row_way, way_text, way_line, around, loop_lines, owner_name, owner_line, owner_loop_lines, next_handle, next_handle_text, chain_lines, told_cause};
+ghost use Rattle.plan_commands.specs.Explaining.{summary_text, IsCauseTold, IsObstacleTold, covers_eid, row_for, bus_of_row, address_to, row_way, way_text, way_line, around, loop_lines, owner_name, owner_line, owner_loop_lines, next_handle, next_handle_text, chain_rest, chain_lines, told_cause};
 ghost use Rattle.plan_commands.specs.Tracing.{address_text, bus_text};
 
 use super::causes::cause_text;
@@ -134,6 +134,20 @@ fn row_way(
     let bus = bus_text(plan, bus_of_row(plan, node, entry));
     let address = address_to(alloc, plan, node, entry)?;
     let next = next_of_row(plan, node, entry);
+    way_text(alloc, &row, name, &port, bus, &address, next)
+}
+
+fn way_text(
+    alloc: Global,
+    row: &str,
+    name: &str,
+    port: &str,
+    bus: &str,
+    address: &str,
+    next: &str,
+) -> Result<String, AllocError>
+    ensures { IfOk result (λ text. string_bytes text ≡ way_text row.now name.now port.now bus.now address.now next.now) }
+{
     format!(in alloc; "Row {row} of {name}: port {port} bus {bus} address {address} to {next}\n")
 }
 
@@ -213,8 +227,16 @@ fn chain_lines(
 ) -> Result<String, AllocError>
     ensures { IfOk result (λ text. string_bytes text ≡ chain_lines plan.now node fault) }
 {
-    let record = next_handle_text(alloc, plan, node, fault.entry())?;
-    let rest = match fault {
+    let mut lines = next_handle_text(alloc, plan, node, fault.entry())?;
+    lines.push_str(chain_rest(fault))?;
+    Ok(lines)
+}
+
+/// What is wrong with a next handle, and an edit.
+fn chain_rest(fault: ChainFault) -> &'static str
+    ensures { result.now ≡ chain_rest fault }
+{
+    match fault {
         ChainFault::Missing(_) => {
             ", and no record has that handle.\nEdit: let next be the handle of the record that follows, or 0.\n"
         }
@@ -224,8 +246,7 @@ fn chain_lines(
         ChainFault::Circle(_) => {
             ", from which the next handles lead back to it.\nEdit: let next be 0 at one record of this circle.\n"
         }
-    };
-    format!(in alloc; "{record}{rest}")
+    }
 }
 
 /// A record of a node, and its next handle.

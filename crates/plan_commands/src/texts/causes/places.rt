@@ -1,10 +1,11 @@
 //! The names and numbers of a plan that a cause is told by.
-ghost use Rattle.std.specs.Prelude.{◌≡◌, option_map, IfOk, string_bytes};
+ghost use Rattle.std.specs.Prelude.{◌≡◌, option_map, IfOk, Some, string_bytes};
+ghost use Rattle.std.specs.Fmt.{decimal};
 ghost use Rattle.net_check.specs.Faults.{eid_number};
 ghost use Rattle.net_check.specs.Pools.{pool_of};
 ghost use Rattle.net_check.specs.Routing.{eid_of};
 ghost use Rattle.plan_commands.specs.Lines.{number_or_dash};
-ghost use Rattle.plan_commands.specs.CauseLines.{span_text, first_of_row, size_of_row, port_of_row, row_at, row_text, next_text, first_of_pool, size_of_pool, pool_text, handle_at, tid_of, has_tid, node_with_tid, meant_text};
+ghost use Rattle.plan_commands.specs.CauseLines.{span_text, first_of_row, size_of_row, port_of_row, row_at, row_text, next_text, first_of_pool, size_of_pool, pool_text, handle_at, tid_of, has_tid, node_with_tid, terminus_line, meant_node_text, meant_text};
 
 use crate::texts::name_or_dash;
 use net_check::Fault;
@@ -159,13 +160,23 @@ pub fn meant_text(alloc: Global, plan: &Plan, tid: u8) -> Result<String, AllocEr
     ensures { IfOk result (λ text. string_bytes text ≡ meant_text plan.now tid) }
 {
     match node_with_tid(plan, tid) {
-        Some(node) => {
-            let name = name_or_dash(plan, node);
-            let eid = number_text(alloc, eid_of(plan, node))?;
-            format!(in alloc; "Terminus {tid} is that of {name}, which holds endpoint ID {eid}.\n")
-        }
+        Some(node) => meant_node(alloc, plan, tid, node),
         None => format!(in alloc; "No node has terminus {tid}.\n"),
     }
+}
+
+/// That the terminus ID is a node's, and which endpoint ID it holds.
+fn meant_node(alloc: Global, plan: &Plan, tid: u8, node: usize) -> Result<String, AllocError>
+    ensures { IfOk result (λ text. string_bytes text ≡ meant_node_text plan.now tid (Some node)) }
+{
+    let eid = number_text(alloc, eid_of(plan, node))?;
+    terminus_line(alloc, tid, name_or_dash(plan, node), &eid)
+}
+
+fn terminus_line(alloc: Global, tid: u8, name: &str, eid: &str) -> Result<String, AllocError>
+    ensures { IfOk result (λ text. string_bytes text ≡ terminus_line (decimal tid) name.now eid.now) }
+{
+    format!(in alloc; "Terminus {tid} is that of {name}, which holds endpoint ID {eid}.\n")
 }
 
 /// The first node whose terminus has the terminus ID.

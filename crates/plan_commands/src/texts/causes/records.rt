@@ -1,8 +1,9 @@
 //! What is told of the causes of C12, C13 and C15: records.
-ghost use Rattle.std.specs.Prelude.{◌≡◌, IfOk, string_bytes};
+ghost use Rattle.std.specs.Prelude.{◌≡◌, ◌++◌, IfOk, string_bytes};
 ghost use Rattle.std.specs.Fmt.{decimal};
 ghost use Rattle.net_explained.specs.declared.cause.Cause.TheVariants.{NoRecords, HandleIsZero, SharedHandle, UnreadableRecord, OtherHandle, LongLocator, NobodyHolds, OtherTerminus};
-ghost use Rattle.plan_commands.specs.CauseLines.{cause_text, located_line, held_line};
+ghost use Rattle.plan_commands.specs.CauseLines.{cause_text, located_line, held_line, tid_of, meant_text};
+ghost use Rattle.plan_commands.specs.Lines.{name_or_dash, number_or_dash};
 
 use super::places::{eid_of_fault, handle_at, meant_text, number_text, tid_of};
 use crate::texts::name_or_dash;
@@ -112,12 +113,18 @@ pub fn other_terminus(
     let entry = number_text(alloc, fault.entry)?;
     let name = name_or_dash(plan, fault.node);
     let eid = number_text(alloc, eid_of_fault(fault))?;
-    let held = number_text(alloc, tid_of(plan, holder))?;
-    let holder = name_or_dash(plan, holder);
-    let meant = meant_text(alloc, plan, tid)?;
     let mut text = located_line(alloc, &entry, name, tid, &eid)?;
-    text.push_str(&held_line(alloc, holder, &held)?)?;
-    text.push_str(&meant)?;
+    text.push_str(&holder_lines(alloc, plan, holder, tid)?)?;
+    Ok(text)
+}
+
+/// Which terminus ID the holder has, and which terminus was meant.
+fn holder_lines(alloc: Global, plan: &Plan, holder: usize, tid: u8) -> Result<String, AllocError>
+    ensures { IfOk result (λ text. string_bytes text ≡ held_line (name_or_dash plan.now holder) (number_or_dash (tid_of plan.now holder)) ++ meant_text plan.now tid) }
+{
+    let held = number_text(alloc, tid_of(plan, holder))?;
+    let mut text = held_line(alloc, name_or_dash(plan, holder), &held)?;
+    text.push_str(&meant_text(alloc, plan, tid)?)?;
     Ok(text)
 }
 
