@@ -78,10 +78,17 @@ abbrev pub address_to : Plan → Option ℕ → Option Row → List ℕ
 address_to plan bus (Some row) = address_on plan row.next bus
 address_to plan bus None = []
 
--- a row of a node: its port, the bus, the address of the next node there, and that node
+-- a row of a node, its port and the bus
+abbrev pub way_by : (row name port bus : List ℕ) → List ℕ
+way_by row name port bus =
+    codes "Row " ++ (row ++ (codes " of " ++ (name ++ (codes ": port " ++ (port ++ (codes " bus " ++ bus))))))
+
+-- the address of the next node there, and that node
+abbrev pub way_to : (address next : List ℕ) → List ℕ
+way_to address next = codes " address " ++ (address ++ (codes " to " ++ (next ++ codes "\n")))
+
 abbrev pub way_text : (row name port bus address next : List ℕ) → List ℕ
-way_text row name port bus address next = codes "Row " ++ (row ++ (codes " of " ++ (name ++ (codes ": port " ++ (port
-    ++ (codes " bus " ++ (bus ++ (codes " address " ++ (address ++ (codes " to " ++ (next ++ codes "\n")))))))))))
+way_text row name port bus address next = way_by row name port bus ++ way_to address next
 
 -- how a node sends by the row at an entry
 abbrev pub row_way : Plan → ℕ → Option ℕ → List ℕ

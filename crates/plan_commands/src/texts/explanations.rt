@@ -3,7 +3,7 @@ ghost use Rattle.std.specs.Prelude.{◌≡◌, IfOk, Some, string_bytes};
 ghost use Rattle.std.specs.List.{flat_map};
 ghost use Rattle.net_check.specs.Owners.{owner_of};
 ghost use Rattle.plan_commands.specs.CauseLines.{row_at};
-ghost use Rattle.plan_commands.specs.Explaining.{summary_text, IsCauseTold, IsObstacleTold, covers_eid, row_for, bus_of_row, address_to, row_way, way_text, way_line, around, loop_lines, owner_name, owner_line, owner_loop_lines, next_handle, next_handle_text, chain_rest, chain_lines, told_cause};
+ghost use Rattle.plan_commands.specs.Explaining.{summary_text, IsCauseTold, IsObstacleTold, covers_eid, row_for, bus_of_row, address_to, row_way, way_by, way_to, way_line, around, loop_lines, owner_name, owner_line, owner_loop_lines, next_handle, next_handle_text, chain_rest, chain_lines, told_cause};
 ghost use Rattle.plan_commands.specs.Tracing.{address_text, bus_text};
 
 use super::causes::cause_text;
@@ -134,21 +134,23 @@ fn row_way(
     let bus = bus_text(plan, bus_of_row(plan, node, entry));
     let address = address_to(alloc, plan, node, entry)?;
     let next = next_of_row(plan, node, entry);
-    way_text(alloc, &row, name, &port, bus, &address, next)
+    let mut text = way_by(alloc, &row, name, &port, bus)?;
+    text.push_str(&way_to(alloc, &address, next)?)?;
+    Ok(text)
 }
 
-fn way_text(
-    alloc: Global,
-    row: &str,
-    name: &str,
-    port: &str,
-    bus: &str,
-    address: &str,
-    next: &str,
-) -> Result<String, AllocError>
-    ensures { IfOk result (λ text. string_bytes text ≡ way_text row.now name.now port.now bus.now address.now next.now) }
+/// A row of a node, its port and the bus.
+fn way_by(alloc: Global, row: &str, name: &str, port: &str, bus: &str) -> Result<String, AllocError>
+    ensures { IfOk result (λ text. string_bytes text ≡ way_by row.now name.now port.now bus.now) }
 {
-    format!(in alloc; "Row {row} of {name}: port {port} bus {bus} address {address} to {next}\n")
+    format!(in alloc; "Row {row} of {name}: port {port} bus {bus}")
+}
+
+/// The address of the next node, and that node.
+fn way_to(alloc: Global, address: &str, next: &str) -> Result<String, AllocError>
+    ensures { IfOk result (λ text. string_bytes text ≡ way_to address.now next.now) }
+{
+    format!(in alloc; " address {address} to {next}\n")
 }
 
 /// The bus on which a node sends by the row at an entry.

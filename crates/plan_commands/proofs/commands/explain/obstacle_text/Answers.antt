@@ -16,6 +16,6 @@ returns c =
         none = c.requires.none (not_memory c.args.plan.now c.args.obstacle.now written line.ensures);
         written = line.ensures;
       };
-      told = rw ← c.deref.ensures at told.ensures;
+      told = rw (← c.deref.ensures) at told.ensures;
       written = c.in_ok-push_str.ensures.bytes;
     }

@@ -5,10 +5,3 @@ use Rattle.plan_commands.proofs.commands.explain.certified.certificate_lines.Goa
 
 pub returns-in-Ok : goal.returns-in-Ok
 returns-in-Ok c = remedied (λ t. string_bytes t) c.args.plan.now c.in-Ok._certificate c.to_string.result c.in-Ok.ensures.accepted c.to_string.ensures.ok
-
-pub returns : goal.returns
-returns c = inr (
-  c.deref.result.now,
-  subst (IsObstacleText c.args.plan.now) (sym c.deref.ensures) c.in_ok-obstacle_text.ensures,
-  c.in_ok-push_str.ensures.bytes ∙ ap (λ z. z ++ c.deref.result.now) c.in_ok-text.ensures.ok,
-)
