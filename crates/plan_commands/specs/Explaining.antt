@@ -136,9 +136,12 @@ next_handle_text plan n j = codes "Record " ++ (decimal j ++ (codes " of " ++ (n
 
 -- what is wrong with it, and an edit
 abbrev pub chain_rest : ChainFault → List ℕ
-chain_rest (Missing j) = codes ", and no record has that handle.\nEdit: let next be the handle of the record that follows, or 0.\n"
-chain_rest (Doubled j) = codes ", and so has an earlier one.\nEdit: let next be the handle of the record that follows, or 0.\n"
-chain_rest (Circle j) = codes ", from which the next handles lead back to it.\nEdit: let next be 0 at one record of this circle.\n"
+chain_rest (Missing j) =
+    codes ", and no record has that handle.\nEdit: let next be the handle of the record that follows, or 0.\n"
+chain_rest (Doubled j) =
+    codes ", and so has an earlier one.\nEdit: let next be the handle of the record that follows, or 0.\n"
+chain_rest (Circle j) =
+    codes ", from which the next handles lead back to it.\nEdit: let next be 0 at one record of this circle.\n"
 
 -- where a bad chain goes
 abbrev pub chain_lines : Plan → ℕ → ChainFault → List ℕ
