@@ -12,7 +12,7 @@ use Rattle.plan_commands.specs.declared.refused.Refused.TheVariants as refused
 use Rattle.plan_commands.specs.declared.status.Status.{Status}
 use Rattle.plan_commands.specs.declared.status.Status.TheVariants as status
 use Rattle.plan_commands.specs.Answers.{Stream, Fails, IsUnreadPlan, IsPlanUnread}
-use Rattle.plan_commands.specs.Linting.{IsCleanText, IsLintAnswer, LintsSo, Lints}
+use Rattle.plan_commands.specs.Linting.{IsLintAnswer, LintsSo, Lints}
 use Rattle.plan_commands.specs.Statuses.{status_of}
 use Rattle.plan_commands.specs.Told.{IsTold}
 use Rattle.plan_commands.proofs.Told.{ends_as, or_unwritten}

@@ -1,6 +1,6 @@
 -- The sentences that tell why a plan breaks a rule, in its own names and numbers.
 use Rattle.std.specs.Prelude.{ℕ, ◌+◌, ◌-◌, ◌==◌, List, ◌++◌, codes, length, if◌then◌else◌}
-use Rattle.std.specs.Prelude.{Bool, false, Option, Some, None, option_map, position, slice_get, unwrap_or}
+use Rattle.std.specs.Prelude.{Bool, false, Option, Some, None, option_map, position, slice_get}
 use Rattle.std.specs.Fmt.{decimal}
 use Rattle.net_check.specs.declared.fault.Fault.{Fault}
 use Rattle.net_check.specs.Faults.{eid_number}

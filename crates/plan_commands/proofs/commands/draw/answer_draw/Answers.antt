@@ -1,4 +1,4 @@
-use Rattle.std.proofs.Common.{string_bytes, subst, sym}
+use Rattle.std.proofs.Common.{subst, sym}
 use Rattle.std.specs.Cow.{cow_str_bytes}
 use Rattle.plan_commands.specs.declared.status.Status.{Status}
 use Rattle.plan_commands.specs.Answers.{stream}

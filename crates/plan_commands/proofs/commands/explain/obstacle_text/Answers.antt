@@ -1,4 +1,4 @@
-use Rattle.std.proofs.Common.{◌++◌, ◌∙◌, ap, string_bytes}
+use Rattle.std.proofs.Common.{string_bytes}
 use Rattle.plan_commands.proofs.Explained.{not_memory}
 use Rattle.plan_commands.proofs.commands.explain.obstacle_text.Goals as goal
 

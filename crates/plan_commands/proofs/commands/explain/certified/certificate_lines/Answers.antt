@@ -1,5 +1,4 @@
-use Rattle.std.proofs.Common.{◌++◌, ◌∙◌, ap, inr, string_bytes, sym, subst}
-use Rattle.plan_commands.specs.Explaining.{IsObstacleText}
+use Rattle.std.proofs.Common.{string_bytes}
 use Rattle.plan_commands.proofs.Explained.{remedied}
 use Rattle.plan_commands.proofs.commands.explain.certified.certificate_lines.Goals as goal
 
