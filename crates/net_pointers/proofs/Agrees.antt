@@ -340,4 +340,4 @@ found_in_plan d = by (first_fault (a_plan (plan_format d)) d) refl (plan_begins 
   where
     by : (o : Option Located) → first_fault (a_plan (plan_format d)) d ≡ o → Begins (fault_of (plan d)) (code o) → IsFoundInPlan d o
     by None e late = λ f refused. late f (ap fault_of refused)
-    by (Some l) e first = (told (plan d) l.fault first, leads (a_plan (plan_format d)) d l e)
+    by (Some l) e first = (told (plan d) l.fault first, leads (a_plan (plan_format d)) d l e, e)

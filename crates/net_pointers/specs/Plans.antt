@@ -5,16 +5,17 @@ use Rattle.net_plan.specs.PlanReading.{plan, plan_format}
 use Rattle.net_plan.specs.Texts.{IsJson}
 use Rattle.net_plan.specs.declared.error.Fault.{Fault}
 use Rattle.net_plan.specs.declared.error.Fault.TheVariants.{UnknownName, Doubled}
-use Rattle.net_pointers.specs.Pointers.{Located, HasFaultAt}
+use Rattle.net_pointers.specs.Pointers.{Located, HasFaultAt, first_fault}
 use Rattle.net_pointers.specs.PlanShapes.{a_plan}
 
 -- no value of the plan is wrong in itself: what is wrong, if anything, are names
 abbrev pub IsRightButForNames : Data → Type 0
 IsRightButForNames d = (f : Fault) → plan d ≡ Err f → (f ≡ Doubled) ⊎ (f ≡ UnknownName)
 
--- the fault for which the plan is refused, and the pointer to the value that has it
+-- the fault for which the plan is refused, and the pointer to the value that has it: the first in the order of tests
 abbrev pub IsFaultOfPlan : Data → Located → Type 0
 IsFaultOfPlan d l = (plan d ≡ Err l.fault) × HasFaultAt (a_plan (plan_format d)) d l
+    × (first_fault (a_plan (plan_format d)) d ≡ Some l)
 
 -- what is found in a plan
 abbrev pub IsFoundInPlan : Data → Option Located → Type 0
