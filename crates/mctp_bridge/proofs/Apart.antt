@@ -9,7 +9,7 @@ use Rattle.std.specs.List.{swap}
 use Rattle.std.specs.List.Sorted.{IsPermutation, IsNonDecreasingBy}
 use Rattle.std.proofs.lemmas.List.Edits.{swapped_from_swap, length-swap}
 use Rattle.std.proofs.lemmas.List.Sorted.{IsPermutation-keeps, IsPermutation-sym, All-permutation, Contains-permutation}
-use Rattle.mctp_bridge.specs.declared.row.Row.{Row}
+use Rattle.mctp_bridge.specs.declared.row.TableRow.{TableRow}
 use Rattle.mctp_bridge.specs.declared.row.Hop.{Hop}
 use Rattle.mctp_bridge.specs.Rows.{AreApart, IsLawful, AreLawful, Routes, HasSameRoutes, LiesBelow, IsTable}
 
@@ -37,15 +37,15 @@ place_was f g a b m at_a at_b other =
     ]
 
 -- any two places of the list have rows that lie apart
-All2 : List Row → Type 0
-All2 rows = (i j : ℕ) (d : Row) → i ≢ j → i < length rows → j < length rows → AreApart (get_or rows i d) (get_or rows j d)
+All2 : List TableRow → Type 0
+All2 rows = (i j : ℕ) (d : TableRow) → i ≢ j → i < length rows → j < length rows → AreApart (get_or rows i d) (get_or rows j d)
 
 -- two rows lie apart either way round
-pub turned : (row other : Row) → AreApart row other → AreApart other row
+pub turned : (row other : TableRow) → AreApart row other → AreApart other row
 unfolding AreApart
 turned row other apart e in_other in_row = apart e in_row in_other
 
-to_all2 : (rows : List Row) → AllPairs AreApart rows → All2 rows
+to_all2 : (rows : List TableRow) → AllPairs AreApart rows → All2 rows
 unfolding All2
 to_all2 rows apart i j d ne li lj =
     elim (cases_lt i j) [
@@ -53,11 +53,11 @@ to_all2 rows apart i j d ne li lj =
       | inr ge ↦ turned (get_or rows j d) (get_or rows i d) (apart j i d (omega arith) li)
     ]
 
-from_all2 : (rows : List Row) → All2 rows → AllPairs AreApart rows
+from_all2 : (rows : List TableRow) → All2 rows → AllPairs AreApart rows
 unfolding All2
 from_all2 rows apart i j d lt lj = apart i j d (omega arith) (omega arith) lj
 
-all2_swapped : (rows : List Row) (a b : ℕ) → a < length rows → b < length rows → All2 rows → All2 (swap rows a b)
+all2_swapped : (rows : List TableRow) (a b : ℕ) → a < length rows → b < length rows → All2 rows → All2 (swap rows a b)
 unfolding All2
 all2_swapped rows a b la lb apart i j d ne li lj =
     let s = swapped_from_swap rows (swap rows a b) a b d la lb refl in
@@ -69,23 +69,23 @@ all2_swapped rows a b la lb apart i j d ne li lj =
     rw (was_i, was_j) (apart (place a b i) (place a b j) d (places_apart a b i j ne) below_i below_j)
 
 -- rows that lie apart still do in another order
-pub apart_moved : (rows others : List Row) → IsPermutation rows others → AllPairs AreApart rows → AllPairs AreApart others
+pub apart_moved : (rows others : List TableRow) → IsPermutation rows others → AllPairs AreApart rows → AllPairs AreApart others
 apart_moved rows others same apart =
     from_all2 others (IsPermutation-keeps rows All2 (to_all2 rows apart) (λ l a b la lb h. all2_swapped l a b la lb h) others same)
 
 -- what lies below a lawful row's end is a byte
-pub ends_within : (row : Row) → IsLawful row → {e : ℕ} → e < row.first.value + row.size → e ≤ 255
+pub ends_within : (row : TableRow) → IsLawful row → {e : ℕ} → e < row.first.value + row.size → e ≤ 255
 ends_within row lawful lt =
     elim (cases_lt 255 (row.first.value + row.size)) [
       | inl past ↦ absurd (lawful.1 (inr past))
       | inr within ↦ omega arith
     ]
 
-covers_first : (row : Row) → row.size ≢ 0 → row.first.value < row.first.value + row.size
+covers_first : (row : TableRow) → row.size ≢ 0 → row.first.value < row.first.value + row.size
 covers_first row some = omega arith
 
 -- of two lawful rows apart, the one that begins no higher lies below the other
-pub below_other : (row other : Row) → IsLawful row → IsLawful other → AreApart row other → row.first.value ≤ other.first.value → LiesBelow row other
+pub below_other : (row other : TableRow) → IsLawful row → IsLawful other → AreApart row other → row.first.value ≤ other.first.value → LiesBelow row other
 unfolding AreApart
 below_other row other one two apart low =
     elim (cases_lt other.first.value (row.first.value + row.size)) [
@@ -94,7 +94,7 @@ below_other row other one two apart low =
     ]
 
 -- lawful rows in the order of their first EIDs make a table
-pub table_of : (rows others : List Row) → AreLawful rows → IsPermutation rows others → IsNonDecreasingBy (λ row. row.first.value) others → IsTable others
+pub table_of : (rows others : List TableRow) → AreLawful rows → IsPermutation rows others → IsNonDecreasingBy (λ row. row.first.value) others → IsTable others
 table_of rows others lawful same sorted =
     let each : All IsLawful others = All-permutation IsLawful rows others same lawful.each in
     let apart = apart_moved rows others same lawful.apart in
@@ -103,12 +103,12 @@ table_of rows others lawful same sorted =
       ascending = λ i j d lt lj. below_other (get_or others i d) (get_or others j d) (each i d (omega arith)) (each j d lj) (apart i j d lt lj) (sorted i j d (omega arith) lj);
     }
 
-along : (rows others : List Row) → IsPermutation rows others → (e : ℕ) (hop : Hop) → Routes rows e hop → Routes others e hop
+along : (rows others : List TableRow) → IsPermutation rows others → (e : ℕ) (hop : Hop) → Routes rows e hop → Routes others e hop
 along rows others same e hop (k, row, lt, is, routed) =
     let there = Contains-permutation rows others row same (k, lt, is) in
     (there.0, row, there.1, there.2, routed)
 
 -- the order of rows doesn't change their routes
-pub routes_moved : (rows others : List Row) → IsPermutation rows others → HasSameRoutes rows others
+pub routes_moved : (rows others : List TableRow) → IsPermutation rows others → HasSameRoutes rows others
 routes_moved rows others same e hop =
     (along rows others same e hop, along others rows (IsPermutation-sym rows others same) e hop)

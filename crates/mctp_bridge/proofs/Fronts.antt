@@ -6,7 +6,7 @@ use Rattle.std.proofs.lemmas.List.{take_more}
 use Rattle.std.proofs.lemmas.List.Elements.{All-more}
 use Rattle.std.proofs.lemmas.List.Quantifiers.{all_pairs_push}
 use Rattle.std.proofs.lemmas.Option.{slice_get-get_or}
-use Rattle.mctp_bridge.specs.declared.row.Row.{Row}
+use Rattle.mctp_bridge.specs.declared.row.TableRow.{TableRow}
 use Rattle.mctp_bridge.specs.Rows.{AreApart, IsLawful, AreLawful}
 use Rattle.mctp_bridge.proofs.Apart.{turned}
 
@@ -15,11 +15,11 @@ pub refuted : {P : Type 0} → (IsTrue false ↔ P) → ¬ P
 refuted decided p = false≢true (decided.1 p)
 
 -- the element that was read is at its place
-pub stands : (rows : List Row) (i : ℕ) (row : Row) → i < length rows → row ≡ get_or rows i row → slice_get rows i ≡ Some row
+pub stands : (rows : List TableRow) (i : ℕ) (row : TableRow) → i < length rows → row ≡ get_or rows i row → slice_get rows i ≡ Some row
 stands rows i row lt is = slice_get-get_or rows i row lt ∙ ap Some (sym is)
 
 -- a lawful row that lies apart from the lawful rows before it
-pub lawful_more : (rows : List Row) (i : ℕ) (row : Row) → i < length rows → row ≡ get_or rows i row → AreLawful (take i rows) → IsLawful row
+pub lawful_more : (rows : List TableRow) (i : ℕ) (row : TableRow) → i < length rows → row ≡ get_or rows i row → AreLawful (take i rows) → IsLawful row
     → All (AreApart row) (take i rows) → AreLawful (take (i + 1) rows)
 lawful_more rows i row lt is before one apart = record {
   each = All-more IsLawful rows i row lt before.each (subst IsLawful is one);

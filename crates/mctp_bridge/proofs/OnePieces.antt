@@ -4,14 +4,14 @@ use Rattle.std.specs.Prelude.{Option, Some, None, All, Any, AllPairs, ◌↔◌,
 use Rattle.std.proofs.lemmas.Bool.{cases_lt}
 use Rattle.std.proofs.lemmas.List.{get_or_default}
 use Rattle.std.proofs.lemmas.List.Elements.{All-head, All-tail}
-use Rattle.mctp_bridge.specs.declared.row.Row.{Row}
+use Rattle.mctp_bridge.specs.declared.row.TableRow.{TableRow}
 use Rattle.mctp_bridge.specs.declared.row.Hop.{Hop}
 use Rattle.mctp_bridge.specs.Rows.{Covers, IsTable}
 use Rattle.mctp_bridge.specs.Pieces.{PieceValue, LiesIn, IsPartOf, IsGap, IsWhole, ArePieces}
 use Rattle.mctp_bridge.proofs.PieceChains.{any_cases, any_here, any_later, any_none}
 
 -- one row of a table covers an EID
-one_row : (rows : List Row) (i j e : ℕ) (row other : Row) → IsTable rows → i < length rows → get_or rows i row ≡ row → Covers row e
+one_row : (rows : List TableRow) (i j e : ℕ) (row other : TableRow) → IsTable rows → i < length rows → get_or rows i row ≡ row → Covers row e
     → j < length rows → get_or rows j other ≡ other → Covers other e → row ≡ other
 one_row rows i j e row other table li is covers lj at also =
     let that : get_or rows j row ≡ other = get_or_default rows j row other lj ∙ at in
@@ -27,7 +27,7 @@ one_row rows i j e row other table li is covers lj at also =
       ]
     ]
 
-module _ (rows : List Row) (first last : ℕ) (table : IsTable rows) where
+module _ (rows : List TableRow) (first last : ℕ) (table : IsTable rows) where
   -- a piece with this hop or without one is whole
   abbrev Whole : Option Hop → PieceValue → Type 0
   Whole hop piece = MatchOption hop (IsGap rows first last piece) (λ hop. Any (λ row. (row.hop ≡ hop) × IsPartOf first last piece row) rows)
@@ -40,7 +40,7 @@ module _ (rows : List Row) (first last : ℕ) (table : IsTable rows) where
       absurd (also.bare e too (k, row, lt, is, ((part.1 e).0 lies).2))
   same_hop (Some h) (Some g) piece other e (k, row, lt, is, part) (j, next, within, at, share) lies too =
       let same = one_row rows k j e row next table lt is ((part.1 e).0 lies).2 within at ((share.1 e).0 too).2 in
-      ap Some (sym part.0 ∙ ap (λ (r : Row). r.hop) same ∙ share.0)
+      ap Some (sym part.0 ∙ ap (λ (r : TableRow). r.hop) same ∙ share.0)
 
   not_longer : (x : Option Hop) (piece other : PieceValue) (e : ℕ) → Whole x piece → Whole x other → LiesIn e piece → LiesIn e other → other.last ≤ last
       → ¬ (piece.last < other.last)

@@ -6,7 +6,7 @@ use Rattle.std.specs.List.{AllAdjacentBelow}
 use Rattle.std.proofs.lemmas.Bool.{cases_lt}
 use Rattle.std.proofs.lemmas.List.Elements.{All-nil, All-cons, All-weaker}
 use Rattle.std.proofs.lemmas.List.Kept.{AllPairs-cons}
-use Rattle.mctp_bridge.specs.declared.row.Row.{Row}
+use Rattle.mctp_bridge.specs.declared.row.TableRow.{TableRow}
 use Rattle.mctp_bridge.specs.declared.row.Hop.{Hop}
 use Rattle.mctp_bridge.specs.Pieces.{PieceValue, LiesIn}
 use Rattle.mctp_bridge.specs.PiecesLeft.{run, clipped, pieces_from}
@@ -44,7 +44,7 @@ unfolding IsChain
 chain_append from stop end [] ys is chain = rw is chain
 chain_append from stop end (x ∷ xs) ys first second = (first.0, first.1, chain_append (x.last + 1) stop end xs ys first.2 second)
 
-pub chain_ahead : (rows : List Row) (from end : ℕ) → from ≤ end → IsChain from end (pieces_from rows from end)
+pub chain_ahead : (rows : List TableRow) (from end : ℕ) → from ≤ end → IsChain from end (pieces_from rows from end)
 chain_ahead [] from end le = rw (no_rows from end) (chain_run from end None le)
 chain_ahead (row ∷ rows) from end le =
     let begin = clipped from end row.first.value in

@@ -3,7 +3,7 @@ use Rattle.std.proofs.Common.{◌≡◌, ℕ, zero, suc, ◌<◌, ◌≤◌, Lis
 use Rattle.std.specs.Prelude.{All, Any}
 use Rattle.std.proofs.lemmas.Bool.{cases_lt}
 use Rattle.std.proofs.lemmas.List.{get_or_default, get_or-take, get_or-map}
-use Rattle.mctp_bridge.specs.declared.row.Row.{Row}
+use Rattle.mctp_bridge.specs.declared.row.TableRow.{TableRow}
 use Rattle.mctp_bridge.specs.declared.pieces.Piece.{Piece}
 use Rattle.mctp_bridge.specs.Pieces.{PieceValue, piece_value, LiesIn, ArePieces}
 
@@ -22,7 +22,7 @@ pub at_place : (P : PieceValue → Type 0) (all : List PieceValue) (k : ℕ) (pi
 at_place P all k piece each lt is = subst P (sym is) (each k piece lt)
 
 -- an EID before a piece lies in no later one
-not_from : (rows : List Row) (first last : ℕ) (all : List PieceValue) (place k : ℕ) (piece other : PieceValue) (e : ℕ) → ArePieces rows first last all
+not_from : (rows : List TableRow) (first last : ℕ) (all : List PieceValue) (place k : ℕ) (piece other : PieceValue) (e : ℕ) → ArePieces rows first last all
     → place < length all → piece ≡ get_or all place piece → e < piece.first → k < length all → get_or all k other ≡ other → LiesIn e other → ¬ (place ≤ k)
 not_from rows first last all place k piece other e are lt is before within at lies from =
     let filled = at_place (λ p. p.first ≤ p.last) all place piece are.filled lt is in
@@ -42,7 +42,7 @@ not_from rows first last all place k piece other e are lt is before within at li
     ]
 
 -- an EID of the interval before a piece lies in an earlier one
-earlier_piece : (rows : List Row) (first last : ℕ) (all : List PieceValue) (place : ℕ) (piece : PieceValue) (e : ℕ) → ArePieces rows first last all
+earlier_piece : (rows : List TableRow) (first last : ℕ) (all : List PieceValue) (place : ℕ) (piece : PieceValue) (e : ℕ) → ArePieces rows first last all
     → place < length all → piece ≡ get_or all place piece → first ≤ e → e < piece.first
     → (k : ℕ) × (other : PieceValue) × (k < place) × (get_or all k other ≡ other) × LiesIn e other
 earlier_piece rows first last all place piece e are lt is low before =
@@ -55,7 +55,7 @@ earlier_piece rows first last all place piece e are lt is low before =
       | inr from ↦ absurd (not_from rows first last all place some.0 piece some.1 e are lt is before some.2 some.3 some.4 from)
     ]
 
-module _ (rows : List Row) (first last : ℕ) (all : List PieceValue) (are : ArePieces rows first last all) (xs : List Piece)
+module _ (rows : List TableRow) (first last : ℕ) (all : List PieceValue) (are : ArePieces rows first last all) (xs : List Piece)
     (so_far : map piece_value xs ≡ take (length xs) all) where
   value_at : (k : ℕ) (d : Piece) → k < length xs → piece_value (get_or xs k d) ≡ get_or all k (piece_value d)
   value_at k d lt =
@@ -101,7 +101,7 @@ module _ (rows : List Row) (first last : ℕ) (all : List PieceValue) (are : Are
       found.1 e found.2
 
 -- a piece lies in the interval
-pub inside_interval : (rows : List Row) (first last : ℕ) (all : List PieceValue) (place : ℕ) (piece : PieceValue) → ArePieces rows first last all
+pub inside_interval : (rows : List TableRow) (first last : ℕ) (all : List PieceValue) (place : ℕ) (piece : PieceValue) → ArePieces rows first last all
     → place < length all → piece ≡ get_or all place piece → (first ≤ piece.first) × (piece.first ≤ piece.last) × (piece.last ≤ last)
 inside_interval rows first last all place piece are lt is =
     let filled = at_place (λ p. p.first ≤ p.last) all place piece are.filled lt is in

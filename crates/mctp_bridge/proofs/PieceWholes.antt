@@ -5,7 +5,7 @@ use Rattle.std.specs.List.{AllWithin}
 use Rattle.std.proofs.lemmas.Bool.{cases_lt}
 use Rattle.std.proofs.lemmas.List.{get_or-drop, length-drop}
 use Rattle.std.proofs.lemmas.List.Elements.{All-nil, All-cons, All-append, All-weaker, All-drop}
-use Rattle.mctp_bridge.specs.declared.row.Row.{Row}
+use Rattle.mctp_bridge.specs.declared.row.TableRow.{TableRow}
 use Rattle.mctp_bridge.specs.declared.row.Hop.{Hop}
 use Rattle.mctp_bridge.specs.Rows.{Covers, IsLawful, IsTable, IsNext, Routes}
 use Rattle.mctp_bridge.specs.Pieces.{PieceValue, LiesIn, IsCovered, IsPartOf, IsGap, IsWhole, ArePieces}
@@ -16,7 +16,7 @@ use Rattle.mctp_bridge.proofs.PieceChains.{any_cases, any_here, any_later, any_n
 
 -- The rows that can still cover an EID from here on, in an interval that began at first: of all rows no other does. The
 -- interval begins here, or the EID before is covered and no row began before.
-record AreLater (all rows : List Row) (first from : ℕ) : Type 0 where
+record AreLater (all rows : List TableRow) (first from : ℕ) : Type 0 where
   begun : first ≤ from
   table : IsTable rows
   reaching : All (Reaches from) rows
@@ -24,8 +24,8 @@ record AreLater (all rows : List Row) (first from : ℕ) : Type 0 where
   left : (from ≡ first) ⊎ (IsCovered all (from - 1) × All (λ row. from ≤ row.first.value) rows)
 
 -- a fact of some of the later rows holds of some row
-abbrev Among : List Row → List Row → Type 1
-Among all rows = (P : Row → Type 0) → Any P rows → Any P all
+abbrev Among : List TableRow → List TableRow → Type 1
+Among all rows = (P : TableRow → Type 0) → Any P rows → Any P all
 
 run_all : (P : PieceValue → Type 0) (from stop : ℕ) (hop : Option Hop) → (from < stop → P (piece_to from stop hop)) → All P (run from stop hop)
 run_all P from stop hop holds =
@@ -35,18 +35,18 @@ run_all P from stop hop holds =
     ]
 
 -- a lawful row covers what lies between its begin and its end
-covers_between : (row : Row) (e : ℕ) → IsLawful row → row.first.value ≤ e → e < row.first.value + row.size → Covers row e
+covers_between : (row : TableRow) (e : ℕ) → IsLawful row → row.first.value ≤ e → e < row.first.value + row.size → Covers row e
 covers_between row e lawful low high = (low, high, ends_within row lawful high)
 
 -- no row covers an EID before the first begins
-bare_before : (row : Row) (rows : List Row) (e : ℕ) → IsTable (row ∷ rows) → e < row.first.value → ¬ IsCovered (row ∷ rows) e
+bare_before : (row : TableRow) (rows : List TableRow) (e : ℕ) → IsTable (row ∷ rows) → e < row.first.value → ¬ IsCovered (row ∷ rows) e
 bare_before row rows e table lt covered =
     elim (any_cases (λ r. Covers r e) row rows covered) [
       | inl here ↦ absurd (omega arith)
       | inr (k, other, within, is, there) ↦ (let begins = rw is at (later_begin row rows table k other within) in absurd (omega arith))
     ]
 
-module _ (all : List Row) (first last : ℕ) where
+module _ (all : List TableRow) (first last : ℕ) where
   last_whole : (from : ℕ) → from ≤ last → AreLater all [] first from → IsWhole all first last (piece_to from (last + 1) None)
   last_whole from le later = record {
     bare = λ e lies covered. any_none (λ r. Covers r e) (later.rest e lies.0 covered);
@@ -54,7 +54,7 @@ module _ (all : List Row) (first last : ℕ) where
     above = inl (omega arith);
   }
 
-  gap_whole : (row : Row) (rows : List Row) (from begin : ℕ) → from ≤ last → begin ≡ clipped from (last + 1) row.first.value → from < begin
+  gap_whole : (row : TableRow) (rows : List TableRow) (from begin : ℕ) → from ≤ last → begin ≡ clipped from (last + 1) row.first.value → from < begin
       → AreLater all (row ∷ rows) first from → Among all (row ∷ rows) → IsWhole all first last (piece_to from begin None)
   gap_whole row rows from begin le begins some later among = record {
     bare = λ e lies covered. bare_before row rows e later.table (let low = lies.0 in let high = lies.1 in omega arith) (later.rest e lies.0 covered);
@@ -70,7 +70,7 @@ module _ (all : List Row) (first last : ℕ) where
     ];
   }
 
-  part_whole : (row : Row) (rows : List Row) (from begin stop : ℕ) → from ≤ last → begin ≡ clipped from (last + 1) row.first.value
+  part_whole : (row : TableRow) (rows : List TableRow) (from begin stop : ℕ) → from ≤ last → begin ≡ clipped from (last + 1) row.first.value
       → stop ≡ clipped from (last + 1) (row.first.value + row.size) → begin < stop → AreLater all (row ∷ rows) first from
       → Among all (row ∷ rows) → IsWhole all first last (piece_to begin stop (Some row.hop))
   part_whole row rows from begin stop le begins stops some later among =
@@ -95,7 +95,7 @@ module _ (all : List Row) (first last : ℕ) where
       ))
 
   -- what can still cover an EID past the first row
-  after_row : (row : Row) (rows : List Row) (from stop : ℕ) → stop ≡ row.first.value + row.size → from ≤ stop
+  after_row : (row : TableRow) (rows : List TableRow) (from stop : ℕ) → stop ≡ row.first.value + row.size → from ≤ stop
       → AreLater all (row ∷ rows) first from → Among all (row ∷ rows) → AreLater all rows first stop
   after_row row rows from stop stops le later among =
       let lawful = later.table.each 0 row (omega arith) in
@@ -115,7 +115,7 @@ module _ (all : List Row) (first last : ℕ) where
         );
       }
 
-  all_whole : (rows : List Row) (from : ℕ) → from ≤ last → AreLater all rows first from → Among all rows
+  all_whole : (rows : List TableRow) (from : ℕ) → from ≤ last → AreLater all rows first from → Among all rows
       → All (IsWhole all first last) (pieces_from rows from (last + 1))
   all_whole [] from le later among =
       rw (no_rows from (last + 1)) (run_all (IsWhole all first last) from (last + 1) None (λ some. last_whole from le later))
@@ -133,27 +133,27 @@ module _ (all : List Row) (first last : ℕ) where
         | inr past ↦ rw (none_left rows stop (last + 1) past) (All-nil (IsWhole all first last))
       ])))
 
-routed_covers : (rows : List Row) (e : ℕ) (hop : Hop) → Routes rows e hop → IsCovered rows e
+routed_covers : (rows : List TableRow) (e : ℕ) (hop : Hop) → Routes rows e hop → IsCovered rows e
 routed_covers rows e hop (k, row, lt, is, routed) = (k, row, lt, is, routed.0)
 
-part_routes : (rows : List Row) (first last : ℕ) (piece : PieceValue) (hop : Hop) (e : ℕ) → LiesIn e piece
+part_routes : (rows : List TableRow) (first last : ℕ) (piece : PieceValue) (hop : Hop) (e : ℕ) → LiesIn e piece
     → Any (λ row. (row.hop ≡ hop) × IsPartOf first last piece row) rows → Routes rows e hop
 part_routes rows first last piece hop e lies (k, row, lt, is, part) = (k, row, lt, is, (((part.1 e).0 lies).2, part.0))
 
 -- the hop of a whole piece is that of its EIDs
-hop_routes : (rows : List Row) (first last : ℕ) (piece : PieceValue) (hop : Option Hop)
+hop_routes : (rows : List TableRow) (first last : ℕ) (piece : PieceValue) (hop : Option Hop)
     → MatchOption hop (IsGap rows first last piece) (λ hop. Any (λ row. (row.hop ≡ hop) × IsPartOf first last piece row) rows)
     → (e : ℕ) → LiesIn e piece → IsNext rows e hop
 hop_routes rows first last piece None gap e lies = λ hop routed. gap.bare e lies (routed_covers rows e hop routed)
 hop_routes rows first last piece (Some hop) part e lies = part_routes rows first last piece hop e lies part
 
 -- an element from there on is one of the list
-among_rows : (rows : List Row) (passed : ℕ) → Among rows (drop passed rows)
+among_rows : (rows : List TableRow) (passed : ℕ) → Among rows (drop passed rows)
 among_rows rows passed P (k, row, lt, is, holds) =
     (passed + k, row, omega (arith, length-drop passed rows), sym (get_or-drop passed rows k row) ∙ is, holds)
 
 -- a row that covers an EID from first on reaches past first
-still_covered : (rows : List Row) (first passed : ℕ) → passed ≤ length rows → AllWithin (λ row. ¬ Reaches first row) rows 0 passed → (e : ℕ) → first ≤ e
+still_covered : (rows : List TableRow) (first passed : ℕ) → passed ≤ length rows → AllWithin (λ row. ¬ Reaches first row) rows 0 passed → (e : ℕ) → first ≤ e
     → IsCovered rows e → IsCovered (drop passed rows) e
 still_covered rows first passed within ended e past (k, row, lt, is, covers) =
     elim (cases_lt k passed) [
@@ -169,7 +169,7 @@ still_covered rows first passed within ended e past (k, row, lt, is, covers) =
     ]
 
 -- from first on only the rows that reach past it cover an EID
-later_rows : (rows : List Row) (first passed : ℕ) → IsTable rows → passed ≤ length rows → AllWithin (λ row. ¬ Reaches first row) rows 0 passed
+later_rows : (rows : List TableRow) (first passed : ℕ) → IsTable rows → passed ≤ length rows → AllWithin (λ row. ¬ Reaches first row) rows 0 passed
     → AllWithin (Reaches first) rows passed (length rows) → AreLater rows (drop passed rows) first first
 later_rows rows first passed table within ended reaching = record {
   begun = omega arith;
@@ -184,7 +184,7 @@ later_rows rows first passed table within ended reaching = record {
 }
 
 -- the pieces ahead, where they begin with the rows that reach past first
-pub are_pieces : (rows later : List Row) (first last passed : ℕ) → IsTable rows → first ≤ last → passed ≤ length rows
+pub are_pieces : (rows later : List TableRow) (first last passed : ℕ) → IsTable rows → first ≤ last → passed ≤ length rows
     → AllWithin (λ row. ¬ Reaches first row) rows 0 passed → AllWithin (Reaches first) rows passed (length rows) → later ≡ drop passed rows
     → ArePieces rows first last (pieces_from later first (last + 1))
 are_pieces rows later first last passed table ordered within ended reaching is =

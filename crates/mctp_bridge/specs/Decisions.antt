@@ -1,7 +1,7 @@
 -- What a node does with a packet that is there (the order of the cases is this project's own).
 use Rattle.std.specs.Prelude.{◌≡◌, ◌⊎◌, ℕ, List, codes}
 use Rattle.mctp_transport.specs.Frames.{IsAssignable}
-use Rattle.mctp_bridge.specs.declared.row.Row.{Row}
+use Rattle.mctp_bridge.specs.declared.row.TableRow.{TableRow}
 use Rattle.mctp_bridge.specs.declared.row.Hop.{Hop}
 use Rattle.mctp_control.specs.declared.device.DeviceKind.{DeviceKind}
 use Rattle.mctp_control.specs.declared.device.DeviceKind.TheVariants.{Bridge}
@@ -27,7 +27,7 @@ abbrev pub Forwards : DeviceKind → Progress → Type 0
 Forwards kind progress = (kind ≡ Bridge) ⊎ (progress ≡ AtOrigin)
 
 -- what a node of this EID, kind and rows decides on a packet for e
-abbrev pub IsDecided : ℕ → DeviceKind → List Row → Progress → ℕ → Decision → Type 0
+abbrev pub IsDecided : ℕ → DeviceKind → List TableRow → Progress → ℕ → Decision → Type 0
 IsDecided eid kind rows progress e decision = Decides (e ≡ eid) (Forwards kind progress) (Routes rows e) e decision
 
 -- the code that users see

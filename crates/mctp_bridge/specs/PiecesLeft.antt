@@ -1,7 +1,7 @@
 -- What an iterator over pieces has yet to give.
 use Rattle.std.specs.Prelude.{ℕ, ◌+◌, ◌-◌, ◌<◌, ◌≤◌, min, max, Option, Some, None}
 use Rattle.std.specs.Prelude.{nat_lt, if◌then◌else◌, List, [], ◌∷◌, ◌++◌, All}
-use Rattle.mctp_bridge.specs.declared.row.Row.{Row}
+use Rattle.mctp_bridge.specs.declared.row.TableRow.{TableRow}
 use Rattle.mctp_bridge.specs.declared.row.Hop.{Hop}
 use Rattle.mctp_bridge.specs.Rows.{IsTable}
 use Rattle.mctp_bridge.specs.Pieces.{PieceValue}
@@ -19,7 +19,7 @@ abbrev pub clipped : (from end e : ℕ) → ℕ
 clipped from end e = max from (min e end)
 
 -- the pieces from an EID up to the one before the end: the gap before a row, the row's part, and the pieces after it
-unfoldable pub pieces_from : List Row → (from end : ℕ) → List PieceValue
+unfoldable pub pieces_from : List TableRow → (from end : ℕ) → List PieceValue
 pieces_from [] from end = run from end None
 pieces_from (row ∷ rows) from end =
     run from (clipped from end row.first.value) None
@@ -27,11 +27,11 @@ pieces_from (row ∷ rows) from end =
     ++ pieces_from rows (clipped from end (row.first.value + row.size)) end)
 
 -- each row has an EID from here on
-abbrev pub Reaches : ℕ → Row → Type 0
+abbrev pub Reaches : ℕ → TableRow → Type 0
 Reaches from row = from < row.first.value + row.size
 
 -- the rows that can still come: those of a table, each with an EID from here on; the end is no higher than 256
-pub record AreAhead (rows : List Row) (from end : ℕ) : Type 0 where
+pub record AreAhead (rows : List TableRow) (from end : ℕ) : Type 0 where
   pub table : IsTable rows
   pub reaching : All (Reaches from) rows
   pub within : end ≤ 256

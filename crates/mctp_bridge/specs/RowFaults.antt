@@ -1,25 +1,25 @@
 -- Why rows make no routing table (the order of the causes is this project's own).
 use Rattle.std.specs.Prelude.{◌≡◌, ℕ, List, take, Option, Some, None, slice_get, All, codes}
-use Rattle.mctp_bridge.specs.declared.row.Row.{Row}
+use Rattle.mctp_bridge.specs.declared.row.TableRow.{TableRow}
 use Rattle.mctp_bridge.specs.declared.table_fault.TableFault.{TableFault}
 use Rattle.mctp_bridge.specs.declared.table_fault.TableFault.TheVariants.{Empty, Outside, Overlap, Memory}
 use Rattle.mctp_bridge.specs.Rows.{IsEmpty, IsOutside, AreApart, AreLawful}
 
 -- there is a row at this place, and this is true of it
-abbrev pub IsAt : List Row → ℕ → (Row → Type 0) → Type 0
-IsAt rows place P = (row : Row) × (slice_get rows place ≡ Some row) × P row
+abbrev pub IsAt : List TableRow → ℕ → (TableRow → Type 0) → Type 0
+IsAt rows place P = (row : TableRow) × (slice_get rows place ≡ Some row) × P row
 
 -- the rows before this place are lawful, and this is true of the one there
-abbrev pub IsFirstAt : List Row → ℕ → (Row → Type 0) → Type 0
+abbrev pub IsFirstAt : List TableRow → ℕ → (TableRow → Type 0) → Type 0
 IsFirstAt rows place P = AreLawful (take place rows) × IsAt rows place P
 
 -- of these rows the one at this place is the first that shares an EID with the row
-abbrev pub IsFirstOverlap : List Row → Row → ℕ → Type 0
+abbrev pub IsFirstOverlap : List TableRow → TableRow → ℕ → Type 0
 IsFirstOverlap rows row place = IsAt rows place (λ other. ¬ AreApart row other) × All (AreApart row) (take place rows)
 
 -- The first row that is not lawful or shares an EID with an earlier one, and its first cause. Out of memory is told of
 -- lawful rows only.
-abbrev pub IsFirstFault : List Row → TableFault → Type 0
+abbrev pub IsFirstFault : List TableRow → TableFault → Type 0
 IsFirstFault rows (Empty place) = IsFirstAt rows place IsEmpty
 IsFirstFault rows (Outside place) = IsFirstAt rows place (λ row. ¬ IsEmpty row × IsOutside row)
 IsFirstFault rows (Overlap place earlier) =

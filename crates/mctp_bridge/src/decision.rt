@@ -9,7 +9,7 @@ use mctp_transport::{Eid, Header};
 
 /// A node as its decisions see it.
 #[derive(Clone, Copy, Debug)]
-pub struct Node<'a> {
+pub struct DecidingNode<'a> {
     /// The endpoint ID that it holds.
     pub eid: Eid,
     /// Whether it is a bridge, which forwards packets of others.
@@ -67,7 +67,7 @@ impl Obstacle {
 /// What the node does with a packet of this header: it takes it where it holds the destination; else it drops it where
 /// the destination can't be held, or where it is no bridge and the packet isn't its own, or where it has no row for the
 /// destination; else it sends it along that row's hop.
-pub fn decide(node: &Node, progress: Progress, header: &Header) -> Decision
+pub fn decide(node: &DecidingNode, progress: Progress, header: &Header) -> Decision
     ensures { IsDecided node.now.eid.value node.now.kind node.now.table.now progress header.now.destination.value result }
 {
     let destination = header.destination;

@@ -1,13 +1,13 @@
 //! Laws of pieces and of all readings of routing tables. The functions do nothing: their contracts are the laws.
 ghost use Rattle.std.specs.Prelude.{◌≡◌, ℕ, List};
-ghost use Rattle.mctp_bridge.specs.declared.row.Row.{Row};
+ghost use Rattle.mctp_bridge.specs.declared.row.TableRow.{TableRow};
 ghost use Rattle.mctp_bridge.specs.Rows.{IsTable};
 ghost use Rattle.mctp_bridge.specs.Pieces.{PieceValue, ArePieces};
 ghost use Rattle.mctp_bridge.specs.Reads.{EveryReadingCollects, AsksWhatIsDue, EveryReplyIsTaken};
 
 /// A table cuts an interval into one list of pieces only.
 pub fn one_list_of_pieces()
-    ensures { (rows : List Row) (first last : ℕ) (pieces others : List PieceValue) → IsTable rows
+    ensures { (rows : List TableRow) (first last : ℕ) (pieces others : List PieceValue) → IsTable rows
         → ArePieces rows first last pieces → ArePieces rows first last others → pieces ≡ others }
 {}
 

@@ -14,12 +14,12 @@ mod row_faults;
 mod table_fault;
 mod table_part;
 
-pub use decision::{Decision, Node, Obstacle, Progress, decide};
+pub use decision::{DecidingNode, Decision, Obstacle, Progress, decide};
 pub use entry_reader::{EntryReader, MAX_READ, MAX_TAKEN};
 pub use laws::{asks_what_is_due, every_reply_is_taken, one_list_of_pieces, readings_collect_all};
 pub use pieces::{Piece, Pieces};
 pub use range_table::RangeTable;
 pub use read_fault::ReadFault;
 pub use routing_entries::{Neighbor, route_entries};
-pub use row::{Hop, Row};
+pub use row::{Hop, TableRow};
 pub use table_fault::TableFault;

@@ -5,7 +5,7 @@ ghost use Rattle.mctp_bridge.specs.Rows.{IsTable};
 ghost use Rattle.mctp_bridge.specs.Pieces.{piece_value};
 ghost use Rattle.mctp_bridge.specs.PiecesLeft.{piece_to, Reaches};
 
-use crate::row::{Hop, Row};
+use crate::row::{Hop, TableRow};
 use mctp_transport::Eid;
 use std::marker::Model;
 
@@ -24,7 +24,7 @@ pub struct Piece {
 #[derive(Clone, Debug, Drop)]
 pub struct Pieces<'a> {
     /// The rows that reach past the pieces that came, in the order of their first endpoint IDs.
-    rows: &'a [Row],
+    rows: &'a [TableRow],
     /// The first endpoint ID of the next piece.
     from: u16,
     /// The number after the interval's last; nothing is left once the next piece would begin there.
@@ -47,7 +47,7 @@ impl<'a> Pieces<'a> {
     ghost use Rattle.mctp_bridge.specs.Pieces.{ArePieces};
 
     /// The pieces that a table's rows make of the interval.
-    pub(crate) fn of(rows: &'a [Row], first: Eid, last: Eid) -> Pieces<'a>
+    pub(crate) fn of(rows: &'a [TableRow], first: Eid, last: Eid) -> Pieces<'a>
         requires table { IsTable rows.now }
         requires ordered { first.value ≤ last.value }
         ensures { ArePieces rows.now first.value last.value result }
@@ -87,7 +87,7 @@ impl<'a> Iterator for Pieces<'a> {
 }
 
 /// How many rows end before the endpoint ID. They are found by halving.
-fn ended_before(rows: &[Row], eid: Eid) -> usize
+fn ended_before(rows: &[TableRow], eid: Eid) -> usize
     requires { IsTable rows.now }
     ensures within { result ≤ length rows.now }
     ensures ended { AllWithin (λ row. ¬ Reaches eid.value row) rows.now 0 result }

@@ -2,13 +2,13 @@
 ghost use Rattle.std.specs.Prelude.{◌≡◌, ◌<◌, ◌≤◌, List, length, IfOk, IfErr, OnOk};
 ghost use Rattle.std.specs.List.{AllWithin};
 ghost use Rattle.std.specs.List.Sorted.{IsPermutation};
-ghost use Rattle.mctp_bridge.specs.declared.row.Row.{Row};
+ghost use Rattle.mctp_bridge.specs.declared.row.TableRow.{TableRow};
 ghost use Rattle.mctp_bridge.specs.Rows.{AreLawful, IsTable, HasSameRoutes, IsNext};
 ghost use Rattle.mctp_bridge.specs.RowFaults.{IsFirstFault};
 ghost use Rattle.mctp_bridge.specs.Pieces.{ArePieces};
 
 use crate::pieces::Pieces;
-use crate::row::{Hop, Row};
+use crate::row::{Hop, TableRow};
 use crate::row_faults::first_fault;
 use crate::table_fault::TableFault;
 use mctp_transport::Eid;
@@ -19,11 +19,11 @@ use std::marker::Model;
 /// it covers can be held, and no two rows share one.
 #[derive(Debug, Drop)]
 pub struct RangeTable {
-    rows: Vec<Row>,
+    rows: Vec<TableRow>,
 }
 
 impl Model for RangeTable {
-    ghost Value = { List Row };
+    ghost Value = { List TableRow };
 
     ghost view = { λ t. t.rows.items };
 
@@ -33,7 +33,7 @@ impl Model for RangeTable {
 impl RangeTable {
     /// The table of these rows. Where they have faults, the first one in their order is answered; `TableFault::Memory`
     /// only where they have none.
-    pub fn build(alloc: Global, rows: &[Row]) -> Result<Self, TableFault>
+    pub fn build(alloc: Global, rows: &[TableRow]) -> Result<Self, TableFault>
         ensures lawful { OnOk result (AreLawful rows.now) }
         ensures same { IfOk result (λ table. IsPermutation rows.now table) }
         ensures ordered { IfOk result (λ table. IsTable table) }
@@ -64,7 +64,7 @@ impl RangeTable {
     }
 
     /// The rows in the order of their first endpoint IDs.
-    pub fn rows(&self) -> &[Row]
+    pub fn rows(&self) -> &[TableRow]
         ensures rows { result.now ≡ self.now }
         ensures ordered { IsTable self.now }
     {
@@ -73,7 +73,7 @@ impl RangeTable {
 }
 
 /// The rows in the order of their first endpoint IDs.
-fn sorted(alloc: Global, rows: &[Row]) -> Result<Vec<Row>, AllocError>
+fn sorted(alloc: Global, rows: &[TableRow]) -> Result<Vec<TableRow>, AllocError>
     requires { AreLawful rows.now }
     ensures same { IfOk result (λ table. IsPermutation rows.now table.items) }
     ensures ordered { IfOk result (λ table. IsTable table.items) }
@@ -86,7 +86,7 @@ fn sorted(alloc: Global, rows: &[Row]) -> Result<Vec<Row>, AllocError>
 }
 
 /// The hop of the row that covers the endpoint ID. It is the last row that begins no higher, if any.
-fn next_in(rows: &[Row], eid: Eid) -> Option<Hop>
+fn next_in(rows: &[TableRow], eid: Eid) -> Option<Hop>
     requires { IsTable rows.now }
     ensures { IsNext rows.now eid.value result }
 {
@@ -99,7 +99,7 @@ fn next_in(rows: &[Row], eid: Eid) -> Option<Hop>
 }
 
 /// How many rows begin no higher than the endpoint ID. They are found by halving.
-fn begun_by(rows: &[Row], eid: Eid) -> usize
+fn begun_by(rows: &[TableRow], eid: Eid) -> usize
     requires { IsTable rows.now }
     ensures within { result ≤ length rows.now }
     ensures begun { AllWithin (λ row. row.first.value ≤ eid.value) rows.now 0 result }

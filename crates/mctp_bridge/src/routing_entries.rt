@@ -4,7 +4,7 @@ ghost use Rattle.mctp_control.specs.RouteEntries.{entry_value};
 ghost use Rattle.mctp_bridge.specs.Entries.{run_entry, own_kind, row_entries, bridge_entries, table_entries};
 
 use crate::range_table::RangeTable;
-use crate::row::Row;
+use crate::row::TableRow;
 use mctp_control::{DeviceKind, EntryKind, EntryPort, RouteEntry};
 use mctp_transport::Eid;
 use std::alloc::{AllocError, Global};
@@ -48,7 +48,11 @@ pub fn route_entries(
 }
 
 /// Adds the entries of a row.
-fn push_entries(entries: &mut Vec<RouteEntry>, row: &Row, next: &Neighbor) -> Result<(), AllocError>
+fn push_entries(
+    entries: &mut Vec<RouteEntry>,
+    row: &TableRow,
+    next: &Neighbor,
+) -> Result<(), AllocError>
     requires address { length next.now.address.now ≤ 8 }
     requires port { row.now.hop.port < 32 }
     ensures { OnOk result
@@ -70,7 +74,7 @@ fn push_entries(entries: &mut Vec<RouteEntry>, row: &Row, next: &Neighbor) -> Re
 /// Adds the entries of a row to a bridge.
 fn push_bridge_entries(
     entries: &mut Vec<RouteEntry>,
-    row: &Row,
+    row: &TableRow,
     next: &Neighbor,
 ) -> Result<(), AllocError>
     requires address { length next.now.address.now ≤ 8 }
@@ -105,7 +109,7 @@ fn kind_of_own(size: u8) -> EntryKind
 }
 
 /// An entry of `size` endpoint IDs along the row's hop.
-fn run(row: &Row, next: &Neighbor, first: Eid, size: u8, kind: EntryKind) -> RouteEntry
+fn run(row: &TableRow, next: &Neighbor, first: Eid, size: u8, kind: EntryKind) -> RouteEntry
     requires address { length next.now.address.now ≤ 8 }
     requires port { row.now.hop.port < 32 }
     ensures { entry_value result ≡ run_entry row.now next.now first.value size kind }

@@ -15,7 +15,7 @@ pub struct Hop {
 
 /// A row of a routing table: where packets to a run of endpoint IDs go.
 #[derive(Clone, Copy, Debug, PartialEq, Eq)]
-pub struct Row {
+pub struct TableRow {
     /// The first endpoint ID that the row covers.
     pub first: Eid,
     /// How many it covers from there, as far as 255.
@@ -24,7 +24,7 @@ pub struct Row {
     pub hop: Hop,
 }
 
-impl Row {
+impl TableRow {
     /// Whether the row covers the endpoint ID.
     pub fn covers(&self, eid: Eid) -> bool
         ensures { IsTrue result ↔ Covers self.now eid.value }
@@ -48,7 +48,7 @@ impl Row {
 
     /// Whether no endpoint ID lies in both rows.
     #[tactic(auto, unfolding(crate::specs::Rows::AreApart))]
-    pub(crate) fn is_apart_from(&self, other: &Row) -> bool
+    pub(crate) fn is_apart_from(&self, other: &TableRow) -> bool
         ensures { IsTrue result ↔ AreApart self.now other.now }
     {
         self.size == 0

@@ -3,11 +3,11 @@ ghost use Rattle.std.specs.Prelude.{◌<◌, ◌+◌, length, take, All, MatchOp
 ghost use Rattle.mctp_bridge.specs.Rows.{AreApart, AreLawful};
 ghost use Rattle.mctp_bridge.specs.RowFaults.{IsFirstFault, IsFirstOverlap};
 
-use crate::row::Row;
+use crate::row::TableRow;
 use crate::table_fault::TableFault;
 
 /// The first fault of the rows, in their order.
-pub(crate) fn first_fault(rows: &[Row]) -> Option<TableFault>
+pub(crate) fn first_fault(rows: &[TableRow]) -> Option<TableFault>
     ensures { MatchOption result (AreLawful rows.now) (IsFirstFault rows.now) }
 {
     for place in 0..rows.len() {
@@ -20,7 +20,7 @@ pub(crate) fn first_fault(rows: &[Row]) -> Option<TableFault>
 }
 
 /// What is wrong with a row, where the rows before it are lawful.
-fn fault_at(rows: &[Row], place: usize) -> Option<TableFault>
+fn fault_at(rows: &[TableRow], place: usize) -> Option<TableFault>
     requires within { place < length rows.now }
     requires before { AreLawful (take place rows.now) }
     ensures { MatchOption result (AreLawful (take (place + 1) rows.now)) (IsFirstFault rows.now) }
@@ -42,7 +42,7 @@ fn fault_at(rows: &[Row], place: usize) -> Option<TableFault>
 }
 
 /// The first of the rows that shares an endpoint ID with this one.
-fn first_overlap(rows: &[Row], row: &Row) -> Option<usize>
+fn first_overlap(rows: &[TableRow], row: &TableRow) -> Option<usize>
     ensures { MatchOption result (All (AreApart row.now) rows.now) (IsFirstOverlap rows.now row.now) }
 {
     for (place, other) in rows.iter().enumerate() {

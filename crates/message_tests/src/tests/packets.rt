@@ -1,7 +1,5 @@
 //! Packets read and written.
-use mctp_transport::{
-    Eid, HEADER_LENGTH, Header, MAX_UNIT, Packet, PacketView, Reserved, Seq, Tag,
-};
+use mctp_transport::{Eid, HEADER_LENGTH, MAX_UNIT, Packet, PacketView, Reserved};
 use std::test::Fail;
 
 const REQUEST: [u8; 8] = [0x01, 0x0a, 0x08, 0xcb, 0x01, 0x80, 0x00, 0x02];
@@ -11,25 +9,6 @@ pub(crate) fn is_written_as(packet: &PacketView, wanted: &[u8]) -> bool {
     let mut out = [0xee; HEADER_LENGTH + MAX_UNIT + 1];
     let count = packet.put(&mut out);
     packet.len() == count && &out[..count] == wanted && out[count] == 0xee
-}
-
-#[test]
-fn reads_each_field(rt: HostRuntime) -> Result<(), Fail> {
-    let packet = PacketView::read(&REQUEST)?;
-    let header = Header {
-        reserved: Reserved::new(0),
-        destination: Eid::new(10),
-        source: Eid::new(8),
-        som: true,
-        eom: true,
-        number: Seq::new(0),
-        owner: true,
-        tag: Tag::new(3),
-    };
-    assert_eq!(rt; packet.header, header);
-    assert_eq!(rt; packet.payload, [0x01, 0x80, 0x00, 0x02].as_slice());
-    assert!(rt; packet.len() == 8 && packet.key().source == Eid::new(8));
-    Ok(())
 }
 
 #[test]
@@ -44,25 +23,6 @@ fn endpoints_hold_8_to_254(rt: HostRuntime) {
     ];
     for (value, wanted) in rows {
         assert_eq!(rt; Eid::new(value).is_assignable(), wanted, "{value}");
-    }
-}
-
-#[test]
-fn refuses_by_code(rt: HostRuntime) {
-    let mut long = [0; 69];
-    long[0] = 0x01;
-    let rows: [(&[u8], &str); 7] = [
-        (&[], "P01"),
-        (&[0x01, 0x0a, 0x08], "P01"),
-        (&[0x01, 0x0a, 0x08, 0xc8], "P02"),
-        (&long, "P03"),
-        (&long[..68], "read"),
-        (&[0x02, 0x0a, 0x08, 0xc8, 0x01], "P04"),
-        (&[0x02, 0x0a, 0x08, 0xc8], "P02"),
-    ];
-    for (bytes, code) in rows {
-        let refused = PacketView::read(bytes).err();
-        assert_eq!(rt; refused.map_or("read", |error| error.code()), code);
     }
 }
 

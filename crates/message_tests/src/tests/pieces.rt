@@ -2,7 +2,7 @@
 ghost use Rattle.std.specs.Prelude.{ℕ, ◌<◌, ◌≤◌, IfNone, IfSome};
 ghost use Rattle.mctp_bridge.specs.Pieces.{IsCovered};
 
-use mctp_bridge::{Hop, RangeTable, Row};
+use mctp_bridge::{Hop, RangeTable, TableRow};
 use mctp_transport::Eid;
 use std::test::Fail;
 
@@ -12,8 +12,8 @@ const NIC: Hop = Hop { port: 1, next: 2 };
 
 const SSD: Hop = Hop { port: 2, next: 3 };
 
-fn row(first: u8, size: u8, hop: Hop) -> Row {
-    Row {
+fn row(first: u8, size: u8, hop: Hop) -> TableRow {
+    TableRow {
         first: Eid::new(first),
         size,
         hop,

@@ -1,7 +1,7 @@
 //! Platform descriptor records, read and written.
 use super::spelling::is_kept;
 use mctp_transport::{Wire, round_trip};
-use pdr_record::{Body, Entity, RangeFieldFormat, Record, SensorDataSize, TerminusLocator};
+use pdr_record::{Body, Entity, RangeFieldFormat, Record, SensorDataSize};
 use std::test::Fail;
 
 pub(crate) const TERMINUS: &[u8] =
@@ -39,23 +39,6 @@ pub(crate) fn numeric(bytes: &mut [u8; 110], data_size: u8, format: u8, length: 
 pub(crate) fn code(bytes: &[u8]) -> &'static str {
     let refused = Record::read(bytes).err();
     refused.map_or("read", |error| error.code())
-}
-
-#[test]
-fn reads_a_terminus_locator(rt: HostRuntime) -> Result<(), Fail> {
-    let record = Record::read(TERMINUS)?;
-    assert_eq!(rt; (record.handle, record.change), (1, 0));
-    assert_eq!(rt; record.body.record_type(), 1);
-    let locator = TerminusLocator {
-        terminus_handle: 1,
-        validity: 1,
-        tid: 1,
-        container_id: 0,
-        locator_type: 1,
-        locator_value: &[0x0a],
-    };
-    assert_eq!(rt; record.body, Body::Terminus(locator));
-    Ok(())
 }
 
 #[test]
@@ -118,68 +101,6 @@ fn reads_a_numeric_sensor(rt: HostRuntime) -> Result<(), Fail> {
         (&zeros[..2], &zeros[..])
     );
     Ok(())
-}
-
-#[test]
-fn keeps_the_bytes_of_other_types(rt: HostRuntime) -> Result<(), Fail> {
-    let record = Record::read(OTHER)?;
-    assert_eq!(rt; record.change, 1);
-    let bytes = [0xaa, 0xbb];
-    let body = Body::Other {
-        record_type: 200,
-        bytes: &bytes,
-    };
-    assert_eq!(rt; record.body, body);
-    assert_eq!(rt; Record::read(EMPTY)?.body.record_type(), 200);
-    Ok(())
-}
-
-#[test]
-fn refuses_by_the_first_cause(rt: HostRuntime) {
-    let rows: [(&[u8], &str); 11] = [
-        (&[], "D01"),
-        (&TERMINUS[..9], "D01"),
-        (b"\0\0\0\0\0\x01\0\0\x05\0", "D02"),
-        (&TERMINUS[..18], "D03"),
-        (b"\0\0\0\0\x01\xc8\0\0\0\0\0", "D03"),
-        (b"\0\0\0\0\x01\x01\0\0\x07\0\0\0\0\0\0\0\0", "D04"),
-        (b"\0\0\0\0\x01\x01\0\0\x09\0\0\0\0\0\0\0\0\0\0", "D05"),
-        (b"\0\0\0\0\x01\x0f\0\0\x0a\0\0\0\0\0\0\0\0\0\0\x01", "D04"),
-        (
-            b"\0\0\0\0\x01\x04\0\0\x10\0\0\0\0\0\0\0\0\0\0\0\0\0\x01\0\0\x01",
-            "D04",
-        ),
-        (
-            b"\0\0\0\0\x01\x04\0\0\x0d\0\0\0\0\0\0\0\0\0\0\0\0\0\x01",
-            "D04",
-        ),
-        (
-            b"\0\0\0\0\x01\x04\0\0\x0e\0\0\0\0\0\0\0\0\0\0\0\0\0\0\0",
-            "D05",
-        ),
-    ];
-    for (row, wanted) in rows {
-        assert_eq!(rt; code(row), wanted, "{row:?}");
-    }
-}
-
-#[test]
-fn numeric_sensors_are_refused_by_the_first_cause(rt: HostRuntime) {
-    let rows = [
-        (0, 0, 59, "read"),
-        (0, 0, 58, "D04"),
-        (0, 0, 60, "D05"),
-        (6, 0, 60, "D06"),
-        (6, 0, 23, "D06"),
-        (6, 0, 22, "D04"),
-        (0, 7, 49, "D06"),
-        (0, 7, 48, "D04"),
-    ];
-    for (data_size, format, length, wanted) in rows {
-        let mut bytes = [0; 110];
-        let code = code(numeric(&mut bytes, data_size, format, length));
-        assert_eq!(rt; code, wanted, "{length}");
-    }
 }
 
 #[test]

@@ -3,8 +3,8 @@ ghost use Rattle.std.specs.Prelude.{◌≤◌, All, length};
 
 use super::spelling::is_written_as;
 use mctp_bridge::{
-    Decision, Hop, Neighbor, Node, Obstacle, Progress, RangeTable, Row, TableFault, decide,
-    route_entries,
+    DecidingNode, Decision, Hop, Neighbor, Obstacle, Progress, RangeTable, TableFault, TableRow,
+    decide, route_entries,
 };
 use mctp_control::{DeviceKind, RouteEntry};
 use mctp_transport::{Eid, Header, Reserved, Seq, Tag};
@@ -14,8 +14,8 @@ use std::test::Fail;
 
 const HOP: Hop = Hop { port: 0, next: 2 };
 
-pub(crate) fn row(first: u8, size: u8) -> Row {
-    Row {
+pub(crate) fn row(first: u8, size: u8) -> TableRow {
+    TableRow {
         first: Eid::new(first),
         size,
         hop: HOP,
@@ -40,7 +40,7 @@ fn a_hop_may_lead_to_any_node(rt: HostRuntime) -> Result<(), Fail> {
         port: 255,
         next: 4_294_967_295,
     };
-    let far = Row { hop, ..row(254, 1) };
+    let far = TableRow { hop, ..row(254, 1) };
     let table = RangeTable::build(rt.alloc(), &[far])
         .ok()
         .ok_or("no table")?;
@@ -50,7 +50,7 @@ fn a_hop_may_lead_to_any_node(rt: HostRuntime) -> Result<(), Fail> {
 
 #[test]
 fn a_table_tells_its_first_fault(rt: HostRuntime) {
-    let rows: [(&[Row], TableFault); 9] = [
+    let rows: [(&[TableRow], TableFault); 9] = [
         (&[row(16, 8), row(20, 0)], TableFault::Empty { row: 1 }),
         (&[row(250, 6)], TableFault::Outside { row: 0 }),
         (&[row(8, 248)], TableFault::Outside { row: 0 }),
@@ -90,7 +90,7 @@ fn an_endpoint_forwards_its_own_packets_alone(rt: HostRuntime) -> Result<(), Fai
     let table = RangeTable::build(rt.alloc(), &[row(8, 9)])
         .ok()
         .ok_or("no table")?;
-    let nic = Node {
+    let nic = DecidingNode {
         eid: Eid::new(17),
         kind: DeviceKind::Endpoint,
         table: &table,
@@ -113,7 +113,11 @@ fn an_endpoint_forwards_its_own_packets_alone(rt: HostRuntime) -> Result<(), Fai
 }
 
 /// The entries of a table of these rows, where it can have some.
-pub(crate) fn told(alloc: Global, rows: &[Row], neighbors: &[Neighbor]) -> Option<Vec<RouteEntry>>
+pub(crate) fn told(
+    alloc: Global,
+    rows: &[TableRow],
+    neighbors: &[Neighbor],
+) -> Option<Vec<RouteEntry>>
     requires { All (λ neighbor. length neighbor.address.now ≤ 8) neighbors.now }
 {
     let table = RangeTable::build(alloc, rows).ok()?;

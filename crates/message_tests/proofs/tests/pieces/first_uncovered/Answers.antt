@@ -2,7 +2,7 @@ use Rattle.std.proofs.Common.{◌≡◌, ℕ, ◌≤◌, List, length, refl, sym
 use Rattle.std.specs.Prelude.{All, Option, Some, None, IsSome, is_some, Bool, true, not}
 use Rattle.std.proofs.lemmas.Bool.{false≢true}
 use Rattle.std.proofs.lemmas.Iterator.Consumers.{YieldsList-from_first, YieldsList-so_far, YieldsList-turn, YieldsList-end}
-use Rattle.mctp_bridge.specs.declared.row.Row.{Row}
+use Rattle.mctp_bridge.specs.declared.row.TableRow.{TableRow}
 use Rattle.mctp_bridge.specs.declared.row.Hop.{Hop}
 use Rattle.mctp_bridge.specs.declared.pieces.Piece.{Piece}
 use Rattle.mctp_bridge.specs.Rows.{IsNext}
@@ -11,19 +11,19 @@ use Rattle.mctp_bridge.proofs.PieceLoops.{at_place, yielded_hold, holds_before, 
 use Rattle.message_tests.proofs.tests.pieces.first_uncovered.Goals as goal
 
 -- the piece's hop is that of its EIDs
-abbrev IsRouted : List Row → PieceValue → Type 0
+abbrev IsRouted : List TableRow → PieceValue → Type 0
 IsRouted rows piece = (e : ℕ) → LiesIn e piece → IsNext rows e piece.hop
 
-hop_covers : (rows : List Row) (e : ℕ) (hop : Option Hop) → IsSome hop → IsNext rows e hop → IsCovered rows e
+hop_covers : (rows : List TableRow) (e : ℕ) (hop : Option Hop) → IsSome hop → IsNext rows e hop → IsCovered rows e
 hop_covers rows e None some next = absurd (false≢true some)
 hop_covers rows e (Some hop) some (k, row, lt, is, routed) = (k, row, lt, is, routed.0)
 
-none_bare : (rows : List Row) (e : ℕ) (hop : Option Hop) (answer : Bool) → is_some hop ≡ not answer → answer ≡ true → IsNext rows e hop → ¬ IsCovered rows e
+none_bare : (rows : List TableRow) (e : ℕ) (hop : Option Hop) (answer : Bool) → is_some hop ≡ not answer → answer ≡ true → IsNext rows e hop → ¬ IsCovered rows e
 none_bare rows e None answer is told next (k, row, lt, at, covers) = next row.hop (k, row, lt, at, (covers, refl))
 none_bare rows e (Some hop) answer is told next covered = absurd (false≢true (sym (is ∙ ap not told)))
 
 -- each EID of pieces with a hop is covered
-covered_by : (rows : List Row) (xs : List Piece) → All (λ piece. IsSome piece.hop) xs → All (λ piece. IsRouted rows (piece_value piece)) xs
+covered_by : (rows : List TableRow) (xs : List Piece) → All (λ piece. IsSome piece.hop) xs → All (λ piece. IsRouted rows (piece_value piece)) xs
     → All (λ piece. (e : ℕ) → LiesIn e (piece_value piece) → IsCovered rows e) xs
 covered_by rows xs hops routed k d lt e lies = hop_covers rows e _ (hops k d lt) (routed k d lt e lies)
 
