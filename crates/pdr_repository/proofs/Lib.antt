@@ -16,6 +16,7 @@ pub mod Wanting
 pub mod FivePackets
 pub mod Following
 pub mod Telling
+pub mod Ascending
 pub mod LawfulLists
 pub mod Meeting
 pub mod OneAnswers

@@ -1,20 +1,15 @@
 //! Whether a terminus can be made over a list of records.
-ghost use Rattle.std.specs.Prelude.{◌≡◌, ◌≢◌, ◌<◌, ◌≤◌, ◌==◌, ◌↔◌, ℕ, IsTrue, IfSome, Some, length, position};
+ghost use Rattle.std.specs.Prelude.{◌≡◌, ◌≢◌, ◌<◌, ◌≤◌, ◌↔◌, ◌∷◌, ℕ, IsTrue, length, map};
+ghost use Rattle.std.specs.List.{All, AllPairs};
+ghost use Rattle.std.specs.List.Sorted.{IsStrictlyIncreasing};
 ghost use Rattle.pdr_repository.specs.Records.{IsRecordOf, IsLawful, IsLawfulAt, entries};
 
+use arrayvec::ArrayVec;
 use mctp_transport::Wire;
 use pdr_record::Record;
 
 /// The most records of a terminus.
 pub const MAX_RECORDS: usize = 4096;
-
-/// The place of the first record of a handle.
-pub(crate) fn place_of(records: &[(u32, Vec<u8>)], handle: u32) -> Option<usize>
-    ensures place { result ≡ position (λ r. r.0 == handle) records.now }
-    ensures within { IfSome result (λ place. place < length records.now) }
-{
-    records.iter().position(|record| record.0 == handle)
-}
 
 /// Whether the bytes are those of a record of this handle, all of them.
 fn is_record(handle: u32, bytes: &[u8]) -> bool
@@ -26,45 +21,60 @@ fn is_record(handle: u32, bytes: &[u8]) -> bool
     }
 }
 
-/// Whether the handle isn't 0 and the bytes are those of a record of this handle.
-fn is_named_record(handle: u32, bytes: &[u8]) -> bool
-    ensures { IsTrue result ↔ ((handle ≢ 0) × IsRecordOf handle bytes.now) }
+/// Whether the bytes of each record are those of a record of its handle.
+fn are_records(records: &[(u32, Vec<u8>)]) -> bool
+    ensures { IsTrue result ↔ All (λ r. IsRecordOf r.0 r.1.items) records.now }
 {
-    handle != 0 && is_record(handle, bytes)
-}
-
-/// Whether the first record of the handle stands at this place.
-fn is_first(records: &[(u32, Vec<u8>)], handle: u32, place: usize) -> bool
-    ensures { IsTrue result ↔ (position (λ r. r.0 == handle) records.now ≡ Some place) }
-{
-    match place_of(records, handle) {
-        Some(first) => first == place,
-        None => false,
-    }
-}
-
-/// Whether the record at a place has a handle that isn't 0 and no earlier record's, and the bytes of such a record.
-fn is_lawful_at(records: &[(u32, Vec<u8>)], place: usize) -> bool
-    requires { place < length records.now }
-    ensures { IsTrue result ↔ IsLawfulAt (entries records.now) place }
-{
-    let named = &records[place];
-    if !is_named_record(named.0, named.1.as_slice()) {
-        return false;
-    }
-    is_first(records, named.0, place)
-}
-
-/// Whether the records at all places are.
-fn are_lawful(records: &[(u32, Vec<u8>)]) -> bool
-    ensures { IsTrue result ↔ ((place : ℕ) → place < length records.now → IsLawfulAt (entries records.now) place) }
-{
-    for place in 0..records.len() {
-        if !is_lawful_at(records, place) {
+    for record in records {
+        if !is_record(record.0, record.1.as_slice()) {
             return false;
         }
     }
     true
+}
+
+/// The handles of the records, by place.
+fn handles_of(records: &[(u32, Vec<u8>)]) -> ArrayVec<u32, MAX_RECORDS>
+    requires { length records.now ≤ 4096 }
+    ensures { result.items ≡ map (λ r. r.0) records.now }
+{
+    let mut handles = ArrayVec::new();
+    for record in records {
+        handles.push(record.0);
+    }
+    handles
+}
+
+/// Whether the first number is above 0, and each other one above the one before it.
+fn ascend(numbers: &[u32]) -> bool
+    ensures { IsTrue result ↔ IsStrictlyIncreasing (0 ∷ numbers.now) }
+{
+    let mut last = 0;
+    for number in numbers {
+        if *number <= last {
+            return false;
+        }
+        last = *number;
+    }
+    true
+}
+
+/// Whether no handle is 0, and no two are the same: once they are sorted, they ascend from above 0 on.
+fn have_distinct_handles(records: &[(u32, Vec<u8>)]) -> bool
+    requires { length records.now ≤ 4096 }
+    ensures { IsTrue result ↔ AllPairs (λ x y. x ≢ y) (0 ∷ map (λ r. r.0) records.now) }
+{
+    let mut handles = handles_of(records);
+    handles.as_mut_slice().sort_unstable();
+    ascend(handles.as_slice())
+}
+
+/// Whether the record at each place has a handle that isn't 0 and no earlier record's, and the bytes of such a record.
+fn are_lawful(records: &[(u32, Vec<u8>)]) -> bool
+    requires { length records.now ≤ 4096 }
+    ensures { IsTrue result ↔ ((place : ℕ) → place < length records.now → IsLawfulAt (entries records.now) place) }
+{
+    are_records(records) && have_distinct_handles(records)
 }
 
 /// Whether a terminus can be made over these records, by place: 1 to 4096 of them, their handles distinct and not 0,

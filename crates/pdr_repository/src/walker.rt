@@ -13,6 +13,7 @@ use collected::Collected;
 use due::Due;
 use judging::{Limits, is_last, judge};
 use mctp_transport::Wire;
+use pieces::record_length;
 use pldm_message::{
     ErrorCode, GetPdrAnswer, GetPdrRequest, InstanceId, PdrPart, PldmHeader, TransferFlag,
     TransferOperation,
@@ -124,6 +125,13 @@ impl Walker {
         ensures proceeds { Proceeds (state_of self.old) (request_of self.old.count due) (part given.now) result (state_of self.new) }
         ensures wants { OnErr result (vec_capacity self.old.under_way < vec_len self.old.under_way + length given.now.bytes.now) }
     {
+        if given.flag == TransferFlag::START {
+            // Where so much memory is refused, the room grows part by part.
+            let most = self.max_bytes - self.bytes;
+            let _ = self
+                .under_way
+                .reserve_exact(record_length(given.bytes).min(most));
+        }
         if self.under_way.extend_from_slice(given.bytes).is_err() {
             return Err(WalkFault::OutOfMemory);
         }
