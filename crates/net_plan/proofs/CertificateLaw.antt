@@ -14,7 +14,7 @@ use Rattle.net_plan.specs.JsonWords.{At, IsListOf, IsNumberWithin}
 use Rattle.net_plan.specs.Names.{place_among}
 use Rattle.net_plan.specs.PlanReading.{byte}
 use Rattle.net_plan.specs.PlanValues.{PlanValue, node_names}
-use Rattle.net_plan.specs.declared.error.Fault.TheVariants.{OutOfRange, UnknownName, Doubled}
+use Rattle.net_plan.specs.declared.error.ValueFault.TheVariants.{OutOfRange, UnknownName, Doubled}
 use Rattle.net_plan.proofs.KeysLaw.{keys_sound, keys_whole}
 use Rattle.net_plan.proofs.OneEach.{at_tells, at_told}
 use Rattle.net_plan.proofs.PlanLaw.{number_at, reference_at, format_sound, format_whole}

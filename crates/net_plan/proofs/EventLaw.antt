@@ -13,8 +13,8 @@ use Rattle.net_plan.specs.Keys.{events_keys, put_keys, move_keys, lose_keys, exp
 use Rattle.net_plan.specs.Names.{place_among}
 use Rattle.net_plan.specs.PlanReading.{byte, word}
 use Rattle.net_plan.specs.PlanValues.{PlanValue, node_names}
-use Rattle.net_plan.specs.declared.error.Fault.{Fault}
-use Rattle.net_plan.specs.declared.error.Fault.TheVariants.{OutOfRange, UnknownName}
+use Rattle.net_plan.specs.declared.error.ValueFault.{ValueFault}
+use Rattle.net_plan.specs.declared.error.ValueFault.TheVariants.{OutOfRange, UnknownName}
 use Rattle.net_plan.specs.declared.event_text.Format.{Format}
 use Rattle.net_plan.specs.declared.event_text.Format.TheVariants.{One, Two, Three}
 use Rattle.net_plan.specs.declared.event_text.Verb.{Verb}
@@ -70,7 +70,7 @@ abbrev IsVerb : Format → Data → Verb → Type 0
 IsVerb f d v = IsText (word_of v) d × Allows f v
 
 -- a word that is tested, and the words after it
-word_step : (s : List ℕ) (u v : Verb) (rest : Result Verb Fault) → cond (bytes_eq s (word_of u)) (Ok u) rest ≡ Ok v → (rest ≡ Ok v → s ≡ word_of v) → s ≡ word_of v
+word_step : (s : List ℕ) (u v : Verb) (rest : Result Verb ValueFault) → cond (bytes_eq s (word_of u)) (Ok u) rest ≡ Ok v → (rest ≡ Ok v → s ≡ word_of v) → s ≡ word_of v
 word_step s u v rest e after = by (bytes_eq s (word_of u)) refl e
   where
     by : (b : Bool) → bytes_eq s (word_of u) ≡ b → cond b (Ok u) rest ≡ Ok v → s ≡ word_of v

@@ -13,7 +13,7 @@ use Rattle.serde_json.specs.Find.{get_member}
 use Rattle.net_plan.specs.Json.{is_among, has_unknown_key, lacks_key, keyed, demand}
 use Rattle.net_plan.specs.JsonWords.{HasKeys}
 use Rattle.net_plan.specs.Reading.{then_with}
-use Rattle.net_plan.specs.declared.error.Fault.TheVariants.{UnknownKey, MissingKey}
+use Rattle.net_plan.specs.declared.error.ValueFault.TheVariants.{UnknownKey, MissingKey}
 use Rattle.net_plan.proofs.Telling.{no_value, then_Ok, demanded}
 
 pub among_Contains : (keys : List (List ℕ)) (k : List ℕ) → is_among keys k ≡ true → Contains keys k

@@ -9,7 +9,7 @@ use Rattle.net_plan.specs.Json.{at_key, demand, found}
 use Rattle.net_plan.specs.JsonWords.{At, IsListOf, IsPlace, IsFirstOf, AreItems}
 use Rattle.net_plan.specs.Names.{place_among, names_differ, text_found, text_at, each_text_at, texts_at}
 use Rattle.net_plan.specs.Reading.{then_with}
-use Rattle.net_plan.specs.declared.error.Fault.TheVariants.{Doubled}
+use Rattle.net_plan.specs.declared.error.ValueFault.TheVariants.{Doubled}
 use Rattle.net_plan.proofs.Differing.{differ_sound, differ_whole}
 use Rattle.net_plan.proofs.PlanLaw.{first_only}
 use Rattle.net_plan.proofs.Telling.{demanded}

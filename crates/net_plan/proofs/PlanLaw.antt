@@ -18,8 +18,8 @@ use Rattle.net_plan.specs.PlanReading.{byte, word, bus, port, row, pool, reposit
 use Rattle.net_plan.specs.PlanText.{IsBusOf, IsPortOf, IsRowOf, IsPoolOf, IsRecordOf, IsTerminusOf, IsKindOf, IsNodeOf, IsPlanFormat, IsUnitOf, IsPlanOf}
 use Rattle.net_plan.specs.PlanValues.{BusValue, PortValue, RowValue, PoolValue, RecordValue, TerminusValue, NodeValue, PlanValue, bus_names, node_names}
 use Rattle.net_plan.specs.Reading.{then_with}
-use Rattle.net_plan.specs.declared.error.Fault.{Fault}
-use Rattle.net_plan.specs.declared.error.Fault.TheVariants.{OutOfRange, OverLimit, UnknownName, Doubled}
+use Rattle.net_plan.specs.declared.error.ValueFault.{ValueFault}
+use Rattle.net_plan.specs.declared.error.ValueFault.TheVariants.{OutOfRange, OverLimit, UnknownName, Doubled}
 use Rattle.net_plan.specs.declared.nodes.Kind.{Kind}
 use Rattle.net_plan.specs.declared.nodes.Kind.TheVariants.{Bridge, Endpoint}
 use Rattle.net_plan.specs.declared.plan_format.PlanFormat.{PlanFormat}
@@ -384,14 +384,14 @@ module _ (buses nodes : List (List ℕ)) where
 -- ---- the nodes of a list
 
 -- as many texts stand at a key as there are items
-each_counted : {A : Type 0} (f : Data → Result A Fault) (ds : Items) (xs : List A) → each f ds ≡ Ok xs → length (each_text_at (codes "name") ds) ≡ length xs
+each_counted : {A : Type 0} (f : Data → Result A ValueFault) (ds : Items) (xs : List A) → each f ds ≡ Ok xs → length (each_text_at (codes "name") ds) ≡ length xs
 each_counted f no_items xs e = ap length (same_Ok e)
 each_counted f (item d ds) xs e =
     let p = then_Ok (f d) (λ a. then_with (each f ds) (λ rest. Ok (a ∷ rest))) xs e in
     let q = then_Ok (each f ds) (λ rest. Ok (p.0 ∷ rest)) xs p.2 in
     ap suc (each_counted f ds q.0 q.1) ∙ ap length (same_Ok q.2)
 
-counted : {A : Type 0} (f : Data → Result A Fault) (d : Data) (xs : List A) → list_within 64 f d ≡ Ok xs → length (texts_at (codes "name") d) ≡ length xs
+counted : {A : Type 0} (f : Data → Result A ValueFault) (d : Data) (xs : List A) → list_within 64 f d ≡ Ok xs → length (texts_at (codes "name") d) ≡ length xs
 counted f (array ds) xs e = by (nat_le (items_count ds) 64) e
   where
     by : (b : Bool) → cond b (each f ds) (Err OverLimit) ≡ Ok xs → length (each_text_at (codes "name") ds) ≡ length xs
@@ -462,7 +462,7 @@ unit_at = number_at (codes "unit") 64 1024
 unit_sound : (d : Data) (u : ℕ) → unit d ≡ Ok u → (f : PlanFormat) × HasUnit d u f
 unit_sound d u e = by (at_key (codes "format") (whole_number 2 2) d) refl e
   where
-    by : (r : Result ℕ Fault) → at_key (codes "format") (whole_number 2 2) d ≡ r → unit_by (cond (is_ok r) Two One) d ≡ Ok u → (f : PlanFormat) × HasUnit d u f
+    by : (r : Result ℕ ValueFault) → at_key (codes "format") (whole_number 2 2) d ≡ r → unit_by (cond (is_ok r) Two One) d ≡ Ok u → (f : PlanFormat) × HasUnit d u f
     by (Ok n) is e =
         let k = then_Ok (keyed (plan_keys Two) d) (λ _. at_key (codes "unit") (whole_number 64 1024) d) u e in
         (Two, record { numbered = numbered_sound 2 d n is; keys = keys_sound (plan_keys Two) d k.0 k.1; unit = unit_at.sound d u k.2 refl })

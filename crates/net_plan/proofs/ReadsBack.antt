@@ -27,8 +27,8 @@ use Rattle.net_plan.specs.declared.certificate.RankRange.{RankRange}
 use Rattle.net_plan.specs.declared.certificate.RecordPlace.{RecordPlace}
 use Rattle.net_plan.specs.declared.nodes.Node.{Node}
 use Rattle.net_plan.specs.declared.plan.Plan.{Plan}
-use Rattle.net_plan.specs.declared.error.Fault.{Fault}
-use Rattle.net_plan.specs.declared.error.Fault.TheVariants as fault
+use Rattle.net_plan.specs.declared.error.ValueFault.{ValueFault}
+use Rattle.net_plan.specs.declared.error.ValueFault.TheVariants as fault
 use Rattle.net_plan.specs.declared.error.PlanError.{PlanError}
 use Rattle.net_plan.specs.declared.error.PlanError.TheVariants as errors
 use Rattle.net_plan.proofs.SingleKeys.{not_doubled}
@@ -146,7 +146,7 @@ module _ (p : PlanValue) (bytes : List ℕ) (v : CertificateValue) (stands : Sta
       let here : IsCertificateOf p stands.0 w = subst (λ d. IsCertificateOf p d w) (same_data bytes other.0 stands.0 other.1.1 stands.1.1) other.3 in
       same_value (node_names p.nodes) stands.0 w v ((certificate_tells p).whole stands.0 w here) ((certificate_tells p).whole stands.0 v stands.3)
 
-  not_faulty : (f : Fault) → IsFaulty (certificate (node_names p.nodes)) (IsCertificateOf p) f bytes → ⊥
+  not_faulty : (f : ValueFault) → IsFaulty (certificate (node_names p.nodes)) (IsCertificateOf p) f bytes → ⊥
   not_faulty f h = h.2.1 v (subst (λ d. IsCertificateOf p d v) (same_data bytes stands.0 h.0 stands.1.1 h.1.1) stands.3)
 
   pub not_refused : (e : PlanError) → IsRefused (certificate (node_names p.nodes)) (IsCertificateOf p) bytes e → (e ≡ errors.OutOfMemory) ⊎ (e ≡ errors.OverLimit)

@@ -34,7 +34,7 @@ use Rattle.net_plan.specs.declared.row_parts.NamedRow.{NamedRow}
 use Rattle.net_plan.specs.declared.skeleton.CutParts.{CutParts}
 use Rattle.net_plan.specs.declared.skeleton.NodeSkeleton.{NodeSkeleton}
 use Rattle.net_plan.specs.declared.skeleton.PlacedParts.{PlacedParts}
-use Rattle.net_plan.specs.declared.terminus.Terminus.{Terminus}
+use Rattle.net_plan.specs.declared.terminus.PlannedTerminus.{PlannedTerminus}
 use Rattle.net_plan.proofs.PlanLaw.{first_within}
 use Rattle.net_plan.proofs.Gathered.{is_some_map, no_Some, same_Some, shown}
 use Rattle.net_plan.proofs.Telling.{both}
@@ -315,7 +315,7 @@ plan_plain ts ms ls h p = object_full (codes "nodes") (IsCutNodes (Some ts)) (cu
 
 -- ---- before a part was read
 
-pub no_terminus_yet : (o : Option (Option Terminus)) (t : Option (Option TerminusValue)) → is_some o ≡ false → (j l : Json) → IsCutTerminus (option_map (λ t. option_map terminus_value t) o) j l → IsCutTerminus t j l
+pub no_terminus_yet : (o : Option (Option PlannedTerminus)) (t : Option (Option TerminusValue)) → is_some o ≡ false → (j l : Json) → IsCutTerminus (option_map (λ t. option_map terminus_value t) o) j l → IsCutTerminus t j l
 no_terminus_yet None t e j l h = absurd h
 no_terminus_yet (Some x) t e j l h = absurd (true≢false e)
 

@@ -4,15 +4,15 @@ use Rattle.std.proofs.lemmas.Bool.{leb-true, le-leb}
 use Rattle.std.specs.List.{list_all}
 use Rattle.serde_json.specs.Data.{Num, Data, null, boolean, number, string, array, object, unsigned, negative, float, Items, no_items, item}
 use Rattle.serde_json.specs.Find.{get, as_u64}
-use Rattle.net_plan.specs.declared.error.Fault.{Fault}
-use Rattle.net_plan.specs.declared.error.Fault.TheVariants.{OutOfRange, OverLimit}
+use Rattle.net_plan.specs.declared.error.ValueFault.{ValueFault}
+use Rattle.net_plan.specs.declared.error.ValueFault.TheVariants.{OutOfRange, OverLimit}
 use Rattle.net_plan.specs.Json.{each, items_count, all_of, list_within, optional, demand, found, at_key, whole_number, number_within, truth}
 use Rattle.net_plan.specs.JsonWords.{At, AreItems, IsListOf, IsShortListOf, IsOptional, IsNumberWithin, IsTruth}
 use Rattle.net_plan.specs.Placed.{is_none_or}
 use Rattle.net_plan.specs.Reading.{then_with}
 
 -- what f reads and passes the test is what R tells
-pub record Tells {A : Type 0} (f : Data → Result A Fault) (test : A → Bool) (R : Data → A → Type 0) : Type 0 where
+pub record Tells {A : Type 0} (f : Data → Result A ValueFault) (test : A → Bool) (R : Data → A → Type 0) : Type 0 where
   pub sound : (d : Data) (x : A) → f d ≡ Ok x → test x ≡ true → R d x
   pub whole : (d : Data) (x : A) → R d x → f d ≡ Ok x
   pub passes : (d : Data) (x : A) → R d x → test x ≡ true
@@ -21,22 +21,22 @@ pub record Tells {A : Type 0} (f : Data → Result A Fault) (test : A → Bool) 
 abbrev pub any : {A : Type 0} → A → Bool
 any x = true
 
-pub no_value : {A : Type 0} {fault : Fault} {x : A} → Err fault ≡ Ok x → ⊥
+pub no_value : {A : Type 0} {fault : ValueFault} {x : A} → Err fault ≡ Ok x → ⊥
 no_value e = cc
 
-pub same_Ok : {A : Type 0} {a b : A} → ◌≡◌ {A = Result A Fault} (Ok a) (Ok b) → a ≡ b
+pub same_Ok : {A : Type 0} {a b : A} → ◌≡◌ {A = Result A ValueFault} (Ok a) (Ok b) → a ≡ b
 same_Ok e = cc
 
 -- both readings of a chain gave a value
-pub then_Ok : {A B : Type 0} (r : Result A Fault) (f : A → Result B Fault) (b : B) → then_with r f ≡ Ok b → (a : A) × (r ≡ Ok a) × (f a ≡ Ok b)
+pub then_Ok : {A B : Type 0} (r : Result A ValueFault) (f : A → Result B ValueFault) (b : B) → then_with r f ≡ Ok b → (a : A) × (r ≡ Ok a) × (f a ≡ Ok b)
 then_Ok (Ok a) f b e = (a, refl, e)
 then_Ok (Err fault) f b e = absurd (no_value e)
 
 -- a value that no reading gave is not told
-pub none_told : {A : Type 0} {f : Data → Result A Fault} {test : A → Bool} {R : Data → A → Type 0} → Tells f test R → (d : Data) (fault : Fault) → f d ≡ Err fault → (x : A) → R d x → ⊥
+pub none_told : {A : Type 0} {f : Data → Result A ValueFault} {test : A → Bool} {R : Data → A → Type 0} → Tells f test R → (d : Data) (fault : ValueFault) → f d ≡ Err fault → (x : A) → R d x → ⊥
 none_told t d fault e x r = no_value (sym e ∙ t.whole d x r)
 
-pub demanded : (fault : Fault) (b : Bool) (u : Unit {0}) → demand fault b ≡ Ok u → b ≡ true
+pub demanded : (fault : ValueFault) (b : Bool) (u : Unit {0}) → demand fault b ≡ Ok u → b ≡ true
 demanded fault true u e = refl
 demanded fault false u e = absurd (no_value e)
 
@@ -48,7 +48,7 @@ found_Some : {A : Type 0} (o : Option A) (a : A) → found o ≡ Ok a → o ≡ 
 found_Some (Some b) a e = ap Some (same_Ok e)
 found_Some None a e = absurd (no_value e)
 
-pub at_key_tells : {A : Type 0} (key : List ℕ) (f : Data → Result A Fault) (test : A → Bool) (R : Data → A → Type 0) → Tells f test R → Tells (at_key key f) test (At key R)
+pub at_key_tells : {A : Type 0} (key : List ℕ) (f : Data → Result A ValueFault) (test : A → Bool) (R : Data → A → Type 0) → Tells f test R → Tells (at_key key f) test (At key R)
 at_key_tells key f test R t = record {
   sound = λ d x e pass. let p = then_Ok (found (get key d)) f x e in (p.0, found_Some (get key d) p.0 p.1, t.sound p.0 x p.2 pass);
   whole = λ d x h. ap (λ o. then_with (found o) f) h.1 ∙ t.whole h.0 x h.2;
@@ -63,7 +63,7 @@ none_or_any : {A : Type 0} (o : Option A) → is_none_or any o ≡ true
 none_or_any None = refl
 none_or_any (Some x) = refl
 
-module _ {A : Type 0} (f : Data → Result A Fault) (test : A → Bool) (R : Data → A → Type 0) (t : Tells f test R) where
+module _ {A : Type 0} (f : Data → Result A ValueFault) (test : A → Bool) (R : Data → A → Type 0) (t : Tells f test R) where
   items_sound : (ds : Items) (xs : List A) → each f ds ≡ Ok xs → list_all test xs ≡ true → AreItems R ds xs
   items_sound no_items [] e pass = tt
   items_sound no_items (x ∷ xs) e pass = cc
@@ -159,7 +159,7 @@ module _ {A : Type 0} (f : Data → Result A Fault) (test : A → Bool) (R : Dat
   optional_tells = record { sound = optional_sound; whole = optional_whole; passes = optional_passes }
 
 -- the same where any value passes
-module _ {A : Type 0} (f : Data → Result A Fault) (R : Data → A → Type 0) (t : Tells f any R) where
+module _ {A : Type 0} (f : Data → Result A ValueFault) (R : Data → A → Type 0) (t : Tells f any R) where
   pub all_any_tells : Tells (all_of f) any (IsListOf R)
   all_any_tells = let all = all_tells f any R t in record { sound = λ d xs e pass. all.sound d xs e (all_any xs); whole = all.whole; passes = λ d xs h. refl }
 

@@ -8,7 +8,7 @@ use Rattle.net_plan.specs.NodeValues.{record_value}
 use Rattle.net_plan.specs.PlanText.{IsRecordOf, IsTerminusOf}
 use Rattle.net_plan.specs.TerminusParts.{AreTerminusParts}
 use Rattle.net_plan.specs.Trees.{data_of}
-use Rattle.net_plan.specs.declared.terminus.Record.{Record}
+use Rattle.net_plan.specs.declared.terminus.PlannedRecord.{PlannedRecord}
 use Rattle.net_plan.specs.declared.terminus_parts.TerminusParts.{TerminusParts}
 use Rattle.net_plan.proofs.Gathered.{gathered_now, gathered_other, none_plain, plain_last, object_plain, all_keys, at_gathered, not_yet, is_some_map}
 
@@ -20,11 +20,11 @@ module _ (p : TerminusParts) (ms : Members) (j : Json) (plain : IsPlain j) (h : 
     records = gathered_other (codes "records") (IsShortListOf 4096 IsRecordOf) (option_map (λ v. map record_value v.items) p.records) ms (codes "tid") j refl h.records;
   }
 
-  pub with_records : (v : Vec Record Global) → is_some p.records ≡ false → IsShortListOf 4096 IsRecordOf (data_of j) (map record_value v.items)
+  pub with_records : (v : Vec PlannedRecord Global) → is_some p.records ≡ false → IsShortListOf 4096 IsRecordOf (data_of j) (map record_value v.items)
       → AreTerminusParts (record { tid = p.tid; records = Some v }) (with_last ms (codes "records") j)
   with_records v none is = record {
     plain = plain_last terminus_keys ms (codes "records") j h.plain refl
-        (not_yet (codes "records") (IsShortListOf 4096 IsRecordOf) (option_map (λ v. map record_value v.items) p.records) ms (is_some_map (λ (v : Vec Record Global). map record_value v.items) p.records ∙ none) h.records) plain;
+        (not_yet (codes "records") (IsShortListOf 4096 IsRecordOf) (option_map (λ v. map record_value v.items) p.records) ms (is_some_map (λ (v : Vec PlannedRecord Global). map record_value v.items) p.records ∙ none) h.records) plain;
     tid = gathered_other (codes "tid") (IsNumberWithin 0 254) p.tid ms (codes "records") j refl h.tid;
     records = gathered_now (IsShortListOf 4096 IsRecordOf) (map record_value v.items) ms (codes "records") j is;
   }
@@ -32,7 +32,7 @@ module _ (p : TerminusParts) (ms : Members) (j : Json) (plain : IsPlain j) (h : 
 pub no_parts : AreTerminusParts (record { tid = None; records = None }) no_members
 no_parts = record { plain = none_plain terminus_keys; tid = refl; records = refl }
 
-pub terminus_of : (p : TerminusParts) (tid : ℕ) (v : Vec Record Global) → p.tid ≡ Some tid → p.records ≡ Some v → (ms : Members) → AreTerminusParts p ms
+pub terminus_of : (p : TerminusParts) (tid : ℕ) (v : Vec PlannedRecord Global) → p.tid ≡ Some tid → p.records ≡ Some v → (ms : Members) → AreTerminusParts p ms
     → IsTerminusOf (data_of (object ms)) (record { tid = tid; records = map record_value v.items }) × IsPlain (object ms)
 terminus_of p tid v is_tid is_records ms h =
     let named = subst (λ o. IsGathered (codes "tid") (IsNumberWithin 0 254) o ms) is_tid h.tid in

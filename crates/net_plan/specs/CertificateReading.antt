@@ -8,20 +8,20 @@ use Rattle.net_plan.specs.Keys.{certificate_keys, level_keys, places_keys, ranks
 use Rattle.net_plan.specs.Names.{place_among, names_differ, texts_at}
 use Rattle.net_plan.specs.PlanReading.{byte}
 use Rattle.net_plan.specs.Reading.{then_with}
-use Rattle.net_plan.specs.declared.error.Fault.{Fault}
-use Rattle.net_plan.specs.declared.error.Fault.TheVariants.{OutOfRange, UnknownName, Doubled}
+use Rattle.net_plan.specs.declared.error.ValueFault.{ValueFault}
+use Rattle.net_plan.specs.declared.error.ValueFault.TheVariants.{OutOfRange, UnknownName, Doubled}
 
-abbrev pub level : (List ℕ → ℕ) → Data → Result LevelValue Fault
+abbrev pub level : (List ℕ → ℕ) → Data → Result LevelValue ValueFault
 level find d =
     then_with (keyed level_keys d) (λ _.
     then_with (at_key (codes "level") (whole_number 1 63) d) (λ l.
     then_with (at_key (codes "node") (reference find) d) (λ n. Ok (record { level = l; node = n }))))
 
-abbrev pub node_places : (List ℕ → ℕ) → Data → Result PlacesValue Fault
+abbrev pub node_places : (List ℕ → ℕ) → Data → Result PlacesValue ValueFault
 node_places find d = then_with (keyed places_keys d) (λ _. then_with (at_key (codes "node") (reference find) d) (λ n.
     then_with (at_key (codes "places") (all_of (whole_number 0 4095)) d) (λ ps. Ok (record { node = n; places = ps }))))
 
-abbrev pub range : Data → Result RangeValue Fault
+abbrev pub range : Data → Result RangeValue ValueFault
 range d =
     then_with (keyed range_keys d) (λ _.
     then_with (at_key (codes "first") byte d) (λ f.
@@ -29,14 +29,14 @@ range d =
     then_with (at_key (codes "size") (whole_number 1 255) d) (λ s.
     then_with (demand OutOfRange (nat_le (f + s) 256)) (λ _. Ok (record { first = f; rank = r; size = s }))))))
 
-abbrev pub node_ranks : (List ℕ → ℕ) → Data → Result NodeRanksValue Fault
+abbrev pub node_ranks : (List ℕ → ℕ) → Data → Result NodeRanksValue ValueFault
 node_ranks find d =
     then_with (keyed ranks_keys d) (λ _.
     then_with (at_key (codes "node") (reference find) d) (λ n.
     then_with (at_key (codes "ranges") (all_of range) d) (λ rs. Ok (record { node = n; ranges = rs }))))
 
 -- no two entries of a list name one node
-abbrev pub nodes_differ : Data → Result ⊤ Fault
+abbrev pub nodes_differ : Data → Result ⊤ ValueFault
 nodes_differ d = demand Doubled (names_differ (texts_at (codes "node") d))
 
 -- each range begins where the one before has ended, or later
@@ -51,7 +51,7 @@ are_known nodes c =
     && (list_all (λ p. nat_lt p.node nodes) c.places && list_all (λ r. nat_lt r.node nodes) c.ranks)
 
 -- the three lists, by what finds the places of nodes
-unfoldable pub entries : (List ℕ → ℕ) → Data → Result CertificateValue Fault
+unfoldable pub entries : (List ℕ → ℕ) → Data → Result CertificateValue ValueFault
 entries find d =
     then_with (at_key (codes "levels") (all_of (level find)) d) (λ ls.
     then_with (at_key (codes "places") (all_of (node_places find)) d) (λ ps.
@@ -59,12 +59,12 @@ entries find d =
     Ok (record { levels = ls; places = ps; ranks = rs }))))
 
 -- no list names a node twice
-unfoldable pub entries_differ : Data → Result ⊤ Fault
+unfoldable pub entries_differ : Data → Result ⊤ ValueFault
 entries_differ d =
     then_with (at_key (codes "levels") nodes_differ d) (λ _.
     then_with (at_key (codes "places") nodes_differ d) (λ _. at_key (codes "ranks") nodes_differ d))
 
-abbrev pub certificate : List (List ℕ) → Data → Result CertificateValue Fault
+abbrev pub certificate : List (List ℕ) → Data → Result CertificateValue ValueFault
 certificate nodes d =
     then_with (keyed certificate_keys d) (λ _.
     then_with (at_key (codes "format") (whole_number 1 1) d) (λ _.

@@ -7,8 +7,8 @@ use Rattle.net_plan.specs.declared.nodes.Node.{Node}
 use Rattle.net_plan.specs.declared.nodes.Pool.{Pool}
 use Rattle.net_plan.specs.declared.nodes.Port.{Port}
 use Rattle.net_plan.specs.declared.nodes.Row.{Row}
-use Rattle.net_plan.specs.declared.terminus.Record.{Record}
-use Rattle.net_plan.specs.declared.terminus.Terminus.{Terminus}
+use Rattle.net_plan.specs.declared.terminus.PlannedRecord.{PlannedRecord}
+use Rattle.net_plan.specs.declared.terminus.PlannedTerminus.{PlannedTerminus}
 
 pub record BusValue : Type 0 where
   pub name : List ℕ
@@ -74,10 +74,10 @@ row_value r = record { first = r.first.value; size = r.size; port = r.port; next
 abbrev pub pool_value : Pool → PoolValue
 pool_value p = record { first = p.first.value; size = p.size }
 
-abbrev pub record_value : Record → RecordValue
+abbrev pub record_value : PlannedRecord → RecordValue
 record_value r = record { handle = r.handle; next = r.next; bytes = r.bytes.items }
 
-abbrev pub terminus_value : Terminus → TerminusValue
+abbrev pub terminus_value : PlannedTerminus → TerminusValue
 terminus_value t = record { tid = t.tid; records = map record_value t.records.items }
 
 abbrev pub node_value : Node → NodeValue

@@ -6,27 +6,28 @@ use Rattle.serde_json.specs.Data.{Data}
 use Rattle.net_plan.specs.Stream.{TakesMoreThan}
 use Rattle.net_plan.specs.Texts.{IsJson, IsNoJson, HasSingleKeys, HasDoubledKey, Gave}
 use Rattle.net_plan.specs.Trees.{data_of}
-use Rattle.net_plan.specs.declared.error.Fault.{Fault}
-use Rattle.net_plan.specs.declared.error.Fault.TheVariants as fault
+use Rattle.net_plan.specs.declared.error.ValueFault.{ValueFault}
+use Rattle.net_plan.specs.declared.error.ValueFault.TheVariants as fault
 use Rattle.net_plan.specs.declared.error.PlanError.{PlanError}
 use Rattle.net_plan.specs.declared.error.PlanError.TheVariants.{NotJson, WrongKind, MissingKey, UnknownKey}
 use Rattle.net_plan.specs.declared.error.PlanError.TheVariants.{OutOfRange, UnknownName, BadHex, OverLimit}
 use Rattle.net_plan.specs.declared.error.PlanError.TheVariants.{Doubled, Device, OutOfMemory}
 
 -- the value is R to nothing, and its first fault in the order of tests is this one
-abbrev pub IsFaultyValue : {A : Type 0} → (Data → Result A Fault) → (Data → A → Type 0) → Fault → Data → Type 0
+abbrev pub IsFaultyValue : {A : Type 0} → (Data → Result A ValueFault) → (Data → A → Type 0) → ValueFault → Data
+    → Type 0
 IsFaultyValue {A} said R first d = (said d ≡ Err first) × ((x : A) → ¬ R d x)
 
 -- the bytes are JSON of a value that is R to nothing, and whose first fault in the order of tests is this one
-abbrev pub IsFaulty : {A : Type 0} → (Data → Result A Fault) → (Data → A → Type 0) → Fault → List ℕ → Type 0
+abbrev pub IsFaulty : {A : Type 0} → (Data → Result A ValueFault) → (Data → A → Type 0) → ValueFault → List ℕ → Type 0
 IsFaulty said R first text = (d : Data) × IsJson text d × IsFaultyValue said R first d
 
 -- the first fault of the value, if it has one, is a name that is not known
-abbrev pub IsWellButForNames : {A : Type 0} → (Data → Result A Fault) → Data → Type 0
-IsWellButForNames said d = (first : Fault) → said d ≡ Err first → first ≡ fault.UnknownName
+abbrev pub IsWellButForNames : {A : Type 0} → (Data → Result A ValueFault) → Data → Type 0
+IsWellButForNames said d = (first : ValueFault) → said d ≡ Err first → first ≡ fault.UnknownName
 
 -- the bytes are JSON in which some object has a key twice, and no fault comes before that in the order of tests
-abbrev pub IsDoubled : {A : Type 0} → (Data → Result A Fault) → List ℕ → Type 0
+abbrev pub IsDoubled : {A : Type 0} → (Data → Result A ValueFault) → List ℕ → Type 0
 IsDoubled said text = (d : Data) × IsJson text d × HasDoubledKey text × IsWellButForNames said d
 
 -- why bytes are no JSON value
@@ -37,7 +38,7 @@ IsNoValue text OutOfMemory = ⊤
 IsNoValue text _ = ⊥
 
 -- why a tree stands for nothing
-abbrev pub IsNoneFor : {A : Type 0} → (Data → Result A Fault) → (Data → A → Type 0) → Json → PlanError → Type 0
+abbrev pub IsNoneFor : {A : Type 0} → (Data → Result A ValueFault) → (Data → A → Type 0) → Json → PlanError → Type 0
 IsNoneFor said R j NotJson = ⊥
 IsNoneFor said R j WrongKind = IsFaultyValue said R fault.WrongKind (data_of j)
 IsNoneFor said R j MissingKey = IsFaultyValue said R fault.MissingKey (data_of j)
@@ -52,7 +53,7 @@ IsNoneFor said R j Device = ⊥
 IsNoneFor said R j OutOfMemory = ⊤
 
 -- why bytes give no value
-abbrev pub IsRefused : {A : Type 0} → (Data → Result A Fault) → (Data → A → Type 0) → List ℕ → PlanError → Type 0
+abbrev pub IsRefused : {A : Type 0} → (Data → Result A ValueFault) → (Data → A → Type 0) → List ℕ → PlanError → Type 0
 IsRefused said R text NotJson = IsNoJson text
 IsRefused said R text WrongKind = IsFaulty said R fault.WrongKind text
 IsRefused said R text MissingKey = IsFaulty said R fault.MissingKey text
@@ -74,8 +75,8 @@ GaveNoValue old new OutOfMemory = ⊤
 GaveNoValue old new _ = ⊥
 
 -- why what a source gave is none of these values; whether the source failed is told by its count
-abbrev pub GaveNone : {A : Type 0} → (Data → Result A Fault) → (Data → A → Type 0) → Option (List ℕ) → Option (List ℕ)
-    → PlanError → Type 0
+abbrev pub GaveNone : {A : Type 0} → (Data → Result A ValueFault) → (Data → A → Type 0) → Option (List ℕ)
+    → Option (List ℕ) → PlanError → Type 0
 GaveNone said R old new OverLimit =
     TakesMoreThan 16777216 old new ⊎ Gave 16777216 old new (IsFaulty said R fault.OverLimit)
 GaveNone said R old new Device = ⊤

@@ -4,9 +4,9 @@ use Rattle.json.specs.Json.{Json, null, boolean, number, string, array, object}
 use Rattle.json.specs.Json.{Items, no_items, item, Members, no_members, member}
 use Rattle.json.specs.Strict.{keys}
 use Rattle.net_plan.specs.Names.{names_differ}
-use Rattle.net_plan.specs.declared.error.Fault.{Fault}
-use Rattle.net_plan.specs.declared.error.Fault.TheVariants.{WrongKind, MissingKey, UnknownKey, OutOfRange}
-use Rattle.net_plan.specs.declared.error.Fault.TheVariants.{UnknownName, BadHex, OverLimit, Doubled, OutOfMemory}
+use Rattle.net_plan.specs.declared.error.ValueFault.{ValueFault}
+use Rattle.net_plan.specs.declared.error.ValueFault.TheVariants.{WrongKind, MissingKey, UnknownKey, OutOfRange}
+use Rattle.net_plan.specs.declared.error.ValueFault.TheVariants.{UnknownName, BadHex, OverLimit, Doubled, OutOfMemory}
 
 -- no object, however deep, has a key twice
 abbrev mutual
@@ -27,7 +27,7 @@ abbrev mutual
   members_single (member k j ms) = single j && members_single ms
 
 -- the fault of a doubled key is told before that of an unknown name, and after all others
-abbrev pub doubled_first : Fault → Fault
+abbrev pub doubled_first : ValueFault → ValueFault
 doubled_first WrongKind = WrongKind
 doubled_first MissingKey = MissingKey
 doubled_first UnknownKey = UnknownKey
@@ -39,7 +39,7 @@ doubled_first Doubled = Doubled
 doubled_first OutOfMemory = OutOfMemory
 
 -- what was read, where no key is doubled
-abbrev pub unless_doubled : {A : Type 0} → Bool → Result A Fault → Result A Fault
+abbrev pub unless_doubled : {A : Type 0} → Bool → Result A ValueFault → Result A ValueFault
 unless_doubled true r = r
 unless_doubled false (Ok a) = Err Doubled
 unless_doubled false (Err f) = Err (doubled_first f)

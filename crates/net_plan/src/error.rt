@@ -46,7 +46,7 @@ pub enum PlanError {
 
 /// Why a JSON value was not read.
 #[derive(Clone, Copy, Debug, PartialEq, Eq)]
-pub enum Fault {
+pub enum ValueFault {
     WrongKind,
     MissingKey,
     UnknownKey,
@@ -58,32 +58,32 @@ pub enum Fault {
     OutOfMemory,
 }
 
-impl From<AllocError> for Fault {
-    ghost use Rattle.net_plan.specs.declared.error.Fault.TheVariants.{OutOfMemory};
+impl From<AllocError> for ValueFault {
+    ghost use Rattle.net_plan.specs.declared.error.ValueFault.TheVariants.{OutOfMemory};
 
     ghost from_gives = { λ _ e. e ≡ OutOfMemory };
 
-    fn from(_error: AllocError) -> Fault {
-        Fault::OutOfMemory
+    fn from(_error: AllocError) -> ValueFault {
+        ValueFault::OutOfMemory
     }
 }
 
-impl From<Fault> for PlanError {
+impl From<ValueFault> for PlanError {
     ghost use Rattle.net_plan.specs.Reading.{error_of};
 
     ghost from_gives = { λ fault e. e ≡ error_of fault };
 
-    fn from(fault: Fault) -> PlanError {
+    fn from(fault: ValueFault) -> PlanError {
         match fault {
-            Fault::WrongKind => PlanError::WrongKind,
-            Fault::MissingKey => PlanError::MissingKey,
-            Fault::UnknownKey => PlanError::UnknownKey,
-            Fault::OutOfRange => PlanError::OutOfRange,
-            Fault::UnknownName => PlanError::UnknownName,
-            Fault::BadHex => PlanError::BadHex,
-            Fault::OverLimit => PlanError::OverLimit,
-            Fault::Doubled => PlanError::Doubled,
-            Fault::OutOfMemory => PlanError::OutOfMemory,
+            ValueFault::WrongKind => PlanError::WrongKind,
+            ValueFault::MissingKey => PlanError::MissingKey,
+            ValueFault::UnknownKey => PlanError::UnknownKey,
+            ValueFault::OutOfRange => PlanError::OutOfRange,
+            ValueFault::UnknownName => PlanError::UnknownName,
+            ValueFault::BadHex => PlanError::BadHex,
+            ValueFault::OverLimit => PlanError::OverLimit,
+            ValueFault::Doubled => PlanError::Doubled,
+            ValueFault::OutOfMemory => PlanError::OutOfMemory,
         }
     }
 }

@@ -2,7 +2,7 @@
 ghost use Rattle.std.specs.Prelude.{◌≤◌, vec_len};
 
 use crate::name::Name;
-use crate::terminus::Terminus;
+use crate::terminus::PlannedTerminus;
 use mctp_transport::Eid;
 
 /// An MCTP bus segment.
@@ -72,7 +72,7 @@ pub struct Node {
     /// The routing table, at most 256 rows.
     pub rows: Vec<Row>,
     /// The PLDM terminus, where the node has one.
-    pub terminus: Option<Terminus>,
+    pub terminus: Option<PlannedTerminus>,
     pub ghost few_ports: { vec_len ports ≤ 32 },
     pub ghost few_rows: { vec_len rows ≤ 256 },
 }

@@ -5,7 +5,7 @@ ghost use Rattle.net_plan.specs.PlanReading.{plan_format, unit_by, unit};
 ghost use Rattle.net_plan.specs.Reading.{IsReadOf};
 ghost use Rattle.net_plan.specs.Trees.{view};
 
-use crate::error::Fault;
+use crate::error::ValueFault;
 use crate::json_value::{at, check_keys, member, read_number};
 use crate::plan::{BASELINE_UNIT, LARGEST_UNIT};
 use json::Value;
@@ -20,7 +20,7 @@ pub enum PlanFormat {
 }
 
 /// The transmission unit of a plan, of which the format, the keys and the unit itself are tested.
-pub fn read_unit(value: &Value) -> Result<u16, Fault>
+pub fn read_unit(value: &Value) -> Result<u16, ValueFault>
     ensures read { IsReadOf (λ n. n) (unit (view value.now)) result }
     ensures bound { IfOk result (λ n. (64 ≤ n) × (n ≤ 1024)) }
 {
@@ -45,7 +45,7 @@ fn is_two(value: &Value) -> bool
 }
 
 /// The transmission unit of a plan, by the tests of a format.
-fn read_unit_by(format: PlanFormat, value: &Value) -> Result<u16, Fault>
+fn read_unit_by(format: PlanFormat, value: &Value) -> Result<u16, ValueFault>
     ensures read { IsReadOf (λ n. n) (unit_by format (view value.now)) result }
     ensures bound { IfOk result (λ n. (64 ≤ n) × (n ≤ 1024)) }
 {

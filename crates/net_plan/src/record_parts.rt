@@ -9,7 +9,7 @@ ghost use Rattle.net_plan.specs.Trees.{data_of};
 
 use crate::gather::{Gather, NextItem, read_object};
 use crate::next_value::{next_hex, next_word};
-use crate::terminus::Record;
+use crate::terminus::PlannedRecord;
 use json::Reader;
 use std::alloc::Global;
 
@@ -32,10 +32,10 @@ impl RecordParts {
         }
     }
 
-    fn record(self) -> Option<Record>
+    fn record(self) -> Option<PlannedRecord>
         ensures { IfSome result (λ r. (ms : Members) → AreRecordParts self ms → IsRecordOf (data_of (object ms)) (record_value r) × IsPlain (object ms)) }
     {
-        Some(Record {
+        Some(PlannedRecord {
             handle: self.handle?,
             next: self.next?,
             bytes: self.bytes?,
@@ -97,7 +97,7 @@ impl<'t> Gather<'t> for RecordParts {
 }
 
 /// The next value, where it is a record.
-pub fn next_record(alloc: Global, reader: &mut Reader<'_>, depth: usize) -> Option<Record>
+pub fn next_record(alloc: Global, reader: &mut Reader<'_>, depth: usize) -> Option<PlannedRecord>
     ensures { IfSome result (λ r. IsThere depth reader.old reader.new (λ j. IsRecordOf (data_of j) (record_value r) × IsPlain j)) }
 {
     let mut parts = RecordParts::none();
@@ -110,11 +110,16 @@ pub fn next_record(alloc: Global, reader: &mut Reader<'_>, depth: usize) -> Opti
 pub struct NextRecord;
 
 impl<'t> NextItem<'t> for NextRecord {
-    type Item = Record;
+    type Item = PlannedRecord;
 
     ghost IsOf = { λ _ j r. IsRecordOf (data_of j) (record_value r) × IsPlain j };
 
-    fn next_item(&self, alloc: Global, reader: &mut Reader<'t>, depth: usize) -> Option<Record> {
+    fn next_item(
+        &self,
+        alloc: Global,
+        reader: &mut Reader<'t>,
+        depth: usize,
+    ) -> Option<PlannedRecord> {
         next_record(alloc, reader, depth)
     }
 }

@@ -20,7 +20,7 @@ use crate::places::Places;
 use crate::plan::Plan;
 use crate::plan_text::read_plan_value;
 use crate::row_parts::{NamedRow, NextRow};
-use crate::terminus::Terminus;
+use crate::terminus::PlannedTerminus;
 use crate::terminus_parts::next_terminus;
 use json::{Reader, Scratch, Value};
 use mctp_transport::Eid;
@@ -30,14 +30,14 @@ use std::alloc::Global;
 #[derive(Drop)]
 pub struct CutParts<'t> {
     rows: Vec<NamedRow<'t>>,
-    terminus: Option<Terminus>,
+    terminus: Option<PlannedTerminus>,
 }
 
 /// The rows of a node, and its terminus.
 #[derive(Drop)]
 pub struct PlacedParts {
     rows: Vec<Row>,
-    terminus: Option<Terminus>,
+    terminus: Option<PlannedTerminus>,
 }
 
 /// What is known so far of a node: its members, with no rows and `null` for its terminus, and these.
@@ -45,7 +45,7 @@ pub struct PlacedParts {
 pub struct NodeParts<'t> {
     found: Vec<(&'t str, Value<'t>)>,
     rows: Option<Vec<NamedRow<'t>>>,
-    terminus: Option<Option<Terminus>>,
+    terminus: Option<Option<PlannedTerminus>>,
 }
 
 /// The value of a node, with no rows and `null` for its terminus, and these.

@@ -11,7 +11,7 @@ ghost use Rattle.net_plan.specs.Trees.{data_of};
 use crate::gather::{Gather, next_list, read_members};
 use crate::next_value::next_number;
 use crate::record_parts::NextRecord;
-use crate::terminus::{Record, Terminus};
+use crate::terminus::{PlannedRecord, PlannedTerminus};
 use json::{Reader, Token};
 use std::alloc::Global;
 
@@ -19,7 +19,7 @@ use std::alloc::Global;
 #[derive(Drop)]
 pub struct TerminusParts {
     tid: Option<u8>,
-    records: Option<Vec<Record>>,
+    records: Option<Vec<PlannedRecord>>,
 }
 
 impl TerminusParts {
@@ -56,7 +56,7 @@ impl TerminusParts {
         Some(())
     }
 
-    fn terminus(self) -> Option<Terminus>
+    fn terminus(self) -> Option<PlannedTerminus>
         ensures { IfSome result (λ t. (ms : Members) → AreTerminusParts self ms → IsTerminusOf (data_of (object ms)) (terminus_value t) × IsPlain (object ms)) }
     {
         let tid = self.tid?;
@@ -64,7 +64,7 @@ impl TerminusParts {
         if tid > 254 || records.len() > 4096 {
             return None;
         }
-        Some(Terminus { tid, records })
+        Some(PlannedTerminus { tid, records })
     }
 }
 
@@ -95,7 +95,7 @@ pub fn next_terminus(
     alloc: Global,
     reader: &mut Reader<'_>,
     depth: usize,
-) -> Option<Option<Terminus>>
+) -> Option<Option<PlannedTerminus>>
     ensures { IfSome result (λ t. IsThere depth reader.old reader.new (λ j. IsOptional IsTerminusOf (data_of j) (option_map terminus_value t) × IsPlain j)) }
 {
     match reader.next()? {

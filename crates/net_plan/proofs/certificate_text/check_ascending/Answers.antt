@@ -2,7 +2,7 @@ use Rattle.std.proofs.Common.{ap, sym, ◌∙◌}
 use Rattle.net_plan.specs.CertificateReading.{ascends}
 use Rattle.net_plan.specs.CertificateValues.{node_ranks_value}
 use Rattle.net_plan.specs.Json.{demand}
-use Rattle.net_plan.specs.declared.error.Fault.TheVariants.{Doubled}
+use Rattle.net_plan.specs.declared.error.ValueFault.TheVariants.{Doubled}
 use Rattle.net_plan.proofs.Placed.{list_all_mapped}
 use Rattle.net_plan.proofs.certificate_text.check_ascending.Goals as goal
 

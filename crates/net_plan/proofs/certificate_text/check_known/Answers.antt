@@ -2,7 +2,7 @@ use Rattle.std.proofs.Common.{◌≡◌, nat_lt, sym, ap, ◌∙◌}
 use Rattle.net_plan.specs.CertificateReading.{are_known}
 use Rattle.net_plan.specs.CertificateValues.{level_value, places_value, node_ranks_value, certificate_value}
 use Rattle.net_plan.specs.Json.{demand}
-use Rattle.net_plan.specs.declared.error.Fault.TheVariants.{UnknownName}
+use Rattle.net_plan.specs.declared.error.ValueFault.TheVariants.{UnknownName}
 use Rattle.net_plan.proofs.Placed.{list_all_mapped}
 use Rattle.net_plan.proofs.certificate_text.check_known.Goals as goal
 

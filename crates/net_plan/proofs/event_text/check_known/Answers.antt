@@ -4,7 +4,7 @@ use Rattle.std.specs.List.{list_all}
 use Rattle.net_plan.specs.EventValues.{event_entry, is_known_event}
 use Rattle.net_plan.specs.Json.{demand}
 use Rattle.net_plan.specs.PlanValues.{node_value, node_names}
-use Rattle.net_plan.specs.declared.error.Fault.TheVariants.{UnknownName}
+use Rattle.net_plan.specs.declared.error.ValueFault.TheVariants.{UnknownName}
 use Rattle.net_plan.proofs.Placed.{list_all_mapped}
 use Rattle.net_plan.proofs.event_text.check_known.Goals as goal
 
