@@ -4,7 +4,7 @@ use Rattle.std.specs.Prelude.{Any, MatchOption, slice_get}
 use Rattle.std.proofs.lemmas.Bool.{cases_lt}
 use Rattle.std.proofs.Math.Nat.{min-eq_left, min-eq_right}
 use Rattle.mctp_bridge.specs.declared.row.Hop.{Hop}
-use Rattle.mctp_bridge.specs.declared.row.Row as bridge
+use Rattle.mctp_bridge.specs.declared.row.TableRow as bridge
 use Rattle.mctp_bridge.specs.declared.pieces.Piece.{Piece}
 use Rattle.mctp_bridge.specs.Rows as rule
 use Rattle.mctp_bridge.specs.Pieces as cut
@@ -18,7 +18,7 @@ use Rattle.net_check.proofs.EidMoves.{same_next, moves_within}
 
 -- ---- the first piece
 
-module _ (rows : List bridge.Row) (first last : ℕ) (piece : Piece) (later : List cut.PieceValue) (are : cut.ArePieces rows first last (cut.piece_value piece ∷ later)) where
+module _ (rows : List bridge.TableRow) (first last : ℕ) (piece : Piece) (later : List cut.PieceValue) (are : cut.ArePieces rows first last (cut.piece_value piece ∷ later)) where
   pub piece_inside : (first ≤ piece.first.value) × (piece.first.value ≤ piece.last.value) × (piece.last.value ≤ last)
   piece_inside = inside_interval rows first last (cut.piece_value piece ∷ later) 0 (cut.piece_value piece) are (omega arith) refl
 
@@ -76,7 +76,7 @@ module _ (rows : List bridge.Row) (first last : ℕ) (piece : Piece) (later : Li
   piece_ends small = ends_whole small piece.hop (at_place (cut.IsWhole rows first last) (cut.piece_value piece ∷ later) 0 (cut.piece_value piece) are.whole (omega arith) refl)
 
 -- an interval has a piece
-pub some_piece : (rows : List bridge.Row) (first last : ℕ) → first ≤ last → ¬ cut.ArePieces rows first last []
+pub some_piece : (rows : List bridge.TableRow) (first last : ℕ) → first ≤ last → ¬ cut.ArePieces rows first last []
 some_piece rows first last ordered are = let found = (are.covering first).1 (omega arith, ordered) in omega (arith, found.2)
 
 -- ---- a node's moves
@@ -87,7 +87,7 @@ same_names plan n d e m (Some hop) apart one other names =
     let same : hop.next ≡ m = sym one.4 ∙ (same_next plan n d apart one.0 names.0 one.1 names.1 one.2 names.2 one.3 names.3 ∙ names.4) in
     subst (NamesFor (rows_of plan n) e) same other
 
-pub alike : (plan : Plan) (n first last : ℕ) (table : List bridge.Row) → RowsAreApart plan → first ≤ last → SendsAs (rows_of plan n) table → HoldsAlike plan first last n → HaveOneHop table first last
+pub alike : (plan : Plan) (n first last : ℕ) (table : List bridge.TableRow) → RowsAreApart plan → first ≤ last → SendsAs (rows_of plan n) table → HoldsAlike plan first last n → HaveOneHop table first last
     → MovesAlike plan first last n
 alike plan n first last table apart ordered sends holds (hop, routed) e low high m =
     let one : IsHopOf (rows_of plan n) first hop = sends first hop (routed first (omega arith) ordered) in
@@ -114,15 +114,15 @@ of_lesser P a b least is one other = elim (cases_lt a b) [
 ]
 
 -- with the node's own EID or with one of its rows
-pub cut_by_held : (plan : Plan) (n e : ℕ) (rows : List bridge.Row) → (e ≡ 254) ⊎ HoldsBeside plan n e → (e ≡ 254) ⊎ IsCutAt plan n rows e
+pub cut_by_held : (plan : Plan) (n e : ℕ) (rows : List bridge.TableRow) → (e ≡ 254) ⊎ HoldsBeside plan n e → (e ≡ 254) ⊎ IsCutAt plan n rows e
 cut_by_held plan n e rows (inl is) = inl is
 cut_by_held plan n e rows (inr held) = inr (inl held)
 
-pub cut_by_row : (plan : Plan) (n e : ℕ) (rows : List bridge.Row) → (e ≡ 254) ⊎ HaveEdge rows e → (e ≡ 254) ⊎ IsCutAt plan n rows e
+pub cut_by_row : (plan : Plan) (n e : ℕ) (rows : List bridge.TableRow) → (e ≡ 254) ⊎ HaveEdge rows e → (e ≡ 254) ⊎ IsCutAt plan n rows e
 cut_by_row plan n e rows (inl is) = inl is
 cut_by_row plan n e rows (inr edge) = inr (inr edge)
 
 -- at one node, so at some
-pub cut_by_node : (plan : Plan) (tables : List (List bridge.Row)) (n e : ℕ) (rows : List bridge.Row) → slice_get tables n ≡ Some rows → (e ≡ 254) ⊎ IsCutAt plan n rows e → (e ≡ 254) ⊎ IsCut plan tables e
+pub cut_by_node : (plan : Plan) (tables : List (List bridge.TableRow)) (n e : ℕ) (rows : List bridge.TableRow) → slice_get tables n ≡ Some rows → (e ≡ 254) ⊎ IsCutAt plan n rows e → (e ≡ 254) ⊎ IsCut plan tables e
 cut_by_node plan tables n e rows is (inl last) = inl last
 cut_by_node plan tables n e rows is (inr at) = inr (n, rows, is, at)

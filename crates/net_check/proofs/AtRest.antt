@@ -7,7 +7,7 @@ use Rattle.std.proofs.lemmas.Option.{none-some, same_Some}
 use Rattle.mctp_transport.specs.Frames.{Frame, KeyValue}
 use Rattle.net_plan.specs.declared.plan.Plan.{Plan}
 use Rattle.net_plan.specs.declared.certificate.Certificate.{Certificate}
-use Rattle.net_plan.specs.declared.terminus.Terminus.{Terminus}
+use Rattle.net_plan.specs.declared.terminus.PlannedTerminus.{PlannedTerminus}
 use Rattle.net_check.specs.Repositories.{terminus_of, records_by_place}
 use Rattle.net_check.specs.Termini.{TerminusState, WaitingMessage}
 use Rattle.net_check.specs.States.{NetworkState, at_start, with_packet, with_packets}
@@ -38,7 +38,7 @@ rest_is_settled plan cert n w rest key d = record {
 pub start_at_rest : (plan : Plan) (cert : Certificate) (n : ℕ) → terminus_of plan n ≢ None → IsAtRest plan cert n (at_start plan cert)
 start_at_rest plan cert n some = by (terminus_of plan n) refl
   where
-    by : (o : Option Terminus) → terminus_of plan n ≡ o → IsAtRest plan cert n (at_start plan cert)
+    by : (o : Option PlannedTerminus) → terminus_of plan n ≡ o → IsAtRest plan cert n (at_start plan cert)
     by None is = absurd (some is)
     by (Some t) is = record {
       none = λ k. refl;

@@ -11,7 +11,7 @@ use Rattle.std.proofs.lemmas.Map.Steps.{length-le_from_distinct_below}
 use Rattle.mctp_transport.proofs.Slots.{position-none, position-some}
 use Rattle.net_plan.specs.declared.plan.Plan.{Plan}
 use Rattle.net_plan.specs.declared.certificate.Certificate.{Certificate}
-use Rattle.net_plan.specs.declared.terminus.Record.{Record}
+use Rattle.net_plan.specs.declared.terminus.PlannedRecord.{PlannedRecord}
 use Rattle.pdr_repository.specs.Records.{Entry, IsRecordOf, IsLawful, Means, handle_at, handle_of, handle_in}
 use Rattle.pdr_repository.specs.Walks.{Exchange, Collects, NamesTheNext}
 use Rattle.pdr_repository.proofs.Walks.{every_walk_collects}
@@ -107,15 +107,15 @@ module _ (h : ℕ → Option Entry) where
       at e is rest (suc i) less = let same : a + 1 + i ≡ a + suc i = omega arith in rest i (omega arith) ∙ ap h same
 
 -- the record of a place
-pub record StandsAt (records : List Record) (places : List ℕ) (place : ℕ) (e : Entry) : Type 0 where
+pub record StandsAt (records : List PlannedRecord) (places : List ℕ) (place : ℕ) (e : Entry) : Type 0 where
   pub j : ℕ
-  pub found : Record
+  pub found : PlannedRecord
   pub listed : slice_get records j ≡ Some found
   pub given : slice_get places j ≡ Some place
   pub is : e ≡ entry_of found
 
-module _ (records : List Record) (places : List ℕ) (order : HaveOrder records places) where
-  record_there : (j : ℕ) → j < length records → (r : Record) × (slice_get records j ≡ Some r)
+module _ (records : List PlannedRecord) (places : List ℕ) (order : HaveOrder records places) where
+  record_there : (j : ℕ) → j < length records → (r : PlannedRecord) × (slice_get records j ≡ Some r)
   record_there j within = elim (slice_get_cases records j).1 [ inl h ↦ (h.0, h.2) | inr h ↦ absurd (omega (arith, h.0)) ]
 
   -- two records have different places
@@ -160,14 +160,14 @@ module _ (records : List Record) (places : List ℕ) (order : HaveOrder records 
     | inr none ↦ absurd (none_left_out (length records) place places small places_long apart below none)
   ]
 
-  found_at : (place : ℕ) → place < length records → (r : Record) × (j : ℕ) × (record_at records places place ≡ Some r) × (slice_get records j ≡ Some r) × (slice_get places j ≡ Some place)
+  found_at : (place : ℕ) → place < length records → (r : PlannedRecord) × (j : ℕ) × (record_at records places place ≡ Some r) × (slice_get records j ≡ Some r) × (slice_get places j ≡ Some place)
   found_at place small = by (position (λ given. nat_eq given place) places) refl
     where
       t : (j : ℕ) × (j < length records) × (slice_get places j ≡ Some place)
       t = taken place small
 
       by : (found : Option ℕ) → position (λ given. nat_eq given place) places ≡ found
-          → (r : Record) × (j : ℕ) × (record_at records places place ≡ Some r) × (slice_get records j ≡ Some r) × (slice_get places j ≡ Some place)
+          → (r : PlannedRecord) × (j : ℕ) × (record_at records places place ≡ Some r) × (slice_get records j ≡ Some r) × (slice_get places j ≡ Some place)
       by None e = absurd (true≢false (sym (eq-eqb place place refl) ∙ position-none (λ given. nat_eq given place) places e t.0 place t.2))
       by (Some i) e =
           let there = position-some (λ given. nat_eq given place) places i e in
@@ -202,7 +202,7 @@ module _ (records : List Record) (places : List ℕ) (order : HaveOrder records 
       record { j = f.1; found = f.0; listed = f.3; given = f.4; is = sym same }
 
   -- the record that is given a place stands there
-  pub placed : (j place : ℕ) (r : Record) → slice_get records j ≡ Some r → slice_get places j ≡ Some place → slice_get (by_place records places) place ≡ Some (entry_of r)
+  pub placed : (j place : ℕ) (r : PlannedRecord) → slice_get records j ≡ Some r → slice_get places j ≡ Some place → slice_get (by_place records places) place ≡ Some (entry_of r)
   placed j place r listed given =
       let within = slice_get_within records j r listed in
       let small = below j place within given in
@@ -214,7 +214,7 @@ module _ (records : List Record) (places : List ℕ) (order : HaveOrder records 
       given_all.1 place small ∙ ap (option_map entry_of) f.2 ∙ ap (λ x. Some (entry_of x)) one
 
   -- two records have different handles
-  one_handle : (i j : ℕ) (r s : Record) → slice_get records i ≡ Some r → slice_get records j ≡ Some s → r.handle ≡ s.handle → i ≡ j
+  one_handle : (i j : ℕ) (r s : PlannedRecord) → slice_get records i ≡ Some r → slice_get records j ≡ Some s → r.handle ≡ s.handle → i ≡ j
   one_handle i j r s a b same = elim (cases_order i j) [
     | inl e ↦ e
     | inr different ↦ elim different [

@@ -3,7 +3,7 @@ use Rattle.std.proofs.Common.{◌≡◌, ◌⊎◌, ℕ, ◌+◌, ◌-◌, ◌<�
 use Rattle.std.specs.Prelude.{slice_get}
 use Rattle.std.proofs.lemmas.Bool.{cases_order}
 use Rattle.std.proofs.lemmas.Option.{same_Some, slice_get_within, get_or_from_slice_get}
-use Rattle.net_plan.specs.declared.terminus.Record.{Record}
+use Rattle.net_plan.specs.declared.terminus.PlannedRecord.{PlannedRecord}
 use Rattle.net_check.specs.declared.certifying.chains.ChainFault.{ChainFault}
 use Rattle.net_check.specs.declared.certifying.chains.ChainFault.TheVariants.{Missing, Doubled, Circle}
 use Rattle.net_check.specs.Moves.{IsEnd}
@@ -13,16 +13,16 @@ use Rattle.net_check.proofs.Circling.{no_circle_down}
 use Rattle.net_check.proofs.Elements.{element}
 use Rattle.net_check.proofs.Lines.{end_is_near, endless_circles, as_far}
 
-pub next_same : (records : List Record) (j : ℕ) (r other : Record) → slice_get records j ≡ Some r → slice_get records j ≡ Some other → r.next ≡ other.next
-next_same records j r other is is' = ap (λ (x : Record). x.next) (same_Some r other (sym is ∙ is'))
+pub next_same : (records : List PlannedRecord) (j : ℕ) (r other : PlannedRecord) → slice_get records j ≡ Some r → slice_get records j ≡ Some other → r.next ≡ other.next
+next_same records j r other is is' = ap (λ (x : PlannedRecord). x.next) (same_Some r other (sym is ∙ is'))
 
-pub handle_same : (records : List Record) (j : ℕ) (r other : Record) → slice_get records j ≡ Some r → slice_get records j ≡ Some other → r.handle ≡ other.handle
-handle_same records j r other is is' = ap (λ (x : Record). x.handle) (same_Some r other (sym is ∙ is'))
+pub handle_same : (records : List PlannedRecord) (j : ℕ) (r other : PlannedRecord) → slice_get records j ≡ Some r → slice_get records j ≡ Some other → r.handle ≡ other.handle
+handle_same records j r other is is' = ap (λ (x : PlannedRecord). x.handle) (same_Some r other (sym is ∙ is'))
 
 -- Records with handles of their own.
-module _ (records : List Record) (named : HaveNewHandles records) where
+module _ (records : List PlannedRecord) (named : HaveNewHandles records) where
   -- a handle is one record's
-  pub one_handle : (i j : ℕ) (r other : Record) → slice_get records i ≡ Some r → slice_get records j ≡ Some other → r.handle ≡ other.handle → i ≡ j
+  pub one_handle : (i j : ℕ) (r other : PlannedRecord) → slice_get records i ≡ Some r → slice_get records j ≡ Some other → r.handle ≡ other.handle → i ≡ j
   one_handle i j r other is is' same = elim (cases_order i j) [
     | inl here ↦ here
     | inr (inl less) ↦ absurd ((named j other is').1 i r less is same)
@@ -36,19 +36,19 @@ module _ (records : List Record) (named : HaveNewHandles records) where
   follows_within n p (r, a, is, at, same) = slice_get_within records p a at
 
   -- nothing follows a record whose next handle is 0
-  pub zero_ends : (j : ℕ) (r : Record) → slice_get records j ≡ Some r → r.next ≡ 0 → IsEnd (IsFollowedBy records) j
+  pub zero_ends : (j : ℕ) (r : PlannedRecord) → slice_get records j ≡ Some r → r.next ≡ 0 → IsEnd (IsFollowedBy records) j
   zero_ends j r is none p (s, a, is', at, same) = (named p a at).0 (sym same ∙ (next_same records j s r is' is ∙ none))
 
   -- Places along the chain.
   module _ (places : List ℕ) (chained : AreChained records places) where
-    pub chained_has_next : (j : ℕ) (r : Record) → slice_get records j ≡ Some r → HasNext records r
+    pub chained_has_next : (j : ℕ) (r : PlannedRecord) → slice_get records j ≡ Some r → HasNext records r
     chained_has_next j r is = elim (chained j r is).next [
       | inl (k, other, at, _, same) ↦ inr (k, other, at, same)
       | inr (_, none) ↦ inl none
     ]
 
     -- the place of the record that is followed by another is one less
-    pub chained_step : (j k : ℕ) (r other : Record) (is : slice_get records j ≡ Some r) → slice_get records k ≡ Some other → r.next ≡ other.handle → slice_get places k ≡ Some ((chained j r is).place + 1)
+    pub chained_step : (j k : ℕ) (r other : PlannedRecord) (is : slice_get records j ≡ Some r) → slice_get records k ≡ Some other → r.next ≡ other.handle → slice_get places k ≡ Some ((chained j r is).place + 1)
     chained_step j k r other is at same = elim (chained j r is).next [
       | inl (l, third, at', there, same') ↦ (
           let here : l ≡ k = one_handle l k third other at' at (sym same' ∙ same) in
@@ -56,7 +56,7 @@ module _ (records : List Record) (named : HaveNewHandles records) where
       | inr (_, none) ↦ absurd ((named k other at).0 (sym same ∙ none))
     ]
 
-    pub chained_new_next : (j : ℕ) (r : Record) → slice_get records j ≡ Some r → HasNewNext records j r
+    pub chained_new_next : (j : ℕ) (r : PlannedRecord) → slice_get records j ≡ Some r → HasNewNext records j r
     chained_new_next j r is i other less is' same =
         let here = chained j r is in
         let there = chained i other is' in
@@ -81,15 +81,15 @@ module _ (records : List Record) (named : HaveNewHandles records) where
         omega (arith, here.within, at_i, at_k)) j
 
 -- A bad chain leaves no places.
-pub bad_chain_breaks_places : (records : List Record) (fault : ChainFault) → HaveNewHandles records → IsBadChain records fault → (places : List ℕ) → ¬ AreChained records places
+pub bad_chain_breaks_places : (records : List PlannedRecord) (fault : ChainFault) → HaveNewHandles records → IsBadChain records fault → (places : List ℕ) → ¬ AreChained records places
 bad_chain_breaks_places records (Missing j) named bad places chained = bad.0 (λ r is. chained_has_next records named places chained j r is)
 bad_chain_breaks_places records (Doubled j) named bad places chained = bad.1.0 (λ r is. chained_new_next records named places chained j r is)
 bad_chain_breaks_places records (Circle j) named bad places chained = chained_no_circle records named places chained j bad.2.0
 
 -- Records that are linked.
-module _ (records : List Record) (linked : AreLinked records) where
+module _ (records : List PlannedRecord) (linked : AreLinked records) where
   -- a next handle is one record's
-  pub one_next : (i j : ℕ) (r other : Record) → slice_get records i ≡ Some r → slice_get records j ≡ Some other → r.next ≡ other.next → i ≡ j
+  pub one_next : (i j : ℕ) (r other : PlannedRecord) → slice_get records i ≡ Some r → slice_get records j ≡ Some other → r.next ≡ other.next → i ≡ j
   one_next i j r other is is' same = elim (cases_order i j) [
     | inl here ↦ here
     | inr (inl less) ↦ absurd (linked.apart j other is' i r less is same)
@@ -100,7 +100,7 @@ module _ (records : List Record) (linked : AreLinked records) where
   one_before n m p (r, a, is, at, same) (s, b, is', at', same') = one_next n m r s is is' (same ∙ (handle_same records p a b at at' ∙ sym same'))
 
   -- a record is followed, or its next handle is 0
-  pub follows_or_ends : (n : ℕ) (r : Record) → slice_get records n ≡ Some r → (r.next ≡ 0) ⊎ ((p : ℕ) × IsFollowedBy records n p)
+  pub follows_or_ends : (n : ℕ) (r : PlannedRecord) → slice_get records n ≡ Some r → (r.next ≡ 0) ⊎ ((p : ℕ) × IsFollowedBy records n p)
   follows_or_ends n r is = elim (linked.nexts n r is) [
     | inl none ↦ inl none
     | inr (k, other, at, same) ↦ inr (k, (r, other, is, at, same))
@@ -115,7 +115,7 @@ module _ (records : List Record) (linked : AreLinked records) where
       ]
 
   -- the next handle of a record that nothing follows is 0
-  pub end_is_zero : (n : ℕ) (r : Record) → slice_get records n ≡ Some r → IsEnd (IsFollowedBy records) n → r.next ≡ 0
+  pub end_is_zero : (n : ℕ) (r : PlannedRecord) → slice_get records n ≡ Some r → IsEnd (IsFollowedBy records) n → r.next ≡ 0
   end_is_zero n r is ends = elim (follows_or_ends n r is) [ inl none ↦ none | inr (p, move) ↦ absurd (ends p move) ]
 
   one_end : (n m : ℕ) → n < length records → m < length records → IsEnd (IsFollowedBy records) n → IsEnd (IsFollowedBy records) m → n ≡ m

@@ -6,7 +6,7 @@ use Rattle.std.specs.BTreeMap.{BTreeMap, get}
 use Rattle.std.proofs.lemmas.Bool.{cases_lt, cases_order, eqb-true, eq-eqb, false≢true}
 use Rattle.std.proofs.lemmas.Option.{same_Some, none-some, slice_get-map, slice_get_within}
 use Rattle.std.proofs.lemmas.List.{length-map, length-set, length_push}
-use Rattle.net_plan.specs.declared.terminus.Record.{Record}
+use Rattle.net_plan.specs.declared.terminus.PlannedRecord.{PlannedRecord}
 use Rattle.net_plan.specs.declared.certificate.RecordPlace.{RecordPlace}
 use Rattle.net_check.specs.Moves.{IsEnd}
 use Rattle.net_check.specs.Routing.{OfItem}
@@ -25,14 +25,14 @@ none_placed (suc n) (suc j) o is = none_placed n j o is
 
 -- Places given to the records that are fewer than so many moves from the end; the next to get one are those with the
 -- next handle.
-pub record AreFromTheEndBelow (records : List Record) (count next : ℕ) (places : List (Option ℕ)) : Type 0 where
+pub record AreFromTheEndBelow (records : List PlannedRecord) (count next : ℕ) (places : List (Option ℕ)) : Type 0 where
   pub long : length places ≡ length records
   pub given : (j place : ℕ) → slice_get places j ≡ Some (Some place) → (d : ℕ) × (place + 1 + d ≡ length records) × EndsAfter (IsFollowedBy records) j d
   pub all : (j d : ℕ) → d < count → EndsAfter (IsFollowedBy records) j d → slice_get places j ≢ Some None
-  pub next_ends : (j : ℕ) (r : Record) → slice_get records j ≡ Some r → r.next ≡ next → EndsAfter (IsFollowedBy records) j count
-  pub ends_next : (j : ℕ) (r : Record) → slice_get records j ≡ Some r → EndsAfter (IsFollowedBy records) j count → r.next ≡ next
+  pub next_ends : (j : ℕ) (r : PlannedRecord) → slice_get records j ≡ Some r → r.next ≡ next → EndsAfter (IsFollowedBy records) j count
+  pub ends_next : (j : ℕ) (r : PlannedRecord) → slice_get records j ≡ Some r → EndsAfter (IsFollowedBy records) j count → r.next ≡ next
 
-module _ (records : List Record) (linked : AreLinked records) where
+module _ (records : List PlannedRecord) (linked : AreLinked records) where
   pub none_given : AreFromTheEndBelow records 0 0 (replicate (length records) None)
   none_given = record {
     long = by_length (length records);
@@ -48,7 +48,7 @@ module _ (records : List Record) (linked : AreLinked records) where
 
   module _ (count next : ℕ) (places : List (Option ℕ)) (below : AreFromTheEndBelow records count next places) where
     -- the record with the next handle gets its place
-    module _ (at place : ℕ) (r : Record) (is : slice_get records at ≡ Some r) (named : r.next ≡ next) (left : place + 1 + count ≡ length records) where
+    module _ (at place : ℕ) (r : PlannedRecord) (is : slice_get records at ≡ Some r) (named : r.next ≡ next) (left : place + 1 + count ≡ length records) where
       at_within : at < length places
       at_within = omega (arith, slice_get_within records at r is, below.long)
 
@@ -91,13 +91,13 @@ module _ (records : List Record) (linked : AreLinked records) where
             ends_before j s there (subst P same ends);
       }
         where
-          ends_before : (j : ℕ) (s : Record) → slice_get records j ≡ Some s → EndsAfter (IsFollowedBy records) j (suc count) → s.next ≡ r.handle
+          ends_before : (j : ℕ) (s : PlannedRecord) → slice_get records j ≡ Some s → EndsAfter (IsFollowedBy records) j (suc count) → s.next ≡ r.handle
           ends_before j s there (m, (p, (a, b, is_a, is_b, name), way), ends) =
               let to : p ≡ at = one_next records linked p at b r is_b is (below.ends_next p b is_b (m, way, ends) ∙ sym named) in
               next_same records j s a there is_a ∙ (name ∙ handle_same records at b r (ap (λ k. slice_get records k) (sym to) ∙ is_b) is)
 
     -- no record has the next handle
-    pub given_all : ((i : ℕ) (r : Record) → slice_get records i ≡ Some r → r.next ≢ next) → AreFromTheEnd records places
+    pub given_all : ((i : ℕ) (r : PlannedRecord) → slice_get records i ≡ Some r → r.next ≢ next) → AreFromTheEnd records places
     given_all none = record {
       long = below.long;
       given = below.given;
@@ -136,7 +136,7 @@ one_so_far places count all p so_far is = record {
   ];
 }
 
-module _ (records : List Record) (linked : AreLinked records) (places : List (Option ℕ)) (from : AreFromTheEnd records places) where
+module _ (records : List PlannedRecord) (linked : AreLinked records) (places : List (Option ℕ)) (from : AreFromTheEnd records places) where
   -- the first record without a place is the first on a circle
   pub first_left_circles : (j : ℕ) (all : List RecordPlace) → AreAllSoFar places j all → slice_get places j ≡ Some None → IsLeastOnCircle (IsFollowedBy records) j
   first_left_circles j all so_far none = (
@@ -156,7 +156,7 @@ module _ (records : List Record) (linked : AreLinked records) (places : List (Op
         let p = element all j (omega (arith, lt, so_far.long, from.long)) in
         (p.0.value, slice_get-map (λ (q : RecordPlace). q.value) all j ∙ ap (λ (o : Option RecordPlace). option_map (λ (q : RecordPlace). q.value) o) p.1, so_far.same j p.0 p.1)
 
-    all_chained : (j : ℕ) (r : Record) → slice_get records j ≡ Some r → IsChained records (map (λ (p : RecordPlace). p.value) all) j r
+    all_chained : (j : ℕ) (r : PlannedRecord) → slice_get records j ≡ Some r → IsChained records (map (λ (p : RecordPlace). p.value) all) j r
     all_chained j r is =
         let lt = slice_get_within records j r is in
         let here = value_at j lt in
@@ -192,45 +192,45 @@ module _ (records : List Record) (linked : AreLinked records) (places : List (Op
     all_are_places = (length-map all (λ (p : RecordPlace). p.value) ∙ (so_far.long ∙ from.long), all_chained)
 
 -- what the index of records by a number says
-module _ (f : Record → ℕ) (records : List Record) where
-  mapped : (k key : ℕ) → slice_get (map f records) k ≡ Some key → (r : Record) × (slice_get records k ≡ Some r) × (f r ≡ key)
+module _ (f : PlannedRecord → ℕ) (records : List PlannedRecord) where
+  mapped : (k key : ℕ) → slice_get (map f records) k ≡ Some key → (r : PlannedRecord) × (slice_get records k ≡ Some r) × (f r ≡ key)
   mapped k key is =
       let r = element records k (omega (arith, slice_get_within (map f records) k key is, length-map records f)) in
-      (r.0, r.1, same_Some (f r.0) key (sym (slice_get-map f records k ∙ ap (λ (o : Option Record). option_map f o) r.1) ∙ is))
+      (r.0, r.1, same_Some (f r.0) key (sym (slice_get-map f records k ∙ ap (λ (o : Option PlannedRecord). option_map f o) r.1) ∙ is))
 
-  unmapped : (k : ℕ) (r : Record) → slice_get records k ≡ Some r → slice_get (map f records) k ≡ Some (f r)
-  unmapped k r is = slice_get-map f records k ∙ ap (λ (o : Option Record). option_map f o) is
+  unmapped : (k : ℕ) (r : PlannedRecord) → slice_get records k ≡ Some r → slice_get (map f records) k ≡ Some (f r)
+  unmapped k r is = slice_get-map f records k ∙ ap (λ (o : Option PlannedRecord). option_map f o) is
 
   module _ (index : BTreeMap ℕ ℕ) (indexed : IsIndexOf (map f records) index) (key : ℕ) where
-    pub index_some : (k : ℕ) → get nat_cmp index key ≡ Some k → (r : Record) × (slice_get records k ≡ Some r) × (f r ≡ key) × ((i : ℕ) (other : Record) → i < k → slice_get records i ≡ Some other → f other ≢ key)
+    pub index_some : (k : ℕ) → get nat_cmp index key ≡ Some k → (r : PlannedRecord) × (slice_get records k ≡ Some r) × (f r ≡ key) × ((i : ℕ) (other : PlannedRecord) → i < k → slice_get records i ≡ Some other → f other ≢ key)
     index_some k found =
         let P : Option ℕ → Type 0 = λ o. MatchOption o ((i : ℕ) → slice_get (map f records) i ≢ Some key) (IsFirstPlaceOf (map f records) key) in
         let first = subst P found (indexed key) in
         let r = mapped k key first.0 in
         (r.0, r.1, r.2, λ i other less is same. first.1 i less (unmapped i other is ∙ ap Some same))
 
-    pub index_none : get nat_cmp index key ≡ None → (i : ℕ) (other : Record) → slice_get records i ≡ Some other → f other ≢ key
+    pub index_none : get nat_cmp index key ≡ None → (i : ℕ) (other : PlannedRecord) → slice_get records i ≡ Some other → f other ≢ key
     index_none found i other is same =
         let P : Option ℕ → Type 0 = λ o. MatchOption o ((i : ℕ) → slice_get (map f records) i ≢ Some key) (IsFirstPlaceOf (map f records) key) in
         subst P found (indexed key) i (unmapped i other is ∙ ap Some same)
 
-pub has_next_tells : (records : List Record) (j : ℕ) (r : Record) (index : BTreeMap ℕ ℕ) → slice_get records j ≡ Some r → IsIndexOf (map (λ (x : Record). x.handle) records) index → r.next ≢ 0
+pub has_next_tells : (records : List PlannedRecord) (j : ℕ) (r : PlannedRecord) (index : BTreeMap ℕ ℕ) → slice_get records j ≡ Some r → IsIndexOf (map (λ (x : PlannedRecord). x.handle) records) index → r.next ≢ 0
     → (o : Option ℕ) → o ≡ get nat_cmp index r.next → IsTrue (is_some o) ↔ OfItem records j (HasNext records)
 has_next_tells records j r index is indexed some None found = (
   λ e. absurd (false≢true e),
   λ has. absurd (elim (has r is) [
     | inl none ↦ some none
-    | inr (k, other, at, same) ↦ index_none (λ (x : Record). x.handle) records index indexed r.next (sym found) k other at (sym same)
+    | inr (k, other, at, same) ↦ index_none (λ (x : PlannedRecord). x.handle) records index indexed r.next (sym found) k other at (sym same)
   ]),
 )
 has_next_tells records j r index is indexed some (Some k) found =
-    let named = index_some (λ (x : Record). x.handle) records index indexed r.next k (sym found) in
+    let named = index_some (λ (x : PlannedRecord). x.handle) records index indexed r.next k (sym found) in
     (λ _ item is'. inr (k, named.0, named.1, next_same records j item r is' is ∙ sym named.2), λ _. refl)
 
-pub first_next_tells : (records : List Record) (j : ℕ) (r : Record) (index : BTreeMap ℕ ℕ) → slice_get records j ≡ Some r → IsIndexOf (map (λ (x : Record). x.next) records) index
+pub first_next_tells : (records : List PlannedRecord) (j : ℕ) (r : PlannedRecord) (index : BTreeMap ℕ ℕ) → slice_get records j ≡ Some r → IsIndexOf (map (λ (x : PlannedRecord). x.next) records) index
     → (first : ℕ) → Some first ≡ get nat_cmp index r.next → IsTrue (nat_eq first j) ↔ OfItem records j (HasNewNext records j)
 first_next_tells records j r index is indexed first found =
-    let named = index_some (λ (x : Record). x.next) records index indexed r.next first (sym found) in (
+    let named = index_some (λ (x : PlannedRecord). x.next) records index indexed r.next first (sym found) in (
       λ e item is' i other less at same.
           let here : first ≡ j = eqb-true first j e in
           named.3 i other (omega (arith, here, less)) at (same ∙ next_same records j item r is' is),
@@ -241,5 +241,5 @@ first_next_tells records j r index is indexed first found =
       ],
     )
 
-pub no_next_is_none : (records : List Record) (j : ℕ) (r : Record) (index : BTreeMap ℕ ℕ) → slice_get records j ≡ Some r → IsIndexOf (map (λ (x : Record). x.next) records) index → None ≡ get nat_cmp index r.next → ⊥
-no_next_is_none records j r index is indexed found = index_none (λ (x : Record). x.next) records index indexed r.next (sym found) j r is refl
+pub no_next_is_none : (records : List PlannedRecord) (j : ℕ) (r : PlannedRecord) (index : BTreeMap ℕ ℕ) → slice_get records j ≡ Some r → IsIndexOf (map (λ (x : PlannedRecord). x.next) records) index → None ≡ get nat_cmp index r.next → ⊥
+no_next_is_none records j r index is indexed found = index_none (λ (x : PlannedRecord). x.next) records index indexed r.next (sym found) j r is refl

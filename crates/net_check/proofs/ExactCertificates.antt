@@ -10,7 +10,7 @@ use Rattle.net_plan.specs.declared.plan.Plan.{Plan}
 use Rattle.net_plan.specs.declared.nodes.Node.{Node}
 use Rattle.net_plan.specs.declared.certificate.Certificate.{Certificate}
 use Rattle.net_plan.specs.declared.certificate.NodePlaces.{NodePlaces}
-use Rattle.net_plan.specs.declared.terminus.Terminus.{Terminus}
+use Rattle.net_plan.specs.declared.terminus.PlannedTerminus.{PlannedTerminus}
 use Rattle.net_plan.specs.CertificateValues.{certificate_value, level_value, places_value, node_ranks_value, range_value}
 use Rattle.net_plan.specs.CertificateText.{IsAscending}
 use Rattle.net_plan.specs.CertificateReading.{are_known}
@@ -164,7 +164,7 @@ exact_well_formed plan cert met exact = record {
 few_records : (plan : Plan) (n : ℕ) → length (records_of plan n) ≤ 4096
 few_records plan n = by (terminus_of plan n)
   where
-    by : (t : Option Terminus) → length (unwrap_or (option_map (λ t. t.records.items) t) []) ≤ 4096
+    by : (t : Option PlannedTerminus) → length (unwrap_or (option_map (λ t. t.records.items) t) []) ≤ 4096
     by None = omega arith
     by (Some t) = omega (arith, t.few_records, t.records.ok.0)
 

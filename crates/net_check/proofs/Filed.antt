@@ -4,13 +4,13 @@ use Rattle.std.specs.Prelude.{slice_get}
 use Rattle.std.proofs.lemmas.Bool.{cases_lt}
 use Rattle.std.proofs.lemmas.Option.{same_Some, none-some, slice_get_within}
 use Rattle.std.proofs.lemmas.List.{length-set, length-replicate}
-use Rattle.net_plan.specs.declared.terminus.Record.{Record}
+use Rattle.net_plan.specs.declared.terminus.PlannedRecord.{PlannedRecord}
 use Rattle.net_check.specs.Repositories.{IsChained}
 use Rattle.net_check.specs.Handles.{AreFiled}
 use Rattle.net_check.proofs.ChainPlaces.{none_placed}
 use Rattle.net_check.proofs.Elements.{in_set}
 
-module _ (records : List Record) (places : List ℕ) where
+module _ (records : List PlannedRecord) (places : List ℕ) where
   pub none_filed : AreFiled records places 0 (replicate (length records) None)
   none_filed = record {
     long = length-replicate (length records) (let none : Option ℕ = None in none);
@@ -20,7 +20,7 @@ module _ (records : List Record) (places : List ℕ) where
   }
 
   -- the next record has a place that is free
-  module _ (count : ℕ) (handles : List (Option ℕ)) (filed : AreFiled records places count handles) (r : Record) (is : slice_get records count ≡ Some r) where
+  module _ (count : ℕ) (handles : List (Option ℕ)) (filed : AreFiled records places count handles) (r : PlannedRecord) (is : slice_get records count ≡ Some r) where
     module _ (place : ℕ) (given : slice_get places count ≡ Some place) (free : slice_get handles place ≡ Some None) where
       within : place < length handles
       within = slice_get_within handles place None free
@@ -52,7 +52,7 @@ module _ (records : List Record) (places : List ℕ) where
 
   -- where the next handle stands at the place after its own, the record is chained
   module _ (handles : List (Option ℕ)) (filed : AreFiled records places (length records) handles) where
-    pub filed_chained : (j place : ℕ) (r : Record) → slice_get records j ≡ Some r → slice_get places j ≡ Some place
+    pub filed_chained : (j place : ℕ) (r : PlannedRecord) → slice_get records j ≡ Some r → slice_get places j ≡ Some place
         → (slice_get handles (place + 1) ≡ Some (Some r.next)) ⊎ ((length handles ≤ place + 1) × (r.next ≡ 0)) → IsChained records places j r
     filed_chained j place r is given leads =
         let own = filed.own j (slice_get_within records j r is) in

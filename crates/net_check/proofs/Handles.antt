@@ -12,7 +12,7 @@ use Rattle.std.proofs.lemmas.Bool.{cases_lt}
 use Rattle.std.proofs.lemmas.Option.{same_Some, slice_get-map, slice_get-get_or, slice_get_within, slice_get_past, get_or_from_slice_get}
 use Rattle.std.proofs.lemmas.Map.Lookups.{CmpEqualImpliesEq, exact_unsigned}
 use Rattle.std.proofs.lemmas.Map.Views.{tells_apart, btree_set_contains_from_list}
-use Rattle.net_plan.specs.declared.terminus.Record.{Record}
+use Rattle.net_plan.specs.declared.terminus.PlannedRecord.{PlannedRecord}
 use Rattle.net_plan.specs.declared.certificate.RecordPlace.{RecordPlace}
 use Rattle.net_check.specs.Repositories.{HasNewHandle, IsHandleAt, IsChained}
 use Rattle.net_check.specs.Handles.{by_place_and_handle, pairs}
@@ -45,16 +45,16 @@ has_one_more xs j x old new is updates has q = by (is_at (nat_cmp x) q) refl (up
     )
 
 -- the handles of records
-abbrev pub handles_of : List Record → List ℕ
+abbrev pub handles_of : List PlannedRecord → List ℕ
 handles_of records = map (λ r. r.handle) records
 
-pub handle_of_record : (records : List Record) (j : ℕ) (r : Record) → slice_get records j ≡ Some r → slice_get (handles_of records) j ≡ Some r.handle
-handle_of_record records j r is = slice_get-map (λ (x : Record). x.handle) records j ∙ ap (option_map (λ (x : Record). x.handle)) is
+pub handle_of_record : (records : List PlannedRecord) (j : ℕ) (r : PlannedRecord) → slice_get records j ≡ Some r → slice_get (handles_of records) j ≡ Some r.handle
+handle_of_record records j r is = slice_get-map (λ (x : PlannedRecord). x.handle) records j ∙ ap (option_map (λ (x : PlannedRecord). x.handle)) is
 
-pub record_of_handle : (records : List Record) (i h : ℕ) → slice_get (handles_of records) i ≡ Some h → (r : Record) × (slice_get records i ≡ Some r) × (r.handle ≡ h)
-record_of_handle records i h is = by (slice_get records i) refl (sym (slice_get-map (λ (x : Record). x.handle) records i) ∙ is)
+pub record_of_handle : (records : List PlannedRecord) (i h : ℕ) → slice_get (handles_of records) i ≡ Some h → (r : PlannedRecord) × (slice_get records i ≡ Some r) × (r.handle ≡ h)
+record_of_handle records i h is = by (slice_get records i) refl (sym (slice_get-map (λ (x : PlannedRecord). x.handle) records i) ∙ is)
   where
-    by : (o : Option Record) → slice_get records i ≡ o → option_map (λ (x : Record). x.handle) o ≡ Some h → (r : Record) × (slice_get records i ≡ Some r) × (r.handle ≡ h)
+    by : (o : Option PlannedRecord) → slice_get records i ≡ o → option_map (λ (x : PlannedRecord). x.handle) o ≡ Some h → (r : PlannedRecord) × (slice_get records i ≡ Some r) × (r.handle ≡ h)
     by None here at = absurd (cc)
     by (Some r) here at = (r, here, same_Some r.handle h at)
 
@@ -68,7 +68,7 @@ had true added told is = refl
 had false added told is = absurd (cc)
 
 -- a handle that the set of the earlier ones does not have is new
-pub is_new : (records : List Record) (j : ℕ) (r : Record) (set : BTreeSet ℕ) → HasBefore (handles_of records) j set → r.handle ≢ 0 → contains nat_cmp set r.handle ≡ false
+pub is_new : (records : List PlannedRecord) (j : ℕ) (r : PlannedRecord) (set : BTreeSet ℕ) → HasBefore (handles_of records) j set → r.handle ≢ 0 → contains nat_cmp set r.handle ≡ false
     → HasNewHandle records j r
 is_new records j r set has some missing = (
   some,
@@ -78,7 +78,7 @@ is_new records j r set has some missing = (
 )
 
 -- one that is new is not 0, and the set does not have it
-pub is_not_new : (records : List Record) (j : ℕ) (r : Record) (set : BTreeSet ℕ) → HasBefore (handles_of records) j set → ¬ ((r.handle ≢ 0) × (contains nat_cmp set r.handle ≡ false))
+pub is_not_new : (records : List PlannedRecord) (j : ℕ) (r : PlannedRecord) (set : BTreeSet ℕ) → HasBefore (handles_of records) j set → ¬ ((r.handle ≢ 0) × (contains nat_cmp set r.handle ≡ false))
     → ¬ HasNewHandle records j r
 is_not_new records j r set has old new = old (new.0, by (contains nat_cmp set r.handle) refl)
   where
@@ -92,8 +92,8 @@ is_not_new records j r set has old new = old (new.0, by (contains nat_cmp set r.
 abbrev pub values : List RecordPlace → List ℕ
 values places = map (λ p. p.value) places
 
-handle_at_pair : (places : List RecordPlace) (records : List Record) (k place handle : ℕ) → slice_get (pairs places records) k ≡ Some (place, handle)
-    → (r : Record) × (slice_get records k ≡ Some r) × (slice_get (values places) k ≡ Some place) × (handle ≡ r.handle)
+handle_at_pair : (places : List RecordPlace) (records : List PlannedRecord) (k place handle : ℕ) → slice_get (pairs places records) k ≡ Some (place, handle)
+    → (r : PlannedRecord) × (slice_get records k ≡ Some r) × (slice_get (values places) k ≡ Some place) × (handle ≡ r.handle)
 handle_at_pair [] records k place handle is = absurd (cc)
 handle_at_pair (p ∷ ps) [] k place handle is = absurd (cc)
 handle_at_pair (p ∷ ps) (r ∷ rs) zero place handle is =
@@ -101,7 +101,7 @@ handle_at_pair (p ∷ ps) (r ∷ rs) zero place handle is =
     (r, refl, ap (λ (x : ℕ × ℕ). Some x.0) one, sym (ap (λ (x : ℕ × ℕ). x.1) one))
 handle_at_pair (p ∷ ps) (r ∷ rs) (suc k) place handle is = handle_at_pair ps rs k place handle is
 
-pair_of_handle : (places : List RecordPlace) (records : List Record) (k place : ℕ) (r : Record) → slice_get records k ≡ Some r → slice_get (values places) k ≡ Some place
+pair_of_handle : (places : List RecordPlace) (records : List PlannedRecord) (k place : ℕ) (r : PlannedRecord) → slice_get records k ≡ Some r → slice_get (values places) k ≡ Some place
     → slice_get (pairs places records) k ≡ Some (place, r.handle)
 pair_of_handle [] records k place r is given = absurd (cc)
 pair_of_handle (p ∷ ps) [] k place r is given = absurd (cc)
@@ -127,7 +127,7 @@ same_pair p q equal = by (nat_cmp p.0 q.0) refl equal
     by Greater first h = absurd (cc)
 
 -- what the set of the pairs has
-pub handle_found : (places : List RecordPlace) (records : List Record) (set : BTreeSet (ℕ × ℕ)) → IsFromIterResult by_place_and_handle (pairs places records) set
+pub handle_found : (places : List RecordPlace) (records : List PlannedRecord) (set : BTreeSet (ℕ × ℕ)) → IsFromIterResult by_place_and_handle (pairs places records) set
     → (place handle : ℕ) → IsTrue (contains by_place_and_handle set (place, handle)) ↔ IsHandleAt records (values places) place handle
 handle_found places records set made place handle =
     let found = btree_set_contains_from_list by_place_and_handle_total same_pair (pairs places records) set made (place, handle) in (
@@ -148,8 +148,8 @@ value_of_place places j p is = slice_get-map (λ (x : RecordPlace). x.value) pla
 abbrev pub LeadsOn : ℕ → BTreeSet (ℕ × ℕ) → ℕ → ℕ → Type 0
 LeadsOn count handles place next = (place < count) × (IsTrue (contains by_place_and_handle handles (place + 1, next)) ⊎ ((place + 1 ≡ count) × (next ≡ 0)))
 
-module _ (records : List Record) (places : List RecordPlace) (handles : BTreeSet (ℕ × ℕ)) (made : IsFromIterResult by_place_and_handle (pairs places records) handles) where
-  pub is_chained : (j : ℕ) (r : Record) (p : RecordPlace) (taken : BTreeSet ℕ) → slice_get places j ≡ Some p → HasBefore (values places) j taken → contains nat_cmp taken p.value ≡ false
+module _ (records : List PlannedRecord) (places : List RecordPlace) (handles : BTreeSet (ℕ × ℕ)) (made : IsFromIterResult by_place_and_handle (pairs places records) handles) where
+  pub is_chained : (j : ℕ) (r : PlannedRecord) (p : RecordPlace) (taken : BTreeSet ℕ) → slice_get places j ≡ Some p → HasBefore (values places) j taken → contains nat_cmp taken p.value ≡ false
       → LeadsOn (length records) handles p.value r.next → IsChained records (values places) j r
   is_chained j r p taken is has missing leads = record {
     place = p.value;
@@ -159,20 +159,20 @@ module _ (records : List Record) (places : List RecordPlace) (handles : BTreeSet
     next = elim leads.1 [ inl found ↦ inl ((handle_found places records handles made (p.value + 1) r.next).0 found) | inr last ↦ inr last ];
   }
 
-  pub not_given : (j : ℕ) (r : Record) → length places ≤ j → ¬ IsChained records (values places) j r
+  pub not_given : (j : ℕ) (r : PlannedRecord) → length places ≤ j → ¬ IsChained records (values places) j r
   not_given j r past chained =
       let none = slice_get-map (λ (x : RecordPlace). x.value) places j ∙ ap (option_map (λ (x : RecordPlace). x.value)) (slice_get_past places j past) in
       let some = chained.given in
       absurd (cc)
 
-  pub not_new : (j : ℕ) (r : Record) (p : RecordPlace) (taken : BTreeSet ℕ) → slice_get places j ≡ Some p → HasBefore (values places) j taken → contains nat_cmp taken p.value ≡ true
+  pub not_new : (j : ℕ) (r : PlannedRecord) (p : RecordPlace) (taken : BTreeSet ℕ) → slice_get places j ≡ Some p → HasBefore (values places) j taken → contains nat_cmp taken p.value ≡ true
       → ¬ IsChained records (values places) j r
   not_new j r p taken is has found chained =
       let f = (has p.value).0 found in
       let same : chained.place ≡ p.value = same_Some chained.place p.value (sym chained.given ∙ value_of_place places j p is) in
       chained.new f.0 f.1 (f.2 ∙ ap Some (sym same))
 
-  pub not_led_on : (j : ℕ) (r : Record) (p : RecordPlace) → slice_get places j ≡ Some p → ¬ LeadsOn (length records) handles p.value r.next → ¬ IsChained records (values places) j r
+  pub not_led_on : (j : ℕ) (r : PlannedRecord) (p : RecordPlace) → slice_get places j ≡ Some p → ¬ LeadsOn (length records) handles p.value r.next → ¬ IsChained records (values places) j r
   not_led_on j r p is not chained =
       let same : chained.place ≡ p.value = same_Some chained.place p.value (sym chained.given ∙ value_of_place places j p is) in
       let within = chained.within in

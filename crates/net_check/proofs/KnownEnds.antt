@@ -1,6 +1,5 @@
 -- How far the ends of moves by a table are, as it is noted place by place.
 use Rattle.std.proofs.Common.{◌≡◌, ℕ, zero, suc, ◌+◌, ◌-◌, ◌<◌, ◌≤◌, inl, inr, arith, refl, subst, sym, ◌∙◌, ap, List, length, Some, Option, get_or, slice_set, take, drop, ◌++◌}
-use Rattle.std.specs.Prelude.{slice_get}
 use Rattle.std.proofs.lemmas.Bool.{cases_lt}
 use Rattle.std.proofs.lemmas.List.{take_all, drop_all, append-nil}
 use Rattle.std.proofs.lemmas.Option.{same_Some, slice_get-get_or}

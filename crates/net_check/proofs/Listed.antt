@@ -8,7 +8,7 @@ use Rattle.net_plan.specs.declared.plan.Plan.{Plan}
 use Rattle.net_plan.specs.declared.certificate.NodeLevel.{NodeLevel}
 use Rattle.net_plan.specs.declared.certificate.NodePlaces.{NodePlaces}
 use Rattle.net_plan.specs.declared.certificate.RecordPlace.{RecordPlace}
-use Rattle.net_plan.specs.declared.terminus.Record.{Record}
+use Rattle.net_plan.specs.declared.terminus.PlannedRecord.{PlannedRecord}
 use Rattle.net_check.specs.declared.certify_error.CertifyError.TheVariants as error
 use Rattle.net_check.specs.declared.certifying.chains.ChainFault.{ChainFault}
 use Rattle.net_check.specs.Owners.{level_given}
@@ -200,7 +200,7 @@ places_skipped plan n given is none = record {
   ascend = is.ascend;
 }
 
-pub empty_skipped : (plan : Plan) (n : ℕ) (given : List NodePlaces) (records : List Record) → records ≡ records_of plan n → length records ≡ 0 → ArePlacesBefore plan n given → ArePlacesBefore plan (n + 1) given
+pub empty_skipped : (plan : Plan) (n : ℕ) (given : List NodePlaces) (records : List PlannedRecord) → records ≡ records_of plan n → length records ≡ 0 → ArePlacesBefore plan n given → ArePlacesBefore plan (n + 1) given
 empty_skipped plan n given records are empty is = places_skipped plan n given is (sym are ∙ nil_from_length records empty)
 
 -- all places are given

@@ -9,7 +9,7 @@ use Rattle.net_plan.specs.declared.certificate.Certificate.{Certificate}
 use Rattle.net_plan.specs.declared.certificate.NodeLevel.{NodeLevel}
 use Rattle.net_plan.specs.declared.certificate.NodePlaces.{NodePlaces}
 use Rattle.net_plan.specs.declared.certificate.RecordPlace.{RecordPlace}
-use Rattle.net_plan.specs.declared.terminus.Record.{Record}
+use Rattle.net_plan.specs.declared.terminus.PlannedRecord.{PlannedRecord}
 use Rattle.net_plan.specs.CertificateValues.{LevelValue, level_value, PlacesValue, places_value}
 use Rattle.net_check.specs.declared.rule.Rule.TheVariants.{C12}
 use Rattle.net_check.specs.Owners.{IsOwnedBy, level_given}
@@ -67,9 +67,9 @@ module _ (plan : Plan) where
 
 -- ---- places
 
-module _ (records : List Record) (named : HaveNewHandles records) where
+module _ (records : List PlannedRecord) (named : HaveNewHandles records) where
   -- from its place a record leads to the end in as many steps as places are left
-  ends_from : (places : List ℕ) (chained : AreChained records places) (left j : ℕ) (r : Record) (is : slice_get records j ≡ Some r) → (chained j r is).place + 1 + left ≡ length records → EndsAfter (IsFollowedBy records) j left
+  ends_from : (places : List ℕ) (chained : AreChained records places) (left j : ℕ) (r : PlannedRecord) (is : slice_get records j ≡ Some r) → (chained j r is).place + 1 + left ≡ length records → EndsAfter (IsFollowedBy records) j left
   ends_from places chained zero j r is far = elim (chained j r is).next [
     | inr (_, none) ↦ (j, refl, zero_ends records named j r is none)
     | inl (k, other, at, there, same) ↦ (
@@ -86,7 +86,7 @@ module _ (records : List Record) (named : HaveNewHandles records) where
         (ends.0, (k, (r, other, is, at, same), ends.1), ends.2))
   ]
 
-  one_place : (places others : List ℕ) (chained : AreChained records places) (chained' : AreChained records others) (j : ℕ) (r : Record) (is : slice_get records j ≡ Some r)
+  one_place : (places others : List ℕ) (chained : AreChained records places) (chained' : AreChained records others) (j : ℕ) (r : PlannedRecord) (is : slice_get records j ≡ Some r)
       → (chained j r is).place ≡ (chained' j r is).place
   one_place places others chained chained' j r is =
       let here = left_of (chained j r is).place (length records) (chained j r is).within in

@@ -5,8 +5,8 @@ use Rattle.std.proofs.lemmas.Option.{same_Some, slice_get_read, slice_get_within
 use Rattle.net_plan.specs.declared.plan.Plan.{Plan}
 use Rattle.net_plan.specs.declared.nodes.Row.{Row}
 use Rattle.net_plan.specs.declared.nodes.Node.{Node}
-use Rattle.net_plan.specs.declared.terminus.Terminus.{Terminus}
-use Rattle.net_plan.specs.declared.terminus.Record as listed
+use Rattle.net_plan.specs.declared.terminus.PlannedTerminus.{PlannedTerminus}
+use Rattle.net_plan.specs.declared.terminus.PlannedRecord as listed
 use Rattle.net_check.specs.declared.spot.Spot.{Spot}
 use Rattle.net_check.specs.Routing.{Holds, HasRow, Covers, rows_of, OfItem}
 use Rattle.net_check.specs.Repositories.{terminus_of}
@@ -45,11 +45,11 @@ some_of_map f None e is = absurd (cc)
 some_of_map f (Some a) e is = (a, refl)
 
 -- a terminus of the TID
-some_terminus : (o : Option Terminus) (tid : ℕ) → option_map (λ t. t.tid) o ≡ Some tid → (t : Terminus) × (o ≡ Some t) × (t.tid ≡ tid)
+some_terminus : (o : Option PlannedTerminus) (tid : ℕ) → option_map (λ t. t.tid) o ≡ Some tid → (t : PlannedTerminus) × (o ≡ Some t) × (t.tid ≡ tid)
 some_terminus None tid is = absurd (cc)
 some_terminus (Some t) tid is = (t, refl, same_Some t.tid tid is)
 
-tid_of_some : (o : Option Terminus) (t : Terminus) (tid : ℕ) → o ≡ Some t → t.tid ≡ tid → option_map (λ t. t.tid) o ≡ Some tid
+tid_of_some : (o : Option PlannedTerminus) (t : PlannedTerminus) (tid : ℕ) → o ≡ Some t → t.tid ≡ tid → option_map (λ t. t.tid) o ≡ Some tid
 tid_of_some o t tid at same = rw at (rw same refl)
 
 pub held_by : (plan : Plan) (n tid e : ℕ) → Holds plan n e → option_map (λ t. t.tid) (terminus_of plan n) ≡ Some tid → IsHeldByTerminus plan tid e
@@ -64,6 +64,10 @@ not_held_by plan count tid e end none (n, holds, t, at, same) =
     let within : n < length plan.nodes.items = slice_get_within plan.nodes.items n node.0 node.1 in
     none n (omega arith) (holds, tid_of_some (terminus_of plan n) t tid at same)
 
+pub held_by_nobody : (plan : Plan) (tid e : ℕ) → ((n : ℕ) → ¬ Holds plan n e) → ¬ IsHeldByTerminus plan tid e
+unfolding IsHeldByTerminus
+held_by_nobody plan tid e none (n, holds, t, at, same) = none n holds
+
 -- demands that come to the same have one first spot
 same_spot : (D E : Option ℕ → Option ℕ → Type 0) → ((entry eid : Option ℕ) → D entry eid → E entry eid) → ((entry eid : Option ℕ) → E entry eid → D entry eid)
     → (found : Option Spot) → IsFirstSpot D found → IsFirstSpot E found
@@ -76,7 +80,7 @@ at_node_or_eid P R Q S p q None (Some e) h = q e h
 at_node_or_eid P R Q S p q (Some i) eid h = tt
 
 -- what a locator's value has to be, and what the record has to
-pub locator_spot : (plan : Plan) (r : listed.Record) (tid : ℕ) (value : List ℕ) (found : Option Spot) → IsEidLocator r.bytes.items tid value
+pub locator_spot : (plan : Plan) (r : listed.PlannedRecord) (tid : ℕ) (value : List ℕ) (found : Option Spot) → IsEidLocator r.bytes.items tid value
     → ((t : ℕ) (v : List ℕ) → IsEidLocator r.bytes.items t v → (tid ≡ t) × (value ≡ v))
     → IsFirstSpot (AtNodeOrEid (length value ≡ 1) (λ e. value ≡ e ∷ [] → IsHeldByTerminus plan tid e)) found
     → IsFirstSpot (AtNodeOrEid (HasOneByteAsEid r) (LocatesTerminus plan r)) found
@@ -95,7 +99,7 @@ locator_spot plan r tid value found is one first =
     (at_node_or_eid (HasOneByteAsEid r) P (LocatesTerminus plan r) Q to_value to_values) found first
 
 -- a record that is no such locator
-pub no_locator_spot : (plan : Plan) (r : listed.Record) → ((t : ℕ) (v : List ℕ) → ¬ IsEidLocator r.bytes.items t v) → IsFirstSpot (AtNodeOrEid (HasOneByteAsEid r) (LocatesTerminus plan r)) None
+pub no_locator_spot : (plan : Plan) (r : listed.PlannedRecord) → ((t : ℕ) (v : List ℕ) → ¬ IsEidLocator r.bytes.items t v) → IsFirstSpot (AtNodeOrEid (HasOneByteAsEid r) (LocatesTerminus plan r)) None
 unfolding HasOneByteAsEid LocatesTerminus
 no_locator_spot plan r none =
     node_and_eids_meet (HasOneByteAsEid r) (LocatesTerminus plan r) (λ t v is. absurd (none t v is)) (λ e t is. absurd (none t (e ∷ []) is))

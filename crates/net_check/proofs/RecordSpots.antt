@@ -2,7 +2,7 @@
 use Rattle.std.proofs.Common.{◌≡◌, ℕ, ◌<◌, List, Option, Some, None, sym, subst, inl, inr, arith}
 use Rattle.std.specs.Prelude.{option_map}
 use Rattle.net_check.specs.declared.spot.Spot.{Spot}
-use Rattle.net_plan.specs.declared.terminus.Record.{Record}
+use Rattle.net_plan.specs.declared.terminus.PlannedRecord.{PlannedRecord}
 use Rattle.net_check.specs.Rules.{AtItem, AtNodeOrItem}
 use Rattle.net_check.specs.Search.{IsFirstSpot, SpotComesBefore, IsFirstItem}
 use Rattle.net_check.proofs.Spots.{item_spot}
@@ -38,16 +38,16 @@ node_or_item_spot {A} P items Q (Some i) p found = (found.0, earlier)
     earlier (Some k) (Some e) before = tt
 
 -- the spot of the record that was found, whichever list was searched
-pub record_spot : (records searched : List Record) (P : List Record → ℕ → Record → Type 0) (found : Option ℕ) (spot : Option Spot) → searched ≡ records → IsFirstItem searched (P searched) found
+pub record_spot : (records searched : List PlannedRecord) (P : List PlannedRecord → ℕ → PlannedRecord → Type 0) (found : Option ℕ) (spot : Option Spot) → searched ≡ records → IsFirstItem searched (P searched) found
     → spot ≡ option_map (λ i. record { entry = Some i; eid = None }) found → IsFirstSpot (AtItem records (P records)) spot
 record_spot records searched P found spot same first is =
-    let F : List Record → Type 0 = λ rs. IsFirstItem rs (P rs) found in
+    let F : List PlannedRecord → Type 0 = λ rs. IsFirstItem rs (P rs) found in
     let S : Option Spot → Type 0 = IsFirstSpot (AtItem records (P records)) in
     subst S (sym is) (item_spot records (P records) found (subst F same first))
 
-pub node_or_record_spot : (P : Type 0) (records searched : List Record) (Q : List Record → ℕ → Record → Type 0) (found : Option ℕ) (spot : Option Spot) → P → searched ≡ records
+pub node_or_record_spot : (P : Type 0) (records searched : List PlannedRecord) (Q : List PlannedRecord → ℕ → PlannedRecord → Type 0) (found : Option ℕ) (spot : Option Spot) → P → searched ≡ records
     → IsFirstItem searched (Q searched) found → spot ≡ option_map (λ i. record { entry = Some i; eid = None }) found → IsFirstSpot (AtNodeOrItem P records (Q records)) spot
 node_or_record_spot P records searched Q found spot p same first is =
-    let F : List Record → Type 0 = λ rs. IsFirstItem rs (Q rs) found in
+    let F : List PlannedRecord → Type 0 = λ rs. IsFirstItem rs (Q rs) found in
     let S : Option Spot → Type 0 = IsFirstSpot (AtNodeOrItem P records (Q records)) in
     subst S (sym is) (node_or_item_spot P records (Q records) found p (subst F same first))

@@ -4,7 +4,7 @@ use Rattle.std.specs.Prelude.{slice_get}
 use Rattle.std.proofs.lemmas.List.{get_or-map, get_or-take, length-take, length-map}
 use Rattle.std.proofs.lemmas.Option.{slice_get_within, slice_get-get_or, get_or_from_slice_get}
 use Rattle.mctp_bridge.specs.declared.row.Hop.{Hop}
-use Rattle.mctp_bridge.specs.declared.row.Row as bridge
+use Rattle.mctp_bridge.specs.declared.row.TableRow as bridge
 use Rattle.mctp_bridge.specs.declared.table_fault.TableFault.{TableFault}
 use Rattle.mctp_bridge.specs.declared.table_fault.TableFault.TheVariants.{Empty, Outside, Overlap, Memory}
 use Rattle.mctp_bridge.specs.Rows as rule
@@ -18,7 +18,7 @@ use Rattle.net_check.proofs.Elements.{element}
 -- ---- the rows are lawful
 
 -- the row of the table at a place is that of the plan there
-row_at : (rows : List Row) (k : ℕ) (d : bridge.Row) (row : Row) → slice_get rows k ≡ Some row → get_or (map table_row rows) k d ≡ table_row row
+row_at : (rows : List Row) (k : ℕ) (d : bridge.TableRow) (row : Row) → slice_get rows k ≡ Some row → get_or (map table_row rows) k d ≡ table_row row
 row_at rows k d row is = get_or-map table_row rows k row d (slice_get_within rows k row is) ∙ ap table_row (get_or_from_slice_get rows k row row is)
 
 lawful : (row : Row) → IsInRange row → rule.IsLawful (table_row row)
@@ -50,14 +50,14 @@ lawful_rows rows are = record {
 
 -- ---- so only memory can be wanting
 
-first_in_take : (rows : List bridge.Row) (n i : ℕ) (row : bridge.Row) → slice_get (take n rows) i ≡ Some row → (i < n) × (slice_get rows i ≡ Some row)
+first_in_take : (rows : List bridge.TableRow) (n i : ℕ) (row : bridge.TableRow) → slice_get (take n rows) i ≡ Some row → (i < n) × (slice_get rows i ≡ Some row)
 first_in_take rows n i row is =
     let lt = slice_get_within (take n rows) i row is in
     let before : i < n = omega (arith, lt, length-take n rows) in
     let within : i < length rows = omega (arith, lt, length-take n rows) in
     (before, slice_get-get_or rows i row within ∙ ap Some (sym (get_or-take n rows i row before) ∙ get_or_from_slice_get (take n rows) i row row is))
 
-pub no_fault : (rows : List bridge.Row) (fault : TableFault) → rule.AreLawful rows → IsFirstFault rows fault → fault ≡ Memory
+pub no_fault : (rows : List bridge.TableRow) (fault : TableFault) → rule.AreLawful rows → IsFirstFault rows fault → fault ≡ Memory
 unfolding rule.AreApart
 no_fault rows (Empty place) rows_lawful (before, (row, is, empty)) =
     let P = rule.IsLawful in
@@ -83,10 +83,10 @@ pub named : (rows : List Row) (e : ℕ) (hop : Hop) → rule.Routes (map table_r
 named rows e hop (k, x, lt, at, (covers, goes)) =
     let row = element rows k (omega (arith, lt, length-map rows table_row)) in
     let same : table_row row.0 ≡ x = sym (row_at rows k x row.0 row.1) ∙ at in
-    let P : bridge.Row → Type 0 = λ r. rule.Covers r e in
-    (k, row.0, row.1, subst P (sym same) covers, ap (λ (r : bridge.Row). r.hop.next) same ∙ ap (λ (h : Hop). h.next) goes)
+    let P : bridge.TableRow → Type 0 = λ r. rule.Covers r e in
+    (k, row.0, row.1, subst P (sym same) covers, ap (λ (r : bridge.TableRow). r.hop.next) same ∙ ap (λ (h : Hop). h.next) goes)
 
-pub sends_as : (rows : List Row) (copied table : List bridge.Row) → copied ≡ map table_row rows → rule.HasSameRoutes copied table → SendsAs rows table
+pub sends_as : (rows : List Row) (copied table : List bridge.TableRow) → copied ≡ map table_row rows → rule.HasSameRoutes copied table → SendsAs rows table
 sends_as rows copied table is same e None none = λ m names.
     let found = routed rows e m names in
     none found.0 ((same e found.0).0 (subst (λ rs. rule.Routes rs e found.0) (sym is) found.1))

@@ -8,7 +8,7 @@ use Rattle.mctp_transport.specs.Hearing.{Answer, Whole, Held, Dropped}
 use Rattle.mctp_bridge.specs.declared.decision.Decision.TheVariants.{Here, Drop, Forward}
 use Rattle.net_plan.specs.declared.plan.Plan.{Plan}
 use Rattle.net_plan.specs.declared.certificate.Certificate.{Certificate}
-use Rattle.net_plan.specs.declared.terminus.Terminus.{Terminus}
+use Rattle.net_plan.specs.declared.terminus.PlannedTerminus.{PlannedTerminus}
 use Rattle.net_check.specs.Repositories.{terminus_of, records_by_place}
 use Rattle.net_check.specs.Termini.{TerminusState, WaitingMessage, with_waiting}
 use Rattle.net_check.specs.States.{NetworkState, Flight, at_start, without_flight, with_made, with_input, with_terminus, with_received}
@@ -84,7 +84,7 @@ module _ (tables : Tables) (cert : Certificate) where
   start_is_there : TerminiAreThere tables.plan (at_start tables.plan cert)
   start_is_there n t is = planned (terminus_of tables.plan n) is
     where
-      planned : (o : Option Terminus) → option_map (λ (x : Terminus). record { tid = x.tid; records = records_by_place tables.plan cert n; waiting = [] }) o ≡ Some t → o ≢ None
+      planned : (o : Option PlannedTerminus) → option_map (λ (x : PlannedTerminus). record { tid = x.tid; records = records_by_place tables.plan cert n; waiting = [] }) o ≡ Some t → o ≢ None
       planned None e = absurd (cc)
       planned (Some x) e = λ none. none-some x (sym none)
 

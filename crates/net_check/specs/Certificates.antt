@@ -7,7 +7,7 @@ use Rattle.net_plan.specs.declared.certificate.Certificate.{Certificate}
 use Rattle.net_plan.specs.declared.certificate.NodeRanks.{NodeRanks}
 use Rattle.net_plan.specs.declared.certificate.NodeLevel.{NodeLevel}
 use Rattle.net_plan.specs.declared.certificate.NodePlaces.{NodePlaces}
-use Rattle.net_plan.specs.declared.terminus.Record.{Record}
+use Rattle.net_plan.specs.declared.terminus.PlannedRecord.{PlannedRecord}
 use Rattle.net_check.specs.declared.rule.Rule.{Rule}
 use Rattle.net_check.specs.declared.rule.Rule.TheVariants.{C07, C10, C14}
 use Rattle.net_plan.specs.CertificateValues.{certificate_value}
@@ -44,7 +44,7 @@ pub record AreExactLevels (plan : Plan) (given : List NodeLevel) : Type 0 where
       → one.node < other.node
 
 -- some places lead along the next handles of the records
-abbrev pub HavePlaces : List Record → Type 0
+abbrev pub HavePlaces : List PlannedRecord → Type 0
 HavePlaces records = (places : List ℕ) × ArePlaces records places
 
 -- For each terminus the places of its records along the next handles, the nodes in plan order,

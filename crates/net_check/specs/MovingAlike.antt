@@ -1,7 +1,7 @@
 -- Stretches of neighboring EIDs that the nodes of a plan send on alike.
 use Rattle.std.specs.Prelude.{◌≡◌, ◌⊎◌, ◌↔◌, ℕ, ◌+◌, ◌≤◌, List, Option, Some, Any, slice_get}
 use Rattle.mctp_bridge.specs.declared.row.Hop.{Hop}
-use Rattle.mctp_bridge.specs.declared.row.Row.{Row}
+use Rattle.mctp_bridge.specs.declared.row.TableRow.{TableRow}
 use Rattle.mctp_bridge.specs.Rows.{IsNext}
 use Rattle.net_plan.specs.declared.plan.Plan.{Plan}
 use Rattle.net_check.specs.Routing.{Holds, MovesTo}
@@ -19,7 +19,7 @@ abbrev pub HoldsAlike : Plan → (first last n : ℕ) → Type 0
 HoldsAlike plan first last n = (e : ℕ) → first ≤ e → e ≤ last → Holds plan n first ↔ Holds plan n e
 
 -- the EIDs from first to last have one hop, or none of them has any
-abbrev pub HaveOneHop : List Row → (first last : ℕ) → Type 0
+abbrev pub HaveOneHop : List TableRow → (first last : ℕ) → Type 0
 HaveOneHop rows first last = (hop : Option Hop) × ((e : ℕ) → first ≤ e → e ≤ last → IsNext rows e hop)
 
 -- n holds e or the EID after it
@@ -27,13 +27,13 @@ abbrev pub HoldsBeside : Plan → (n e : ℕ) → Type 0
 HoldsBeside plan n e = Holds plan n e ⊎ Holds plan n (e + 1)
 
 -- one of the rows ends with e or begins after it
-abbrev pub HaveEdge : List Row → ℕ → Type 0
+abbrev pub HaveEdge : List TableRow → ℕ → Type 0
 HaveEdge rows e = Any (λ row. (row.first.value + row.size ≡ e + 1) ⊎ (row.first.value ≡ e + 1)) rows
 
 -- n, which has these rows, may send on what is for the EID after e otherwise than what is for e
-abbrev pub IsCutAt : Plan → (n : ℕ) → List Row → ℕ → Type 0
+abbrev pub IsCutAt : Plan → (n : ℕ) → List TableRow → ℕ → Type 0
 IsCutAt plan n rows e = HoldsBeside plan n e ⊎ HaveEdge rows e
 
 -- and so may some node
-abbrev pub IsCut : Plan → List (List Row) → ℕ → Type 0
-IsCut plan tables e = (n : ℕ) × (rows : List Row) × (slice_get tables n ≡ Some rows) × IsCutAt plan n rows e
+abbrev pub IsCut : Plan → List (List TableRow) → ℕ → Type 0
+IsCut plan tables e = (n : ℕ) × (rows : List TableRow) × (slice_get tables n ≡ Some rows) × IsCutAt plan n rows e

@@ -1,5 +1,5 @@
 //! `certify`: the certificate of a plan, or why there is none.
-ghost use Rattle.std.specs.Prelude.{◌+◌, IfOk, IfErr, OnOk};
+ghost use Rattle.std.specs.Prelude.{◌≡◌, ◌+◌, IfOk, IfErr, OnOk};
 ghost use Rattle.net_plan.specs.CertificateValues.{certificate_value};
 ghost use Rattle.net_plan.specs.PlanValues.{plan_value};
 ghost use Rattle.net_plan.specs.ShortText.{HasFewPlaces};
@@ -26,6 +26,7 @@ use crate::certify_error::CertifyError;
 use crate::certifying::exact_levels::exact_levels;
 use crate::certifying::exact_places::exact_places;
 use crate::certifying::exact_ranks::exact_ranks;
+use crate::holders::Holders;
 use crate::plan_fault::first_of_plan_rule;
 use crate::rule::{RULES, Rule};
 use net_plan::{Certificate, Plan};
@@ -50,8 +51,9 @@ pub fn certify(alloc: Global, plan: &Plan) -> Result<Certificate, CertifyError>
         places: Vec::new(alloc),
         ranks: Vec::new(alloc),
     };
+    let holders = Holders::of(plan);
     for rule in RULES {
-        meet_rule(alloc, plan, rule, &mut made)?;
+        meet_rule(alloc, plan, &holders, rule, &mut made)?;
     }
     Ok(made)
 }
@@ -60,14 +62,16 @@ pub fn certify(alloc: Global, plan: &Plan) -> Result<Certificate, CertifyError>
 fn meet_rule(
     alloc: Global,
     plan: &Plan,
+    holders: &Holders<'_>,
     rule: Rule,
     made: &mut Certificate,
 ) -> Result<(), CertifyError>
-    requires { IsMadeBefore plan.now (order_of rule) made.old }
+    requires holders { holders.now ≡ plan.now }
+    requires made { IsMadeBefore plan.now (order_of rule) made.old }
     ensures more { OnOk result (IsMadeBefore plan.now (order_of rule + 1) made.new) }
     ensures obstacle { IfErr result (λ error. NamesObstacle plan.now error) }
 {
-    if let Some(fault) = first_of_plan_rule(alloc, plan, rule)? {
+    if let Some(fault) = first_of_plan_rule(alloc, plan, holders, rule)? {
         return Err(CertifyError::Fault(fault));
     }
     add_part(alloc, plan, rule, made)

@@ -5,6 +5,7 @@ ghost use Rattle.net_check.specs.Search.{IsFirstSpot, IsFirstOfRule, IsFirstOfAl
 
 use crate::certified_ranks::CertifiedRanks;
 use crate::fault::Fault;
+use crate::holders::Holders;
 use crate::plan_fault::first_of_plan_at;
 use crate::plans::Plans;
 use crate::rule::{RULES, Rule};
@@ -21,8 +22,9 @@ pub fn first_of_all(
 ) -> Result<Option<Fault>, AllocError>
     ensures { IfOk result (IsFirstOfAll plan.now certificate.now) }
 {
+    let holders = Holders::of(plan);
     for rule in RULES {
-        if let Some(fault) = first_of_rule(alloc, plan, certificate, rule)? {
+        if let Some(fault) = first_of_rule(alloc, plan, &holders, certificate, rule)? {
             return Ok(Some(fault));
         }
     }
@@ -33,14 +35,16 @@ pub fn first_of_all(
 pub fn first_of_rule(
     alloc: Global,
     plan: &Plan,
+    holders: &Holders<'_>,
     certificate: &Certificate,
     rule: Rule,
 ) -> Result<Option<Fault>, AllocError>
+    requires { holders.now ≡ plan.now }
     ensures { IfOk result (IsFirstOfRule plan.now certificate.now rule) }
 {
     let ranks = ranks_for(alloc, plan, certificate, rule)?;
     for node in 0..plan.nodes.len() {
-        if let Some(spot) = first_at(alloc, plan, certificate, &ranks, rule, node)? {
+        if let Some(spot) = first_at(alloc, plan, holders, certificate, &ranks, rule, node)? {
             return Ok(Some(Fault {
                 rule,
                 node,
@@ -71,12 +75,14 @@ fn ranks_for<'a>(
 fn first_at(
     alloc: Global,
     plan: &Plan,
+    holders: &Holders<'_>,
     certificate: &Certificate,
     ranks: &CertifiedRanks<'_>,
     rule: Rule,
     node: usize,
 ) -> Result<Option<Spot>, AllocError>
     requires within { node < length plan.now.nodes.items }
+    requires holders { holders.now ≡ plan.now }
     requires ranks { ranks.now ≡ certificate.now }
     ensures { IfOk result (IsFirstSpot (Demands plan.now certificate.now rule node)) }
 {
@@ -89,6 +95,6 @@ fn first_at(
             certificate,
             node,
         )),
-        rule => first_of_plan_at(alloc, plan, rule, node),
+        rule => first_of_plan_at(alloc, plan, holders, rule, node),
     }
 }

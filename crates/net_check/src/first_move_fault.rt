@@ -10,6 +10,7 @@ ghost use Rattle.net_check.specs.MoveSearch.{IsFirstByRule, IsFirstByRules, IsFi
 
 use crate::fault::Fault;
 use crate::first_fault::first_of_rule;
+use crate::holders::Holders;
 use crate::move_error::MoveError;
 use crate::move_fault::{MoveFault, MoveRule};
 use crate::plans::Plans;
@@ -36,20 +37,22 @@ pub fn meet_rules_of_move(
     if let Some(node) = first_unlike_node(before, after) {
         return Err(MoveError::Differ(Some(node)));
     }
-    if let Some(fault) = first_of_old(alloc, before, certificate)? {
+    let holders = Holders::of(before);
+    let new_holders = Holders::of(after);
+    if let Some(fault) = first_of_old(alloc, before, &holders, certificate)? {
         return Err(MoveError::Old(fault_of_plan(fault)));
     }
-    if let Some(fault) = first_of_new(alloc, after, certificate)? {
+    if let Some(fault) = first_of_new(alloc, after, &new_holders, certificate)? {
         return Err(MoveError::New(fault_of_plan(fault)));
     }
     let plans = Plans {
         plan: before,
         after: Some(after),
     };
-    if let Some(fault) = first_without_way_on(&plans, before) {
+    if let Some(fault) = first_without_way_on(&plans, &holders, before) {
         return Err(MoveError::Old(fault));
     }
-    if let Some(fault) = first_without_way_on(&plans, after) {
+    if let Some(fault) = first_without_way_on(&plans, &holders, after) {
         return Err(MoveError::New(fault));
     }
     if let Some(fault) = first_superfluous(&plans, certificate) {
@@ -74,12 +77,14 @@ fn fault_of_plan(fault: Fault) -> MoveFault
 fn first_of_old(
     alloc: Global,
     plan: &Plan,
+    holders: &Holders<'_>,
     certificate: &Certificate,
 ) -> Result<Option<Fault>, AllocError>
+    requires { holders.now ≡ plan.now }
     ensures { IfOk result (IsFirstByRules (DemandsBefore plan.now certificate.now)) }
 {
     for rule in RULES {
-        if let Some(fault) = first_of_old_rule(alloc, plan, certificate, rule)? {
+        if let Some(fault) = first_of_old_rule(alloc, plan, holders, certificate, rule)? {
             return Ok(Some(fault));
         }
     }
@@ -90,14 +95,16 @@ fn first_of_old(
 fn first_of_old_rule(
     alloc: Global,
     plan: &Plan,
+    holders: &Holders<'_>,
     certificate: &Certificate,
     rule: Rule,
 ) -> Result<Option<Fault>, AllocError>
+    requires { holders.now ≡ plan.now }
     ensures { IfOk result (IsFirstByRule (DemandsBefore plan.now certificate.now) rule) }
 {
     match rule {
         Rule::C16 => Ok(None),
-        rule => first_of_rule(alloc, plan, certificate, rule),
+        rule => first_of_rule(alloc, plan, holders, certificate, rule),
     }
 }
 
@@ -105,12 +112,14 @@ fn first_of_old_rule(
 fn first_of_new(
     alloc: Global,
     plan: &Plan,
+    holders: &Holders<'_>,
     certificate: &Certificate,
 ) -> Result<Option<Fault>, AllocError>
+    requires { holders.now ≡ plan.now }
     ensures { IfOk result (IsFirstByRules (DemandsAfter plan.now certificate.now)) }
 {
     for rule in RULES {
-        if let Some(fault) = first_of_new_rule(alloc, plan, certificate, rule)? {
+        if let Some(fault) = first_of_new_rule(alloc, plan, holders, certificate, rule)? {
             return Ok(Some(fault));
         }
     }
@@ -121,25 +130,28 @@ fn first_of_new(
 fn first_of_new_rule(
     alloc: Global,
     plan: &Plan,
+    holders: &Holders<'_>,
     certificate: &Certificate,
     rule: Rule,
 ) -> Result<Option<Fault>, AllocError>
+    requires { holders.now ≡ plan.now }
     ensures { IfOk result (IsFirstByRule (DemandsAfter plan.now certificate.now) rule) }
 {
     match rule {
         Rule::C04 | Rule::C05 | Rule::C06 | Rule::C10 | Rule::C11 => {
-            first_of_rule(alloc, plan, certificate, rule)
+            first_of_rule(alloc, plan, holders, certificate, rule)
         }
         _ => Ok(None),
     }
 }
 
 /// The first fault of M02 along the rows of one of the plans.
-fn first_without_way_on(plans: &Plans<'_>, whose: &Plan) -> Option<MoveFault>
+fn first_without_way_on(plans: &Plans<'_>, holders: &Holders<'_>, whose: &Plan) -> Option<MoveFault>
+    requires { holders.now ≡ plans.now.plan.now }
     ensures { IsFirstByNode MoveRule.M02 (λ n. AtRowEid whose.now n (λ row e. IsLedOn (tables_of plans.now) n e row.next)) result }
 {
     for node in 0..whose.nodes.len() {
-        if let Some(spot) = row_without_way_on(plans, whose, node) {
+        if let Some(spot) = row_without_way_on(plans, holders, whose, node) {
             return Some(MoveFault {
                 rule: MoveRule::M02,
                 node,

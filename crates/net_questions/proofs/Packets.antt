@@ -19,7 +19,7 @@ use Rattle.net_check.specs.Deliveries.{is_refusal}
 use Rattle.net_check.specs.Runs.{Turn, RunFrom, Run, after_all, reached, PutsIn}
 use Rattle.net_check.proofs.Nexts.{HasMoved, IsNew, IsNext, step_is_next}
 use Rattle.net_check.proofs.Promised.{run_parts}
-use Rattle.net_questions.specs.declared.step.Step.{Step}
+use Rattle.net_questions.specs.declared.step.WayStep.{WayStep}
 use Rattle.net_questions.specs.declared.way.End.{End}
 use Rattle.net_questions.specs.declared.way.End.TheVariants.{Arrives, Stops}
 use Rattle.net_questions.specs.Ways.{DoesAfter, Follows, IsWay, decision_of}
@@ -28,7 +28,7 @@ use Rattle.net_questions.proofs.WayLaws.{accepted_apart, one_step_more, does_one
 
 -- the steps that a flight has made
 HasGone : Plan → Flight → Type 0
-HasGone plan f = (gone : List Step) × (length gone ≡ f.hops) × Follows plan (destination f) 0 f.origin gone f.node
+HasGone plan f = (gone : List WayStep) × (length gone ≡ f.hops) × Follows plan (destination f) 0 f.origin gone f.node
 
 HaveGone : Plan → NetworkState → Type 0
 HaveGone plan w = (number : ℕ) (f : Flight) → w.flight number ≡ Some f → HasGone plan f
@@ -40,7 +40,7 @@ module _ (plan : Plan) where
       let f = moved.flight in
       let before = gone moved.there.0 f moved.there.1 in
       let steps = before.0 ++ record { node = f.node; hop = moved.hop } ∷ [] in
-      let P : Flight → Type 0 = λ h. (gone : List Step) × (length gone ≡ h.hops) × Follows plan (destination h) 0 h.origin gone h.node in
+      let P : Flight → Type 0 = λ h. (gone : List WayStep) × (length gone ≡ h.hops) × Follows plan (destination h) 0 h.origin gone h.node in
       subst P (sym moved.is) (
         steps,
         omega (arith, length_push before.0 (record { node = f.node; hop = moved.hop }), before.1),
@@ -50,7 +50,7 @@ module _ (plan : Plan) where
   put_in : (puts : Frame → Type 0) (g : Flight) → IsNew puts g → HasGone plan g
   unfolding HasGone
   put_in puts g new =
-      let P : Flight → Type 0 = λ h. (gone : List Step) × (length gone ≡ h.hops) × Follows plan (destination h) 0 h.origin gone h.node in
+      let P : Flight → Type 0 = λ h. (gone : List WayStep) × (length gone ≡ h.hops) × Follows plan (destination h) 0 h.origin gone h.node in
       subst P (sym new.is) ([], refl, refl)
 
   next_gone : (w : NetworkState) (puts : Frame → Type 0) (new : NetworkState) → HaveGone plan w → IsNext (one_plan plan) w puts new → HaveGone plan new
@@ -82,7 +82,7 @@ no_end hop (Stops why) is = cc
 
 module _ (plan : Plan) (e : ℕ) (apart : RowsAreApart plan) where
   -- what has been gone is a beginning of the way
-  beginning : (k n : ℕ) (gone steps : List Step) (m last : ℕ) (end : End) → Follows plan e k n gone m → Follows plan e k n steps last
+  beginning : (k n : ℕ) (gone steps : List WayStep) (m last : ℕ) (end : End) → Follows plan e k n gone m → Follows plan e k n steps last
       → DoesAfter plan e (k + length steps) last (decision_of end) → (length gone ≤ length steps) × Follows plan e k n (take (length gone) steps) m
   beginning k n [] steps m last end here there ends = (omega arith, here)
   beginning k n (step ∷ gone) [] m last end (at, sent, rest) there ends =
@@ -98,18 +98,18 @@ module _ (plan : Plan) (e : ℕ) (apart : RowsAreApart plan) where
       (omega (arith, later.0), (at', sent', later.1))
 
   -- what is done where the way goes on, and at its end
-  next_step : (k n : ℕ) (steps : List Step) (i m last : ℕ) (step : Step) → Follows plan e k n steps last → Follows plan e k n (take i steps) m
+  next_step : (k n : ℕ) (steps : List WayStep) (i m last : ℕ) (step : WayStep) → Follows plan e k n steps last → Follows plan e k n (take i steps) m
       → slice_get steps i ≡ Some step → DoesAfter plan e (k + i) m (Forward step.hop)
   next_step k n [] i m last step way here is = absurd (omega (arith, slice_get_within [] i step is))
   next_step k n (first ∷ steps) zero m last step (at, sent, rest) here is =
       let k_is : k ≡ k + 0 = omega arith in
       let same : first ≡ step = same_Some first step is in
-      subst (λ j. DoesAfter plan e j m (Forward step.hop)) k_is (subst (λ x. DoesAfter plan e k x (Forward step.hop)) here (subst (λ (s : Step). DoesAfter plan e k n (Forward s.hop)) same sent))
+      subst (λ j. DoesAfter plan e j m (Forward step.hop)) k_is (subst (λ x. DoesAfter plan e k x (Forward step.hop)) here (subst (λ (s : WayStep). DoesAfter plan e k n (Forward s.hop)) same sent))
   next_step k n (first ∷ steps) (suc i) m last step (at, sent, rest) (at', sent', rest') is =
       let k_is : suc k + i ≡ k + suc i = omega arith in
       subst (λ j. DoesAfter plan e j m (Forward step.hop)) k_is (next_step (suc k) first.hop.next steps i m last step rest rest' is)
 
-  same_last : (k n : ℕ) (steps : List Step) (m last i : ℕ) → i ≡ length steps → Follows plan e k n steps last → Follows plan e k n (take i steps) m → m ≡ last
+  same_last : (k n : ℕ) (steps : List WayStep) (m last i : ℕ) → i ≡ length steps → Follows plan e k n steps last → Follows plan e k n (take i steps) m → m ≡ last
   same_last k n [] m last i is way here = same_end i here
     where
       same_end : (i : ℕ) → Follows plan e k n (take i []) m → m ≡ last
@@ -118,7 +118,7 @@ module _ (plan : Plan) (e : ℕ) (apart : RowsAreApart plan) where
   same_last k n (step ∷ steps) m last zero is way here = absurd (omega (arith, is))
   same_last k n (step ∷ steps) m last (suc i) is (at, sent, rest) (at', sent', rest') = same_last (suc k) step.hop.next steps m last i (omega (arith, is)) rest rest'
 
-stands : (plan : Plan) (f : Flight) (steps : List Step) (last : ℕ) (end : End) → RowsAreApart plan → HasGone plan f
+stands : (plan : Plan) (f : Flight) (steps : List WayStep) (last : ℕ) (end : End) → RowsAreApart plan → HasGone plan f
     → IsWay plan (destination f) f.origin steps last end → StandsOnWay plan f steps
 unfolding HasGone
 stands plan f steps last end apart (gone, long, follows) way =
@@ -163,7 +163,7 @@ done_end w new number f (Stops why) (Silent node) done = absurd done
 done_end w new number f (Stops why) (Switched node) done = absurd done
 done_end w new number f (Stops why) (Refused told) done = absurd done
 
-next_on_way : (plan : Plan) (w new : NetworkState) (number : ℕ) (f : Flight) (outcome : OutcomeValue) (decision : Decision) (steps : List Step) (last : ℕ) (end : End) → RowsAreApart plan
+next_on_way : (plan : Plan) (w new : NetworkState) (number : ℕ) (f : Flight) (outcome : OutcomeValue) (decision : Decision) (steps : List WayStep) (last : ℕ) (end : End) → RowsAreApart plan
     → DoesAfter plan (destination f) f.hops f.node decision → IsDone w number f outcome decision new → IsWay plan (destination f) f.origin steps last end
     → StandsOnWay plan f steps → IsNextOnWay f steps end outcome
 next_on_way plan w new number f outcome decision steps last end apart does done way stands = record {
@@ -194,7 +194,7 @@ happens plan w new event (Silent node) none step = step.1
 happens plan w new event (Switched node) none step = step.1
 happens plan w new event (Refused why) none step = absurd (cc)
 
-moves_so : (plan : Plan) (w new : NetworkState) (number : ℕ) (keep : Bool) (f : Flight) (outcome : OutcomeValue) (steps : List Step) (last : ℕ) (end : End) → RowsAreApart plan
+moves_so : (plan : Plan) (w new : NetworkState) (number : ℕ) (keep : Bool) (f : Flight) (outcome : OutcomeValue) (steps : List WayStep) (last : ℕ) (end : End) → RowsAreApart plan
     → w.flight number ≡ Some f → Happens (one_plan plan) w (Move number keep) outcome new → IsWay plan (destination f) f.origin steps last end
     → StandsOnWay plan f steps → IsNextOnWay f steps end outcome
 moves_so plan w new number false f outcome steps last end apart there (g, is, (decision, does, done)) way stands =

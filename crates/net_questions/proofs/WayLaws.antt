@@ -11,7 +11,7 @@ use Rattle.mctp_bridge.specs.declared.decision.Decision.{Decision}
 use Rattle.mctp_bridge.specs.declared.decision.Decision.TheVariants.{Here, Drop, Forward}
 use Rattle.mctp_bridge.specs.Decisions.{Decides}
 use Rattle.mctp_bridge.specs.Rows as rule
-use Rattle.mctp_bridge.specs.declared.row.Row as bridge
+use Rattle.mctp_bridge.specs.declared.row.TableRow as bridge
 use Rattle.net_plan.specs.declared.plan.Plan.{Plan}
 use Rattle.net_plan.specs.declared.nodes.Row.{Row}
 use Rattle.net_plan.specs.declared.certificate.Certificate.{Certificate}
@@ -29,7 +29,7 @@ use Rattle.net_check.proofs.Elements.{element}
 use Rattle.net_check.proofs.Ends.{ends_within_rank}
 use Rattle.net_check.proofs.EidMoves.{moved_in_range}
 use Rattle.net_check.proofs.TableLaws.{named}
-use Rattle.net_questions.specs.declared.step.Step.{Step}
+use Rattle.net_questions.specs.declared.step.WayStep.{WayStep}
 use Rattle.net_questions.specs.declared.way.End.{End}
 use Rattle.net_questions.specs.declared.way.End.TheVariants.{Arrives, Stops}
 use Rattle.net_questions.specs.Ways.{DoesAfter, Follows, IsWay, SameWays, ArrivesAfter, decision_of}
@@ -46,19 +46,19 @@ accepted_in_range plan cert accepted n r = (accepted C04 n (Some r) None).0
 pub sent_moves : (plan : Plan) (e k n : ℕ) (hop : Hop) → DoesAfter plan e k n (Forward hop) → MovesTo plan e n hop.next
 sent_moves plan e k n hop sent = (sent.0, named (rows_of plan n) e hop sent.3)
 
-pub follows_leads : (plan : Plan) (e k n : ℕ) (steps : List Step) (m : ℕ) → Follows plan e k n steps m → Leads (MovesTo plan e) n (length steps) m
+pub follows_leads : (plan : Plan) (e k n : ℕ) (steps : List WayStep) (m : ℕ) → Follows plan e k n steps m → Leads (MovesTo plan e) n (length steps) m
 follows_leads plan e k n [] m same = same
 follows_leads plan e k n (step ∷ steps) m (at, sent, rest) =
     (step.hop.next, sent_moves plan e k n step.hop sent, follows_leads plan e (suc k) step.hop.next steps m rest)
 
 -- and so they are few
-pub steps_within : (plan : Plan) (cert : Certificate) (e n : ℕ) (steps : List Step) (m : ℕ) → Accepts plan cert → Follows plan e 0 n steps m → length steps ≤ rank cert n e
+pub steps_within : (plan : Plan) (cert : Certificate) (e n : ℕ) (steps : List WayStep) (m : ℕ) → Accepts plan cert → Follows plan e 0 n steps m → length steps ≤ rank cert n e
 steps_within plan cert e n steps m accepted follows =
     omega (arith, (ends_within_rank plan cert accepted).within e n (length steps) m (follows_leads plan e 0 n steps m follows))
 
 -- ---- one step more
 
-pub one_step_more : (plan : Plan) (e k n : ℕ) (steps : List Step) (m j : ℕ) (hop : Hop) → j ≡ k + length steps → Follows plan e k n steps m
+pub one_step_more : (plan : Plan) (e k n : ℕ) (steps : List WayStep) (m j : ℕ) (hop : Hop) → j ≡ k + length steps → Follows plan e k n steps m
     → DoesAfter plan e j m (Forward hop) → Follows plan e k n (steps ++ record { node = m; hop = hop } ∷ []) hop.next
 one_step_more plan e k n [] m j hop is same sent =
     let now : j ≡ k = omega (arith, is) in
@@ -69,7 +69,7 @@ one_step_more plan e k n (step ∷ steps) m j hop is (at, sent, rest) more =
 
 -- ---- a node does one thing
 
-row_at : (rows : List Row) (k : ℕ) (d : bridge.Row) (row : Row) → slice_get rows k ≡ Some row → get_or (map table_row rows) k d ≡ table_row row
+row_at : (rows : List Row) (k : ℕ) (d : bridge.TableRow) (row : Row) → slice_get rows k ≡ Some row → get_or (map table_row rows) k d ≡ table_row row
 row_at rows k d row is = get_or-map table_row rows k row d (slice_get_within rows k row is) ∙ ap table_row (get_or_from_slice_get rows k row row is)
 
 -- a route's hop is that of a row that covers e
@@ -78,8 +78,8 @@ row_of : (rows : List Row) (e : ℕ) (hop : Hop) → rule.Routes (map table_row 
 row_of rows e hop (k, x, lt, at, (covers, goes)) =
     let row = element rows k (omega (arith, lt, length-map rows table_row)) in
     let same : table_row row.0 ≡ x = sym (row_at rows k x row.0 row.1) ∙ at in
-    let P : bridge.Row → Type 0 = λ r. rule.Covers r e in
-    (k, row.0, row.1, subst P (sym same) covers, ap (λ (r : bridge.Row). r.hop) same ∙ goes)
+    let P : bridge.TableRow → Type 0 = λ r. rule.Covers r e in
+    (k, row.0, row.1, subst P (sym same) covers, ap (λ (r : bridge.TableRow). r.hop) same ∙ goes)
 
 -- and a row that covers e has a route
 pub hop_of : (rows : List Row) (e r : ℕ) (row : Row) → slice_get rows r ≡ Some row → Covers row e → rule.Routes (map table_row rows) e (table_row row).hop
@@ -164,15 +164,15 @@ one_end Arrives (Stops why) is = absurd (cc)
 one_end (Stops why) Arrives is = absurd (cc)
 one_end (Stops why) (Stops told) is = let same : why ≡ told = cc in ap (λ w. Stops w) same
 
-step_at : ℕ → Hop → Step
+step_at : ℕ → Hop → WayStep
 step_at n hop = record { node = n; hop = hop }
 
-same_step : (step other : Step) → step.node ≡ other.node → step.hop ≡ other.hop → step ≡ other
+same_step : (step other : WayStep) → step.node ≡ other.node → step.hop ≡ other.hop → step ≡ other
 unfolding step_at
 same_step step other nodes hops = ap (λ n. step_at n step.hop) nodes ∙ ap (λ h. step_at other.node h) hops
 
 module _ (plan : Plan) (e : ℕ) (apart : RowsAreApart plan) where
-  one_way : (k n : ℕ) (steps others : List Step) (last end_at : ℕ) (one other : End) → Follows plan e k n steps last → Follows plan e k n others end_at
+  one_way : (k n : ℕ) (steps others : List WayStep) (last end_at : ℕ) (one other : End) → Follows plan e k n steps last → Follows plan e k n others end_at
       → DoesAfter plan e (k + length steps) last (decision_of one) → DoesAfter plan e (k + length others) end_at (decision_of other)
       → SameWays steps others last end_at one other
   one_way k n [] [] last end_at one other here there ends ends' =
@@ -197,7 +197,7 @@ module _ (plan : Plan) (e : ℕ) (apart : RowsAreApart plan) where
       let first : step ≡ second = same_step step second (at ∙ sym at') hops in
       (ap (λ s. s ∷ steps) first ∙ ap (λ ss. second ∷ ss) later.0, later.1, later.2)
 
-pub ways_are_alone : (plan : Plan) (cert : Certificate) (e from last end_at : ℕ) (steps others : List Step) (one other : End) → Accepts plan cert
+pub ways_are_alone : (plan : Plan) (cert : Certificate) (e from last end_at : ℕ) (steps others : List WayStep) (one other : End) → Accepts plan cert
     → IsWay plan e from steps last one → IsWay plan e from others end_at other → SameWays steps others last end_at one other
 ways_are_alone plan cert e from last end_at steps others one other accepted way second =
     one_way plan e (accepted_apart plan cert accepted) 0 from steps others last end_at one other way.follows second.follows
@@ -218,7 +218,7 @@ Sends plan e k n = Holds plan n e ⊎ (IsBridge plan n ⊎ (k ≡ 0))
 
 module _ (plan : Plan) (e : ℕ) (in_range : RowsAreInRange plan) (leads : HeldAreLedOn plan) where
   arrives : (k n moves m : ℕ) → Sends plan e k n → Leads (MovesTo plan e) n moves m → Holds plan m e
-      → (steps : List Step) × (length steps ≡ moves) × Follows plan e k n steps m
+      → (steps : List WayStep) × (length steps ≡ moves) × Follows plan e k n steps m
   unfolding Sends
   arrives k n zero m sends same holds = ([], refl, same)
   arrives k n (suc moves) m sends (next, move, rest) holds =

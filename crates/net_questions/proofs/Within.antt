@@ -7,8 +7,8 @@ use Rattle.net_plan.specs.declared.plan.Plan.{Plan}
 use Rattle.net_plan.specs.declared.nodes.Port.{Port}
 use Rattle.net_plan.specs.declared.nodes.Pool.{Pool}
 use Rattle.net_plan.specs.declared.nodes.Row.{Row}
-use Rattle.net_plan.specs.declared.terminus.Record.{Record}
-use Rattle.net_plan.specs.declared.terminus.Terminus.{Terminus}
+use Rattle.net_plan.specs.declared.terminus.PlannedRecord.{PlannedRecord}
+use Rattle.net_plan.specs.declared.terminus.PlannedTerminus.{PlannedTerminus}
 use Rattle.net_check.specs.Routing.{Holds, HasRow, IsBridge, rows_of}
 use Rattle.net_check.specs.Owners.{IsOwnedBy}
 use Rattle.net_check.specs.Pools.{pool_of, IsInPoolOf}
@@ -34,13 +34,13 @@ row_within plan n r row is = by_past plan n (λ past. none past is)
 pub has_row_within : (plan : Plan) (n e : ℕ) → HasRow plan n e → n < length plan.nodes.items
 has_row_within plan n e has = row_within plan n has.1.0 has.1.1 has.1.2
 
-pub record_within : (plan : Plan) (n j : ℕ) (r : Record) → slice_get (records_of plan n) j ≡ Some r → n < length plan.nodes.items
+pub record_within : (plan : Plan) (n j : ℕ) (r : PlannedRecord) → slice_get (records_of plan n) j ≡ Some r → n < length plan.nodes.items
 record_within plan n j r is = by_past plan n (λ past. none past is)
   where
     none : length plan.nodes.items ≤ n → slice_get (records_of plan n) j ≡ Some r → ⊥
     none past = rw (slice_get_past plan.nodes.items n past) (λ is. cc)
 
-pub terminus_within : (plan : Plan) (n : ℕ) (t : Terminus) → terminus_of plan n ≡ Some t → n < length plan.nodes.items
+pub terminus_within : (plan : Plan) (n : ℕ) (t : PlannedTerminus) → terminus_of plan n ≡ Some t → n < length plan.nodes.items
 terminus_within plan n t is = by_past plan n (λ past. none past is)
   where
     none : length plan.nodes.items ≤ n → terminus_of plan n ≡ Some t → ⊥

@@ -4,8 +4,8 @@ use Rattle.std.specs.Prelude.{List, [], ◌∷◌, Option, Some, None, slice_get
 use Rattle.net_plan.specs.declared.plan.Plan.{Plan}
 use Rattle.net_plan.specs.declared.nodes.Port.{Port}
 use Rattle.net_plan.specs.declared.nodes.Row.{Row}
-use Rattle.net_plan.specs.declared.terminus.Record.{Record}
-use Rattle.net_plan.specs.declared.terminus.Terminus.{Terminus}
+use Rattle.net_plan.specs.declared.terminus.PlannedRecord.{PlannedRecord}
+use Rattle.net_plan.specs.declared.terminus.PlannedTerminus.{PlannedTerminus}
 use Rattle.pdr_record.specs.Layouts.{NumericValue}
 use Rattle.pdr_record.specs.Records.{RecordValue, BodyValue, Spelled}
 use Rattle.net_check.specs.Routing.{ports_of, rows_of, IsBridge, Holds, Covers, HasRow, OfItem}
@@ -80,16 +80,16 @@ IsAloneOnBus plan n p = (a : Port) × IsPort plan n p a × IsOnlyPort plan a.bus
 -- ---- termini
 
 -- both termini have one terminus ID; 0 is none
-abbrev pub HaveOneTid : Terminus → Terminus → Type 0
+abbrev pub HaveOneTid : PlannedTerminus → PlannedTerminus → Type 0
 HaveOneTid t u = (t.tid ≡ u.tid) × (t.tid ≢ 0)
 
 -- m has a terminus of the terminus' ID
-abbrev pub HasItsTid : Plan → Terminus → ℕ → Type 0
-HasItsTid plan t m = (u : Terminus) × (terminus_of plan m ≡ Some u) × HaveOneTid t u
+abbrev pub HasItsTid : Plan → PlannedTerminus → ℕ → Type 0
+HasItsTid plan t m = (u : PlannedTerminus) × (terminus_of plan m ≡ Some u) × HaveOneTid t u
 
 -- n and m have termini of one terminus ID
 abbrev pub HaveSharedTid : Plan → ℕ → ℕ → Type 0
-HaveSharedTid plan n m = (t : Terminus) × (terminus_of plan n ≡ Some t) × HasItsTid plan t m
+HaveSharedTid plan n m = (t : PlannedTerminus) × (terminus_of plan n ≡ Some t) × HasItsTid plan t m
 
 -- n and a later node m have termini of one terminus ID
 abbrev pub ShareTid : Plan → ℕ → ℕ → Type 0
@@ -98,7 +98,7 @@ ShareTid plan n m = (n < m) × HaveSharedTid plan n m
 -- one of n's records is a valid locator of the TID and of e
 abbrev pub HasLocator : Plan → ℕ → ℕ → ℕ → Type 0
 HasLocator plan n tid e =
-    (j : ℕ) × (r : Record) × (slice_get (records_of plan n) j ≡ Some r) × IsEidLocator r.bytes.items tid (e ∷ [])
+    (j : ℕ) × (r : PlannedRecord) × (slice_get (records_of plan n) j ≡ Some r) × IsEidLocator r.bytes.items tid (e ∷ [])
 
 -- n has no valid locator of the TID and of its EID
 abbrev pub IsUnlocated : Plan → ℕ → ℕ → Type 0
@@ -106,7 +106,7 @@ IsUnlocated plan n tid = (e : ℕ) × Holds plan n e × ¬ HasLocator plan n tid
 
 -- n has a terminus, and no valid locator of its own TID and EID
 abbrev pub LacksLocator : Plan → ℕ → Type 0
-LacksLocator plan n = (t : Terminus) × (terminus_of plan n ≡ Some t) × IsUnlocated plan n t.tid
+LacksLocator plan n = (t : PlannedTerminus) × (terminus_of plan n ≡ Some t) × IsUnlocated plan n t.tid
 
 -- ---- sensors
 
@@ -127,7 +127,8 @@ pub record IsSensorRecord (bytes : List ℕ) (id : ℕ) : Type 0 where
 -- a record of n's before record j is one of the sensor ID
 abbrev pub HasEarlierSensor : Plan → ℕ → ℕ → ℕ → Type 0
 HasEarlierSensor plan n j id =
-    (i : ℕ) × (r : Record) × (slice_get (records_of plan n) i ≡ Some r) × ((i < j) × IsSensorRecord r.bytes.items id)
+    (i : ℕ) × (r : PlannedRecord) × (slice_get (records_of plan n) i ≡ Some r)
+    × ((i < j) × IsSensorRecord r.bytes.items id)
 
 -- the bytes are those of a sensor's record, and a record of n's before record j is one of the same sensor ID
 abbrev pub RepeatsSensorId : Plan → ℕ → ℕ → List ℕ → Type 0
@@ -136,7 +137,7 @@ RepeatsSensorId plan n j bytes = (id : ℕ) × IsSensorRecord bytes id × HasEar
 -- n's record j is a sensor's, and an earlier one of n's is one of the same sensor ID
 abbrev pub SharesSensorId : Plan → ℕ → ℕ → Type 0
 SharesSensorId plan n j =
-    (r : Record) × (slice_get (records_of plan n) j ≡ Some r) × RepeatsSensorId plan n j r.bytes.items
+    (r : PlannedRecord) × (slice_get (records_of plan n) j ≡ Some r) × RepeatsSensorId plan n j r.bytes.items
 
 -- the number that the bytes spell, the lowest byte first
 abbrev pub number_of : List ℕ → ℕ
@@ -175,7 +176,7 @@ HasEmptyRange bytes =
 -- n's record j is such a record
 abbrev pub HasEmptyReadableRange : Plan → ℕ → ℕ → Type 0
 HasEmptyReadableRange plan n j =
-    (r : Record) × (slice_get (records_of plan n) j ≡ Some r) × HasEmptyRange r.bytes.items
+    (r : PlannedRecord) × (slice_get (records_of plan n) j ≡ Some r) × HasEmptyRange r.bytes.items
 
 -- ---- rows
 

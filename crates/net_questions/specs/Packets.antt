@@ -8,13 +8,13 @@ use Rattle.net_check.specs.States.{Flight, destination}
 use Rattle.net_check.specs.Events.{OutcomeValue, Moved, Entered, Stopped, Move}
 use Rattle.net_check.specs.Deliveries.{is_refusal}
 use Rattle.net_check.specs.Runs.{Turn, Run, reached}
-use Rattle.net_questions.specs.declared.step.Step.{Step}
+use Rattle.net_questions.specs.declared.step.WayStep.{WayStep}
 use Rattle.net_questions.specs.declared.way.End.{End}
 use Rattle.net_questions.specs.declared.way.End.TheVariants.{Arrives, Stops}
 use Rattle.net_questions.specs.Ways.{Follows, IsWay}
 
 -- a flight stands on the way of its packet, after as many steps as it has made hops
-abbrev pub StandsOnWay : Plan → Flight → List Step → Type 0
+abbrev pub StandsOnWay : Plan → Flight → List WayStep → Type 0
 StandsOnWay plan f steps = (f.hops ≤ length steps) × Follows plan (destination f) 0 f.origin (take f.hops steps) f.node
 
 -- what comes of a move that ends the way
@@ -24,19 +24,19 @@ IsEndOf f Arrives outcome =
 IsEndOf f (Stops why) outcome = (number : ℕ) × (outcome ≡ Stopped number why)
 
 -- what comes of moving a flight: it makes the next step of its way, or the way ends
-pub record IsNextOnWay (f : Flight) (steps : List Step) (end : End) (outcome : OutcomeValue) : Type 0 where
-  pub on : (step : Step) → slice_get steps f.hops ≡ Some step
+pub record IsNextOnWay (f : Flight) (steps : List WayStep) (end : End) (outcome : OutcomeValue) : Type 0 where
+  pub on : (step : WayStep) → slice_get steps f.hops ≡ Some step
       → (number : ℕ) × (outcome ≡ Moved number step.hop.next (f.hops + 1))
   pub over : f.hops ≡ length steps → IsEndOf f end outcome
 
 -- In every run each flight stands on the way of its packet, and each move of it makes the next step of that way.
 pub record KeepsToWays (plan : Plan) (cert : Certificate) : Type 0 where
-  pub stands : (turns : List Turn) (number : ℕ) (f : Flight) (steps : List Step) (last : ℕ) (end : End)
+  pub stands : (turns : List Turn) (number : ℕ) (f : Flight) (steps : List WayStep) (last : ℕ) (end : End)
       → Run plan cert turns
       → (reached plan cert turns).flight number ≡ Some f → IsWay plan (destination f) f.origin steps last end
       → StandsOnWay plan f steps
-  pub moves : (earlier : List Turn) (turn : Turn) (number : ℕ) (keep : Bool) (f : Flight) (steps : List Step) (last : ℕ)
-      (end : End)
+  pub moves : (earlier : List Turn) (turn : Turn) (number : ℕ) (keep : Bool) (f : Flight) (steps : List WayStep)
+      (last : ℕ) (end : End)
       → Run plan cert (earlier ++ turn ∷ []) → (reached plan cert earlier).flight number ≡ Some f
       → turn.event ≡ Move number keep
       → is_refusal turn.outcome ≡ false → IsWay plan (destination f) f.origin steps last end

@@ -6,8 +6,9 @@ ghost use Rattle.net_check.specs.Circles.{next_in};
 ghost use Rattle.net_questions.specs.Lint.{GoesOn};
 ghost use Rattle.net_questions.specs.Reaching.{IsReach, NeverCircles, AreHopsTo, AreHopsToEach, hops_in};
 
-use crate::lookup::{eid_at, holds, row_for};
+use crate::lookup::{eid_at, row_for};
 use mctp_transport::Eid;
+use net_check::lookup::holds;
 use net_plan::Plan;
 use std::alloc::{AllocError, Global};
 

@@ -3,7 +3,7 @@ ghost use Rattle.std.specs.Prelude.{◌↔◌, ℕ, List};
 ghost use Rattle.net_plan.specs.declared.plan.Plan.{Plan};
 ghost use Rattle.net_plan.specs.declared.certificate.Certificate.{Certificate};
 ghost use Rattle.net_check.specs.Rules.{Accepts};
-ghost use Rattle.net_questions.specs.declared.step.Step.{Step};
+ghost use Rattle.net_questions.specs.declared.step.WayStep.{WayStep};
 ghost use Rattle.net_questions.specs.declared.way.End.{End};
 ghost use Rattle.net_questions.specs.Reaching.{Reaches};
 ghost use Rattle.net_questions.specs.Ways.{IsWay, SameWays, ArrivesAfter};
@@ -12,7 +12,7 @@ ghost use Rattle.net_questions.specs.Packets.{KeepsToWays};
 /// Two ways of packets for one endpoint ID from one node are the same, where no two rows of a node cover one endpoint ID; so
 /// it is in an accepted plan.
 pub fn ways_are_alone()
-    ensures { (plan : Plan) (cert : Certificate) (e from last end_at : ℕ) (steps others : List Step) (one other : End) → Accepts plan cert
+    ensures { (plan : Plan) (cert : Certificate) (e from last end_at : ℕ) (steps others : List WayStep) (one other : End) → Accepts plan cert
         → IsWay plan e from steps last one → IsWay plan e from others end_at other → SameWays steps others last end_at one other }
 {}
 

@@ -18,5 +18,5 @@ pub use laws::{packets_keep_to_their_ways, ways_are_alone, ways_reach};
 pub use linting::lint;
 pub use pair::Pair;
 pub use reaching::reach;
-pub use step::Step;
+pub use step::WayStep;
 pub use way::{End, Way, follow};

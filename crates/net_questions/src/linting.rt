@@ -5,8 +5,8 @@ ghost use Rattle.net_questions.specs.Findings.{IsSo, AreFindings, Adds, IsUnder,
 use crate::code::{CODES, Code};
 use crate::finding::Finding;
 use crate::lints::{locators, ports, rows, sensors, termini, ways};
-use crate::lookup::{ports_at, records_at, rows_at};
 use mctp_transport::Eid;
+use net_check::lookup::{ports_at, records_at, rows_at};
 use net_plan::Plan;
 use std::alloc::{AllocError, Global};
 

@@ -3,11 +3,12 @@ ghost use Rattle.std.specs.Prelude.{◌≡◌, ◌≤◌, ℕ, length, IfOk};
 ghost use Rattle.net_check.specs.Ranks.{rank};
 ghost use Rattle.net_questions.specs.Ways.{IsWay, DoesAfter};
 
-use crate::lookup::{holds, hop_at, is_bridge};
-use crate::step::Step;
+use crate::lookup::hop_at;
+use crate::step::WayStep;
 use mctp_bridge::{Decision, Obstacle};
 use mctp_transport::Eid;
 use net_check::Checked;
+use net_check::lookup::{holds, is_bridge};
 use net_plan::Plan;
 use std::alloc::{AllocError, Global};
 
@@ -24,7 +25,7 @@ pub enum End {
 #[derive(Debug, Drop)]
 pub struct Way {
     /// Where the nodes send the packet, one after another.
-    pub steps: Vec<Step>,
+    pub steps: Vec<WayStep>,
     /// The place of the node where the way ends.
     pub last: usize,
     pub end: End,
@@ -41,7 +42,7 @@ pub fn follow(alloc: Global, checked: &Checked, from: usize, eid: Eid) -> Result
     loop {
         match decision_after(plan, last, eid, steps.len()) {
             Decision::Forward(hop) => {
-                steps.push(Step { node: last, hop })?;
+                steps.push(WayStep { node: last, hop })?;
                 last = hop.next;
             }
             Decision::Here => {

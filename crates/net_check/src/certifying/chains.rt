@@ -5,7 +5,7 @@ ghost use Rattle.net_check.specs.Search.{IsFirstItem};
 ghost use Rattle.net_check.specs.RecordChains.{HasNext, HasNewNext, HaveNewHandles, IsChainOf, IsIndexOf, AreLinked, AreFromTheEnd};
 
 use crate::certifying::handle_index::{index_of, place_of};
-use net_plan::{Record, RecordPlace};
+use net_plan::{PlannedRecord, RecordPlace};
 use std::alloc::{AllocError, Global};
 use std::collections::BTreeMap;
 
@@ -57,7 +57,7 @@ pub enum Chained {
 }
 
 /// The places of the records along their next handles, or what is wrong with these.
-pub fn chain_of(alloc: Global, records: &[Record]) -> Result<Chained, AllocError>
+pub fn chain_of(alloc: Global, records: &[PlannedRecord]) -> Result<Chained, AllocError>
     requires few { length records.now ≤ 4096 }
     requires handles { HaveNewHandles records.now }
     ensures { IfOk result (IsChainOf records.now) }
@@ -75,7 +75,7 @@ pub fn chain_of(alloc: Global, records: &[Record]) -> Result<Chained, AllocError
 }
 
 /// The record of each handle.
-fn handles_of(alloc: Global, records: &[Record]) -> Result<BTreeMap<u32, usize>, AllocError>
+fn handles_of(alloc: Global, records: &[PlannedRecord]) -> Result<BTreeMap<u32, usize>, AllocError>
     ensures { IfOk result (IsIndexOf (map (λ r. r.handle) records.now)) }
 {
     let handles: Vec<u32> = records.iter().map(|record| record.handle).collect(alloc)?;
@@ -83,7 +83,7 @@ fn handles_of(alloc: Global, records: &[Record]) -> Result<BTreeMap<u32, usize>,
 }
 
 /// The first record of each next handle.
-fn nexts_of(alloc: Global, records: &[Record]) -> Result<BTreeMap<u32, usize>, AllocError>
+fn nexts_of(alloc: Global, records: &[PlannedRecord]) -> Result<BTreeMap<u32, usize>, AllocError>
     ensures { IfOk result (IsIndexOf (map (λ r. r.next) records.now)) }
 {
     let nexts: Vec<u32> = records.iter().map(|record| record.next).collect(alloc)?;
@@ -91,7 +91,7 @@ fn nexts_of(alloc: Global, records: &[Record]) -> Result<BTreeMap<u32, usize>, A
 }
 
 /// The first record whose next handle is neither 0 nor a record's handle.
-fn first_missing(records: &[Record], handles: &BTreeMap<u32, usize>) -> Option<usize>
+fn first_missing(records: &[PlannedRecord], handles: &BTreeMap<u32, usize>) -> Option<usize>
     requires { IsIndexOf (map (λ r. r.handle) records.now) handles.now }
     ensures { IsFirstItem records.now (λ _ r. HasNext records.now r) result }
 {
@@ -104,7 +104,7 @@ fn first_missing(records: &[Record], handles: &BTreeMap<u32, usize>) -> Option<u
 }
 
 /// Whether the record's next handle is 0 or a record's handle.
-fn has_next(records: &[Record], handles: &BTreeMap<u32, usize>, j: usize) -> bool
+fn has_next(records: &[PlannedRecord], handles: &BTreeMap<u32, usize>, j: usize) -> bool
     requires within { j < length records.now }
     requires handles { IsIndexOf (map (λ r. r.handle) records.now) handles.now }
     ensures { IsTrue result ↔ OfItem records.now j (HasNext records.now) }
@@ -117,7 +117,7 @@ fn has_next(records: &[Record], handles: &BTreeMap<u32, usize>, j: usize) -> boo
 }
 
 /// The first record whose next handle is an earlier record's.
-fn first_doubled(records: &[Record], nexts: &BTreeMap<u32, usize>) -> Option<usize>
+fn first_doubled(records: &[PlannedRecord], nexts: &BTreeMap<u32, usize>) -> Option<usize>
     requires { IsIndexOf (map (λ r. r.next) records.now) nexts.now }
     ensures { IsFirstItem records.now (HasNewNext records.now) result }
 {
@@ -130,7 +130,7 @@ fn first_doubled(records: &[Record], nexts: &BTreeMap<u32, usize>) -> Option<usi
 }
 
 /// Whether the record's next handle is no earlier record's.
-fn has_new_next(records: &[Record], nexts: &BTreeMap<u32, usize>, j: usize) -> bool
+fn has_new_next(records: &[PlannedRecord], nexts: &BTreeMap<u32, usize>, j: usize) -> bool
     requires within { j < length records.now }
     requires nexts { IsIndexOf (map (λ r. r.next) records.now) nexts.now }
     ensures { IsTrue result ↔ OfItem records.now j (HasNewNext records.now j) }
@@ -145,7 +145,7 @@ fn has_new_next(records: &[Record], nexts: &BTreeMap<u32, usize>, j: usize) -> b
 /// of the record before.
 fn places_from_the_end(
     alloc: Global,
-    records: &[Record],
+    records: &[PlannedRecord],
     nexts: &BTreeMap<u32, usize>,
 ) -> Result<Vec<Option<usize>>, AllocError>
     requires linked { AreLinked records.now }
@@ -174,7 +174,7 @@ fn no_places(alloc: Global, count: usize) -> Result<Vec<Option<usize>>, AllocErr
 }
 
 /// The record's handle.
-fn handle_at(records: &[Record], j: usize) -> u32
+fn handle_at(records: &[PlannedRecord], j: usize) -> u32
     requires { j < length records.now }
     ensures { OfItem records.now j (λ r. result ≡ r.handle) }
 {
@@ -184,7 +184,7 @@ fn handle_at(records: &[Record], j: usize) -> u32
 /// The places, if each record has one.
 fn all_places(
     alloc: Global,
-    records: &[Record],
+    records: &[PlannedRecord],
     places: &[Option<usize>],
 ) -> Result<Chained, AllocError>
     requires few { length records.now ≤ 4096 }

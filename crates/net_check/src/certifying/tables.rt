@@ -37,17 +37,17 @@ fn table_of(alloc: Global, rows: &[Row]) -> Result<RangeTable, AllocError>
 }
 
 /// The rows as those of a routing table.
-fn table_rows(alloc: Global, rows: &[Row]) -> Result<Vec<mctp_bridge::Row>, AllocError>
+fn table_rows(alloc: Global, rows: &[Row]) -> Result<Vec<mctp_bridge::TableRow>, AllocError>
     ensures { IfOk result (λ copied. copied.items ≡ map table_row rows.now) }
 {
     rows.iter().map(table_row).collect(alloc)
 }
 
 /// The row as one of a routing table.
-fn table_row(row: &Row) -> mctp_bridge::Row
+fn table_row(row: &Row) -> mctp_bridge::TableRow
     ensures { result ≡ table_row row.now }
 {
-    mctp_bridge::Row {
+    mctp_bridge::TableRow {
         first: row.first,
         size: row.size,
         hop: Hop {

@@ -10,7 +10,7 @@ ghost use Rattle.net_check.specs.Search.{IsFirstItem, IsFirstSpot};
 use crate::lookup::{places_at, records_at};
 use crate::rule::Rule;
 use crate::spot::Spot;
-use net_plan::{Certificate, Plan, Record, RecordPlace};
+use net_plan::{Certificate, Plan, PlannedRecord, RecordPlace};
 use std::alloc::{AllocError, Global};
 use std::collections::BTreeSet;
 
@@ -31,7 +31,7 @@ pub fn unchained_record(
 /// The first record that has no place of its own, or whose next handle is not that of a record at the following place.
 fn first_unchained(
     alloc: Global,
-    records: &[Record],
+    records: &[PlannedRecord],
     places: &[RecordPlace],
 ) -> Result<Option<usize>, AllocError>
     ensures { IfOk result (IsFirstItem records.now (IsChained records.now (map (λ p. p.value) places.now))) }
@@ -46,7 +46,7 @@ fn first_unchained(
 /// found in two passes, by a list of the handles in the order of the places.
 fn are_all_chained(
     alloc: Global,
-    records: &[Record],
+    records: &[PlannedRecord],
     places: &[RecordPlace],
 ) -> Result<bool, AllocError>
     ensures { IfOk result (λ all. IsTrue all → AreChained records.now (map (λ p. p.value) places.now)) }
@@ -60,7 +60,7 @@ fn are_all_chained(
 /// The handles in the order of the places, if each record has a place of its own.
 fn handles_in_order(
     alloc: Global,
-    records: &[Record],
+    records: &[PlannedRecord],
     places: &[RecordPlace],
 ) -> Result<Option<Vec<Option<u32>>>, AllocError>
     ensures { IfOk result (λ filed. IfSome filed (λ handles. AreFiled records.now (map (λ p. p.value) places.now) (length records.now) handles.items)) }
@@ -94,7 +94,7 @@ fn is_free(handles: &[Option<u32>], place: usize) -> bool
 }
 
 /// Whether each record's next handle stands at the place after that of the record.
-fn all_lead_on(records: &[Record], places: &[RecordPlace], handles: &[Option<u32>]) -> bool
+fn all_lead_on(records: &[PlannedRecord], places: &[RecordPlace], handles: &[Option<u32>]) -> bool
     requires { AreFiled records.now (map (λ p. p.value) places.now) (length records.now) handles.now }
     ensures { IsTrue result → AreChained records.now (map (λ p. p.value) places.now) }
 {
@@ -123,7 +123,7 @@ fn is_followed_by(handles: &[Option<u32>], place: u16, next: u32) -> bool
 /// place.
 fn search_unchained(
     alloc: Global,
-    records: &[Record],
+    records: &[PlannedRecord],
     places: &[RecordPlace],
 ) -> Result<Option<usize>, AllocError>
     ensures { IfOk result (IsFirstItem records.now (IsChained records.now (map (λ p. p.value) places.now))) }
@@ -145,7 +145,7 @@ fn search_unchained(
 /// Each place with the handles of the records that are given it.
 fn handles_by_place(
     alloc: Global,
-    records: &[Record],
+    records: &[PlannedRecord],
     places: &[RecordPlace],
 ) -> Result<BTreeSet<(u16, u32)>, AllocError>
     ensures { IfOk result (IsFromIterResult by_place_and_handle (pairs places.now records.now)) }

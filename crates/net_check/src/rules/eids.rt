@@ -4,7 +4,7 @@ ghost use Rattle.net_check.specs.Eids.{IsNewlyHeld};
 ghost use Rattle.net_check.specs.Rules.{PlanDemands};
 ghost use Rattle.net_check.specs.Search.{IsFirstSpot};
 
-use crate::lookup::holds;
+use crate::holders::Holders;
 use crate::rule::Rule;
 use crate::spot::Spot;
 use mctp_transport::Eid;
@@ -23,12 +23,13 @@ pub fn unassignable_eid(plan: &Plan, node: usize) -> Option<Spot>
 }
 
 /// Where an earlier node holds the node's endpoint ID.
-pub fn repeated_eid(plan: &Plan, node: usize) -> Option<Spot>
-    requires { node < length plan.now.nodes.items }
+pub fn repeated_eid(plan: &Plan, holders: &Holders<'_>, node: usize) -> Option<Spot>
+    requires within { node < length plan.now.nodes.items }
+    requires holders { holders.now ≡ plan.now }
     ensures { IsFirstSpot (PlanDemands plan.now Rule.C03 node) result }
 {
     let eid = plan.nodes[node].eid;
-    if is_newly_held(plan, node, eid) {
+    if is_newly_held(holders, node, eid) {
         return None;
     }
     Some(Spot::at_eid(eid))
@@ -36,14 +37,11 @@ pub fn repeated_eid(plan: &Plan, node: usize) -> Option<Spot>
 
 /// Whether no earlier node holds the endpoint ID.
 #[tactic(auto, unfolding(crate::specs::Eids::IsNewlyHeld))]
-fn is_newly_held(plan: &Plan, node: usize, eid: Eid) -> bool
-    requires { node < length plan.now.nodes.items }
-    ensures { IsTrue result ↔ IsNewlyHeld plan.now node eid.value }
+fn is_newly_held(holders: &Holders<'_>, node: usize, eid: Eid) -> bool
+    ensures { IsTrue result ↔ IsNewlyHeld holders.now node eid.value }
 {
-    for earlier in 0..node {
-        if holds(plan, earlier, eid) {
-            return false;
-        }
+    match holders.first(eid) {
+        Some(first) => node <= first,
+        None => true,
     }
-    true
 }

@@ -4,7 +4,7 @@ ghost use Rattle.net_plan.specs.NodeValues.{bus_value, port_value, record_value,
 ghost use Rattle.net_check.specs.MoveRules.{HaveSameFrame, IsSameNode, but_rows};
 ghost use Rattle.net_check.specs.MoveSearch.{IsFirstUnlike};
 
-use net_plan::{Bus, Node, Plan, Port, Record, Terminus};
+use net_plan::{Bus, Node, Plan, PlannedRecord, PlannedTerminus, Port};
 
 /// Whether the plans have the same transmission unit, the same buses, in one order, and as many nodes.
 #[tactic(auto, unfolding(crate::specs::MoveRules::HaveSameFrame))]
@@ -94,7 +94,7 @@ fn is_same_port(port: &Port, other: &Port) -> bool
 }
 
 /// Whether neither node has a terminus, or both have the same.
-fn are_same_termini(terminus: &Option<Terminus>, other: &Option<Terminus>) -> bool
+fn are_same_termini(terminus: &Option<PlannedTerminus>, other: &Option<PlannedTerminus>) -> bool
     ensures { IsTrue result ↔ option_map terminus_value terminus.now ≡ option_map terminus_value other.now }
 {
     match terminus {
@@ -106,7 +106,7 @@ fn are_same_termini(terminus: &Option<Terminus>, other: &Option<Terminus>) -> bo
     }
 }
 
-fn is_same_terminus(terminus: &Terminus, other: &Terminus) -> bool
+fn is_same_terminus(terminus: &PlannedTerminus, other: &PlannedTerminus) -> bool
     ensures { IsTrue result ↔ terminus_value terminus.now ≡ terminus_value other.now }
 {
     terminus.tid == other.tid
@@ -114,7 +114,7 @@ fn is_same_terminus(terminus: &Terminus, other: &Terminus) -> bool
 }
 
 /// Whether two lists of records are the same, in order.
-fn are_same_records(records: &[Record], others: &[Record]) -> bool
+fn are_same_records(records: &[PlannedRecord], others: &[PlannedRecord]) -> bool
     ensures { IsTrue result ↔ map record_value records.now ≡ map record_value others.now }
 {
     if records.len() != others.len() {
@@ -128,7 +128,7 @@ fn are_same_records(records: &[Record], others: &[Record]) -> bool
     true
 }
 
-fn is_same_record(one: &Record, other: &Record) -> bool
+fn is_same_record(one: &PlannedRecord, other: &PlannedRecord) -> bool
     ensures { IsTrue result ↔ record_value one.now ≡ record_value other.now }
 {
     one.handle == other.handle && one.next == other.next && one.bytes == other.bytes

@@ -6,11 +6,12 @@ ghost use Rattle.net_check.specs.Locators.{IsEidLocator, HasOneByteAsEid, IsHeld
 ghost use Rattle.net_check.specs.Rules.{PlanDemands, AtNodeOrEid};
 ghost use Rattle.net_check.specs.Search.{IsFirstSpot};
 
+use crate::holders::Holders;
 use crate::lookup::{holds, records_at, terminus_at};
 use crate::rule::Rule;
 use crate::spot::Spot;
 use mctp_transport::{Eid, Wire};
-use net_plan::{Plan, Record};
+use net_plan::{Plan, PlannedRecord};
 use pdr_record::{Body, TerminusLocator};
 
 /// Where the type stands in the common header of a record (DSP0248).
@@ -19,12 +20,13 @@ const TYPE_AT: usize = 5;
 const TERMINUS_LOCATOR: u8 = 1;
 
 /// Where a terminus locator does not locate a terminus of the plan.
-pub fn misleading_locator(plan: &Plan, node: usize) -> Option<Spot>
+pub fn misleading_locator(plan: &Plan, holders: &Holders<'_>, node: usize) -> Option<Spot>
+    requires { holders.now ≡ plan.now }
     ensures { IsFirstSpot (PlanDemands plan.now Rule.C15 node) result }
 {
     let records = records_at(plan, node);
     for (j, listed) in records.iter().enumerate() {
-        if let Some(spot) = misleading_at(plan, listed) {
+        if let Some(spot) = misleading_at(plan, holders, listed) {
             return Some(spot.in_entry(j));
         }
     }
@@ -33,24 +35,26 @@ pub fn misleading_locator(plan: &Plan, node: usize) -> Option<Spot>
 
 /// Where a record, as a terminus locator, does not locate a terminus of the plan: by the length of its value, or by its
 /// endpoint ID.
-fn misleading_at(plan: &Plan, listed: &Record) -> Option<Spot>
+fn misleading_at(plan: &Plan, holders: &Holders<'_>, listed: &PlannedRecord) -> Option<Spot>
+    requires { holders.now ≡ plan.now }
     ensures { IsFirstSpot (AtNodeOrEid (HasOneByteAsEid listed.now) (LocatesTerminus plan.now listed.now)) result }
 {
     match eid_locator(&listed.bytes) {
-        Some(locator) => misleading_value(plan, locator.tid, locator.locator_value),
+        Some(locator) => misleading_value(plan, holders, locator.tid, locator.locator_value),
         None => None,
     }
 }
 
 /// Where a locator's value is no endpoint ID, or one that no node of the terminus ID holds.
-fn misleading_value(plan: &Plan, tid: u8, value: &[u8]) -> Option<Spot>
+fn misleading_value(plan: &Plan, holders: &Holders<'_>, tid: u8, value: &[u8]) -> Option<Spot>
+    requires { holders.now ≡ plan.now }
     ensures { IsFirstSpot (AtNodeOrEid (length value.now ≡ 1) (λ e. value.now ≡ e ∷ [] → IsHeldByTerminus plan.now tid e)) result }
 {
     let [number] = value else {
         return Some(Spot::at_node());
     };
     let eid = Eid::new(*number);
-    if is_held_by_terminus(plan, tid, eid) {
+    if is_held_by_terminus(plan, holders, tid, eid) {
         return None;
     }
     Some(Spot::at_eid(eid))
@@ -82,8 +86,19 @@ fn has_locator_type(bytes: &[u8]) -> bool
     bytes.get(TYPE_AT) == Some(&TERMINUS_LOCATOR)
 }
 
-/// Whether a node holds the endpoint ID whose terminus has the terminus ID.
-fn is_held_by_terminus(plan: &Plan, tid: u8, eid: Eid) -> bool
+/// Whether a node holds the endpoint ID whose terminus has the terminus ID. Mostly one node holds it.
+fn is_held_by_terminus(plan: &Plan, holders: &Holders<'_>, tid: u8, eid: Eid) -> bool
+    requires { holders.now ≡ plan.now }
+    ensures { IsTrue result ↔ IsHeldByTerminus plan.now tid eid.value }
+{
+    match holders.first(eid) {
+        Some(holder) => has_tid(plan, holder, tid) || is_held_by_one_of_all(plan, tid, eid),
+        None => false,
+    }
+}
+
+/// The same by a search through all nodes.
+fn is_held_by_one_of_all(plan: &Plan, tid: u8, eid: Eid) -> bool
     ensures { IsTrue result ↔ IsHeldByTerminus plan.now tid eid.value }
 {
     for node in 0..plan.nodes.len() {

@@ -1,11 +1,12 @@
 //! C08 and C09: the endpoint IDs of owned nodes come from their owners' pools, and pools lie within their owners' and
 //! apart.
-ghost use Rattle.std.specs.Prelude.{◌≡◌, ℕ, ◌+◌, ◌<◌, ◌↔◌, IsTrue, length};
+ghost use Rattle.std.specs.Prelude.{ℕ, ◌<◌, ◌↔◌, IsTrue, length};
 ghost use Rattle.net_check.specs.Pools.{IsInPool, IsInPoolOf, IsInOwnersPool, IsInNoPeersPool, IsInItsPool, IsPoolInRange, LiesInOwnersPool, LiesApartFromEarlierPools, IsLawfulPool, HasLawfulPool};
 ghost use Rattle.net_check.specs.Rules.{PlanDemands};
 ghost use Rattle.net_check.specs.Search.{IsFirstSpot};
 
-use crate::lookup::{is_bridge, owner_at, pool_at};
+use crate::eid_run::EidRun;
+use crate::lookup::{is_bridge, is_in_pool_of, owner_at, pool_at, pool_end};
 use crate::rule::Rule;
 use crate::spot::Spot;
 use mctp_transport::Eid;
@@ -32,13 +33,6 @@ pub fn unlawful_pool(plan: &Plan, node: usize) -> Option<Spot>
         return None;
     }
     Some(Spot::at_node())
-}
-
-/// The number after that of the pool's last endpoint ID.
-fn pool_end(pool: Pool) -> u16
-    ensures { result ≡ pool.first.value + pool.size }
-{
-    u16::from(pool.first.value) + u16::from(pool.size)
 }
 
 /// Whether the endpoint ID lies in the pool of the node's owner, and in no pool of a bridge with that owner.
@@ -75,24 +69,6 @@ fn is_in_no_peers_pool(plan: &Plan, node: usize, eid: Eid) -> bool
         }
     }
     true
-}
-
-/// Whether the node has a pool with the endpoint ID in it.
-#[tactic(auto, unfolding(crate::specs::Pools::IsInPoolOf))]
-fn is_in_pool_of(plan: &Plan, node: usize, eid: Eid) -> bool
-    ensures { IsTrue result ↔ IsInPoolOf plan.now node eid.value }
-{
-    match pool_at(plan, node) {
-        Some(pool) => is_in_pool(pool, eid),
-        None => false,
-    }
-}
-
-/// Whether the endpoint ID is one of the pool's.
-fn is_in_pool(pool: Pool, eid: Eid) -> bool
-    ensures { IsTrue result ↔ IsInPool pool eid.value }
-{
-    pool.first.value <= eid.value && u16::from(eid.value) < pool_end(pool)
 }
 
 /// Whether the node's pool, if it has one, is lawful.
@@ -181,8 +157,5 @@ fn lies_apart_from_pool_of(plan: &Plan, node: usize, pool: Pool) -> bool
 fn are_apart(pool: Pool, other: Pool) -> bool
     ensures { IsTrue result ↔ ((e : ℕ) → IsInPool pool e → ¬ IsInPool other e) }
 {
-    pool.size == 0
-        || other.size == 0
-        || pool_end(pool) <= u16::from(other.first.value)
-        || pool_end(other) <= u16::from(pool.first.value)
+    EidRun::of_pool(pool).is_apart_from(EidRun::of_pool(other))
 }

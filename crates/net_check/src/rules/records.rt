@@ -13,7 +13,7 @@ use crate::lookup::{records_at, terminus_at};
 use crate::rule::Rule;
 use crate::spot::Spot;
 use mctp_transport::Wire;
-use net_plan::{Plan, Record};
+use net_plan::{Plan, PlannedRecord};
 use std::alloc::{AllocError, Global};
 use std::collections::BTreeSet;
 
@@ -51,7 +51,10 @@ fn has_records(plan: &Plan, node: usize) -> bool
 
 /// The first record whose handle is 0 or an earlier record's. Most lists have none, which is found without sorting where
 /// the handles are small.
-fn first_without_new_handle(alloc: Global, records: &[Record]) -> Result<Option<usize>, AllocError>
+fn first_without_new_handle(
+    alloc: Global,
+    records: &[PlannedRecord],
+) -> Result<Option<usize>, AllocError>
     ensures { IfOk result (IsFirstItem records.now (HasNewHandle records.now)) }
 {
     if are_ticked_off_once(alloc, records)? || have_new_handles(alloc, records)? {
@@ -62,7 +65,7 @@ fn first_without_new_handle(alloc: Global, records: &[Record]) -> Result<Option<
 
 /// Whether each handle is above 0, and is ticked off once in a list that has four places for each record. A handle past
 /// its end is not looked for.
-fn are_ticked_off_once(alloc: Global, records: &[Record]) -> Result<bool, AllocError>
+fn are_ticked_off_once(alloc: Global, records: &[PlannedRecord]) -> Result<bool, AllocError>
     ensures { IfOk result (λ once. IsTrue once → HaveNewHandles records.now) }
 {
     let mut ticks = no_ticks(alloc, records.len().saturating_mul(PLACES_EACH))?;
@@ -90,7 +93,7 @@ fn can_be_ticked(ticks: &[bool], handle: u32) -> bool
 }
 
 /// Whether no handle is 0, and no two are the same: they ascend from above 0 on, as they stand or once they are sorted.
-fn have_new_handles(alloc: Global, records: &[Record]) -> Result<bool, AllocError>
+fn have_new_handles(alloc: Global, records: &[PlannedRecord]) -> Result<bool, AllocError>
     ensures { IfOk result (λ all. IsTrue all ↔ HaveNewHandles records.now) }
 {
     let mut handles = handles_of(alloc, records)?;
@@ -102,7 +105,7 @@ fn have_new_handles(alloc: Global, records: &[Record]) -> Result<bool, AllocErro
 }
 
 /// The handles of the records.
-fn handles_of(alloc: Global, records: &[Record]) -> Result<Vec<u32>, AllocError>
+fn handles_of(alloc: Global, records: &[PlannedRecord]) -> Result<Vec<u32>, AllocError>
     ensures { IfOk result (λ handles. handles.items ≡ map (λ r. r.handle) records.now) }
 {
     records.iter().map(|record| record.handle).collect(alloc)
@@ -123,7 +126,10 @@ fn ascend(numbers: &[u32]) -> bool
 }
 
 /// The first record whose handle is 0 or in the set of those of earlier records.
-fn first_with_old_handle(alloc: Global, records: &[Record]) -> Result<Option<usize>, AllocError>
+fn first_with_old_handle(
+    alloc: Global,
+    records: &[PlannedRecord],
+) -> Result<Option<usize>, AllocError>
     ensures { IfOk result (IsFirstItem records.now (HasNewHandle records.now)) }
 {
     let mut handles = BTreeSet::new(alloc);
@@ -145,7 +151,7 @@ fn add_handle(handles: &mut BTreeSet<u32>, handle: u32) -> Result<bool, AllocErr
 }
 
 /// The first record whose bytes are not those of a record of its handle.
-fn first_unreadable(records: &[Record]) -> Option<usize>
+fn first_unreadable(records: &[PlannedRecord]) -> Option<usize>
     ensures { IsFirstItem records.now (λ _ r. IsRecordOf r.handle r.bytes.items) result }
 {
     for (j, record) in records.iter().enumerate() {

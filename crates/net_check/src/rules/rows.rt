@@ -4,6 +4,7 @@ ghost use Rattle.net_check.specs.Rows.{IsInRange, AreApart, IsApartFromEarlier, 
 ghost use Rattle.net_check.specs.Rules.{PlanDemands};
 ghost use Rattle.net_check.specs.Search.{IsFirstItem, IsFirstSpot};
 
+use crate::eid_run::EidRun;
 use crate::lookup::{bus_at, is_bridge, is_on_bus, row_end, rows_at};
 use crate::rows_in_force::rows_follow;
 use crate::rule::Rule;
@@ -83,14 +84,10 @@ fn is_apart_from_all(row: &Row, others: &[Row]) -> bool
 }
 
 /// Whether no endpoint ID lies in both rows.
-#[tactic(auto, unfolding(crate::specs::Rows::AreApart))]
 fn are_apart(row: &Row, other: &Row) -> bool
     ensures { IsTrue result ↔ AreApart row.now other.now }
 {
-    row.size == 0
-        || other.size == 0
-        || row_end(row) <= u16::from(other.first.value)
-        || row_end(other) <= u16::from(row.first.value)
+    EidRun::of_row(row).is_apart_from(EidRun::of_row(other))
 }
 
 /// The first of the node's rows that names no neighbor.

@@ -3,9 +3,10 @@ ghost use Rattle.std.specs.Prelude.{◌≡◌, ◌↔◌, ℕ, List, [], ◌∷�
 ghost use Rattle.net_check.specs.Locators.{IsEidLocator};
 ghost use Rattle.net_questions.specs.Lint.{HasLocator, IsUnlocated, LacksLocator};
 
-use crate::lookup::{eid_at, records_at, terminus_at};
+use crate::lookup::eid_at;
 use mctp_transport::{Eid, Wire};
-use net_plan::{Plan, Record};
+use net_check::lookup::{records_at, terminus_at};
+use net_plan::{Plan, PlannedRecord};
 use pdr_record::{Body, TerminusLocator};
 
 /// Where the type stands in the common header of a record (DSP0248).
@@ -48,7 +49,7 @@ fn has_no_locator(plan: &Plan, node: usize, tid: u8, eid: Eid) -> bool
 }
 
 /// Whether a record is a valid locator of the terminus ID and the endpoint ID.
-fn locates(listed: &Record, tid: u8, eid: Eid) -> bool
+fn locates(listed: &PlannedRecord, tid: u8, eid: Eid) -> bool
     ensures { IsTrue result ↔ IsEidLocator listed.now.bytes.items tid (eid.value ∷ []) }
 {
     match eid_locator(&listed.bytes) {

@@ -2,7 +2,7 @@
 ghost use Rattle.std.specs.Prelude.{◌≡◌, ◌↔◌, IsTrue};
 ghost use Rattle.net_questions.specs.Lint.{IsEarlier, HaveOneAddress, HasItsAddress, HaveSharedAddress, ShareAddress, IsAddressedOn, HasAddressOn, HasAddresses, IsWithoutAddress, LacksAddress, HasOtherOn, IsOnlyPort, IsAloneOnBus};
 
-use crate::lookup::{port_at, ports_at};
+use net_check::lookup::{port_at, ports_at};
 use net_plan::{Plan, Port};
 
 /// Whether a port and a later one have one address on one bus.

@@ -4,8 +4,11 @@ ghost use Rattle.net_check.specs.Routing.{Holds, Covers};
 ghost use Rattle.net_check.specs.Pools.{IsInPool, IsInPoolOf};
 ghost use Rattle.net_questions.specs.Lint.{LeadsToNobody, HasIdleRow, IsHeld, LeavesHeld, NobodyHasRow, IsUnknown, IsIsolated};
 
-use crate::lookup::{covers, eid_at, has_row, holds, is_bridge, pool_at, row_at, rows_at};
+use crate::lookup::eid_at;
 use mctp_transport::Eid;
+use net_check::lookup::{
+    covers, has_row, holds, is_bridge, is_in_pool, is_in_pool_of, pool_at, row_at, rows_at,
+};
 use net_plan::{Plan, Pool, Row};
 
 /// Whether a node's row leads to nobody: no node holds any of its endpoint IDs, and none lies in a pool.
@@ -59,14 +62,6 @@ fn meets(row: &Row, pool: Pool) -> bool
     }
 }
 
-/// Whether the endpoint ID is one of the pool's.
-fn is_in_pool(pool: Pool, eid: Eid) -> bool
-    ensures { IsTrue result ↔ IsInPool pool eid.value }
-{
-    pool.first.value <= eid.value
-        && u16::from(eid.value) < u16::from(pool.first.value) + u16::from(pool.size)
-}
-
 /// Whether a bridge has the endpoint ID in its pool, another node holds it, and the bridge has no row for it.
 pub fn leaves_held(plan: &Plan, node: usize, eid: Eid) -> bool
     ensures { IsTrue result ↔ LeavesHeld plan.now node eid.value }
@@ -76,17 +71,6 @@ pub fn leaves_held(plan: &Plan, node: usize, eid: Eid) -> bool
         && is_held(plan, eid)
         && !holds(plan, node, eid)
         && !has_row(plan, node, eid)
-}
-
-/// Whether the node has a pool with the endpoint ID in it.
-#[tactic(auto, using(net_check::proofs::PoolsOf::in_pool_of, net_check::proofs::PoolsOf::in_no_pool))]
-fn is_in_pool_of(plan: &Plan, node: usize, eid: Eid) -> bool
-    ensures { IsTrue result ↔ IsInPoolOf plan.now node eid.value }
-{
-    match pool_at(plan, node) {
-        Some(pool) => is_in_pool(pool, eid),
-        None => false,
-    }
 }
 
 /// Whether a node holds the endpoint ID.

@@ -7,9 +7,9 @@ ghost use Rattle.pdr_record.specs.NumericValues.{numeric_value};
 ghost use Rattle.net_questions.specs.Lint.{sensor_id_of, IsSensorRecord, HasEarlierSensor, RepeatsSensorId, SharesSensorId};
 ghost use Rattle.net_questions.specs.Lint.{number_of, flipped, place_of, IsOver, IsNumericSensor, HasEmptyRange, HasEmptyReadableRange};
 
-use crate::lookup::{record_at, records_at};
 use mctp_transport::Wire;
-use net_plan::{Plan, Record};
+use net_check::lookup::{record_at, records_at};
+use net_plan::{Plan, PlannedRecord};
 use pdr_record::{Body, NumericSensor, SensorDataSize};
 
 /// Where the type stands in the common header of a record (DSP0248).
@@ -54,7 +54,7 @@ fn has_earlier_sensor(plan: &Plan, node: usize, index: usize, id: u16) -> bool
 }
 
 /// Whether a record at this place stands before `index`, and is a sensor's with the sensor ID.
-fn is_earlier_sensor(place: usize, listed: &Record, index: usize, id: u16) -> bool
+fn is_earlier_sensor(place: usize, listed: &PlannedRecord, index: usize, id: u16) -> bool
     ensures { IsTrue result ↔ (place < index) × IsSensorRecord listed.now.bytes.items id }
 {
     place < index && is_sensor_record(&listed.bytes, id)
@@ -113,7 +113,7 @@ pub fn has_empty_readable_range(plan: &Plan, node: usize, index: usize) -> bool
 }
 
 /// Whether a record is a numeric sensor's whose least readable value is over its greatest one.
-fn has_empty_range(listed: &Record) -> bool
+fn has_empty_range(listed: &PlannedRecord) -> bool
     ensures { IsTrue result ↔ HasEmptyRange listed.now.bytes.items }
 {
     match numeric_sensor(&listed.bytes) {

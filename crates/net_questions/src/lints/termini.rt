@@ -2,8 +2,8 @@
 ghost use Rattle.std.specs.Prelude.{◌↔◌, IsTrue};
 ghost use Rattle.net_questions.specs.Lint.{HaveOneTid, HasItsTid, HaveSharedTid, ShareTid};
 
-use crate::lookup::terminus_at;
-use net_plan::{Plan, Terminus};
+use net_check::lookup::terminus_at;
+use net_plan::{Plan, PlannedTerminus};
 
 /// Whether the termini of a node and a later one have one terminus ID.
 pub fn share_tid(plan: &Plan, node: usize, other: usize) -> bool
@@ -23,7 +23,7 @@ fn have_shared_tid(plan: &Plan, node: usize, other: usize) -> bool
 }
 
 /// Whether a node's terminus has the terminus ID of this one.
-fn has_its_tid(plan: &Plan, terminus: &Terminus, other: usize) -> bool
+fn has_its_tid(plan: &Plan, terminus: &PlannedTerminus, other: usize) -> bool
     ensures { IsTrue result ↔ HasItsTid plan.now terminus.now other }
 {
     match terminus_at(plan, other) {
@@ -33,7 +33,7 @@ fn has_its_tid(plan: &Plan, terminus: &Terminus, other: usize) -> bool
 }
 
 /// Whether two termini have one terminus ID.
-fn have_one_tid(terminus: &Terminus, other: &Terminus) -> bool
+fn have_one_tid(terminus: &PlannedTerminus, other: &PlannedTerminus) -> bool
     ensures { IsTrue result ↔ HaveOneTid terminus.now other.now }
 {
     terminus.tid == other.tid && terminus.tid != 0

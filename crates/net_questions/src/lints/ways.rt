@@ -3,8 +3,9 @@ ghost use Rattle.std.specs.Prelude.{◌≡◌, ◌<◌, ◌↔◌, ℕ, IsTrue, 
 ghost use Rattle.net_questions.specs.Lint.{OwnersEndAt, IsTopmostOwner, ComesTo, HasWayTo, HasNoWayFromOwner, HasNoWayToOwner};
 
 use crate::hops::next_node;
-use crate::lookup::{eid_at, owner_at};
+use crate::lookup::eid_at;
 use mctp_transport::Eid;
+use net_check::lookup::owner_at;
 use net_plan::Plan;
 
 /// Whether the owner is a node's topmost one, and has no way to it.

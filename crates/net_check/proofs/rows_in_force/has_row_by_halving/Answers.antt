@@ -1,4 +1,4 @@
-use Rattle.std.proofs.Common.{◌≡◌, ℕ, ◌+◌, ◌<◌, ◌≤◌, List, length, Some, refl, sym, subst, arith, inl, inr, IsTrue, ◌↔◌}
+use Rattle.std.proofs.Common.{◌≡◌, ◌≤◌, List, length, Some, refl, sym, subst, arith, inl, inr, IsTrue, ◌↔◌}
 use Rattle.std.specs.Prelude.{slice_get}
 use Rattle.std.proofs.lemmas.Option.{slice_get_read}
 use Rattle.net_plan.specs.declared.nodes.Row.{Row}

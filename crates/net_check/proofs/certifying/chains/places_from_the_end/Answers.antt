@@ -1,6 +1,6 @@
 use Rattle.std.proofs.Common.{◌≡◌, ℕ, ◌-◌, ◌+◌, arith, Some, length, subst, sym, List, Option, slice_set}
 use Rattle.std.proofs.lemmas.Option.{slice_get_within}
-use Rattle.net_plan.specs.declared.terminus.Record.{Record}
+use Rattle.net_plan.specs.declared.terminus.PlannedRecord.{PlannedRecord}
 use Rattle.net_check.proofs.ChainPlaces.{AreFromTheEndBelow, none_given, one_given, given_all, given_enough, index_some, index_none}
 use Rattle.net_check.proofs.certifying.chains.places_from_the_end.Goals as goal
 
@@ -13,18 +13,18 @@ loop-place-init c =
 
 pub index_mut-requires : goal.index_mut-requires
 index_mut-requires c =
-    let named = index_some (λ (r : Record). r.next) c.args.records.now c.args.nexts.now c.requires.nexts c.loop-place.next c.in-Some.record (sym c.in-Some.ensures) in
+    let named = index_some (λ (r : PlannedRecord). r.next) c.args.records.now c.args.nexts.now c.requires.nexts c.loop-place.next c.in-Some.record (sym c.in-Some.ensures) in
     omega (arith, slice_get_within c.args.records.now c.in-Some.record named.0 named.1, c.loop-place.invariant.long)
 
 pub handle_at-next-requires : goal.handle_at-next-requires
 handle_at-next-requires c =
-    let named = index_some (λ (r : Record). r.next) c.args.records.now c.args.nexts.now c.requires.nexts c.loop-place.next c.in-Some.record (sym c.in-Some.ensures) in
+    let named = index_some (λ (r : PlannedRecord). r.next) c.args.records.now c.args.nexts.now c.requires.nexts c.loop-place.next c.in-Some.record (sym c.in-Some.ensures) in
     slice_get_within c.args.records.now c.in-Some.record named.0 named.1
 
 pub loop-place-preserved : goal.loop-place-preserved
 loop-place-preserved c =
     let records = c.args.records.now in
-    let named = index_some (λ (r : Record). r.next) records c.args.nexts.now c.requires.nexts c.loop-place.next c.in-Some.record (sym c.in-Some.ensures) in
+    let named = index_some (λ (r : PlannedRecord). r.next) records c.args.nexts.now c.requires.nexts c.loop-place.next c.in-Some.record (sym c.in-Some.ensures) in
     let count = length records - c.loop-place.place in
     let place = c.loop-place.place - 1 in
     let places = slice_set c.loop-place.places.items c.in-Some.record (Some place) in
@@ -43,4 +43,4 @@ returns c =
 pub returns-in-None : goal.returns-in-None
 returns-in-None c =
     given_all c.args.records.now c.requires.linked (length c.args.records.now - c.loop-place.place) c.loop-place.next c.loop-place.places.items c.loop-place.invariant
-    (index_none (λ (r : Record). r.next) c.args.records.now c.args.nexts.now c.requires.nexts c.loop-place.next (sym c.in-None.ensures))
+    (index_none (λ (r : PlannedRecord). r.next) c.args.records.now c.args.nexts.now c.requires.nexts c.loop-place.next (sym c.in-None.ensures))

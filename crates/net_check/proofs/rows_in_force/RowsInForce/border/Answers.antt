@@ -1,4 +1,4 @@
-use Rattle.std.proofs.Common.{ℕ, arith, subst, sym}
+use Rattle.std.proofs.Common.{ℕ, arith, subst}
 use Rattle.std.proofs.lemmas.Grind.{common_steps}
 use Rattle.net_check.specs.declared.plans.Plans.{Plans}
 use Rattle.net_check.specs.TwoPlans.{tables_of, HasRowEver}

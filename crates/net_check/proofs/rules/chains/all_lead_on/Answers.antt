@@ -2,7 +2,7 @@ use Rattle.std.proofs.Common.{◌≡◌, Some, length, sym, ◌∙◌, subst, ar
 use Rattle.std.specs.Prelude.{slice_get}
 use Rattle.std.proofs.lemmas.Option.{slice_get_read, slice_get_within, same_Some}
 use borrow.Author.Count.{below_more}
-use Rattle.net_plan.specs.declared.terminus.Record.{Record}
+use Rattle.net_plan.specs.declared.terminus.PlannedRecord.{PlannedRecord}
 use Rattle.net_check.specs.Routing.{OfItem}
 use Rattle.net_check.specs.Repositories.{IsChained}
 use Rattle.net_check.proofs.Handles.{values, value_of_place}
@@ -20,7 +20,7 @@ loop-j-preserved c =
     let given : slice_get places j ≡ Some p = let look = c.in-Some.ensures.lookup in slice_get_read places (length places) j p refl look.3.0 look.1 in
     below_more (λ k. OfItem records k (IsChained records (values places) k)) j c.loop-j.invariant (λ item is.
     let one : r ≡ item = same_Some r item (sym here ∙ is) in
-    let N : Record → Type 0 = IsChained records (values places) j in
+    let N : PlannedRecord → Type 0 = IsChained records (values places) j in
     subst N one (filed_chained records (values places) c.args.handles.now c.requires j p.value r here (value_of_place places j p given) (c.is_followed_by.ensures.0 c.if-not-is_followed_by.false)))
 
 pub returns : goal.returns

@@ -2,7 +2,7 @@ use Rattle.std.proofs.Common.{◌≡◌, ◌≤◌, Some, length, refl, sym, ◌
 use Rattle.std.specs.Prelude.{slice_get}
 use Rattle.std.proofs.lemmas.Option.{slice_get_read, slice_get_within, same_Some}
 use borrow.Author.Count.{below_more}
-use Rattle.net_plan.specs.declared.terminus.Record.{Record}
+use Rattle.net_plan.specs.declared.terminus.PlannedRecord.{PlannedRecord}
 use Rattle.net_check.specs.Routing.{OfItem}
 use Rattle.net_check.specs.Repositories.{IsChained}
 use Rattle.net_check.proofs.Handles.{values, value_of_place, has_one_more, missed, had, is_chained, not_given, not_new, not_led_on}
@@ -51,7 +51,7 @@ loop-j-preserved c =
     record {
       earlier = below_more (λ k. OfItem records k (IsChained records (values places) k)) j c.loop-j.invariant.earlier (λ item is.
           let one : r ≡ item = same_Some r item (sym here ∙ is) in
-          let N : Record → Type 0 = IsChained records (values places) j in
+          let N : PlannedRecord → Type 0 = IsChained records (values places) j in
           subst N one (is_chained records places handles c.in_ok-handles.ensures j r p c.loop-j.taken given c.loop-j.invariant.has missing (c.if-not-leads_on.ensures.0 refl)));
       has = has_one_more (values places) j p.value c.loop-j.taken c.insert.new.self (value_of_place places j p given) c.in_ok-is_new.ensures.updates.0 c.loop-j.invariant.has;
     }

@@ -1,15 +1,15 @@
-use Rattle.std.proofs.Common.{refl, arith, below_more}
-use Rattle.net_check.proofs.OtherSearches.{held_by, not_held_by}
+use Rattle.std.proofs.Common.{subst}
+use Rattle.net_plan.specs.declared.plan.Plan.{Plan}
+use Rattle.net_check.specs.Routing.{Holds}
+use Rattle.net_check.proofs.OtherSearches.{held_by, held_by_nobody}
 use Rattle.net_check.proofs.rules.locators.is_held_by_terminus.Goals as goal
 
-pub returns-then-is_holder : goal.returns-then-is_holder
-returns-then-is_holder c =
-    let held = c.is_holder.ensures.0 c.if-is_holder.true in
-    (λ _. held_by c.args.plan.now c.loop-node.node c.args.tid c.args.eid.value held.0 held.1, λ _. refl)
+pub returns-then-has_tid : goal.returns-then-has_tid
+returns-then-has_tid c =
+    let H : Plan → Type 0 = λ plan. Holds plan c.in-Some.holder c.args.eid.value in
+    (λ _. held_by c.args.plan.now c.in-Some.holder c.args.tid c.args.eid.value (subst H c.requires c.in-Some.ensures.0) (c.has_tid.ensures.0 c.if-has_tid.true), λ _. c.if-has_tid.true)
 
-pub loop-node-preserved : goal.loop-node-preserved
-loop-node-preserved c = below_more _ _ c.loop-node.invariant (λ held. cc (c.is_holder.ensures.1 held, c.if-is_holder.false))
-
-pub returns : goal.returns
-returns c =
-    (λ h. absurd (cc h), λ held. absurd (not_held_by c.args.plan.now c.loop-node.node c.args.tid c.args.eid.value (omega arith) c.loop-node.invariant held))
+pub returns-in-None : goal.returns-in-None
+returns-in-None c =
+    let H : Plan → Type 0 = λ plan. (n : _) → ¬ Holds plan n c.args.eid.value in
+    (λ h. absurd (cc h), λ held. absurd (held_by_nobody c.args.plan.now c.args.tid c.args.eid.value (subst H c.requires c.in-None.ensures) held))

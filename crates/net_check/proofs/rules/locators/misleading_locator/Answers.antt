@@ -1,5 +1,5 @@
 use Rattle.std.proofs.Common.{ℕ, arith}
-use Rattle.net_plan.specs.declared.terminus.Record as plan
+use Rattle.net_plan.specs.declared.terminus.PlannedRecord as plan
 use Rattle.net_check.specs.Repositories.{records_of}
 use Rattle.net_check.specs.Locators.{HasOneByteAsEid, LocatesTerminus}
 use Rattle.net_check.proofs.OtherSpots.{meets_everywhere}
@@ -16,7 +16,7 @@ returns-in-Some c =
 pub loop-j-preserved : goal.loop-j-preserved
 loop-j-preserved c =
     let net = c.args.plan.now in
-    of_one_more c.records_at-records.result.now c.loop-j.j c.index-records-j.result (λ (r : plan.Record). HasOneByteAsEid r × ((e : ℕ) → LocatesTerminus net r e))
+    of_one_more c.records_at-records.result.now c.loop-j.j c.index-records-j.result (λ (r : plan.PlannedRecord). HasOneByteAsEid r × ((e : ℕ) → LocatesTerminus net r e))
     (omega arith) c.index-records-j.is (meets_everywhere (HasOneByteAsEid c.index-records-j.result) (LocatesTerminus net c.index-records-j.result) c.in_default.ensures) c.loop-j.invariant
 
 pub returns : goal.returns

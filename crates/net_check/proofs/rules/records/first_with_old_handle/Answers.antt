@@ -2,7 +2,7 @@ use Rattle.std.proofs.Common.{◌≡◌, Some, length, sym, ◌∙◌, subst, ar
 use Rattle.std.specs.Prelude.{slice_get}
 use Rattle.std.proofs.lemmas.Option.{slice_get_read, slice_get_within, same_Some}
 use borrow.Author.Count.{below_more}
-use Rattle.net_plan.specs.declared.terminus.Record.{Record}
+use Rattle.net_plan.specs.declared.terminus.PlannedRecord.{PlannedRecord}
 use Rattle.net_check.specs.Routing.{OfItem}
 use Rattle.net_check.specs.Repositories.{HasNewHandle}
 use Rattle.net_check.proofs.Handles.{handles_of, handle_of_record, has_one_more, is_new, is_not_new}
@@ -28,7 +28,7 @@ loop-j-preserved c =
     record {
       earlier = below_more (λ k. OfItem records k (HasNewHandle records k)) j c.loop-j.invariant.earlier (λ item is.
           let one : r ≡ item = same_Some r item (sym here ∙ is) in
-          let N : Record → Type 0 = HasNewHandle records j in
+          let N : PlannedRecord → Type 0 = HasNewHandle records j in
           subst N one (is_new records j r c.loop-j.handles c.loop-j.invariant.has new.0 new.1));
       has = has_one_more (handles_of records) j r.handle c.loop-j.handles c.add_handle.new.handles (handle_of_record records j r here) c.in_ok-is_new.ensures.added.0 c.loop-j.invariant.has;
     }

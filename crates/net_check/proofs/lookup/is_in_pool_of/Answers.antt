@@ -1,5 +1,5 @@
 use Rattle.net_check.proofs.PoolsOf.{in_pool_of}
-use Rattle.net_check.proofs.rules.pools.is_in_pool_of.Goals as goal
+use Rattle.net_check.proofs.lookup.is_in_pool_of.Goals as goal
 
 pub returns-in-Some : goal.returns-in-Some
 returns-in-Some c =
