@@ -5,7 +5,7 @@ use Rattle.std.specs.List.{cons_option, filter_map, range_with_len}
 use Rattle.net_plan.specs.declared.nodes.Node.{Node}
 use Rattle.net_plan.specs.declared.plan.Plan.{Plan}
 use Rattle.net_plan.specs.declared.certificate.Certificate.{Certificate}
-use Rattle.net_plan.specs.declared.terminus.Terminus.{Terminus}
+use Rattle.net_plan.specs.declared.terminus.PlannedTerminus.{PlannedTerminus}
 use Rattle.std.proofs.lemmas.List.Recursion.{is_count_by}
 use Rattle.net_check.specs.Repositories.{terminus_of, records_by_place}
 use Rattle.net_check.specs.Termini.{TerminusState, terminus_at_start}
@@ -44,4 +44,4 @@ planned_count plan cert =
         let plain : 0 + i ≡ i = omega arith in
         let there : terminus_of plan i ≡ node.terminus = rw is refl in
         ap (λ n. is_some (terminus_at_start plan cert n)) plain
-        ∙ (is_some-map (λ (t : Terminus). record { tid = t.tid; records = records_by_place plan cert i; waiting = [] }) (terminus_of plan i) ∙ ap is_some there)
+        ∙ (is_some-map (λ (t : PlannedTerminus). record { tid = t.tid; records = records_by_place plan cert i; waiting = [] }) (terminus_of plan i) ∙ ap is_some there)

@@ -9,7 +9,7 @@ use Rattle.mctp_transport.specs.declared.assembler.Assembler.{Assembler}
 use Rattle.mctp_transport.specs.Assembly as assembly
 use Rattle.net_plan.specs.declared.plan.Plan.{Plan}
 use Rattle.net_plan.specs.declared.certificate.Certificate.{Certificate}
-use Rattle.net_plan.specs.declared.terminus.Terminus.{Terminus}
+use Rattle.net_plan.specs.declared.terminus.PlannedTerminus.{PlannedTerminus}
 use Rattle.net_check.specs.Repositories.{records_by_place}
 use Rattle.net_check.specs.Termini.{TerminusState, terminus_at_start}
 use Rattle.net_check.specs.States.{Flight, at_start}
@@ -43,13 +43,13 @@ dealt_same see nodes nodes' bs bs' same same' = ap (λ ns. dealt ns (map see bs)
 -- ---- what is dealt of a plan's termini
 
 -- a place has a terminus exactly where the node has one
-abbrev pub IsTold : (ℕ → Option TerminusState) → ℕ → Option Terminus → Type 0
-IsTold f n terminus = ((terminus ≡ None) × (f n ≡ None)) ⊎ ((t : Terminus) × (s : TerminusState) × (terminus ≡ Some t) × (f n ≡ Some s))
+abbrev pub IsTold : (ℕ → Option TerminusState) → ℕ → Option PlannedTerminus → Type 0
+IsTold f n terminus = ((terminus ≡ None) × (f n ≡ None)) ⊎ ((t : PlannedTerminus) × (s : TerminusState) × (terminus ≡ Some t) × (f n ≡ Some s))
 
 none_to : (node : Node) (nodes : List Node) (ts : List TerminusState) → node.terminus ≡ None → dealt (node ∷ nodes) ts ≡ None ∷ dealt nodes ts
 none_to node nodes ts none = ap (λ o. dealt_to o ts ∷ dealt nodes (left_by o ts)) none
 
-some_to : (node : Node) (nodes : List Node) (t : Terminus) (s : TerminusState) (ts : List TerminusState) → node.terminus ≡ Some t → dealt (node ∷ nodes) (s ∷ ts) ≡ Some s ∷ dealt nodes ts
+some_to : (node : Node) (nodes : List Node) (t : PlannedTerminus) (s : TerminusState) (ts : List TerminusState) → node.terminus ≡ Some t → dealt (node ∷ nodes) (s ∷ ts) ≡ Some s ∷ dealt nodes ts
 some_to node nodes t s ts some = ap (λ o. dealt_to o (s ∷ ts) ∷ dealt nodes (left_by o (s ∷ ts))) some
 
 left_out : (f : ℕ → Option TerminusState) (n : ℕ) (ns : List ℕ) → f n ≡ None → filter_map f (n ∷ ns) ≡ filter_map f ns
@@ -92,7 +92,7 @@ dealt_all f (node ∷ nodes) base told past i =
 told_of : (plan : Plan) (cert : Certificate) (n : ℕ) (node : Node) → slice_get plan.nodes.items n ≡ Some node → IsTold (terminus_at_start plan cert) n node.terminus
 told_of plan cert n node is = by node.terminus refl
   where
-    by : (o : Option Terminus) → node.terminus ≡ o → IsTold (terminus_at_start plan cert) n node.terminus
+    by : (o : Option PlannedTerminus) → node.terminus ≡ o → IsTold (terminus_at_start plan cert) n node.terminus
     by None none = inl (none, rw is (rw none refl))
     by (Some t) some = inr (t, record { tid = t.tid; records = records_by_place plan cert n; waiting = [] }, some, rw is (rw some refl))
 

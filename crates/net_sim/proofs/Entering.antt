@@ -6,10 +6,12 @@ use Rattle.net_plan.specs.declared.certificate.Certificate.{Certificate}
 use Rattle.net_plan.specs.declared.certificate.NodeRanks.{NodeRanks}
 use Rattle.net_plan.specs.declared.certificate.RankRange.{RankRange}
 use Rattle.net_check.specs.Ranks.{rank, rank_in, is_in_range}
+use Rattle.std.proofs.lemmas.Bool.{cases_Bool}
 use Rattle.std.proofs.lemmas.Bool.Decides.{eqb_tells}
 use Rattle.std.proofs.lemmas.Option.{same_Some, slice_get-map}
 use Rattle.mctp_transport.specs.Frames.{Frame, KeyValue, key_of}
-use Rattle.mctp_transport.specs.Histories.{History, Arrived, after}
+use Rattle.mctp_transport.specs.Histories.{History, Arrived, after, Comes}
+use Rattle.mctp_transport.proofs.Openness.{comes_start, comes_more}
 use Rattle.mctp_transport.specs.Hearing.{Answer, Whole, Held, Dropped, Hears}
 use Rattle.mctp_transport.specs.Assembly as assembly
 use Rattle.mctp_transport.specs.declared.assembler.Assembler.{Assembler}
@@ -20,6 +22,13 @@ use Rattle.net_check.specs.Events.{Entered}
 use Rattle.net_sim.specs.TerminusQueues.{with_message}
 use Rattle.net_sim.specs.Standing.{TrafficValue, StandsFor, Receives, at_place}
 use Rattle.net_sim.proofs.Changes.{input_stands, terminus_stands}
+
+-- a message comes with a packet that ends it
+pub comes_ends : (slots limit : ℕ) (h : History) (p : Frame) (message : List ℕ) → Comes slots limit (after h (Arrived p)) message → p.eom ≡ true
+comes_ends slots limit h p message came = elim (cases_Bool p.som) [
+  | inl y ↦ (comes_start slots limit h p message y came).0
+  | inr n ↦ (comes_more slots limit h p message n came).2
+]
 
 -- a list keeps its meaning where an element is replaced by one of the same meaning
 pub map_set_same : {D T : Type 0} (f : D → T) (ds : List D) (i : ℕ) (old new : D) → slice_get ds i ≡ Some old → f new ≡ f old → map f (slice_set ds i new) ≡ map f ds
@@ -70,13 +79,13 @@ module _ (v u : TrafficValue) (number : ℕ) (f : Flight) (a b : Assembler) (key
   )
 
   pub receives_whole : (m : List ℕ) (o : Option TerminusState) → ((h : History) → assembly.StandsFor a h → Hears slots limit h f.packet (Whole m)) → f.node < length v.termini
-      → slice_get v.termini f.node ≡ Some o → (length m ≤ 4096 → u.termini ≡ slice_set v.termini f.node (with_message (record { key = key; bytes = m }) o))
+      → slice_get v.termini f.node ≡ Some o → (length m ≤ 4096 → f.packet.eom ≡ true → u.termini ≡ slice_set v.termini f.node (with_message (record { key = key; bytes = m }) o))
       → Receives v number f (Entered number f.node key (Whole m)) u
   receives_whole m o hears short there termini w s =
       let heard = hears (w.history f.node) (s.histories f.node a here) in (
         with_received (with_input w f.node (Arrived f.packet)) f.node key (Whole m),
         (refl, refl, of_key, heard, refl),
-        by key.owner refl (termini heard.fits),
+        by key.owner refl (termini heard.fits (comes_ends slots limit (w.history f.node) f.packet m heard)),
       )
     where
       middle : TrafficValue

@@ -3,7 +3,7 @@ use Rattle.std.proofs.Common.{◌≡◌, ℕ, zero, suc, ◌+◌, ◌<◌, Bool,
 use Rattle.std.specs.Prelude.{slice_get, option_map, unwrap_or}
 use Rattle.std.proofs.lemmas.List.{length_push}
 use Rattle.std.proofs.lemmas.Option.{slice_get_within}
-use Rattle.mctp_bridge.specs.declared.row.Row as bridge
+use Rattle.mctp_bridge.specs.declared.row.TableRow as bridge
 use Rattle.mctp_bridge.specs.Rows.{HasSameRoutes}
 use Rattle.net_plan.specs.declared.plan.Plan.{Plan}
 use Rattle.net_plan.specs.declared.nodes.Node.{Node}
@@ -40,7 +40,7 @@ are_rows_after plan after cert accepted = are_rows after cert (accepted (After C
 pub none_tabled : (plan : Plan) → AreTabled plan 0 []
 none_tabled plan = record { as_many = refl; same = λ n table is. absurd (cc) }
 
-pub more_tabled : (plan : Plan) (count : ℕ) (tables : List (List bridge.Row)) (node : Node) (table : List bridge.Row) → AreTabled plan count tables
+pub more_tabled : (plan : Plan) (count : ℕ) (tables : List (List bridge.TableRow)) (node : Node) (table : List bridge.TableRow) → AreTabled plan count tables
     → slice_get plan.nodes.items count ≡ Some node → HasSameRoutes (map table_row node.rows.items) table → AreTabled plan (count + 1) (tables ++ table ∷ [])
 more_tabled plan count tables node table before here routes = record {
   as_many = omega (arith, length_push tables table, before.as_many);
@@ -49,19 +49,19 @@ more_tabled plan count tables node table before here routes = record {
     | inr (at, equal) ↦ (
         let place : count ≡ n = omega (arith, at, before.as_many) in
         let rows : HasSameRoutes (map table_row (rows_of plan count)) table = subst (λ (rs : List Row). HasSameRoutes (map table_row rs) table) (sym (rows_at plan count node here)) routes in
-        subst (λ (t : List bridge.Row). HasSameRoutes (map table_row (rows_of plan n)) t) equal (subst (λ k. HasSameRoutes (map table_row (rows_of plan k)) table) place rows))
+        subst (λ (t : List bridge.TableRow). HasSameRoutes (map table_row (rows_of plan n)) t) equal (subst (λ k. HasSameRoutes (map table_row (rows_of plan k)) table) place rows))
   ];
 }
 
 -- a node that has not switched goes by the rows of the plan before
-pub routes_before : (plan : Plan) (after : Option Plan) (switched : Bool) → switched ≡ false → (tables : List (List bridge.Row)) (count n : ℕ) (table : List bridge.Row)
+pub routes_before : (plan : Plan) (after : Option Plan) (switched : Bool) → switched ≡ false → (tables : List (List bridge.TableRow)) (count n : ℕ) (table : List bridge.TableRow)
     → AreTabled plan count tables → slice_get tables n ≡ Some table → HasSameRoutes (map table_row (rows_by plan after switched n)) table
 routes_before plan None switched not tables count n table are there = are.same n table there
 routes_before plan (Some after) false not tables count n table are there = are.same n table there
 routes_before plan (Some after) true not tables count n table are there = absurd (cc)
 
 -- one that has switched goes by those of the plan after
-pub routes_after : (plan : Plan) (after : Option Plan) (switched : Bool) → switched ≡ true → (tables : List (List bridge.Row)) (n : ℕ) (table : List bridge.Row)
+pub routes_after : (plan : Plan) (after : Option Plan) (switched : Bool) → switched ≡ true → (tables : List (List bridge.TableRow)) (n : ℕ) (table : List bridge.TableRow)
     → AreTabledAfter plan after tables → slice_get tables n ≡ Some table → HasSameRoutes (map table_row (rows_by plan after switched n)) table
 routes_after plan None switched is tables n table none there = absurd (omega (arith, slice_get_within tables n table there, none))
 routes_after plan (Some after) true is tables n table are there = are.same n table there
@@ -83,7 +83,7 @@ none_marked (suc count) zero = refl
 none_marked (suc count) (suc n) = none_marked count n
 
 -- the tables of the plan after
-pub tabled_after : (plan after : Plan) (cert : Certificate) (other : Option Plan) → Some after ≡ other → AcceptsMove plan after cert → (tables : List (List bridge.Row))
+pub tabled_after : (plan after : Plan) (cert : Certificate) (other : Option Plan) → Some after ≡ other → AcceptsMove plan after cert → (tables : List (List bridge.TableRow))
     → AreTabled after (length after.nodes.items) tables → AreTabledAfter plan other tables
 tabled_after plan after cert other same accepted tables are =
     subst (λ (o : Option Plan). AreTabledAfter plan o tables) same (record { as_many = are.as_many ∙ sym (same_count plan after cert accepted); same = are.same })

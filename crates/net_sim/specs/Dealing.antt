@@ -6,7 +6,7 @@ use Rattle.mctp_transport.specs.Assembly.{assembler_slots, assembler_limit, Stan
 use Rattle.net_plan.specs.declared.plan.Plan.{Plan}
 use Rattle.net_plan.specs.declared.certificate.Certificate.{Certificate}
 use Rattle.net_plan.specs.declared.nodes.Node.{Node}
-use Rattle.net_plan.specs.declared.terminus.Terminus.{Terminus}
+use Rattle.net_plan.specs.declared.terminus.PlannedTerminus.{PlannedTerminus}
 use Rattle.pdr_repository.specs.Records.{Entry}
 use Rattle.net_check.specs.Termini.{TerminusState, terminus_at_start}
 use Rattle.net_check.specs.States.{NetworkState}
@@ -17,12 +17,12 @@ abbrev pub resting : {B : Type 0} → (B → ℕ) → (B → List Entry) → B �
 resting tid records b = record { tid = tid b; records = records b; waiting = [] }
 
 -- one to each node that has a terminus, in the order of the nodes
-abbrev pub dealt_to : Option Terminus → List TerminusState → Option TerminusState
+abbrev pub dealt_to : Option PlannedTerminus → List TerminusState → Option TerminusState
 dealt_to None termini = None
 dealt_to (Some t) [] = None
 dealt_to (Some t) (first ∷ rest) = Some first
 
-abbrev pub left_by : Option Terminus → List TerminusState → List TerminusState
+abbrev pub left_by : Option PlannedTerminus → List TerminusState → List TerminusState
 left_by None termini = termini
 left_by (Some t) [] = []
 left_by (Some t) (first ∷ rest) = rest

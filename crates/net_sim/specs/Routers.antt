@@ -1,7 +1,7 @@
 -- Routing tables of a network's nodes, and what going on by them keeps.
 use Rattle.std.specs.Prelude.{◌≡◌, ◌≢◌, ◌⊎◌, ℕ, ◌<◌, List, length, map, slice_get}
 use Rattle.std.specs.Prelude.{Bool, true, false, Option, Some, None, unwrap_or}
-use Rattle.mctp_bridge.specs.declared.row.Row as bridge
+use Rattle.mctp_bridge.specs.declared.row.TableRow as bridge
 use Rattle.mctp_bridge.specs.declared.decision.Decision.{Decision}
 use Rattle.mctp_bridge.specs.declared.decision.Decision.TheVariants.{Here, Drop, Forward}
 use Rattle.mctp_bridge.specs.Rows.{HasSameRoutes}
@@ -35,19 +35,19 @@ abbrev pub HasLawfulRows : Plan → Type 0
 HasLawfulRows plan = (n : ℕ) (node : Node) → slice_get plan.nodes.items n ≡ Some node → AreRows node.rows.items
 
 -- so many nodes of the plan have a table that routes as their rows do
-pub record AreTabled (plan : Plan) (count : ℕ) (tables : List (List bridge.Row)) : Type 0 where
+pub record AreTabled (plan : Plan) (count : ℕ) (tables : List (List bridge.TableRow)) : Type 0 where
   pub as_many : length tables ≡ count
-  pub same : (n : ℕ) (table : List bridge.Row) → slice_get tables n ≡ Some table
+  pub same : (n : ℕ) (table : List bridge.TableRow) → slice_get tables n ≡ Some table
       → HasSameRoutes (map table_row (rows_of plan n)) table
 
 -- where there is a plan after, as many tables that route as its rows do; else none
-abbrev pub AreTabledAfter : Plan → Option Plan → List (List bridge.Row) → Type 0
+abbrev pub AreTabledAfter : Plan → Option Plan → List (List bridge.TableRow) → Type 0
 AreTabledAfter plan None tables = length tables ≡ 0
 AreTabledAfter plan (Some after) tables = AreTabled after (length plan.nodes.items) tables
 
 -- The tables are accepted. Each node has a table that routes as its rows before a switch do; and where there is a plan
 -- after, one for those after it, and a mark.
-pub record RoutesAs (tables : Tables) (cert : Certificate) (old new : List (List bridge.Row))
+pub record RoutesAs (tables : Tables) (cert : Certificate) (old new : List (List bridge.TableRow))
     (switched : List Bool) : Type 0 where
   pub accepted : IsAccepted tables cert
   pub before : AreTabled tables.plan (length tables.plan.nodes.items) old

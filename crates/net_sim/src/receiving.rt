@@ -4,10 +4,10 @@ ghost use Rattle.mctp_transport.specs.Histories.{History, Arrived, after};
 ghost use Rattle.mctp_transport.specs.Hearing.{Hears};
 ghost use Rattle.mctp_transport.specs.Assembly.{StandsFor, assembler_slots, assembler_limit};
 ghost use Rattle.net_sim.specs.KeptPackets.{kept_frame};
-ghost use Rattle.net_sim.specs.Receiving.{receipt_value};
+ghost use Rattle.net_sim.specs.Receiving.{receipt_value, HasRoomAfter};
 
 use crate::kept_packet::KeptPacket;
-use mctp_transport::{Assembler, DropCause, Fed, MAX_MESSAGE};
+use mctp_transport::{Assembler, DropCause, Fed, Header, MAX_MESSAGE};
 use std::alloc::{AllocError, Global};
 
 /// What an assembler made of a packet.
@@ -19,18 +19,23 @@ pub enum Receipt {
     Dropped(DropCause),
 }
 
-/// Room for a message of 4096 bytes.
-pub fn room_for_message(alloc: Global) -> Result<Vec<u8>, AllocError>
+/// Room for the message that a packet with this header may end: 4096 bytes, and none where it ends none.
+pub fn room_for_message(alloc: Global, header: Header) -> Result<Vec<u8>, AllocError>
     ensures empty { IfOk result (λ room. room.items ≡ []) }
-    ensures room { IfOk result (λ room. 4096 ≤ vec_capacity room) }
+    ensures room { IfOk result (HasRoomAfter header) }
 {
-    Vec::with_capacity(alloc, MAX_MESSAGE)
+    if header.eom {
+        Vec::with_capacity(alloc, MAX_MESSAGE)
+    } else {
+        Ok(Vec::new(alloc))
+    }
 }
 
 /// Feeds a packet to an assembler. A message that comes is copied into the room.
 pub fn feed(assembler: &mut Assembler, packet: &KeptPacket, mut room: Vec<u8>) -> Receipt
     requires empty { room.items ≡ [] }
-    requires room { assembler_limit assembler.old ≤ vec_capacity room }
+    requires room { HasRoomAfter packet.now.header room }
+    requires limit { assembler_limit assembler.old ≤ 4096 }
     ensures slots { assembler_slots assembler.new ≡ assembler_slots assembler.old }
     ensures limit { assembler_limit assembler.new ≡ assembler_limit assembler.old }
     ensures hears { (h : History) → StandsFor assembler.old h

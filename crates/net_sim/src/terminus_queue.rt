@@ -85,8 +85,7 @@ impl TerminusQueue {
     pub fn wait(&mut self, key: Key, bytes: &[u8], mut room: Vec<u8>)
         requires place { deque_len self.old.waiting < deque_capacity self.old.waiting }
         requires empty { room.items ≡ [] }
-        requires room { 4096 ≤ vec_capacity room }
-        ensures { length bytes.now ≤ 4096 → queue_state (λ d. tid d.terminus) (λ d. records d.terminus) self.new
+        ensures { length bytes.now ≤ vec_capacity room → queue_state (λ d. tid d.terminus) (λ d. records d.terminus) self.new
             ≡ with_waiting (queue_state (λ d. tid d.terminus) (λ d. records d.terminus) self.old) (record { key = key_value key; bytes = bytes.now }) }
     {
         let _ = room.extend_from_slice(bytes);
@@ -167,8 +166,7 @@ pub fn reserve_at(queue: &mut Option<TerminusQueue>) -> Result<(), AllocError>
 pub fn wait_at(queue: &mut Option<TerminusQueue>, key: Key, bytes: &[u8], room: Vec<u8>)
     requires place { HasPlace queue.old }
     requires empty { room.items ≡ [] }
-    requires room { 4096 ≤ vec_capacity room }
-    ensures { length bytes.now ≤ 4096 → option_map (queue_state (λ d. tid d.terminus) (λ d. records d.terminus)) queue.new
+    ensures { length bytes.now ≤ vec_capacity room → option_map (queue_state (λ d. tid d.terminus) (λ d. records d.terminus)) queue.new
         ≡ with_message (record { key = key_value key; bytes = bytes.now })
         (option_map (queue_state (λ d. tid d.terminus) (λ d. records d.terminus)) queue.old) }
 {

@@ -1,7 +1,7 @@
 use Rattle.std.proofs.Common.{◌≡◌, ◌+◌, List, ◌++◌, ◌∷◌, [], length, Some, refl, sym, ap, subst, arith}
 use Rattle.std.specs.Prelude.{slice_get, map}
 use Rattle.std.proofs.lemmas.Option.{slice_get_read}
-use Rattle.mctp_bridge.specs.declared.row.Row as bridge
+use Rattle.mctp_bridge.specs.declared.row.TableRow as bridge
 use Rattle.mctp_bridge.specs.Rows.{HasSameRoutes}
 use Rattle.net_plan.specs.declared.nodes.Node.{Node}
 use Rattle.net_plan.specs.declared.nodes.Row.{Row}
@@ -13,7 +13,7 @@ use Rattle.net_sim.proofs.router.routing_tables.Goals as goal
 
 pub loop-node-init : goal.loop-node-init
 loop-node-init c =
-    let P : List (List bridge.Row) → Type 0 = AreTabled c.args.plan.now 0 in
+    let P : List (List bridge.TableRow) → Type 0 = AreTabled c.args.plan.now 0 in
     subst P (sym c.new-tables.ensures.items) (none_tabled c.args.plan.now)
 
 pub table_of-requires : goal.table_of-requires

@@ -44,4 +44,5 @@ returns-in-Whole-clause-receives g c =
     (short_map _ now.queues.items f.node (omega (arith, c.requires.node, now.queued)))
     (queue_there _ now.queues.items f.node c.index_mut-in-Whole.result.now
     (slice_get_read now.queues.items _ _ c.index_mut-in-Whole.result.now refl (omega (arith, c.requires.node, now.queued)) c.index_mut-in-Whole.ensures.value))
-    (λ fits. queue_waits _ _ _ _ message _ (at_bytes m c.deref.result.now (sym c.deref.ensures.value) key _ _ c.wait_at.ensures fits))
+    (λ fits ends. queue_waits _ _ _ _ message _
+    (at_bytes m c.deref.result.now (sym c.deref.ensures.value) key _ _ (λ short. c.wait_at.ensures (omega (arith, short, c.requires.kept.1 ends))) fits))

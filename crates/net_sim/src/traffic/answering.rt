@@ -1,0 +1,90 @@
+//! Termini that answer.
+ghost use Rattle.std.specs.Prelude.{◌≡◌, All, ◌+◌, ◌*◌, ◌-◌, ◌<◌, ◌≤◌, MatchResult, length, Some, false};
+ghost use Rattle.mctp_transport.specs.Packets.{key_value};
+ghost use Rattle.net_check.specs.States.{unit_of};
+ghost use Rattle.net_sim.specs.Flights.{slots_of, room_of};
+ghost use Rattle.net_sim.specs.Payloads.{IsRoomFor};
+
+use super::Traffic;
+use crate::effect::Effect;
+use crate::payload::rooms_for_answer;
+use crate::refusal::Refusal;
+use crate::terminus_queue::{answer_at, idle_at};
+use arrayvec::ArrayVec;
+use mctp_transport::{Key, Packets, Seq};
+use std::alloc::AllocError;
+
+impl<'a> Traffic<'a> {
+    ghost use Rattle.net_check.specs.Events.{most_flights, AnswerAt};
+    ghost use Rattle.net_sim.specs.Effects.{effect_value};
+    ghost use Rattle.net_sim.specs.Standing.{Plays, Wants};
+    ghost use Rattle.net_sim.specs.Traffics.{traffic_value};
+    ghost use Rattle.net_sim.specs.Sending.{Sends};
+
+    /// Lets the terminus of a node answer the oldest message that waits there.
+    pub fn answer(&mut self, node: usize) -> Result<Effect, AllocError>
+        ensures router { self.new.router ≡ self.old.router }
+        ensures plays { MatchResult result
+            (λ outcome. Plays self.old.router.tables
+            (traffic_value (λ d. tid d.terminus) (λ d. records d.terminus) self.old) (AnswerAt node) (effect_value outcome)
+            (traffic_value (λ d. tid d.terminus) (λ d. records d.terminus) self.new))
+            (λ _. Wants self.old.router.tables
+            (traffic_value (λ d. tid d.terminus) (λ d. records d.terminus) self.old) (AnswerAt node)
+            (traffic_value (λ d. tid d.terminus) (λ d. records d.terminus) self.new)) }
+    {
+        if !self.has_node(node) {
+            return Ok(Effect::Refused(Refusal::NoNode));
+        }
+        if let Some(why) = idle_at(&self.queues[node]) {
+            return Ok(Effect::Refused(why));
+        }
+        if self.left() < 64 {
+            return Ok(Effect::Refused(Refusal::NoNumbers));
+        }
+        let Ok(rooms) = rooms_for_answer(self.alloc, self.unit()) else {
+            return Err(AllocError);
+        };
+        if self.reserve(64).is_err() {
+            return Err(AllocError);
+        }
+        let mut out = ArrayVec::new();
+        let Some(asked) = answer_at(&mut self.queues[node], &mut out) else {
+            return Ok(Effect::Refused(Refusal::NothingWaits));
+        };
+        if !asked.answered {
+            return Ok(Effect::Silent { node });
+        }
+        Ok(self.send(node, asked.key, &out, rooms))
+    }
+
+    /// Puts the packets of an answer in at a node, to where a message of this key came from. Their long payloads are
+    /// copied into the rooms.
+    fn send(&mut self, node: usize, asked: Key, answer: &[u8], rooms: Vec<Vec<u8>>) -> Effect
+        requires node { node < length self.old.router.tables.plan.nodes.items }
+        requires few { length (slots_of self.old.flights) + 64 ≤ most_flights + 1 }
+        requires room { 64 ≤ room_of self.old.flights }
+        requires enough { 64 < unit_of self.old.router.tables.plan → 4096 ≤ length rooms.items * unit_of self.old.router.tables.plan }
+        requires rooms { All (IsRoomFor (unit_of self.old.router.tables.plan)) rooms.items }
+        requires some { 0 < length answer.now }
+        requires most { length answer.now ≤ 4096 }
+        ensures sends { Sends self.old.router.tables.plan node (key_value asked) answer.now (slots_of self.old.flights) (effect_value result) (slots_of self.new.flights) }
+        ensures router { self.new.router ≡ self.old.router }
+        ensures assemblers { self.new.assemblers.items ≡ self.old.assemblers.items }
+        ensures queues { self.new.queues.items ≡ self.old.queues.items }
+    {
+        let key = Key {
+            source: self.router.plan().nodes[node].eid,
+            tag: asked.tag,
+            owner: false,
+        };
+        let first = self.flights.next_number();
+        let packets = Packets::within(self.unit(), answer, asked.source, key, Seq::new(0));
+        self.put_all(node, packets, rooms);
+        let last = self.flights.next_number() - 1;
+        Effect::Answered {
+            node,
+            first: first as u32,
+            last: last as u32,
+        }
+    }
+}

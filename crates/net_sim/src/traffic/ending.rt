@@ -1,0 +1,43 @@
+//! What is lost, and messages whose time is over.
+ghost use Rattle.std.specs.Prelude.{◌≡◌, ◌-◌};
+ghost use Rattle.mctp_transport.specs.Packets.{key_value};
+
+use super::Traffic;
+use crate::effect::Effect;
+use crate::refusal::Refusal;
+use mctp_transport::Key;
+
+impl<'a> Traffic<'a> {
+    ghost use Rattle.net_check.specs.Events.{Lose, Expire};
+    ghost use Rattle.net_sim.specs.Effects.{effect_value};
+    ghost use Rattle.net_sim.specs.Standing.{Plays};
+    ghost use Rattle.net_sim.specs.Traffics.{traffic_value};
+
+    /// Loses a flight.
+    pub fn lose(&mut self, number: u32) -> Effect
+        ensures router { self.new.router ≡ self.old.router }
+        ensures plays { Plays self.old.router.tables
+            (traffic_value (λ d. tid d.terminus) (λ d. records d.terminus) self.old) (Lose number) (effect_value result)
+            (traffic_value (λ d. tid d.terminus) (λ d. records d.terminus) self.new) }
+    {
+        if !self.flights.has(number) {
+            return Effect::Refused(Refusal::NoFlight);
+        }
+        let _ = self.end(number);
+        Effect::Lost { number }
+    }
+
+    /// Ends the message of a key at a node.
+    pub fn expire(&mut self, node: usize, key: Key) -> Effect
+        ensures router { self.new.router ≡ self.old.router }
+        ensures plays { Plays self.old.router.tables
+            (traffic_value (λ d. tid d.terminus) (λ d. records d.terminus) self.old) (Expire node (key_value key)) (effect_value result)
+            (traffic_value (λ d. tid d.terminus) (λ d. records d.terminus) self.new) }
+    {
+        if !self.has_node(node) {
+            return Effect::Refused(Refusal::NoNode);
+        }
+        let was_open = self.assemblers[node].expire(key);
+        Effect::Expired { node, was_open }
+    }
+}

@@ -1,0 +1,85 @@
+//! Packets that are put in.
+ghost use Rattle.std.specs.Prelude.{◌≡◌, ◌+◌, ◌-◌, ◌<◌, ◌≤◌, ◌++◌, MatchResult, length, map, Some};
+ghost use Rattle.mctp_transport.specs.Packets.{key_value};
+ghost use Rattle.net_check.specs.States.{Flight};
+ghost use Rattle.net_sim.specs.Flights.{slots_of, begun, room_of};
+ghost use Rattle.net_sim.specs.Payloads.{HaveRooms};
+
+use super::Traffic;
+use crate::effect::Effect;
+use crate::flights::Flight;
+use crate::payload::take_room;
+use crate::refusal::Refusal;
+use mctp_transport::{Eid, Key, PacketView, Packets, Seq};
+use std::alloc::AllocError;
+
+impl<'a> Traffic<'a> {
+    ghost use Rattle.net_check.specs.Events.{most_flights, Put};
+    ghost use Rattle.mctp_transport.specs.PacketsLeft.{frames_left};
+    ghost use Rattle.net_sim.specs.Effects.{effect_value};
+    ghost use Rattle.net_sim.specs.Standing.{Plays, Wants};
+    ghost use Rattle.net_sim.specs.Traffics.{traffic_value};
+    ghost use Rattle.net_sim.specs.Sending.{PutsOne};
+
+    /// Puts the packet of these bytes in at a node.
+    pub fn put(&mut self, node: usize, bytes: &[u8]) -> Result<Effect, AllocError>
+        ensures router { self.new.router ≡ self.old.router }
+        ensures plays { MatchResult result
+            (λ outcome. Plays self.old.router.tables
+            (traffic_value (λ d. tid d.terminus) (λ d. records d.terminus) self.old) (Put node bytes.now) (effect_value outcome)
+            (traffic_value (λ d. tid d.terminus) (λ d. records d.terminus) self.new))
+            (λ _. Wants self.old.router.tables
+            (traffic_value (λ d. tid d.terminus) (λ d. records d.terminus) self.old) (Put node bytes.now)
+            (traffic_value (λ d. tid d.terminus) (λ d. records d.terminus) self.new)) }
+    {
+        if !self.has_node(node) {
+            return Ok(Effect::Refused(Refusal::NoNode));
+        }
+        let Ok(packet) = PacketView::read_within(bytes, self.unit()) else {
+            return Ok(Effect::Refused(Refusal::NoPacket));
+        };
+        if self.left() < 1 {
+            return Ok(Effect::Refused(Refusal::NoNumbers));
+        }
+        let Ok(room) = self.room_for_flight(packet.payload.len()) else {
+            return Err(AllocError);
+        };
+        let number = self.add(Some(Flight::put_in(node, packet, room)));
+        Ok(Effect::PutIn { number, node })
+    }
+
+    /// Puts packets in at a node, one after another. Their long payloads are copied into the rooms.
+    pub(super) fn put_all(&mut self, node: usize, packets: Packets, mut rooms: Vec<Vec<u8>>)
+        requires node { node < length self.old.router.tables.plan.nodes.items }
+        requires few { length (slots_of self.old.flights) + length (frames_left packets) ≤ most_flights + 1 }
+        requires room { length (frames_left packets) ≤ room_of self.old.flights }
+        requires rooms { HaveRooms (frames_left packets) rooms.items }
+        ensures flights { slots_of self.new.flights ≡ slots_of self.old.flights ++ map (begun node) (frames_left packets.entry) }
+        ensures router { self.new.router ≡ self.old.router }
+        ensures assemblers { self.new.assemblers.items ≡ self.old.assemblers.items }
+        ensures queues { self.new.queues.items ≡ self.old.queues.items }
+    {
+        for packet in packets {
+            let room = take_room(self.alloc, &mut rooms);
+            self.add(Some(Flight::put_in(node, packet, room)));
+        }
+    }
+
+    /// Puts a message of at most 64 bytes in at a node, as one packet under the next number. It takes no memory.
+    pub fn put_one(&mut self, node: usize, destination: Eid, key: Key, message: &[u8]) -> u32
+        requires node { node < length self.old.router.tables.plan.nodes.items }
+        requires few { length (slots_of self.old.flights) ≤ most_flights }
+        requires room { 0 < room_of self.old.flights }
+        requires some { 0 < length message.now }
+        requires most { length message.now ≤ 64 }
+        ensures router { self.new.router ≡ self.old.router }
+        ensures puts { PutsOne self.old.router.tables (traffic_value (λ d. tid d.terminus) (λ d. records d.terminus) self.old)
+            node message.now destination.value (key_value key) result
+            (traffic_value (λ d. tid d.terminus) (λ d. records d.terminus) self.new) }
+    {
+        let number = self.flights.next_number() as u32;
+        let packets = Packets::within(self.unit(), message, destination, key, Seq::new(0));
+        self.put_all(node, packets, Vec::new(self.alloc));
+        number
+    }
+}
