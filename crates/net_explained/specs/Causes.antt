@@ -7,7 +7,7 @@ use Rattle.pdr_repository.specs.Records.{IsRecordOf}
 use Rattle.net_plan.specs.declared.plan.Plan.{Plan}
 use Rattle.net_plan.specs.declared.nodes.Pool.{Pool}
 use Rattle.net_plan.specs.declared.nodes.Row.{Row}
-use Rattle.net_plan.specs.declared.terminus.Record.{Record}
+use Rattle.net_plan.specs.declared.terminus.PlannedRecord.{PlannedRecord}
 use Rattle.net_check.specs.declared.rule.Rule.TheVariants.{C01, C02, C03, C04, C05, C06, C07, C08}
 use Rattle.net_check.specs.declared.rule.Rule.TheVariants.{C09, C11, C12, C13, C15}
 use Rattle.net_check.specs.Routing.{rows_of, Holds, Covers, HasRow, IsBridge}
@@ -96,8 +96,8 @@ Meet plan n m e = (m < n) × (owner_of plan m ≡ owner_of plan n) × IsInPoolOf
 -- ---- records
 
 -- n's record j, if n has it, is such a record
-abbrev pub HasRecordThat : Plan → ℕ → ℕ → (Record → Type 0) → Type 0
-HasRecordThat plan n j P = (r : Record) × (slice_get (records_of plan n) j ≡ Some r) × P r
+abbrev pub HasRecordThat : Plan → ℕ → ℕ → (PlannedRecord → Type 0) → Type 0
+HasRecordThat plan n j P = (r : PlannedRecord) × (slice_get (records_of plan n) j ≡ Some r) × P r
 
 -- n has a terminus, without records
 abbrev pub IsEmptyTerminus : Plan → ℕ → Type 0

@@ -4,8 +4,8 @@
 mod cause;
 mod causes;
 mod finding;
-mod lookup;
+mod holders;
 
 pub use cause::Cause;
 pub use finding::find_cause;
-pub use lookup::{owner_at, pool_at, record_at, row_at, rows_at, terminus_at};
+pub use net_check::lookup::{owner_at, pool_at, record_at, row_at, rows_at, terminus_at};

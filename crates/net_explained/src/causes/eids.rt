@@ -4,8 +4,9 @@ ghost use Rattle.net_check.specs.declared.rule.Rule.TheVariants.{C02, C03};
 ghost use Rattle.net_explained.specs.Causes.{IsCauseAt};
 
 use crate::cause::Cause;
-use crate::lookup::{holder_before, holds};
+use crate::holders::holder_before;
 use mctp_transport::Eid;
+use net_check::lookup::holds;
 use net_plan::Plan;
 
 /// That the node holds the endpoint ID, which can't be assigned.

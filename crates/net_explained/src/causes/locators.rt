@@ -8,9 +8,10 @@ ghost use Rattle.net_explained.specs.declared.cause.Cause.TheVariants.{NobodyHol
 ghost use Rattle.net_explained.specs.Causes.{IsCauseAt};
 
 use crate::cause::Cause;
-use crate::lookup::{holder_before, holds, record_at, terminus_at};
+use crate::holders::holder_before;
 use mctp_transport::{Eid, Wire};
-use net_plan::{Plan, Record};
+use net_check::lookup::{holds, record_at, terminus_at};
+use net_plan::{Plan, PlannedRecord};
 use pdr_record::{Body, TerminusLocator};
 
 /// Where the type stands in the common header of a record (DSP0248).
@@ -35,7 +36,7 @@ pub fn long(plan: &Plan, node: usize, index: usize) -> Option<Cause>
 }
 
 /// Whether the record is a terminus locator whose value is not one byte long.
-fn locates_no_eid(listed: &Record) -> bool
+fn locates_no_eid(listed: &PlannedRecord) -> bool
     ensures { IsTrue result ↔ ((tid : ℕ) × (value : List ℕ) × IsEidLocator listed.now.bytes.items tid value × (length value ≢ 1)) }
 {
     match eid_locator(&listed.bytes) {
@@ -60,7 +61,7 @@ pub fn misleading(plan: &Plan, node: usize, index: usize, eid: Eid) -> Option<Ca
 }
 
 /// The terminus ID of the locator, if the record is one of the endpoint ID.
-fn tid_located(listed: &Record, eid: Eid) -> Option<u8>
+fn tid_located(listed: &PlannedRecord, eid: Eid) -> Option<u8>
     ensures { (tid : ℕ) → IsEidLocator listed.now.bytes.items tid (eid.value ∷ []) ↔ (result ≡ Some tid) }
 {
     match eid_locator(&listed.bytes) {

@@ -8,7 +8,7 @@ ghost use Rattle.net_explained.specs.declared.cause.Cause.TheVariants.{OwnerShar
 ghost use Rattle.net_explained.specs.Causes.{IsCauseAt};
 
 use crate::cause::Cause;
-use crate::lookup::{is_bridge, is_on_bus, owner_at, ports_at};
+use net_check::lookup::{is_bridge, is_on_bus, owner_at, ports_at};
 use net_plan::{Plan, Port};
 
 /// Why the node's owner can't own it: it is no bridge, or it is one that shares no bus with the node.

@@ -10,8 +10,8 @@ ghost use Rattle.net_explained.specs.Searches.{IsFirst, IsLeastEid, IsFirstWithE
 ghost use Rattle.net_explained.specs.Causes.{IsCauseAt};
 
 use crate::cause::Cause;
-use crate::lookup::{holds, is_bridge, is_in_pool, is_in_pool_of, owner_at, pool_at, pool_end};
 use mctp_transport::Eid;
+use net_check::lookup::{holds, is_bridge, is_in_pool, is_in_pool_of, owner_at, pool_at, pool_end};
 use net_plan::{Plan, Pool};
 
 /// Whose pool the node's endpoint ID lies outside of, or whose it lies in.

@@ -6,9 +6,9 @@ ghost use Rattle.net_explained.specs.Searches.{IsFirstBelow};
 ghost use Rattle.net_explained.specs.Causes.{IsCauseAt, HasRecordThat, IsEmptyTerminus, AreNoRecord};
 
 use crate::cause::Cause;
-use crate::lookup::{record_at, terminus_at};
 use mctp_transport::Wire;
-use net_plan::{Plan, Record};
+use net_check::lookup::{record_at, terminus_at};
+use net_plan::{Plan, PlannedRecord};
 
 /// That the node's terminus has no records.
 #[tactic(auto, unfolding(net_check::specs::Repositories::HasRecords))]
@@ -69,7 +69,7 @@ fn has_handle(plan: &Plan, node: usize, index: usize, handle: u32) -> bool
 }
 
 /// Whether the record has the handle.
-fn is_of(listed: &Record, handle: u32) -> bool
+fn is_of(listed: &PlannedRecord, handle: u32) -> bool
     ensures { IsTrue result ↔ (listed.now.handle ≡ handle) }
 {
     listed.handle == handle

@@ -8,8 +8,8 @@ ghost use Rattle.net_explained.specs.Searches.{IsLeastEid, IsFirstWithEid};
 ghost use Rattle.net_explained.specs.Causes.{IsCauseAt, CoversAt};
 
 use crate::cause::Cause;
-use crate::lookup::{bus_at, covers, is_bridge, is_on_bus, row_at, row_end};
 use mctp_transport::Eid;
+use net_check::lookup::{bus_at, covers, is_bridge, is_on_bus, row_at, row_end};
 use net_plan::{Plan, Row};
 
 /// That the node's row covers nothing, or more than can be assigned.

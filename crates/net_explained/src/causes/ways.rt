@@ -8,8 +8,8 @@ ghost use Rattle.net_explained.specs.Searches.{IsFirst};
 ghost use Rattle.net_explained.specs.Causes.{IsCauseAt};
 
 use crate::cause::Cause;
-use crate::lookup::{covers, has_row, holds, is_bridge, row_at};
 use mctp_transport::Eid;
+use net_check::lookup::{covers, has_row, holds, is_bridge, row_at};
 use net_plan::Plan;
 
 /// Who holds the endpoint ID that the node's row leads to a node that neither holds it nor leads it on.

@@ -1,19 +1,19 @@
 use Rattle.std.proofs.Common.{◌≡◌, ◌≢◌, ℕ, List, length, refl, sym, inl, inr}
 use Rattle.std.proofs.lemmas.Bool.Decides.{eqb_tells}
-use Rattle.net_plan.specs.declared.terminus.Record as listed
+use Rattle.net_plan.specs.declared.terminus.PlannedRecord as listed
 use Rattle.net_check.specs.Repositories.{records_of}
 use Rattle.net_check.specs.Locators.{IsEidLocator, HasOneByteAsEid}
 use Rattle.net_explained.proofs.Items.{of_item, not_of_item}
 use Rattle.net_explained.proofs.causes.locators.long.Goals as goal
 
-one_byte : (r : listed.Record) → ¬ ((tid : ℕ) × (value : List ℕ) × IsEidLocator r.bytes.items tid value × (length value ≢ 1)) → HasOneByteAsEid r
+one_byte : (r : listed.PlannedRecord) → ¬ ((tid : ℕ) × (value : List ℕ) × IsEidLocator r.bytes.items tid value × (length value ≢ 1)) → HasOneByteAsEid r
 unfolding HasOneByteAsEid
 one_byte r none tid value is = elim (eqb_tells (length value) 1) [
   | inl (_, same) ↦ same
   | inr (_, long) ↦ absurd (none (tid, value, is, long))
 ]
 
-not_one : (r : listed.Record) → (tid : ℕ) × (value : List ℕ) × IsEidLocator r.bytes.items tid value × (length value ≢ 1) → ¬ HasOneByteAsEid r
+not_one : (r : listed.PlannedRecord) → (tid : ℕ) × (value : List ℕ) × IsEidLocator r.bytes.items tid value × (length value ≢ 1) → ¬ HasOneByteAsEid r
 unfolding HasOneByteAsEid
 not_one r (tid, value, is, long) one = long (one tid value is)
 

@@ -3,7 +3,7 @@ use Rattle.std.specs.Prelude.{slice_get}
 use Rattle.std.proofs.lemmas.Bool.{cases_lt}
 use Rattle.std.proofs.lemmas.Option.{same_Some, none-some, slice_get_past}
 use Rattle.net_plan.specs.declared.plan.Plan.{Plan}
-use Rattle.net_plan.specs.declared.terminus.Record as listed
+use Rattle.net_plan.specs.declared.terminus.PlannedRecord as listed
 use Rattle.net_check.specs.Routing.{Holds}
 use Rattle.net_check.specs.Repositories.{records_of}
 use Rattle.net_check.specs.Locators.{IsEidLocator, IsHeldByTerminus, LocatesTerminus}
@@ -19,15 +19,15 @@ nobody plan e count end none m holds = elim (cases_lt m (length plan.nodes.items
   | inr past ↦ no_holder plan m e past holds
 ]
 
-held : (plan : Plan) (r : listed.Record) (tid e : ℕ) → ((t : ℕ) → IsEidLocator r.bytes.items t (e ∷ []) → tid ≡ t) → IsHeldByTerminus plan tid e → LocatesTerminus plan r e
+held : (plan : Plan) (r : listed.PlannedRecord) (tid e : ℕ) → ((t : ℕ) → IsEidLocator r.bytes.items t (e ∷ []) → tid ≡ t) → IsHeldByTerminus plan tid e → LocatesTerminus plan r e
 unfolding LocatesTerminus
 held plan r tid e one there t is = subst (λ (k : ℕ). IsHeldByTerminus plan k e) (one t is) there
 
-not_held : (plan : Plan) (r : listed.Record) (tid e : ℕ) → IsEidLocator r.bytes.items tid (e ∷ []) → ¬ IsHeldByTerminus plan tid e → ¬ LocatesTerminus plan r e
+not_held : (plan : Plan) (r : listed.PlannedRecord) (tid e : ℕ) → IsEidLocator r.bytes.items tid (e ∷ []) → ¬ IsHeldByTerminus plan tid e → ¬ LocatesTerminus plan r e
 unfolding LocatesTerminus
 not_held plan r tid e is none located = none (located tid is)
 
-no_locator : (plan : Plan) (r : listed.Record) (e : ℕ) → ((t : ℕ) → ¬ IsEidLocator r.bytes.items t (e ∷ [])) → LocatesTerminus plan r e
+no_locator : (plan : Plan) (r : listed.PlannedRecord) (e : ℕ) → ((t : ℕ) → ¬ IsEidLocator r.bytes.items t (e ∷ [])) → LocatesTerminus plan r e
 unfolding LocatesTerminus
 no_locator plan r e none t is = absurd (none t is)
 
@@ -37,7 +37,7 @@ returns-in_err-tid c =
     let e = c.args.eid.value in
     let r = c.in_ok-listed.listed.now in
     rw c.from_residual-in_err-tid.ensures
-    (of_item (records_of plan c.args.node) c.args.index (λ (r : listed.Record). LocatesTerminus plan r e) r c.in_ok-listed.ensures
+    (of_item (records_of plan c.args.node) c.args.index (λ (r : listed.PlannedRecord). LocatesTerminus plan r e) r c.in_ok-listed.ensures
     (no_locator plan r e (λ t is. none-some t ((c.in_err-tid.ensures t).0 is))))
 
 pub returns-then-is_held_by_terminus : goal.returns-then-is_held_by_terminus
@@ -45,7 +45,7 @@ returns-then-is_held_by_terminus c =
     let plan = c.args.plan.now in
     let e = c.args.eid.value in
     let r = c.in_ok-listed.listed.now in
-    of_item (records_of plan c.args.node) c.args.index (λ (r : listed.Record). LocatesTerminus plan r e) r c.in_ok-listed.ensures
+    of_item (records_of plan c.args.node) c.args.index (λ (r : listed.PlannedRecord). LocatesTerminus plan r e) r c.in_ok-listed.ensures
     (held plan r c.in_ok-tid.tid e (λ t is. same_Some c.in_ok-tid.tid t ((c.in_ok-tid.ensures t).0 is)) (c.is_held_by_terminus.ensures.0 c.if-is_held_by_terminus.true))
 
 pub returns-in-Some : goal.returns-in-Some
@@ -57,7 +57,7 @@ returns-in-Some c =
     let is = (c.in_ok-tid.ensures tid).1 refl in
     let none : ¬ IsHeldByTerminus plan tid e = λ held. cc (c.is_held_by_terminus.ensures.1 held, c.if-is_held_by_terminus.false) in (
       (refl, ((r, sym c.in_ok-listed.ensures, is), c.in-Some.ensures.1, none)),
-      not_of_item (records_of plan c.args.node) c.args.index (λ (r : listed.Record). LocatesTerminus plan r e) r c.in_ok-listed.ensures (not_held plan r tid e is none),
+      not_of_item (records_of plan c.args.node) c.args.index (λ (r : listed.PlannedRecord). LocatesTerminus plan r e) r c.in_ok-listed.ensures (not_held plan r tid e is none),
     )
 
 pub returns-in-None : goal.returns-in-None
@@ -69,5 +69,5 @@ returns-in-None c =
     let is = (c.in_ok-tid.ensures tid).1 refl in
     let none : ¬ IsHeldByTerminus plan tid e = λ held. cc (c.is_held_by_terminus.ensures.1 held, c.if-is_held_by_terminus.false) in (
       (refl, ((r, sym c.in_ok-listed.ensures, is), nobody plan e c.len.result (omega arith) c.in-None.ensures)),
-      not_of_item (records_of plan c.args.node) c.args.index (λ (r : listed.Record). LocatesTerminus plan r e) r c.in_ok-listed.ensures (not_held plan r tid e is none),
+      not_of_item (records_of plan c.args.node) c.args.index (λ (r : listed.PlannedRecord). LocatesTerminus plan r e) r c.in_ok-listed.ensures (not_held plan r tid e is none),
     )

@@ -1,6 +1,6 @@
 use Rattle.std.proofs.Common.{ℕ, ◌<◌}
 use Rattle.net_check.specs.Routing.{Holds}
-use Rattle.net_explained.proofs.lookup.holder_before.Given as goal
+use Rattle.net_explained.proofs.holders.holder_before.Given as goal
 
 abbrev pub invariant-loop-node : goal.invariant-loop-node
 invariant-loop-node l = (k : ℕ) → k < l.node → ¬ Holds l.plan k l.eid.value
