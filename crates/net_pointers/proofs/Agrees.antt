@@ -1,5 +1,5 @@
 -- The first fault that is found is that for which the reader refuses a plan.
-use Rattle.std.proofs.Common.{◌≡◌, ◌⊎◌, inl, inr, ℕ, suc, List, [], ◌∷◌, Bool, true, false, if◌then◌else◌, is_ok, is_some, not, ◌||◌, nat_le, codes, length, Option, Some, None, option_map, option_and_then, Result, Ok, Err, IsSome, MatchOption, refl, sym, ap, ◌∙◌, subst, true≢false}
+use Rattle.std.proofs.Common.{◌≡◌, ◌⊎◌, inl, inr, ℕ, suc, List, ◌∷◌, Bool, true, false, if◌then◌else◌, is_ok, is_some, not, ◌||◌, nat_le, codes, length, Option, Some, None, option_map, option_and_then, Result, Ok, Err, IsSome, refl, sym, ap, ◌∙◌, subst, true≢false}
 use Rattle.std.specs.Bool.{⊤}
 use Rattle.std.specs.Option.{option_or}
 use Rattle.std.proofs.lemmas.Option.{none-some, same_Some}
@@ -9,15 +9,15 @@ use Rattle.net_plan.specs.Json.{each, items_count, list_within, optional, demand
 use Rattle.net_plan.specs.Keys.{plan_keys}
 use Rattle.net_plan.specs.Names.{place_among, texts_at, names_differ}
 use Rattle.net_plan.specs.Placed.{are_placed}
-use Rattle.net_plan.specs.PlanReading.{byte, word, bus, port, row, pool, repository_record, terminus, kind_text, node, nodes_among, plan_format, unit_by, unit, plan}
+use Rattle.net_plan.specs.PlanReading.{byte, word, bus, port, row, pool, repository_record, terminus, kind_text, node, nodes_among, plan_format, unit_by, plan}
 use Rattle.net_plan.specs.PlanValues.{BusValue, PortValue, RowValue, PoolValue, RecordValue, TerminusValue, NodeValue, PlanValue, bus_names}
 use Rattle.net_plan.specs.Reading.{then_with}
-use Rattle.net_plan.specs.declared.error.Fault.{Fault}
-use Rattle.net_plan.specs.declared.error.Fault.TheVariants.{OverLimit, Doubled, UnknownName, UnknownKey, MissingKey}
+use Rattle.net_plan.specs.declared.error.ValueFault.{ValueFault}
+use Rattle.net_plan.specs.declared.error.ValueFault.TheVariants.{OverLimit, Doubled, UnknownName, UnknownKey, MissingKey}
 use Rattle.net_plan.specs.declared.plan_format.PlanFormat.{PlanFormat}
 use Rattle.net_plan.specs.declared.plan_format.PlanFormat.TheVariants.{One, Two}
 use Rattle.net_pointers.specs.Shapes.{Shape, a_number, a_name, a_kind, a_hex, an_address, a_list, an_optional, an_object}
-use Rattle.net_pointers.specs.Shapes.{Fields, no_fields, field, fields_of, keys_of, own_fault, fault_of, unless_null}
+use Rattle.net_pointers.specs.Shapes.{Fields, no_fields, field, fields_of, keys_of, own_fault, fault_of}
 use Rattle.net_pointers.specs.PlanShapes.{a_byte, a_word, a_bus, a_port, a_row, a_pool, a_record, a_terminus, a_node, a_plan}
 use Rattle.net_pointers.specs.Pointers.{Step, key, index, Located, under, here, in_items, inside, in_fields, first_fault}
 use Rattle.net_pointers.specs.Plans.{IsFoundInPlan}
@@ -25,59 +25,59 @@ use Rattle.net_pointers.proofs.Leads.{leads}
 use Rattle.net_pointers.proofs.Parts.{inside_null}
 
 -- the fault alone
-abbrev code : Option Located → Option Fault
+abbrev pub code : Option Located → Option ValueFault
 code o = option_map (λ l. l.fault) o
 
 -- what a reader tells of a value is what is found in it
-abbrev Agrees : {A : Type 0} → (Data → Result A Fault) → Shape → Type 0
+abbrev pub Agrees : {A : Type 0} → (Data → Result A ValueFault) → Shape → Type 0
 Agrees f s = (d : Data) → fault_of (f d) ≡ code (first_fault s d)
 
-code_or : (a b : Option Located) → code (option_or a b) ≡ option_or (code a) (code b)
+pub code_or : (a b : Option Located) → code (option_or a b) ≡ option_or (code a) (code b)
 code_or None b = refl
 code_or (Some l) b = refl
 
-code_under : (p : Step) (o : Option Located) → code (under p o) ≡ code o
+pub code_under : (p : Step) (o : Option Located) → code (under p o) ≡ code o
 code_under p None = refl
 code_under p (Some l) = refl
 
-code_here : (s : Shape) (o : Option Fault) → code (here s o) ≡ o
+pub code_here : (s : Shape) (o : Option ValueFault) → code (here s o) ≡ o
 code_here s None = refl
 code_here s (Some f) = refl
 
-code_whole : (s : Shape) (d : Data) → code (first_fault s d) ≡ option_or (own_fault s d) (code (inside s d))
+pub code_whole : (s : Shape) (d : Data) → code (first_fault s d) ≡ option_or (own_fault s d) (code (inside s d))
 code_whole s d = code_or (here s (own_fault s d)) (inside s d) ∙ ap (λ o. option_or o (code (inside s d))) (code_here s (own_fault s d))
 
-or_none : (o : Option Fault) → o ≡ option_or o None
+pub or_none : (o : Option ValueFault) → o ≡ option_or o None
 or_none None = refl
 or_none (Some f) = refl
 
-then_fault : {A B : Type 0} (r : Result A Fault) (k : A → Result B Fault) (o : Option Fault) → ((a : A) → fault_of (k a) ≡ o) → fault_of (then_with r k) ≡ option_or (fault_of r) o
+then_fault : {A B : Type 0} (r : Result A ValueFault) (k : A → Result B ValueFault) (o : Option ValueFault) → ((a : A) → fault_of (k a) ≡ o) → fault_of (then_with r k) ≡ option_or (fault_of r) o
 then_fault (Ok a) k o h = h a
 then_fault (Err f) k o h = refl
 
 -- ---- values without parts
 
-number_agrees : (least most : ℕ) → Agrees (whole_number least most) (a_number least most)
+pub number_agrees : (least most : ℕ) → Agrees (whole_number least most) (a_number least most)
 number_agrees least most d = or_none _ ∙ sym (code_whole (a_number least most) d)
 
-name_agrees : Agrees name_text a_name
+pub name_agrees : Agrees name_text a_name
 name_agrees d = or_none _ ∙ sym (code_whole a_name d)
 
-kind_agrees : Agrees kind_text a_kind
+pub kind_agrees : Agrees kind_text a_kind
 kind_agrees d = or_none _ ∙ sym (code_whole a_kind d)
 
-hex_agrees : Agrees hex_text a_hex
+pub hex_agrees : Agrees hex_text a_hex
 hex_agrees d = or_none _ ∙ sym (code_whole a_hex d)
 
-address_agrees : Agrees address_text an_address
+pub address_agrees : Agrees address_text an_address
 address_agrees d = or_none _ ∙ sym (code_whole an_address d)
 
-reference_agrees : (find : List ℕ → ℕ) → Agrees (reference find) a_name
+pub reference_agrees : (find : List ℕ → ℕ) → Agrees (reference find) a_name
 reference_agrees find d = then_fault (name_text d) (λ n. Ok (find n)) None (λ n. refl) ∙ sym (code_whole a_name d)
 
 -- ---- lists and optional values
 
-each_agrees : {A : Type 0} (f : Data → Result A Fault) (s : Shape) → Agrees f s → (n : ℕ) (ds : Items) → fault_of (each f ds) ≡ code (in_items (first_fault s) n ds)
+pub each_agrees : {A : Type 0} (f : Data → Result A ValueFault) (s : Shape) → Agrees f s → (n : ℕ) (ds : Items) → fault_of (each f ds) ≡ code (in_items (first_fault s) n ds)
 each_agrees f s h n no_items = refl
 each_agrees f s h n (item d ds) =
     then_fault (f d) (λ a. then_with (each f ds) (λ rest. Ok (a ∷ rest))) (fault_of (each f ds)) (λ a. then_fault (each f ds) (λ rest. Ok (a ∷ rest)) None (λ rest. refl) ∙ sym (or_none _))
@@ -85,11 +85,11 @@ each_agrees f s h n (item d ds) =
     ∙ ap (option_or (code (under (index n) (first_fault s d)))) (each_agrees f s h (suc n) ds)
     ∙ sym (code_or (under (index n) (first_fault s d)) (in_items (first_fault s) (suc n) ds))
 
-short : {A : Type 0} (b : Bool) (r : Result A Fault) → fault_of (if b then r else Err OverLimit) ≡ option_or (fault_of (demand OverLimit b)) (fault_of r)
+short : {A : Type 0} (b : Bool) (r : Result A ValueFault) → fault_of (if b then r else Err OverLimit) ≡ option_or (fault_of (demand OverLimit b)) (fault_of r)
 short true r = refl
 short false r = refl
 
-list_agrees : {A : Type 0} (most : ℕ) (f : Data → Result A Fault) (s : Shape) → Agrees f s → Agrees (list_within most f) (a_list most s)
+pub list_agrees : {A : Type 0} (most : ℕ) (f : Data → Result A ValueFault) (s : Shape) → Agrees f s → Agrees (list_within most f) (a_list most s)
 list_agrees most f s h null = refl
 list_agrees most f s h (boolean b) = refl
 list_agrees most f s h (number n) = refl
@@ -100,10 +100,10 @@ list_agrees most f s h (array ds) =
     ∙ ap (option_or (fault_of (demand OverLimit (nat_le (items_count ds) most)))) (each_agrees f s h 0 ds)
     ∙ sym (code_whole (a_list most s) (array ds))
 
-some_agrees : {A : Type 0} (f : Data → Result A Fault) (d : Data) → fault_of (then_with (f d) (λ a. Ok (Some a))) ≡ fault_of (f d)
+some_agrees : {A : Type 0} (f : Data → Result A ValueFault) (d : Data) → fault_of (then_with (f d) (λ a. Ok (Some a))) ≡ fault_of (f d)
 some_agrees f d = then_fault (f d) (λ a. Ok (Some a)) None (λ a. refl) ∙ sym (or_none _)
 
-optional_agrees : {A : Type 0} (f : Data → Result A Fault) (s : Shape) → Agrees f s → Agrees (optional f) (an_optional s)
+pub optional_agrees : {A : Type 0} (f : Data → Result A ValueFault) (s : Shape) → Agrees f s → Agrees (optional f) (an_optional s)
 optional_agrees f s h null = sym (code_whole (an_optional s) null ∙ ap code (inside_null s))
 optional_agrees f s h (boolean b) = some_agrees f (boolean b) ∙ h (boolean b) ∙ code_whole s (boolean b) ∙ sym (code_whole (an_optional s) (boolean b))
 optional_agrees f s h (number n) = some_agrees f (number n) ∙ h (number n) ∙ code_whole s (number n) ∙ sym (code_whole (an_optional s) (number n))
@@ -114,7 +114,7 @@ optional_agrees f s h (object ms) = some_agrees f (object ms) ∙ h (object ms) 
 -- ---- objects
 
 -- all keys are there
-abbrev Given : Fields → Data → Type 0
+abbrev pub Given : Fields → Data → Type 0
 Given no_fields d = Unit {0}
 Given (field k s fs) d = IsSome (get k d) × Given fs d
 
@@ -130,17 +130,17 @@ is_there : (b : Bool) → not b ≡ false → b ≡ true
 is_there true e = refl
 is_there false e = absurd (true≢false e)
 
-none_lacked : (fs : Fields) (ms : Members) → lacks_key (keys_of fs) ms ≡ false → Given fs (object ms)
+pub none_lacked : (fs : Fields) (ms : Members) → lacks_key (keys_of fs) ms ≡ false → Given fs (object ms)
 none_lacked no_fields ms e = tt
 none_lacked (field k s fs) ms e =
     let p = or_false (not (is_some (get k (object ms)))) (lacks_key (keys_of fs) ms) e in
     (is_there (is_some (get k (object ms))) p.0, none_lacked fs ms p.1)
 
-demanded : (f : Fault) (b : Bool) → fault_of (demand f b) ≡ None → b ≡ true
+demanded : (f : ValueFault) (b : Bool) → fault_of (demand f b) ≡ None → b ≡ true
 demanded f true e = refl
 demanded f false e = absurd (none-some f (sym e))
 
-given_keys_there : (fs : Fields) (d : Data) → fault_of (keyed (keys_of fs) d) ≡ None → Given fs d
+pub given_keys_there : (fs : Fields) (d : Data) → fault_of (keyed (keys_of fs) d) ≡ None → Given fs d
 given_keys_there fs null e = absurd (none-some _ (sym e))
 given_keys_there fs (boolean b) e = absurd (none-some _ (sym e))
 given_keys_there fs (number n) e = absurd (none-some _ (sym e))
@@ -153,7 +153,7 @@ given_keys_there fs (object ms) e = by (has_unknown_key (keys_of fs) ms) e
     by false e = none_lacked fs ms (not_lacked (lacks_key (keys_of fs) ms) (demanded MissingKey (not (lacks_key (keys_of fs) ms)) e))
 
 -- what is read at a key, and then the rest
-at_agrees : {A B : Type 0} (k : List ℕ) (f : Data → Result A Fault) (s : Shape) (rest : A → Result B Fault) (fs : Fields) (d : Data) → Agrees f s → IsSome (get k d)
+at_agrees : {A B : Type 0} (k : List ℕ) (f : Data → Result A ValueFault) (s : Shape) (rest : A → Result B ValueFault) (fs : Fields) (d : Data) → Agrees f s → IsSome (get k d)
     → ((a : A) → fault_of (rest a) ≡ code (in_fields fs d)) → fault_of (then_with (at_key k f d) rest) ≡ code (in_fields (field k s fs) d)
 at_agrees k f s rest fs d h there more = by (get k d) refl there
   where
@@ -164,46 +164,46 @@ at_agrees k f s rest fs d h there more = by (get k d) refl there
         ∙ sym (code_or (under (key k) (first_fault s v)) (in_fields fs d))
 
 -- the keys, and then what stands at them
-object_agrees : {B : Type 0} (fs : Fields) (d : Data) (rest : Result B Fault) → (Given fs d → fault_of rest ≡ code (in_fields fs d))
+pub object_agrees : {B : Type 0} (fs : Fields) (d : Data) (rest : Result B ValueFault) → (Given fs d → fault_of rest ≡ code (in_fields fs d))
     → fault_of (then_with (keyed (keys_of fs) d) (λ _. rest)) ≡ code (first_fault (an_object fs) d)
 object_agrees fs d rest h = by (keyed (keys_of fs) d) refl ∙ sym (code_whole (an_object fs) d)
   where
-    by : (r : Result ⊤ Fault) → keyed (keys_of fs) d ≡ r → fault_of (then_with r (λ _. rest)) ≡ option_or (fault_of r) (code (in_fields fs d))
+    by : (r : Result ⊤ ValueFault) → keyed (keys_of fs) d ≡ r → fault_of (then_with r (λ _. rest)) ≡ option_or (fault_of r) (code (in_fields fs d))
     by (Err f) e = refl
     by (Ok u) e = h (given_keys_there fs d (ap fault_of e))
 
 -- ---- the parts of a plan
 
-bus_agrees : Agrees bus a_bus
+pub bus_agrees : Agrees bus a_bus
 bus_agrees d = object_agrees {B = BusValue} (fields_of a_bus) d (then_with (at_key (codes "name") name_text d) (λ n. then_with (at_key (codes "binding") byte d) (λ b. then_with (at_key (codes "media") byte d) (λ m. Ok (record { name = n; binding = b; media = m }))))) (λ there.
     at_agrees {B = BusValue} (codes "name") name_text a_name (λ n. then_with (at_key (codes "binding") byte d) (λ b. then_with (at_key (codes "media") byte d) (λ m. Ok (record { name = n; binding = b; media = m })))) (field (codes "binding") a_byte (field (codes "media") a_byte no_fields)) d name_agrees there.0 (λ n.
     at_agrees {B = BusValue} (codes "binding") byte a_byte (λ b. then_with (at_key (codes "media") byte d) (λ m. Ok (record { name = n; binding = b; media = m }))) (field (codes "media") a_byte no_fields) d (number_agrees 0 255) there.1.0 (λ b.
     at_agrees {B = BusValue} (codes "media") byte a_byte (λ m. Ok (record { name = n; binding = b; media = m })) no_fields d (number_agrees 0 255) there.1.1.0 (λ m. refl))))
 
-port_agrees : (find : List ℕ → ℕ) → Agrees (port find) a_port
+pub port_agrees : (find : List ℕ → ℕ) → Agrees (port find) a_port
 port_agrees find d = object_agrees {B = PortValue} (fields_of a_port) d (then_with (at_key (codes "bus") (reference find) d) (λ b. then_with (at_key (codes "address") address_text d) (λ a. Ok (record { bus = b; address = a })))) (λ there.
     at_agrees {B = PortValue} (codes "bus") (reference find) a_name (λ b. then_with (at_key (codes "address") address_text d) (λ a. Ok (record { bus = b; address = a }))) (field (codes "address") an_address no_fields) d (reference_agrees find) there.0 (λ b.
     at_agrees {B = PortValue} (codes "address") address_text an_address (λ a. Ok (record { bus = b; address = a })) no_fields d address_agrees there.1.0 (λ a. refl)))
 
-row_agrees : (find : List ℕ → ℕ) → Agrees (row find) a_row
+pub row_agrees : (find : List ℕ → ℕ) → Agrees (row find) a_row
 row_agrees find d = object_agrees {B = RowValue} (fields_of a_row) d (then_with (at_key (codes "first") byte d) (λ f. then_with (at_key (codes "size") byte d) (λ s. then_with (at_key (codes "port") (whole_number 0 31) d) (λ p. then_with (at_key (codes "next") (reference find) d) (λ n. Ok (record { first = f; size = s; port = p; next = n })))))) (λ there.
     at_agrees {B = RowValue} (codes "first") byte a_byte (λ f. then_with (at_key (codes "size") byte d) (λ s. then_with (at_key (codes "port") (whole_number 0 31) d) (λ p. then_with (at_key (codes "next") (reference find) d) (λ n. Ok (record { first = f; size = s; port = p; next = n }))))) (field (codes "size") a_byte (field (codes "port") (a_number 0 31) (field (codes "next") a_name no_fields))) d (number_agrees 0 255) there.0 (λ f.
     at_agrees {B = RowValue} (codes "size") byte a_byte (λ s. then_with (at_key (codes "port") (whole_number 0 31) d) (λ p. then_with (at_key (codes "next") (reference find) d) (λ n. Ok (record { first = f; size = s; port = p; next = n })))) (field (codes "port") (a_number 0 31) (field (codes "next") a_name no_fields)) d (number_agrees 0 255) there.1.0 (λ s.
     at_agrees {B = RowValue} (codes "port") (whole_number 0 31) (a_number 0 31) (λ p. then_with (at_key (codes "next") (reference find) d) (λ n. Ok (record { first = f; size = s; port = p; next = n }))) (field (codes "next") a_name no_fields) d (number_agrees 0 31) there.1.1.0 (λ p.
     at_agrees {B = RowValue} (codes "next") (reference find) a_name (λ n. Ok (record { first = f; size = s; port = p; next = n })) no_fields d (reference_agrees find) there.1.1.1.0 (λ n. refl)))))
 
-pool_agrees : Agrees pool a_pool
+pub pool_agrees : Agrees pool a_pool
 pool_agrees d = object_agrees {B = PoolValue} (fields_of a_pool) d (then_with (at_key (codes "first") byte d) (λ f. then_with (at_key (codes "size") byte d) (λ s. Ok (record { first = f; size = s })))) (λ there.
     at_agrees {B = PoolValue} (codes "first") byte a_byte (λ f. then_with (at_key (codes "size") byte d) (λ s. Ok (record { first = f; size = s }))) (field (codes "size") a_byte no_fields) d (number_agrees 0 255) there.0 (λ f.
     at_agrees {B = PoolValue} (codes "size") byte a_byte (λ s. Ok (record { first = f; size = s })) no_fields d (number_agrees 0 255) there.1.0 (λ s. refl)))
 
-record_agrees : Agrees repository_record a_record
+pub record_agrees : Agrees repository_record a_record
 record_agrees d = object_agrees {B = RecordValue} (fields_of a_record) d (then_with (at_key (codes "handle") word d) (λ h. then_with (at_key (codes "next") word d) (λ n. then_with (at_key (codes "bytes") hex_text d) (λ b. Ok (record { handle = h; next = n; bytes = b }))))) (λ there.
     at_agrees {B = RecordValue} (codes "handle") word a_word (λ h. then_with (at_key (codes "next") word d) (λ n. then_with (at_key (codes "bytes") hex_text d) (λ b. Ok (record { handle = h; next = n; bytes = b })))) (field (codes "next") a_word (field (codes "bytes") a_hex no_fields)) d (number_agrees 0 4294967295) there.0 (λ h.
     at_agrees {B = RecordValue} (codes "next") word a_word (λ n. then_with (at_key (codes "bytes") hex_text d) (λ b. Ok (record { handle = h; next = n; bytes = b }))) (field (codes "bytes") a_hex no_fields) d (number_agrees 0 4294967295) there.1.0 (λ n.
     at_agrees {B = RecordValue} (codes "bytes") hex_text a_hex (λ b. Ok (record { handle = h; next = n; bytes = b })) no_fields d hex_agrees there.1.1.0 (λ b. refl))))
 
-terminus_agrees : Agrees terminus a_terminus
+pub terminus_agrees : Agrees terminus a_terminus
 terminus_agrees d = object_agrees {B = TerminusValue} (fields_of a_terminus) d (then_with (at_key (codes "tid") (whole_number 0 254) d) (λ t. then_with (at_key (codes "records") (list_within 4096 repository_record) d) (λ rs. Ok (record { tid = t; records = rs })))) (λ there.
     at_agrees {B = TerminusValue} (codes "tid") (whole_number 0 254) (a_number 0 254) (λ t. then_with (at_key (codes "records") (list_within 4096 repository_record) d) (λ rs. Ok (record { tid = t; records = rs }))) (field (codes "records") (a_list 4096 a_record) no_fields) d (number_agrees 0 254) there.0 (λ t.
     at_agrees {B = TerminusValue} (codes "records") (list_within 4096 repository_record) (a_list 4096 a_record) (λ rs. Ok (record { tid = t; records = rs })) no_fields d (list_agrees 4096 repository_record a_record record_agrees) there.1.0 (λ rs. refl)))
@@ -219,26 +219,26 @@ node_agrees find_bus find_node d = object_agrees {B = NodeValue} (fields_of a_no
     at_agrees {B = NodeValue} (codes "rows") (list_within 256 (row find_node)) (a_list 256 a_row) (λ rs. then_with (at_key (codes "terminus") (optional terminus) d) (λ t. Ok (record { name = n; kind = k; eid = e; owner = o; pool = q; ports = ps; rows = rs; terminus = t }))) (field (codes "terminus") (an_optional a_terminus) no_fields) d (list_agrees 256 (row find_node) a_row (row_agrees find_node)) there.1.1.1.1.1.1.0 (λ rs.
     at_agrees {B = NodeValue} (codes "terminus") (optional terminus) (an_optional a_terminus) (λ t. Ok (record { name = n; kind = k; eid = e; owner = o; pool = q; ports = ps; rows = rs; terminus = t })) no_fields d (optional_agrees terminus a_terminus terminus_agrees) there.1.1.1.1.1.1.1.0 (λ t. refl)))))))))
 
-nodes_agrees : (buses : List (List ℕ)) → Agrees (nodes_among buses) (a_list 64 a_node)
+pub nodes_agrees : (buses : List (List ℕ)) → Agrees (nodes_among buses) (a_list 64 a_node)
 unfolding nodes_among
 nodes_agrees buses d = list_agrees 64 (node (place_among buses) (place_among (texts_at (codes "name") d))) a_node (node_agrees (place_among buses) (place_among (texts_at (codes "name") d))) d
 
 -- ---- a whole plan
 
 -- names that stand twice or that nothing has, or nothing at all
-abbrev IsLate : Option Fault → Type 0
-IsLate o = (f : Fault) → o ≡ Some f → (f ≡ Doubled) ⊎ (f ≡ UnknownName)
+abbrev pub IsLate : Option ValueFault → Type 0
+IsLate o = (f : ValueFault) → o ≡ Some f → (f ≡ Doubled) ⊎ (f ≡ UnknownName)
 
 -- the first fault is this one; where there is none, only names may be wrong
-abbrev Begins : Option Fault → Option Fault → Type 0
+abbrev pub Begins : Option ValueFault → Option ValueFault → Type 0
 Begins o None = IsLate o
 Begins o (Some f) = o ≡ Some f
 
-begins_then : {A B : Type 0} (r : Result A Fault) (k : A → Result B Fault) (o : Option Fault) → ((a : A) → Begins (fault_of (k a)) o) → Begins (fault_of (then_with r k)) (option_or (fault_of r) o)
+begins_then : {A B : Type 0} (r : Result A ValueFault) (k : A → Result B ValueFault) (o : Option ValueFault) → ((a : A) → Begins (fault_of (k a)) o) → Begins (fault_of (then_with r k)) (option_or (fault_of r) o)
 begins_then (Ok a) k o h = h a
 begins_then (Err f) k o h = refl
 
-begins_at : {A B : Type 0} (k : List ℕ) (f : Data → Result A Fault) (s : Shape) (rest : A → Result B Fault) (fs : Fields) (d : Data) → Agrees f s → IsSome (get k d)
+begins_at : {A B : Type 0} (k : List ℕ) (f : Data → Result A ValueFault) (s : Shape) (rest : A → Result B ValueFault) (fs : Fields) (d : Data) → Agrees f s → IsSome (get k d)
     → ((a : A) → Begins (fault_of (rest a)) (code (in_fields fs d))) → Begins (fault_of (then_with (at_key k f d) rest)) (code (in_fields (field k s fs) d))
 begins_at k f s rest fs d h there more = by (get k d) refl there
   where
@@ -250,11 +250,11 @@ begins_at k f s rest fs d h there more = by (get k d) refl there
         (ap (λ o. option_or o (code (in_fields fs d))) (h v ∙ sym (code_under (key k) (first_fault s v))) ∙ sym (code_or (under (key k) (first_fault s v)) (in_fields fs d)))
         (begins_then (f v) rest (code (in_fields fs d)) more)
 
-begins_object : {B : Type 0} (fs : Fields) (d : Data) (rest : Result B Fault) → (Given fs d → Begins (fault_of rest) (code (in_fields fs d)))
+begins_object : {B : Type 0} (fs : Fields) (d : Data) (rest : Result B ValueFault) → (Given fs d → Begins (fault_of rest) (code (in_fields fs d)))
     → Begins (fault_of (then_with (keyed (keys_of fs) d) (λ _. rest))) (code (first_fault (an_object fs) d))
 begins_object fs d rest h = subst (Begins (fault_of (then_with (keyed (keys_of fs) d) (λ _. rest)))) (sym (code_whole (an_object fs) d)) (by (keyed (keys_of fs) d) refl)
   where
-    by : (r : Result ⊤ Fault) → keyed (keys_of fs) d ≡ r → Begins (fault_of (then_with r (λ _. rest))) (option_or (fault_of r) (code (in_fields fs d)))
+    by : (r : Result ⊤ ValueFault) → keyed (keys_of fs) d ≡ r → Begins (fault_of (then_with r (λ _. rest))) (option_or (fault_of r) (code (in_fields fs d)))
     by (Err f) e = refl
     by (Ok u) e = h (given_keys_there fs d (ap fault_of e))
 
@@ -264,7 +264,7 @@ late_demands true false x f e = inr (sym (same_Some _ _ e))
 late_demands false b x f e = inl (sym (same_Some _ _ e))
 
 -- the lists of a plan, and what is tested after them
-abbrev lists : Data → ℕ → Result PlanValue Fault
+abbrev pub lists : Data → ℕ → Result PlanValue ValueFault
 lists d u =
     then_with (at_key (codes "buses") (list_within 64 bus) d) (λ bs.
     then_with (at_key (codes "nodes") (nodes_among (bus_names bs)) d) (λ ns.
@@ -272,16 +272,16 @@ lists d u =
     then_with (demand UnknownName (are_placed (length bs) ns)) (λ _.
     Ok (record { unit = u; buses = bs; nodes = ns })))))
 
-abbrev list_fields : Fields
+abbrev pub list_fields : Fields
 list_fields = field (codes "buses") (a_list 64 a_bus) (field (codes "nodes") (a_list 64 a_node) no_fields)
 
-abbrev tests : ℕ → List BusValue → List NodeValue → Result PlanValue Fault
+abbrev pub tests : ℕ → List BusValue → List NodeValue → Result PlanValue ValueFault
 tests u bs ns =
     then_with (demand Doubled (names_differ (bus_names bs))) (λ _.
     then_with (demand UnknownName (are_placed (length bs) ns)) (λ _.
     Ok (record { unit = u; buses = bs; nodes = ns })))
 
-abbrev nodes_field : Fields
+abbrev pub nodes_field : Fields
 nodes_field = field (codes "nodes") (a_list 64 a_node) no_fields
 
 lists_begin : (d : Data) (u : ℕ) → Given list_fields d → Begins (fault_of (lists d u)) (code (in_fields list_fields d))
@@ -290,7 +290,7 @@ lists_begin d u there =
     begins_at {B = PlanValue} (codes "nodes") (nodes_among (bus_names bs)) (a_list 64 a_node) (tests u bs) no_fields d (nodes_agrees (bus_names bs)) there.1.0 (λ ns.
     late_demands {B = PlanValue} (names_differ (bus_names bs)) (are_placed (length bs) ns) (record { unit = u; buses = bs; nodes = ns })))
 
-after_then : {A B C : Type 0} (r : Result A Fault) (k : A → Result B Fault) (l : B → Result C Fault) → then_with (then_with r k) l ≡ then_with r (λ a. then_with (k a) l)
+pub after_then : {A B C : Type 0} (r : Result A ValueFault) (k : A → Result B ValueFault) (l : B → Result C ValueFault) → then_with (then_with r k) l ≡ then_with r (λ a. then_with (k a) l)
 after_then (Ok a) k l = refl
 after_then (Err f) k l = refl
 
@@ -309,7 +309,7 @@ is_two d e = by (is_ok (at_key (codes "format") (whole_number 2 2) d)) e
     by true e = refl
     by false e = cc
 
-passes : {A B : Type 0} (r : Result A Fault) (k : Result B Fault) → is_ok r ≡ true → then_with r (λ _. k) ≡ k
+passes : {A B : Type 0} (r : Result A ValueFault) (k : Result B ValueFault) → is_ok r ≡ true → then_with r (λ _. k) ≡ k
 passes (Ok a) k e = refl
 passes (Err f) k e = absurd (true≢false (sym e))
 
@@ -330,7 +330,7 @@ plan_begins d = by (plan_format d) refl
     by One e = format_one d
     by Two e = format_two d e
 
-told : {A : Type 0} (r : Result A Fault) (f : Fault) → fault_of r ≡ Some f → r ≡ Err f
+pub told : {A : Type 0} (r : Result A ValueFault) (f : ValueFault) → fault_of r ≡ Some f → r ≡ Err f
 told (Ok a) f e = absurd (none-some f e)
 told (Err g) f e = ap Err (same_Some g f e)
 

@@ -1,14 +1,14 @@
 -- The first fault stands where its pointer leads.
-use Rattle.std.proofs.Common.{◌≡◌, ◌⊎◌, inl, inr, ℕ, suc, ◌+◌, List, [], ◌∷◌, Option, Some, None, option_map, option_and_then, refl, sym, ap, ◌∙◌, subst, arith}
+use Rattle.std.proofs.Common.{◌≡◌, inl, inr, ℕ, suc, ◌+◌, List, [], ◌∷◌, Option, Some, None, option_and_then, refl, sym, ap, ◌∙◌, subst, arith}
 use Rattle.std.specs.Option.{option_or}
 use Rattle.std.proofs.lemmas.Option.{none-some, same_Some}
 use Rattle.serde_json.specs.Data.{Data, null, boolean, number, string, array, object, Items, no_items, item}
 use Rattle.serde_json.specs.Find.{get, get_item}
-use Rattle.net_plan.specs.declared.error.Fault.{Fault}
-use Rattle.net_pointers.specs.Shapes.{Shape, a_number, a_name, a_kind, a_hex, an_address, a_list, an_optional, an_object}
-use Rattle.net_pointers.specs.Shapes.{Fields, no_fields, field, fields_of, item_of, own_fault}
-use Rattle.net_pointers.specs.Pointers.{Step, key, index, value_after, value_at, HasField, IsPart, MayStandAt, Located, HasFaultAt}
-use Rattle.net_pointers.specs.Pointers.{under, here, in_items, in_list, inside, in_fields, first_fault}
+use Rattle.net_plan.specs.declared.error.ValueFault.{ValueFault}
+use Rattle.net_pointers.specs.Shapes.{Shape, a_number, a_name, a_kind, a_hex, an_address, a_list, an_optional, an_object, a_name_of, any_list, a_range}
+use Rattle.net_pointers.specs.Shapes.{Fields, no_fields, field, own_fault}
+use Rattle.net_pointers.specs.Pointers.{Step, key, index, value_after, value_at, HasField, IsPart, Located, HasFaultAt}
+use Rattle.net_pointers.specs.Pointers.{under, here, in_items, inside, in_fields, first_fault}
 
 -- one step further out
 abbrev outer : Step → Located → Located
@@ -33,14 +33,14 @@ of_below s d l b = subst (HasFaultAt s d) (sym b.is) (record {
   faulty = b.faulty.faulty;
 })
 
-itself : (s : Shape) (d : Data) (f : Fault) (l : Located) → own_fault s d ≡ Some f → Some (record { pointer = []; shape = s; fault = f }) ≡ Some l → HasFaultAt s d l
+itself : (s : Shape) (d : Data) (f : ValueFault) (l : Located) → own_fault s d ≡ Some f → Some (record { pointer = []; shape = s; fault = f }) ≡ Some l → HasFaultAt s d l
 itself s d f l own e = subst (HasFaultAt s d) (same_Some _ _ e) (record { stands = d; leads = refl; expected = refl; faulty = own })
 
 -- the value itself has the fault, or one of its parts
 either : (s : Shape) (d : Data) (l : Located) → (inside s d ≡ Some l → Below s d l) → first_fault s d ≡ Some l → HasFaultAt s d l
 either s d l deeper e = by (own_fault s d) refl e
   where
-    by : (o : Option Fault) → own_fault s d ≡ o → option_or (here s o) (inside s d) ≡ Some l → HasFaultAt s d l
+    by : (o : Option ValueFault) → own_fault s d ≡ o → option_or (here s o) (inside s d) ≡ Some l → HasFaultAt s d l
     by (Some f) own e = itself s d f l own e
     by None own e = of_below s d l (deeper e)
 
@@ -102,6 +102,36 @@ mutual
         is = b.is;
       }
   below (an_object fs) d l e =
+      let led = fields_lead fs d l e in
+      record {
+        step = key led.0;
+        stands = led.2;
+        expected = led.1;
+        inner = led.3;
+        leads = led.4;
+        part = led.5;
+        faulty = led.6;
+        is = led.7;
+      }
+  below (a_name_of names) d l e = absurd (none-some l e)
+  below (any_list s) null l e = absurd (none-some l e)
+  below (any_list s) (boolean b) l e = absurd (none-some l e)
+  below (any_list s) (number n) l e = absurd (none-some l e)
+  below (any_list s) (string t) l e = absurd (none-some l e)
+  below (any_list s) (object ms) l e = absurd (none-some l e)
+  below (any_list s) (array ds) l e =
+      let led = items_lead (first_fault s) (HasFaultAt s) (λ d m. either s d m (below s d m)) 0 ds l e in
+      record {
+        step = index led.0;
+        stands = led.1;
+        expected = s;
+        inner = led.2;
+        leads = led.3;
+        part = refl;
+        faulty = led.4;
+        is = led.5 ∙ ap (λ k. outer (index k) led.2) (omega arith);
+      }
+  below (a_range fs) d l e =
       let led = fields_lead fs d l e in
       record {
         step = key led.0;

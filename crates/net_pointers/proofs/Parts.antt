@@ -1,9 +1,8 @@
 -- The parts of a value, as the search goes through them.
-use Rattle.std.proofs.Common.{◌≡◌, ℕ, Bool, List, [], ◌∷◌, Option, Some, None, option_map, option_and_then, refl, ap, ◌∙◌}
-use Rattle.std.specs.Option.{option_or}
+use Rattle.std.proofs.Common.{◌≡◌, ℕ, Bool, List, Option, None, option_and_then, refl}
 use Rattle.serde_json.specs.Data.{Num, Data, null, boolean, number, string, array, object, Items, Members}
 use Rattle.serde_json.specs.Find.{get}
-use Rattle.net_pointers.specs.Shapes.{Shape, a_number, a_name, a_kind, a_hex, an_address, a_list, an_optional, an_object}
+use Rattle.net_pointers.specs.Shapes.{Shape, a_number, a_name, a_kind, a_hex, an_address, a_list, an_optional, an_object, a_name_of, any_list, a_range}
 use Rattle.net_pointers.specs.Shapes.{Fields, no_fields, field, fields_of, item_of}
 use Rattle.net_pointers.specs.Pointers.{Located, in_items, inside, in_fields, first_fault}
 
@@ -24,6 +23,9 @@ inside_array an_address ds = refl
 inside_array (a_list most s) ds = refl
 inside_array (an_optional s) ds = inside_array s ds
 inside_array (an_object fs) ds = no_keys fs (array ds) (λ k. refl)
+inside_array (a_name_of names) ds = refl
+inside_array (any_list s) ds = refl
+inside_array (a_range fs) ds = no_keys fs (array ds) (λ k. refl)
 
 pub inside_object : (s : Shape) (ms : Members) → inside s (object ms) ≡ in_fields (fields_of s) (object ms)
 inside_object (a_number least most) ms = refl
@@ -34,6 +36,9 @@ inside_object an_address ms = refl
 inside_object (a_list most s) ms = refl
 inside_object (an_optional s) ms = inside_object s ms
 inside_object (an_object fs) ms = refl
+inside_object (a_name_of names) ms = refl
+inside_object (any_list s) ms = refl
+inside_object (a_range fs) ms = refl
 
 pub inside_null : (s : Shape) → inside s null ≡ None
 inside_null (a_number least most) = refl
@@ -44,6 +49,9 @@ inside_null an_address = refl
 inside_null (a_list most s) = refl
 inside_null (an_optional s) = inside_null s
 inside_null (an_object fs) = no_keys fs null (λ k. refl)
+inside_null (a_name_of names) = refl
+inside_null (any_list s) = refl
+inside_null (a_range fs) = no_keys fs null (λ k. refl)
 
 pub inside_boolean : (s : Shape) (b : Bool) → inside s (boolean b) ≡ None
 inside_boolean (a_number least most) b = refl
@@ -54,6 +62,9 @@ inside_boolean an_address b = refl
 inside_boolean (a_list most s) b = refl
 inside_boolean (an_optional s) b = inside_boolean s b
 inside_boolean (an_object fs) b = no_keys fs (boolean b) (λ k. refl)
+inside_boolean (a_name_of names) b = refl
+inside_boolean (any_list s) b = refl
+inside_boolean (a_range fs) b = no_keys fs (boolean b) (λ k. refl)
 
 pub inside_number : (s : Shape) (n : Num) → inside s (number n) ≡ None
 inside_number (a_number least most) n = refl
@@ -64,6 +75,9 @@ inside_number an_address n = refl
 inside_number (a_list most s) n = refl
 inside_number (an_optional s) n = inside_number s n
 inside_number (an_object fs) n = no_keys fs (number n) (λ k. refl)
+inside_number (a_name_of names) n = refl
+inside_number (any_list s) n = refl
+inside_number (a_range fs) n = no_keys fs (number n) (λ k. refl)
 
 pub inside_string : (s : Shape) (t : List ℕ) → inside s (string t) ≡ None
 inside_string (a_number least most) t = refl
@@ -74,3 +88,6 @@ inside_string an_address t = refl
 inside_string (a_list most s) t = refl
 inside_string (an_optional s) t = inside_string s t
 inside_string (an_object fs) t = no_keys fs (string t) (λ k. refl)
+inside_string (a_name_of names) t = refl
+inside_string (any_list s) t = refl
+inside_string (a_range fs) t = no_keys fs (string t) (λ k. refl)

@@ -1,16 +1,16 @@
 -- The first fault of a plan's text, with its pointer.
-use Rattle.std.specs.Prelude.{◌≡◌, ◌⊎◌, ℕ, List, Err, Option, Some, None, MatchOption}
+use Rattle.std.specs.Prelude.{◌≡◌, ◌⊎◌, ℕ, List, Err, Option, Some, MatchOption}
 use Rattle.serde_json.specs.Data.{Data}
 use Rattle.net_plan.specs.PlanReading.{plan, plan_format}
 use Rattle.net_plan.specs.Texts.{IsJson}
-use Rattle.net_plan.specs.declared.error.Fault.{Fault}
-use Rattle.net_plan.specs.declared.error.Fault.TheVariants.{UnknownName, Doubled}
+use Rattle.net_plan.specs.declared.error.ValueFault.{ValueFault}
+use Rattle.net_plan.specs.declared.error.ValueFault.TheVariants.{UnknownName, Doubled}
 use Rattle.net_pointers.specs.Pointers.{Located, HasFaultAt, first_fault}
 use Rattle.net_pointers.specs.PlanShapes.{a_plan}
 
 -- no value of the plan is wrong in itself: what is wrong, if anything, are names
 abbrev pub IsRightButForNames : Data → Type 0
-IsRightButForNames d = (f : Fault) → plan d ≡ Err f → (f ≡ Doubled) ⊎ (f ≡ UnknownName)
+IsRightButForNames d = (f : ValueFault) → plan d ≡ Err f → (f ≡ Doubled) ⊎ (f ≡ UnknownName)
 
 -- the fault for which the plan is refused, and the pointer to the value that has it: the first in the order of tests
 abbrev pub IsFaultOfPlan : Data → Located → Type 0

@@ -3,9 +3,10 @@ use Rattle.std.specs.Prelude.{ℕ, suc, ◌≡◌, ◌⊎◌, List, [], ◌∷�
 use Rattle.std.specs.Option.{option_or}
 use Rattle.serde_json.specs.Data.{Data, null, boolean, number, string, array, object, Items, no_items, item}
 use Rattle.serde_json.specs.Find.{get, at}
-use Rattle.net_plan.specs.declared.error.Fault.{Fault}
+use Rattle.net_plan.specs.declared.error.ValueFault.{ValueFault}
 use Rattle.net_pointers.specs.Shapes.{Shape, a_number, a_name, a_kind, a_hex, an_address, a_list}
-use Rattle.net_pointers.specs.Shapes.{an_optional, an_object, Fields, no_fields, field, fields_of, item_of, own_fault}
+use Rattle.net_pointers.specs.Shapes.{an_optional, an_object, a_name_of, any_list, a_range}
+use Rattle.net_pointers.specs.Shapes.{Fields, no_fields, field, fields_of, item_of, own_fault}
 
 -- a step of a JSON pointer: to the value at a key, or to the item at an index, from 0
 pub data Step : Type 0 where
@@ -41,7 +42,7 @@ MayStandAt (p ∷ ps) s t = (u : Shape) × IsPart p s u × MayStandAt ps u t
 pub record Located : Type 0 where
   pub pointer : List Step
   pub shape : Shape
-  pub fault : Fault
+  pub fault : ValueFault
 
 -- In a value of this shape the pointer leads to a value that has the fault in itself, and the shape is what may stand
 -- there.
@@ -56,7 +57,7 @@ abbrev pub under : Step → Option Located → Option Located
 under s o = option_map (λ l. record { pointer = s ∷ l.pointer; shape = l.shape; fault = l.fault }) o
 
 -- a fault of the value itself
-abbrev pub here : Shape → Option Fault → Option Located
+abbrev pub here : Shape → Option ValueFault → Option Located
 here s o = option_map (λ f. record { pointer = []; shape = s; fault = f }) o
 
 -- the first of the items from an index on
@@ -84,6 +85,9 @@ abbrev mutual
   inside (a_list most s) d = in_list (λ e. option_or (here s (own_fault s e)) (inside s e)) d
   inside (an_optional s) d = inside s d
   inside (an_object fs) d = in_fields fs d
+  inside (a_name_of names) d = None
+  inside (any_list s) d = in_list (λ e. option_or (here s (own_fault s e)) (inside s e)) d
+  inside (a_range fs) d = in_fields fs d
 
   -- the first fault of the values at the keys of an object
   pub in_fields : Fields → Data → Option Located

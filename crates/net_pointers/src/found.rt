@@ -1,11 +1,11 @@
 //! A fault, and the pointer to the value that has it.
 use crate::part::Part;
-use net_plan::Fault;
+use net_plan::ValueFault;
 use std::alloc::AllocError;
 
 /// A step of a JSON pointer (RFC 6901).
 #[derive(Clone, Copy, Debug, PartialEq, Eq)]
-pub enum Step {
+pub enum PointerStep {
     /// To the value at a key of an object.
     Key(&'static str),
     /// To the item of a list at an index, from 0.
@@ -15,19 +15,21 @@ pub enum Step {
 /// A fault, the pointer to the value that has it, and what may stand there.
 #[derive(Debug, Drop)]
 pub struct Found {
-    pub pointer: Vec<Step>,
+    pub pointer: Vec<PointerStep>,
     pub part: Part,
-    pub fault: Fault,
+    pub fault: ValueFault,
 }
 
 impl Found {
-    ghost use Rattle.std.specs.Prelude.{◌≡◌, IfOk, Some};
+    ghost use Rattle.std.specs.Prelude.{◌≡◌, IfOk, Option, Some};
+    ghost use Rattle.net_pointers.specs.KnownNames.{Known};
     ghost use Rattle.net_pointers.specs.Pointers.{under};
-    ghost use Rattle.net_pointers.specs.Views.{located, step_value};
+    ghost use Rattle.net_pointers.specs.Views.{located, located_among, step_value};
 
     /// The same fault, seen one step further out.
-    pub fn under(self, step: Step) -> Result<Found, AllocError>
-        ensures { IfOk result (λ found. Some (located found) ≡ under (step_value step) (Some (located self))) }
+    pub fn under(self, step: PointerStep) -> Result<Found, AllocError>
+        ensures any { IfOk result (λ found. Some (located found) ≡ under (step_value step) (Some (located self))) }
+        ensures among { IfOk result (λ found. (known : Option Known) → Some (located_among known found) ≡ under (step_value step) (Some (located_among known self))) }
     {
         let mut found = self;
         match found.pointer.insert(0, step) {

@@ -1,17 +1,31 @@
 //! Where the first fault of a text stands: the pointer to the value that has it, and its line and column.
 #![tactic(auto)]
 
+mod certificates;
+mod doubled;
 mod faults;
 mod found;
+mod known;
+mod nearest;
 mod offset;
 mod own;
 mod part;
 mod plans;
 mod position;
+mod ranges;
+mod syntax;
+mod texts;
 
-pub use faults::first_fault;
-pub use found::{Found, Step};
-pub use offset::offset_of;
+pub use certificates::{CertificateList, CertificateTrouble, certificate_trouble, list_key};
+pub use doubled::{DoubledKey, TwoPlaces, doubled_key, first_doubled};
+pub use faults::{first_fault, first_fault_among};
+pub use found::{Found, PointerStep};
+pub use known::{KnownNames, known_names, names_at, names_of_nodes};
+pub use nearest::nearest_name;
+pub use offset::{offset_among, offset_of, offset_of_key, offset_of_pointer};
 pub use part::{Field, Part, fields_of, item_of};
-pub use plans::{plan_fault, plan_text_fault};
+pub use plans::{PlanTrouble, plan_fault, plan_text_fault, plan_trouble};
 pub use position::{Position, position_of};
+pub use ranges::{Overlap, first_overlap};
+pub use syntax::{JsonFault, Wanted, json_fault};
+pub use texts::{TextTrouble, certificate_text_trouble, plan_text_trouble};

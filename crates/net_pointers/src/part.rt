@@ -1,17 +1,24 @@
-//! What may stand where in a plan, as a table.
-ghost use Rattle.std.specs.Prelude.{◌≡◌, ◌<◌, All, IfSome, option_map};
+//! What may stand where in a plan and in a certificate, as tables.
+ghost use Rattle.std.specs.Prelude.{◌≡◌, ◌<◌, All, IfSome, Option, option_map};
+ghost use Rattle.net_pointers.specs.KnownNames.{Known};
 ghost use Rattle.net_pointers.specs.Shapes.{fields_of, item_of};
-ghost use Rattle.net_pointers.specs.PlanShapes.{shape, fields_view, rank};
+ghost use Rattle.net_pointers.specs.PlanShapes.{shape, shape_among, fields_view, fields_among, rank};
 
 use net_plan::PlanFormat;
 
-/// What may stand at one place of a plan.
+/// What may stand at one place of a plan or a certificate.
 #[derive(Clone, Copy, Debug, PartialEq, Eq)]
 pub enum Part {
     /// A whole number between two bounds.
     Number { least: u64, most: u64 },
+    /// The name that a bus has.
     BusName,
+    /// The name that a node has.
     NodeName,
+    /// The name of one of the plan's buses.
+    NamedBus,
+    /// The name of one of the plan's nodes.
+    NamedNode,
     Kind,
     /// Hex text.
     Hex,
@@ -29,11 +36,26 @@ pub enum Part {
     Terminus,
     /// `null`, or a pool.
     Pool,
-    /// `null`, or a node's name.
+    /// `null`, or the name of one of the plan's nodes.
     Owner,
     Node,
     Nodes,
     Plan(PlanFormat),
+    /// A certificate's level of a node.
+    Level,
+    Levels,
+    /// The places of records.
+    Places,
+    /// A certificate's places of a node's records.
+    NodePlaces,
+    AllPlaces,
+    /// Endpoint IDs of one rank.
+    Range,
+    Ranges,
+    /// A certificate's ranks of a node.
+    NodeRanks,
+    AllRanks,
+    Certificate,
 }
 
 /// A key of an object, and what stands at it.
@@ -48,6 +70,11 @@ const BYTE: Part = Part::Number {
     most: 255,
 };
 
+const ABOVE_ZERO: Part = Part::Number {
+    least: 1,
+    most: 255,
+};
+
 const WORD: Part = Part::Number {
     least: 0,
     most: 4_294_967_295,
@@ -56,6 +83,7 @@ const WORD: Part = Part::Number {
 /// What stands at the keys of a part that is an object, in the order of tests.
 pub fn fields_of(part: Part) -> &'static [Field]
     ensures fields { fields_view result.now ≡ fields_of (shape part) }
+    ensures among { (known : Option Known) → fields_among known result.now ≡ fields_of (shape_among known part) }
     ensures deeper { All (λ f. rank f.part < rank part) result.now }
 {
     match part {
@@ -67,12 +95,18 @@ pub fn fields_of(part: Part) -> &'static [Field]
         Part::Pool => &POOL,
         Part::Terminus => &TERMINUS,
         Part::Record => &RECORD,
+        Part::Level => &LEVEL,
+        Part::NodePlaces => &NODE_PLACES,
+        Part::Range => &RANGE,
+        Part::NodeRanks => &NODE_RANKS,
+        Part::Certificate => &CERTIFICATE,
         _ => &[],
     }
 }
 
 fn plan_fields(format: PlanFormat) -> &'static [Field]
     ensures fields { fields_view result.now ≡ fields_of (shape (Part.Plan format)) }
+    ensures among { (known : Option Known) → fields_among known result.now ≡ fields_of (shape_among known (Part.Plan format)) }
     ensures deeper { All (λ f. rank f.part < 6) result.now }
 {
     match format {
@@ -171,7 +205,7 @@ static BUS: [Field; 3] = [
 static PORT: [Field; 2] = [
     Field {
         key: "bus",
-        part: Part::BusName,
+        part: Part::NamedBus,
     },
     Field {
         key: "address",
@@ -194,7 +228,7 @@ static ROW: [Field; 4] = [
     },
     Field {
         key: "next",
-        part: Part::NodeName,
+        part: Part::NamedNode,
     },
 ];
 
@@ -238,9 +272,77 @@ static RECORD: [Field; 3] = [
     },
 ];
 
+static LEVEL: [Field; 2] = [
+    Field {
+        key: "level",
+        part: Part::Number { least: 1, most: 63 },
+    },
+    Field {
+        key: "node",
+        part: Part::NamedNode,
+    },
+];
+
+static NODE_PLACES: [Field; 2] = [
+    Field {
+        key: "node",
+        part: Part::NamedNode,
+    },
+    Field {
+        key: "places",
+        part: Part::Places,
+    },
+];
+
+static RANGE: [Field; 3] = [
+    Field {
+        key: "first",
+        part: BYTE,
+    },
+    Field {
+        key: "rank",
+        part: ABOVE_ZERO,
+    },
+    Field {
+        key: "size",
+        part: ABOVE_ZERO,
+    },
+];
+
+static NODE_RANKS: [Field; 2] = [
+    Field {
+        key: "node",
+        part: Part::NamedNode,
+    },
+    Field {
+        key: "ranges",
+        part: Part::Ranges,
+    },
+];
+
+static CERTIFICATE: [Field; 4] = [
+    Field {
+        key: "format",
+        part: Part::Number { least: 1, most: 1 },
+    },
+    Field {
+        key: "levels",
+        part: Part::Levels,
+    },
+    Field {
+        key: "places",
+        part: Part::AllPlaces,
+    },
+    Field {
+        key: "ranks",
+        part: Part::AllRanks,
+    },
+];
+
 /// What each item of a part that is a list is.
 pub fn item_of(part: Part) -> Option<Part>
     ensures item { option_map shape result ≡ item_of (shape part) }
+    ensures among { (known : Option Known) → option_map (λ item. shape_among known item) result ≡ item_of (shape_among known part) }
     ensures deeper { IfSome result (λ item. rank item < rank part) }
 {
     match part {
@@ -249,6 +351,14 @@ pub fn item_of(part: Part) -> Option<Part>
         Part::Ports => Some(Part::Port),
         Part::Rows => Some(Part::Row),
         Part::Records => Some(Part::Record),
+        Part::Levels => Some(Part::Level),
+        Part::Places => Some(Part::Number {
+            least: 0,
+            most: 4095,
+        }),
+        Part::AllPlaces => Some(Part::NodePlaces),
+        Part::Ranges => Some(Part::Range),
+        Part::AllRanks => Some(Part::NodeRanks),
         _ => None,
     }
 }

@@ -1,12 +1,19 @@
 //! The first fault of a plan.
-ghost use Rattle.std.specs.Prelude.{IfOk, IfErr, option_map};
+ghost use Rattle.std.specs.Prelude.{◌≡◌, None, IfOk, IfErr, option_map};
+ghost use Rattle.json.specs.Value.{value_view};
+ghost use Rattle.net_plan.specs.PlanReading.{plan_format};
 ghost use Rattle.net_plan.specs.Refusals.{IsNoValue};
 ghost use Rattle.net_plan.specs.Trees.{view};
 ghost use Rattle.net_pointers.specs.Plans.{IsFoundInPlan, IsFoundInPlanText};
+ghost use Rattle.net_pointers.specs.PlanShapes.{a_plan};
+ghost use Rattle.net_pointers.specs.PlanTroubles.{IsToldOfPlan};
+ghost use Rattle.net_pointers.specs.Pointers.{first_fault};
 ghost use Rattle.net_pointers.specs.Views.{located};
 
-use crate::faults::first_fault;
+use crate::doubled::{DoubledKey, TwoPlaces, doubled_key, first_doubled};
+use crate::faults::{first_fault, first_fault_among};
 use crate::found::Found;
+use crate::known::known_names;
 use crate::part::Part;
 use json::{Scratch, Value};
 use net_plan::{PlanError, format_of, json_of};
@@ -34,4 +41,48 @@ pub fn plan_fault(alloc: Global, value: &Value<'_>) -> Result<Option<Found>, All
     ensures { IfOk result (λ found. IsFoundInPlan (view value.now) (option_map located found)) }
 {
     first_fault(alloc, Part::Plan(format_of(value)), value)
+}
+
+/// What is wrong with a plan.
+#[derive(Debug, Drop)]
+pub enum PlanTrouble {
+    /// A value is wrong in itself.
+    Value(Found),
+    /// Two buses have one name.
+    DoubledBus(TwoPlaces),
+    /// An object has a key twice.
+    DoubledKey(DoubledKey),
+    /// A name is that of no bus, or of no node.
+    UnknownName(Found),
+}
+
+/// What is wrong with the plan that a value is, by the first fault in the order of tests. `None` where nothing is.
+#[tactic(auto, using(crate::proofs::Agrees::found_in_plan))]
+pub fn plan_trouble(alloc: Global, value: &Value<'_>) -> Result<Option<PlanTrouble>, AllocError>
+    ensures { IfOk result (λ trouble. IsToldOfPlan (value_view value.now) trouble) }
+{
+    let part = Part::Plan(format_of(value));
+    match first_fault(alloc, part, value)? {
+        Some(found) => Ok(Some(PlanTrouble::Value(found))),
+        None => trouble_of_names(alloc, value),
+    }
+}
+
+/// What is wrong with a plan in which no value is wrong in itself.
+#[tactic(auto, using(crate::proofs::LatePlans::late_doubled, crate::proofs::LatePlans::late_well, crate::proofs::LatePlans::late_unknown, crate::proofs::LatePlans::late_read, crate::proofs::Doubling::first_differs, crate::proofs::Leads::leads))]
+fn trouble_of_names(alloc: Global, value: &Value<'_>) -> Result<Option<PlanTrouble>, AllocError>
+    requires { first_fault (a_plan (plan_format (view value.now))) (view value.now) ≡ None }
+    ensures { IfOk result (λ trouble. IsToldOfPlan (value_view value.now) trouble) }
+{
+    let known = known_names(alloc, value)?;
+    if let Some(places) = first_doubled(known.buses.as_slice()) {
+        return Ok(Some(PlanTrouble::DoubledBus(places)));
+    }
+    if let Some(doubled) = doubled_key(alloc, value)? {
+        return Ok(Some(PlanTrouble::DoubledKey(doubled)));
+    }
+    match first_fault_among(alloc, Some(&known), Part::Plan(format_of(value)), value)? {
+        Some(found) => Ok(Some(PlanTrouble::UnknownName(found))),
+        None => Ok(None),
+    }
 }

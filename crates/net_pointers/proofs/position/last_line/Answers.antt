@@ -1,4 +1,4 @@
-use Rattle.std.proofs.Common.{rules, suc, ◌≡◌, ◌∷◌, ◌+◌, ◌≤◌, length, drop, drop-cons, slice_index_or, true, false, ap, sym, ◌∙◌, subst, arith}
+use Rattle.std.proofs.Common.{rules, suc, ◌≡◌, ◌∷◌, ◌+◌, drop, drop-cons, slice_index_or, true, false, ap, sym, ◌∙◌, arith}
 use Rattle.net_pointers.specs.Positions.{is_line_feed, last_line}
 use Rattle.net_pointers.proofs.Lines.{last_of, whole_left, line_feed, other_byte}
 use Rattle.net_pointers.proofs.position.last_line.Goals as goal

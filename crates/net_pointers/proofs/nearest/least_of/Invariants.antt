@@ -1,0 +1,7 @@
+-- The least of the counts that were passed.
+use Rattle.std.proofs.Common.{◌<◌, length}
+use Rattle.net_pointers.proofs.Least.{IsLeast}
+use Rattle.net_pointers.proofs.nearest.least_of.Given as goal
+
+abbrev pub invariant-loop-place : goal.invariant-loop-place
+invariant-loop-place l = (l.least < length l.counts) × IsLeast l.counts l.least l.place

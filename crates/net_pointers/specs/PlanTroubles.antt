@@ -1,0 +1,41 @@
+-- What is told of a plan that is refused.
+use Rattle.std.specs.Prelude.{◌≡◌, true, codes, Option, Some, None, Ok, Err}
+use Rattle.json.specs.Json.{Json}
+use Rattle.serde_json.specs.Data.{Data}
+use Rattle.net_plan.specs.PlanReading.{plan, plan_format}
+use Rattle.net_plan.specs.PlanValues.{PlanValue}
+use Rattle.net_plan.specs.Refusals.{IsWellButForNames}
+use Rattle.net_plan.specs.SingleKeys.{single}
+use Rattle.net_plan.specs.Trees.{data_of}
+use Rattle.net_plan.specs.declared.error.ValueFault.TheVariants.{UnknownName, Doubled}
+use Rattle.net_pointers.specs.Doubles.{IsFirstDoubled, HasDoubledKey}
+use Rattle.net_pointers.specs.KnownNames.{names_at, known_in}
+use Rattle.net_pointers.specs.PlanShapes.{a_plan_among}
+use Rattle.net_pointers.specs.Plans.{IsFaultOfPlan}
+use Rattle.net_pointers.specs.Pointers.{Located, HasFaultAt, first_fault}
+use Rattle.net_pointers.specs.Shapes.{Shape}
+use Rattle.net_pointers.specs.Views.{located, located_among}
+use Rattle.net_pointers.specs.declared.plans.PlanTrouble.{PlanTrouble}
+use Rattle.net_pointers.specs.declared.plans.PlanTrouble.TheVariants as trouble
+
+-- what may stand in a plan whose names are those of its own buses and nodes
+abbrev pub a_named_plan : Data → Shape
+a_named_plan d = a_plan_among (Some (known_in d)) (plan_format d)
+
+-- In a value of this shape the pointer leads to a name that is that of nothing. No other such name comes before it in
+-- the order of tests, nor any other fault.
+pub record IsUnknownNameAt (s : Shape) (d : Data) (l : Located) : Type 0 where
+  pub leads : HasFaultAt s d l
+  pub first : first_fault s d ≡ Some l
+  pub fault : l.fault ≡ UnknownName
+
+-- what is told of a plan; of one that is read nothing
+abbrev pub IsToldOfPlan : Json → Option PlanTrouble → Type 0
+IsToldOfPlan j None = (single j ≡ true) × (p : PlanValue) × (plan (data_of j) ≡ Ok p)
+IsToldOfPlan j (Some (trouble.Value found)) = IsFaultOfPlan (data_of j) (located found)
+IsToldOfPlan j (Some (trouble.DoubledBus places)) =
+    (plan (data_of j) ≡ Err Doubled) × IsFirstDoubled (names_at (codes "buses") (data_of j)) places
+IsToldOfPlan j (Some (trouble.DoubledKey doubled)) = IsWellButForNames plan (data_of j) × HasDoubledKey j doubled
+IsToldOfPlan j (Some (trouble.UnknownName found)) =
+    (plan (data_of j) ≡ Err UnknownName) × (single j ≡ true)
+    × IsUnknownNameAt (a_named_plan (data_of j)) (data_of j) (located_among (Some (known_in (data_of j))) found)

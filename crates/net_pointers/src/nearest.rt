@@ -1,0 +1,61 @@
+//! The name that is nearest to another.
+ghost use Rattle.std.specs.Prelude.{◌≡◌, ◌<◌, ◌≤◌, map, length, get_or, All, MatchOption, IfOk};
+ghost use Rattle.net_pointers.specs.Nearest.{edits, edits_to, IsNearest};
+
+use std::alloc::{AllocError, Global};
+use strsim::levenshtein;
+
+/// The place of the name that is nearest to this one, where one is close.
+pub fn nearest_name(alloc: Global, name: &str, names: &[&str]) -> Result<Option<usize>, AllocError>
+    ensures { IfOk result (λ found. IsNearest (map (λ other. other.now) names.now) name.now found) }
+{
+    let edits = edits_to(alloc, name, names)?;
+    Ok(least_within(edits.as_slice(), name.len() / 3))
+}
+
+/// How many edits lead from a name to each of these.
+fn edits_to(alloc: Global, name: &str, names: &[&str]) -> Result<Vec<usize>, AllocError>
+    ensures { IfOk result (λ edits. edits.items ≡ edits_to (map (λ other. other.now) names.now) name.now) }
+{
+    let mut edits = Vec::new(alloc);
+    for other in names {
+        edits.push(edits_between(alloc, name, other)?)?;
+    }
+    Ok(edits)
+}
+
+fn edits_between(alloc: Global, name: &str, other: &str) -> Result<usize, AllocError>
+    ensures { IfOk result (λ count. count ≡ edits name.now other.now) }
+{
+    levenshtein(alloc, name, other)
+}
+
+/// The place of the least count, where it is at most this.
+fn least_within(counts: &[usize], most: usize) -> Option<usize>
+    ensures { MatchOption result (All (λ count. most < count) counts.now)
+        (λ place. (place < length counts.now) × (get_or counts.now place 0 ≤ most) × All (λ count. get_or counts.now place 0 ≤ count) counts.now) }
+{
+    if counts.is_empty() {
+        return None;
+    }
+    let least = least_of(counts);
+    if counts[least] <= most {
+        return Some(least);
+    }
+    None
+}
+
+/// The place of the least count.
+fn least_of(counts: &[usize]) -> usize
+    requires { 0 < length counts.now }
+    ensures within { result < length counts.now }
+    ensures least { All (λ count. get_or counts.now result 0 ≤ count) counts.now }
+{
+    let mut least = 0;
+    for (place, count) in counts.iter().enumerate() {
+        if *count < counts[least] {
+            least = place;
+        }
+    }
+    least
+}

@@ -1,0 +1,110 @@
+//! Ranges of a certificate's ranks that don't ascend apart.
+ghost use Rattle.std.specs.Prelude.{◌≡◌, codes, not, is_some, Some, IfSome};
+ghost use Rattle.net_plan.specs.Trees.{view, items_view};
+ghost use Rattle.serde_json.specs.Data.{array, Items};
+ghost use Rattle.serde_json.specs.Find.{get};
+ghost use Rattle.net_pointers.specs.Ascending.{ranges_ascend, list_ascends, entries_ascend, ranks_ascend, OverlapIn, OverlapOf, OverlapAmong};
+ghost use Rattle.net_pointers.specs.CertificateTroubles.{first_in, end_in, DoOverlap};
+
+use crate::own::{number_at, range_end};
+use json::Value;
+use net_plan::at;
+
+/// The entry of a certificate's ranks, and the first of two of its ranges, one behind the other. All from 0.
+#[derive(Clone, Copy, Debug, PartialEq, Eq)]
+pub struct Overlap {
+    pub entry: usize,
+    pub range: usize,
+}
+
+/// The first ranges of a certificate that don't ascend apart.
+pub fn first_overlap(certificate: &Value<'_>) -> Option<Overlap>
+    ensures told { is_some result ≡ not (ranks_ascend (get (codes "ranks") (view certificate.now))) }
+    ensures found { IfSome result (λ overlap. DoOverlap (view certificate.now) overlap) }
+{
+    match at(certificate, "ranks") {
+        Some(list) => overlap_of_ranks(list),
+        None => None,
+    }
+}
+
+/// The same of the list of its ranks.
+fn overlap_of_ranks(list: &Value<'_>) -> Option<Overlap>
+    ensures told { is_some result ≡ not (ranks_ascend (Some (view list.now))) }
+    ensures found { IfSome result (λ overlap. (ds : Items) × (view list.now ≡ array ds) × OverlapAmong ds overlap.entry overlap.range) }
+{
+    match list {
+        Value::Array(entries) => overlap_among(entries.as_slice()),
+        _ => None,
+    }
+}
+
+/// The same of its entries.
+fn overlap_among(entries: &[Value<'_>]) -> Option<Overlap>
+    ensures told { is_some result ≡ not (entries_ascend (items_view entries.now)) }
+    ensures found { IfSome result (λ overlap. OverlapAmong (items_view entries.now) overlap.entry overlap.range) }
+{
+    for (entry, ranks) in entries.iter().enumerate() {
+        if let Some(range) = overlap_of(ranks) {
+            return Some(Overlap { entry, range });
+        }
+    }
+    None
+}
+
+/// The first range of an entry that ends after the next one begins.
+fn overlap_of(ranks: &Value<'_>) -> Option<usize>
+    ensures told { is_some result ≡ not (list_ascends (get (codes "ranges") (view ranks.now))) }
+    ensures found { IfSome result (λ range. OverlapOf (view ranks.now) range) }
+{
+    match at(ranks, "ranges") {
+        Some(list) => overlap_in(list),
+        None => None,
+    }
+}
+
+/// The same of a list of ranges.
+fn overlap_in(list: &Value<'_>) -> Option<usize>
+    ensures told { is_some result ≡ not (list_ascends (Some (view list.now))) }
+    ensures found { IfSome result (λ range. OverlapIn (view list.now) range) }
+{
+    match list {
+        Value::Array(ranges) => overlap_within(ranges.as_slice()),
+        _ => None,
+    }
+}
+
+/// The same of ranges.
+fn overlap_within(ranges: &[Value<'_>]) -> Option<usize>
+    ensures told { is_some result ≡ not (ranges_ascend 0 (items_view ranges.now)) }
+    ensures found { IfSome result (λ range. OverlapIn (array (items_view ranges.now)) range) }
+{
+    let mut end = 0;
+    for (index, range) in ranges.iter().enumerate() {
+        if first_of(range) < end {
+            return Some(index - 1);
+        }
+        end = end_of(range);
+    }
+    None
+}
+
+/// The first endpoint ID of a range.
+fn first_of(range: &Value<'_>) -> u64
+    ensures { result ≡ first_in (view range.now) }
+{
+    match number_at(range, "first", 0) {
+        Ok(first) => first,
+        Err(_) => 0,
+    }
+}
+
+/// The endpoint ID after the last of a range.
+fn end_of(range: &Value<'_>) -> u64
+    ensures { result ≡ end_in (view range.now) }
+{
+    match range_end(range) {
+        Ok(end) => end,
+        Err(_) => 0,
+    }
+}
