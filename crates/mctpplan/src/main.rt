@@ -3,7 +3,7 @@
 
 use net_plan::Counted;
 use plan_commands::{
-    Command, FileAtPath, GUIDE, Refused, Status, parse_command, refuse, run_assign, run_certify,
+    FileAtPath, GUIDE, Refused, Status, Subcommand, parse_command, refuse, run_assign, run_certify,
     run_check, run_draw, run_draw_certified, run_explain, run_explain_certified, run_known,
     run_lint, run_move, run_reach, run_show, run_trace, run_walk, simulate, simulate_move,
 };
@@ -24,20 +24,20 @@ fn run(rt: &HostRuntime) -> Status {
         Err(refused) => return refuse(alloc, refused, &mut errors),
     };
     match parse_command(alloc, list.as_slice()) {
-        Ok(Command::Check { plan, certificate }) => run_check(
+        Ok(Subcommand::Check { plan, certificate }) => run_check(
             alloc,
             &mut Counted::new(FileAtPath::new(rt, plan)),
             &mut Counted::new(FileAtPath::new(rt, certificate)),
             &mut output,
             &mut errors,
         ),
-        Ok(Command::Certify { plan }) => run_certify(
+        Ok(Subcommand::Certify { plan }) => run_certify(
             alloc,
             &mut Counted::new(FileAtPath::new(rt, plan)),
             &mut output,
             &mut errors,
         ),
-        Ok(Command::Assign { plan, certificate }) => run_assign(
+        Ok(Subcommand::Assign { plan, certificate }) => run_assign(
             alloc,
             &mut Counted::new(FileAtPath::new(rt, plan)),
             &mut Counted::new(FileAtPath::new(rt, certificate)),
@@ -45,7 +45,7 @@ fn run(rt: &HostRuntime) -> Status {
             &mut errors,
         ),
         Ok(
-            Command::Sim {
+            Subcommand::Sim {
                 plan,
                 certificate,
                 events,
@@ -59,7 +59,7 @@ fn run(rt: &HostRuntime) -> Status {
             &mut errors,
         ),
         Ok(
-            Command::Move {
+            Subcommand::Move {
                 before,
                 after,
                 certificate,
@@ -73,7 +73,7 @@ fn run(rt: &HostRuntime) -> Status {
             &mut errors,
         ),
         Ok(
-            Command::SimMove {
+            Subcommand::SimMove {
                 before,
                 after,
                 certificate,
@@ -89,7 +89,7 @@ fn run(rt: &HostRuntime) -> Status {
             &mut errors,
         ),
         Ok(
-            Command::Walk {
+            Subcommand::Walk {
                 plan,
                 certificate,
                 node,
@@ -104,7 +104,7 @@ fn run(rt: &HostRuntime) -> Status {
             &mut output,
             &mut errors,
         ),
-        Ok(Command::Reach { plan, certificate }) => run_reach(
+        Ok(Subcommand::Reach { plan, certificate }) => run_reach(
             alloc,
             &mut Counted::new(FileAtPath::new(rt, plan)),
             &mut Counted::new(FileAtPath::new(rt, certificate)),
@@ -112,7 +112,7 @@ fn run(rt: &HostRuntime) -> Status {
             &mut errors,
         ),
         Ok(
-            Command::Trace {
+            Subcommand::Trace {
                 plan,
                 certificate,
                 from,
@@ -128,7 +128,7 @@ fn run(rt: &HostRuntime) -> Status {
             &mut errors,
         ),
         Ok(
-            Command::Draw {
+            Subcommand::Draw {
                 plan,
                 certificate: Some(certificate),
             },
@@ -140,7 +140,7 @@ fn run(rt: &HostRuntime) -> Status {
             &mut errors,
         ),
         Ok(
-            Command::Draw {
+            Subcommand::Draw {
                 plan,
                 certificate: None,
             },
@@ -151,7 +151,7 @@ fn run(rt: &HostRuntime) -> Status {
             &mut errors,
         ),
         Ok(
-            Command::Explain {
+            Subcommand::Explain {
                 plan,
                 certificate: Some(certificate),
             },
@@ -163,7 +163,7 @@ fn run(rt: &HostRuntime) -> Status {
             &mut errors,
         ),
         Ok(
-            Command::Explain {
+            Subcommand::Explain {
                 plan,
                 certificate: None,
             },
@@ -173,15 +173,15 @@ fn run(rt: &HostRuntime) -> Status {
             &mut output,
             &mut errors,
         ),
-        Ok(Command::Code { text }) => run_known(alloc, text, &mut output, &mut errors),
-        Ok(Command::Guide) => run_known(alloc, GUIDE, &mut output, &mut errors),
-        Ok(Command::Lint { plan }) => run_lint(
+        Ok(Subcommand::Code { text }) => run_known(alloc, text, &mut output, &mut errors),
+        Ok(Subcommand::Guide) => run_known(alloc, GUIDE, &mut output, &mut errors),
+        Ok(Subcommand::Lint { plan }) => run_lint(
             alloc,
             &mut Counted::new(FileAtPath::new(rt, plan)),
             &mut output,
             &mut errors,
         ),
-        Ok(Command::Show { kind, hex }) => run_show(alloc, kind, hex, &mut output, &mut errors),
+        Ok(Subcommand::Show { kind, hex }) => run_show(alloc, kind, hex, &mut output, &mut errors),
         Err(refused) => refuse(alloc, refused, &mut errors),
     }
 }

@@ -1,22 +1,13 @@
--- The lines of a drawing, and what the end of `draw` tells of an answer.
-use Rattle.std.proofs.Common.{◌≡◌, ◌≢◌, ◌⊎◌, ◌+◌, ◌<◌, ℕ, List, [], ◌∷◌, ◌++◌, length, map, take, get_or, cond, Option, Some, None, Result, Ok, Err, refl, sym, ◌∙◌, ap, append_assoc, append-nil, arith}
-use Rattle.std.specs.Prelude.{IfOk, IfErr, is_some}
+-- What the end of `draw` tells of an answer.
+use Rattle.std.proofs.Common.{◌≡◌, ◌≢◌, ◌⊎◌, ℕ, List, [], Some, None, Result, Ok, Err, refl}
+use Rattle.std.specs.Prelude.{IfOk, IfErr}
 use Rattle.std.specs.Cow.{cow_str_bytes}
 use Rattle.std.specs.Io.KnownBytes.{Appends}
-use Rattle.std.specs.List.{concat, enumerate_from, flat_map, sum_by}
-use Rattle.std.proofs.lemmas.List.{length-take-le, length-append, length-map, take_more}
-use Rattle.std.proofs.lemmas.List.Concat.{flat_map-append}
-use Rattle.std.proofs.lemmas.List.Folds.{concat-append}
-use Rattle.std.proofs.lemmas.List.FromFn.{length-enumerate_from}
-use Rattle.std.proofs.lemmas.List.Sums.{sum_by-cons}
 use Rattle.net_check.specs.Certificates.{NamesObstacle, HasNoCertificate}
 use Rattle.net_check.specs.declared.certify_error.CertifyError.{CertifyError}
 use Rattle.net_check.specs.declared.certify_error.CertifyError.TheVariants as error
 use Rattle.net_check.specs.Rules.{Accepts}
 use Rattle.net_plan.specs.declared.certificate.Certificate.{Certificate}
-use Rattle.net_plan.specs.declared.nodes.Bus.{Bus}
-use Rattle.net_plan.specs.declared.nodes.Node.{Node}
-use Rattle.net_plan.specs.declared.nodes.Port.{Port}
 use Rattle.net_plan.specs.declared.plan.Plan.{Plan}
 use Rattle.plan_commands.specs.declared.commands.answer.Answer.{Answer}
 use Rattle.plan_commands.specs.declared.refused.Refused.{Refused}
@@ -24,152 +15,13 @@ use Rattle.plan_commands.specs.declared.refused.Refused.TheVariants as refused
 use Rattle.plan_commands.specs.declared.status.Status.{Status}
 use Rattle.plan_commands.specs.declared.status.Status.TheVariants as status
 use Rattle.plan_commands.specs.Answers.{Stream, Fails, IsUnreadPlan, IsPlanUnread}
-use Rattle.plan_commands.specs.Drawing.{first_line, last_line, bus_line, node_line, port_line, owner_lines, by_place, all_by_place, drawing_lines, port_count, owned_count, loop_nodes, owner_loop_nodes, IsDrawing, IsPlanDrawing, DrawsSo, IsDrawAnswer, Draws}
+use Rattle.plan_texts.specs.DrawingLines.{IsDrawing}
+use Rattle.plan_commands.specs.Drawing.{loop_nodes, owner_loop_nodes, IsPlanDrawing, DrawsSo, IsDrawAnswer, Draws}
 use Rattle.plan_commands.specs.Statuses.{status_of}
 use Rattle.plan_commands.specs.Told.{IsTold}
 use Rattle.plan_commands.proofs.Told.{ends_as, or_unwritten}
 
--- ---- items by their places
-
-enumerate_more : {A : Type 0} (k : ℕ) (xs : List A) (x : A) → enumerate_from k (xs ++ x ∷ []) ≡ enumerate_from k xs ++ (k + length xs, x) ∷ []
-enumerate_more {A} k [] x =
-    let same : k ≡ k + 0 = omega arith in
-    let F : ℕ → List (ℕ × A) = λ n. (n, x) ∷ [] in
-    ap F same
-enumerate_more {A} k (y ∷ xs) x =
-    let further : k + 1 + length xs ≡ k + length (y ∷ xs) = omega arith in
-    let F : ℕ → List (ℕ × A) = λ n. (k, y) ∷ (enumerate_from (k + 1) xs ++ (n, x) ∷ []) in
-    let G : List (ℕ × A) → List (ℕ × A) = λ z. (k, y) ∷ z in
-    ap G (enumerate_more (k + 1) xs x) ∙ ap F further
-
-all_more : {A B : Type 0} (say : ℕ → A → List B) (xs : List A) (x : A) → all_by_place say (xs ++ x ∷ []) ≡ all_by_place say xs ++ say (length xs) x
-all_more {A} say xs x =
-    let f = λ (placed : ℕ × A). say placed.0 placed.1 in
-    let same : 0 + length xs ≡ length xs = omega arith in
-    ap (flat_map f) (enumerate_more 0 xs x)
-    ∙ (ap (λ n. flat_map f (enumerate_from 0 xs ++ (n, x) ∷ [])) same
-    ∙ (flat_map-append f (enumerate_from 0 xs) ((length xs, x) ∷ [])
-    ∙ ap (λ z. flat_map f (enumerate_from 0 xs) ++ z) (append-nil (say (length xs) x))))
-
--- what was said of so many items, and what is said of the next
-pub one_more : {A : Type 0} (say : ℕ → A → List ℕ) (xs : List A) (place : ℕ) (x : A) (lines line : List ℕ) → place < length xs → x ≡ get_or xs place x
-    → lines ≡ all_by_place say (take place xs) → line ≡ say place x → lines ++ line ≡ all_by_place say (take (place + 1) xs)
-one_more say xs place x lines line within is before said =
-    let earlier = take place xs in
-    let many : length earlier ≡ place = length-take-le place xs (omega (arith, within)) in
-    let more : take (place + 1) xs ≡ earlier ++ x ∷ [] = take_more xs place x within ∙ ap (λ y. earlier ++ y ∷ []) (sym is) in
-    ap (λ z. z ++ line) before
-    ∙ (ap (λ z. all_by_place say earlier ++ z) (said ∙ ap (λ n. say n x) (sym many))
-    ∙ (sym (all_more say earlier x) ∙ ap (all_by_place say) (sym more)))
-
--- ---- lines joined
-
-concat-map : {X : Type 0} (f : X → List ℕ) (xs : List X) → concat (map f xs) ≡ flat_map f xs
-concat-map f [] = refl
-concat-map f (x ∷ xs) = ap (λ z. f x ++ z) (concat-map f xs)
-
-concat-flat_map : {X : Type 0} (f : X → List (List ℕ)) (g : X → List ℕ) → ((x : X) → concat (f x) ≡ g x) → (xs : List X) → concat (flat_map f xs) ≡ flat_map g xs
-concat-flat_map f g same [] = refl
-concat-flat_map f g same (x ∷ xs) =
-    concat-append (f x) (flat_map f xs) ∙ (ap (λ z. z ++ concat (flat_map f xs)) (same x) ∙ ap (λ z. g x ++ z) (concat-flat_map f g same xs))
-
--- five lists joined from the left are joined from the right
-joined : (a b c d e f : List ℕ) → ((((a ++ b) ++ c) ++ d) ++ e) ++ f ≡ a ++ (b ++ (c ++ (d ++ (e ++ f))))
-joined a b c d e f =
-    append_assoc (((a ++ b) ++ c) ++ d) e f
-    ∙ (append_assoc ((a ++ b) ++ c) d (e ++ f)
-    ∙ (append_assoc (a ++ b) c (d ++ (e ++ f))
-    ∙ append_assoc a b (c ++ (d ++ (e ++ f)))))
-
--- the texts of the parts of a list of lines
-parts : (first last : List ℕ) (buses nodes ports arrows : List (List ℕ))
-    → concat (first ∷ (buses ++ (nodes ++ (ports ++ (arrows ++ last ∷ []))))) ≡ first ++ (concat buses ++ (concat nodes ++ (concat ports ++ (concat arrows ++ last))))
-parts first last buses nodes ports arrows =
-    let after_arrows = ap (λ z. concat arrows ++ z) (append-nil last) in
-    ap (λ z. first ++ z) (concat-append buses (nodes ++ (ports ++ (arrows ++ last ∷ [])))
-    ∙ ap (λ z. concat buses ++ z) (concat-append nodes (ports ++ (arrows ++ last ∷ []))
-    ∙ ap (λ z. concat nodes ++ z) (concat-append ports (arrows ++ last ∷ [])
-    ∙ ap (λ z. concat ports ++ z) (concat-append arrows (last ∷ []) ∙ after_arrows))))
-
--- ---- how many lines
-
-length-by_place : {A B : Type 0} (say : ℕ → A → B) (items : List A) → length (by_place say items) ≡ length items
-length-by_place {A} say items = length-map (enumerate_from 0 items) (λ (placed : ℕ × A). say placed.0 placed.1) ∙ length-enumerate_from 0 items
-
-length-said : {A B : Type 0} (say : ℕ → A → List B) (size : A → ℕ) → ((n : ℕ) (x : A) → length (say n x) ≡ size x) → (k : ℕ) (xs : List A)
-    → length (flat_map (λ (placed : ℕ × A). say placed.0 placed.1) (enumerate_from k xs)) ≡ sum_by size xs
-length-said say size sized k [] = refl
-length-said {A} say size sized k (x ∷ xs) =
-    let rest = flat_map (λ (placed : ℕ × A). say placed.0 placed.1) (enumerate_from (k + 1) xs) in
-    length-append (say k x) rest
-    ∙ (ap (λ n. n + length rest) (sized k x)
-    ∙ (ap (λ n. size x + n) (length-said say size sized (k + 1) xs)
-    ∙ sym (sum_by-cons size x xs)))
-
-length-owner_lines : (red : List ℕ) (n : ℕ) (owner : Option ℕ) → length (owner_lines red n owner) ≡ cond (is_some owner) 1 0
-length-owner_lines red n (Some owner) = refl
-length-owner_lines red n None = refl
-
--- the lines of five parts
-length-parts : (first last : List ℕ) (buses nodes ports arrows : List (List ℕ))
-    → length (first ∷ (buses ++ (nodes ++ (ports ++ (arrows ++ last ∷ []))))) ≡ length buses + (length nodes + (length ports + length arrows)) + 2
-length-parts first last buses nodes ports arrows =
-    let a = length-append buses (nodes ++ (ports ++ (arrows ++ last ∷ []))) in
-    let b = length-append nodes (ports ++ (arrows ++ last ∷ [])) in
-    let c = length-append ports (arrows ++ last ∷ []) in
-    let d = length-append arrows (last ∷ []) in
-    omega (arith, a, b, c, d)
-
 -- ---- drawings
-
-module _ (plan : Plan) (red red_owned : List ℕ) (cert : Option Certificate) where
-  abbrev bus_parts : List (List ℕ)
-  bus_parts = by_place bus_line plan.buses.items
-
-  abbrev node_parts : List (List ℕ)
-  node_parts = by_place (node_line red cert) plan.nodes.items
-
-  abbrev port_parts : List (List ℕ)
-  port_parts = all_by_place (λ n (node : Node). by_place (port_line n) node.ports.items) plan.nodes.items
-
-  abbrev arrow_parts : List (List ℕ)
-  arrow_parts = all_by_place (λ n (node : Node). owner_lines red_owned n node.owner) plan.nodes.items
-
-  -- how many lines there are
-  counted : length (drawing_lines plan red red_owned cert) ≡ length plan.buses.items + (length plan.nodes.items + (port_count plan + owned_count plan)) + 2
-  counted =
-      let all = length-parts first_line last_line bus_parts node_parts port_parts arrow_parts in
-      let buses = length-by_place bus_line plan.buses.items in
-      let nodes = length-by_place (node_line red cert) plan.nodes.items in
-      let ports = length-said (λ n (node : Node). by_place (port_line n) node.ports.items) (λ node. length node.ports.items)
-      (λ n node. length-by_place (port_line n) node.ports.items) 0 plan.nodes.items in
-      let arrows = length-said (λ n (node : Node). owner_lines red_owned n node.owner) (λ node. cond (is_some node.owner) 1 0)
-      (λ n node. length-owner_lines red_owned n node.owner) 0 plan.nodes.items in
-      omega (arith, all, buses, nodes, ports, arrows)
-
-  -- the parts, one after the other, are the drawing
-  pub drawn : (text buses nodes ports arrows : List ℕ) → buses ≡ all_by_place bus_line plan.buses.items → nodes ≡ all_by_place (node_line red cert) plan.nodes.items
-      → ports ≡ all_by_place (λ n (node : Node). all_by_place (port_line n) node.ports.items) plan.nodes.items
-      → arrows ≡ all_by_place (λ n (node : Node). concat (owner_lines red_owned n node.owner)) plan.nodes.items
-      → text ≡ ((((first_line ++ buses) ++ nodes) ++ ports) ++ arrows) ++ last_line → IsDrawing plan red red_owned cert text
-  drawn text buses nodes ports arrows has_buses has_nodes has_ports has_arrows is =
-      let b = concat-map (λ (placed : ℕ × Bus). bus_line placed.0 placed.1) (enumerate_from 0 plan.buses.items) in
-      let n = concat-map (λ (placed : ℕ × Node). node_line red cert placed.0 placed.1) (enumerate_from 0 plan.nodes.items) in
-      let p = concat-flat_map (λ (placed : ℕ × Node). by_place (port_line placed.0) placed.1.ports.items)
-      (λ (placed : ℕ × Node). all_by_place (port_line placed.0) placed.1.ports.items)
-      (λ placed. concat-map (λ (port : ℕ × Port). port_line placed.0 port.0 port.1) (enumerate_from 0 placed.1.ports.items))
-      (enumerate_from 0 plan.nodes.items) in
-      let a = concat-flat_map (λ (placed : ℕ × Node). owner_lines red_owned placed.0 placed.1.owner)
-      (λ (placed : ℕ × Node). concat (owner_lines red_owned placed.0 placed.1.owner)) (λ placed. refl) (enumerate_from 0 plan.nodes.items) in
-      record {
-        written = is ∙ (joined first_line buses nodes ports arrows last_line
-            ∙ (ap (λ z. first_line ++ (z ++ (nodes ++ (ports ++ (arrows ++ last_line))))) (has_buses ∙ sym b)
-            ∙ (ap (λ z. first_line ++ (concat bus_parts ++ (z ++ (ports ++ (arrows ++ last_line))))) (has_nodes ∙ sym n)
-            ∙ (ap (λ z. first_line ++ (concat bus_parts ++ (concat node_parts ++ (z ++ (arrows ++ last_line))))) (has_ports ∙ sym p)
-            ∙ (ap (λ z. first_line ++ (concat bus_parts ++ (concat node_parts ++ (concat port_parts ++ (z ++ last_line))))) (has_arrows ∙ sym a)
-            ∙ sym (parts first_line last_line bus_parts node_parts port_parts arrow_parts))))));
-        counted = counted;
-      }
 
 -- the drawing of a plan that has a certificate
 pub certifiable_drawn : {A E : Type 0} (text : A → List ℕ) (plan : Plan) (cert : Certificate) (result : Result A E) → Accepts plan cert

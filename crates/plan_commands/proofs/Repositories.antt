@@ -6,8 +6,8 @@ use Rattle.std.specs.Option.{option_to_list}
 use Rattle.std.proofs.lemmas.List.{length-map, map-append}
 use Rattle.net_plan.specs.declared.certificate.Certificate.{Certificate}
 use Rattle.net_plan.specs.declared.plan.Plan.{Plan}
-use Rattle.net_plan.specs.declared.terminus.Record.{Record}
-use Rattle.net_plan.specs.declared.terminus.Terminus.{Terminus}
+use Rattle.net_plan.specs.declared.terminus.PlannedRecord.{PlannedRecord}
+use Rattle.net_plan.specs.declared.terminus.PlannedTerminus.{PlannedTerminus}
 use Rattle.pdr_repository.specs.declared.list_terminus.ListTerminus.{ListTerminus}
 use Rattle.pdr_repository.specs.ListTermini.{list_records}
 use Rattle.pdr_repository.specs.Records.{Entry, IsLawful}
@@ -47,7 +47,7 @@ filter_map_more h a n = ap (λ k. filter_map h (range_with_len a k)) (add-one n)
         ∙ ap (λ k. filter_map h (range_with_len a (suc n)) ++ option_to_list (h k)) further)
 
 -- the records at so many places, and that at the next one
-pub one_record_more : (listed : List Record) (places : List ℕ) (place : ℕ) (before after : List Entry) (found : Option (Bor Record))
+pub one_record_more : (listed : List PlannedRecord) (places : List ℕ) (place : ℕ) (before after : List Entry) (found : Option (Bor PlannedRecord))
     → option_map (λ r. r.now) found ≡ record_at listed places place
     → before ≡ filter_map (λ k. option_map entry_of (record_at listed places k)) (range_with_len 0 place)
     → after ≡ before ++ option_to_list (option_map (λ r. entry_of r.now) found)
@@ -59,7 +59,7 @@ one_record_more listed places place before after found is all pushed =
     ∙ (ap (λ o. filter_map h (range_with_len 0 place) ++ option_to_list o) (seen found ∙ ap (option_map entry_of) is ∙ ap h (sym plain))
     ∙ sym (filter_map_more h 0 place)))
   where
-    seen : (o : Option (Bor Record)) → option_map (λ r. entry_of r.now) o ≡ option_map entry_of (option_map (λ r. r.now) o)
+    seen : (o : Option (Bor PlannedRecord)) → option_map (λ r. entry_of r.now) o ≡ option_map entry_of (option_map (λ r. r.now) o)
     seen None = refl
     seen (Some r) = refl
 
@@ -81,13 +81,13 @@ one_terminus_more {B} {S} see h n before after found is all pushed =
 pub few_records : (plan : Plan) (n : ℕ) → length (records_of plan n) ≤ 4096
 few_records plan n = by (terminus_of plan n)
   where
-    by : (o : Option Terminus) → length (unwrap_or (option_map (λ t. t.records.items) o) []) ≤ 4096
+    by : (o : Option PlannedTerminus) → length (unwrap_or (option_map (λ t. t.records.items) o) []) ≤ 4096
     by None = omega arith
     by (Some t) = omega (arith, t.few_records, t.records.ok.0)
 
 pub has_terminus : (plan : Plan) (n tid : ℕ) → Some tid ≡ option_map (λ t. t.tid) (terminus_of plan n) → terminus_of plan n ≢ None
 has_terminus plan n tid is none =
-    let never : Some tid ≡ None = is ∙ ap (option_map (λ (t : Terminus). t.tid)) none in
+    let never : Some tid ≡ None = is ∙ ap (option_map (λ (t : PlannedTerminus). t.tid)) none in
     absurd (cc)
 
 -- records in an order are as a terminus can have them
@@ -107,7 +107,7 @@ pub moved_orders : (before after plan' : Plan) (cert cert' : Certificate) → Ac
 moved_orders before after plan' cert cert' accepted same same_cert =
     subst (λ (p : Plan). RecordsHaveOrder p cert') (sym same) (subst (λ (k : Certificate). RecordsHaveOrder before k) (sym same_cert) (move_orders before after cert accepted))
 
-pub known_terminus : (plan : Plan) (n : ℕ) (t : Terminus) → terminus_of plan n ≡ Some t → terminus_of plan n ≢ None
+pub known_terminus : (plan : Plan) (n : ℕ) (t : PlannedTerminus) → terminus_of plan n ≡ Some t → terminus_of plan n ≢ None
 known_terminus plan n t there none =
     let never : Some t ≡ None = sym there ∙ none in
     absurd (cc)

@@ -41,7 +41,7 @@ use Rattle.net_plan.specs.declared.error.PlanError.{PlanError}
 use Rattle.net_plan.specs.PlanValues.{plan_value}
 use Rattle.net_plan.specs.TextFaults.{error_count}
 use Rattle.net_plan.specs.Unread.{GaveNoEvents}
-use Rattle.plan_commands.specs.OutcomeLines.{outcome_line, lines_from, outcome_lines}
+use Rattle.plan_texts.specs.OutcomeLines.{outcome_line, lines_from, outcome_lines}
 use Rattle.plan_commands.specs.Simulating.{IsRunText, ShowsRun, ShowsBeginning, ShowsWalks, ShowsBegunWalks, IsWalksText, ShowsAllOr, EndsShowing, AreFirstLines, AreIdle, SimulatesAtRest, AreLinesAtMost, ShowsLines, ShowsOutcomes, ShowsAtMost, GaveEvents, TellsBeginning, IsSimAnswer, AreUnreadEvents, AreEventsUnread, IsUnreadAmong, AreUnreadAmong, IsUnsimulatedFor, SimulatesFiles}
 
 -- ---- lines

@@ -12,7 +12,7 @@ use Rattle.net_plan.specs.declared.certificate.Certificate.{Certificate}
 use Rattle.net_plan.specs.declared.error.PlanError.{PlanError}
 use Rattle.net_plan.specs.declared.plan.Plan.{Plan}
 use Rattle.plan_commands.specs.declared.commands.answer.Answer.{Answer}
-use Rattle.plan_commands.specs.declared.commands.show.Kind.{Kind}
+use Rattle.plan_commands.specs.declared.commands.show.ShownKind.{ShownKind}
 use Rattle.plan_commands.specs.declared.refused.Input.{Input}
 use Rattle.plan_commands.specs.declared.refused.Refused.{Refused}
 use Rattle.plan_commands.specs.declared.refused.Refused.TheVariants as refused
@@ -227,7 +227,7 @@ module _ (name : List ℕ) (count : ℕ) (plans certificates : Stream) where
 
 -- ---- of a hex text
 
-module _ (kind : Kind) (hex : List ℕ) where
+module _ (kind : ShownKind) (hex : List ℕ) where
   pub show_answer : (s : Status) (text : List ℕ) → ShowsSo kind hex s text → IsShowAnswer kind hex text
   show_answer s text (bytes, decoded, shown) = (bytes, s, decoded, shown)
 

@@ -1,16 +1,14 @@
--- The lines of a way, and what the end of `trace` tells of an answer.
-use Rattle.std.proofs.Common.{◌≡◌, ◌⊎◌, ◌+◌, ◌<◌, ℕ, List, [], ◌∷◌, ◌++◌, length, take, get_or, Result, Ok, Err, inl, inr, refl, sym, ◌∙◌, ap, subst, append_assoc, append-nil, arith}
+-- What the end of `trace` tells of an answer.
+use Rattle.std.proofs.Common.{◌≡◌, ◌⊎◌, ℕ, List, Result, Ok, Err, inl, inr, refl, sym, subst}
 use Rattle.std.specs.Prelude.{IfOk, IfErr}
 use Rattle.std.specs.Cow.{cow_str_bytes}
 use Rattle.std.specs.Io.KnownBytes.{Appends}
-use Rattle.std.proofs.lemmas.List.{length-take-le, take_more}
 use Rattle.net_check.specs.declared.check_error.CheckError.{CheckError}
 use Rattle.net_check.specs.declared.check_error.CheckError.TheVariants as check_error
 use Rattle.net_check.specs.Errors.{NamesFirstFault}
 use Rattle.net_check.specs.Rules.{Accepts}
 use Rattle.net_plan.specs.declared.certificate.Certificate.{Certificate}
 use Rattle.net_plan.specs.declared.plan.Plan.{Plan}
-use Rattle.net_questions.specs.declared.step.Step.{Step}
 use Rattle.plan_commands.specs.declared.commands.answer.Answer.{Answer}
 use Rattle.plan_commands.specs.declared.refused.Refused.{Refused}
 use Rattle.plan_commands.specs.declared.refused.Refused.TheVariants as refused
@@ -19,33 +17,8 @@ use Rattle.plan_commands.specs.declared.status.Status.TheVariants as status
 use Rattle.plan_commands.specs.Answers.{Stream, Fails, AreGiven, IsUnread, IsAnswerOf, IsErrorText}
 use Rattle.plan_commands.specs.Statuses.{status_of}
 use Rattle.plan_commands.specs.Told.{IsTold}
-use Rattle.plan_commands.specs.Tracing.{NameTheEnds, NamesNoEnds, IsTraceText, IsUntracedFor, TracesSo, Traces, step_line, steps_from}
+use Rattle.plan_commands.specs.Tracing.{NameTheEnds, NamesNoEnds, IsTraceText, IsUntracedFor, TracesSo, Traces}
 use Rattle.plan_commands.proofs.Told.{ends_as, or_unwritten}
-
--- ---- lines
-
-steps_more : (plan : Plan) (number : ℕ) (steps : List Step) (step : Step)
-    → steps_from plan number (steps ++ step ∷ []) ≡ steps_from plan number steps ++ step_line plan (number + length steps) step
-steps_more plan number [] step =
-    append-nil (step_line plan number step) ∙ ap (λ n. step_line plan n step) (let same : number ≡ number + 0 = omega arith in same)
-steps_more plan number (first ∷ steps) step =
-    let further : number + 1 + length steps ≡ number + length (first ∷ steps) = omega arith in
-    ap (λ z. step_line plan number first ++ z) (steps_more plan (number + 1) steps step)
-    ∙ (sym (append_assoc (step_line plan number first) (steps_from plan (number + 1) steps) (step_line plan (number + 1 + length steps) step))
-    ∙ ap (λ n. step_line plan number first ++ steps_from plan (number + 1) steps ++ step_line plan n step) further)
-
--- the lines of so many steps, and that of the next
-pub one_step_more : (plan : Plan) (steps : List Step) (place : ℕ) (default : Step) (lines line : List ℕ) → place < length steps
-    → lines ≡ steps_from plan 1 (take place steps) → line ≡ step_line plan (place + 1) (get_or steps place default) → lines ++ line ≡ steps_from plan 1 (take (place + 1) steps)
-one_step_more plan steps place default lines line within before told =
-    let step = get_or steps place default in
-    let earlier = take place steps in
-    let many : length earlier ≡ place = length-take-le place steps (omega (arith, within)) in
-    let number : 1 + length earlier ≡ place + 1 = omega (arith, many) in
-    let more : take (place + 1) steps ≡ earlier ++ step ∷ [] = take_more steps place default within in
-    ap (λ z. z ++ line) before
-    ∙ (ap (λ z. steps_from plan 1 earlier ++ z) (told ∙ ap (λ n. step_line plan n step) (sym number))
-    ∙ (sym (steps_more plan 1 earlier step) ∙ ap (steps_from plan 1) (sym more)))
 
 -- ---- answers
 

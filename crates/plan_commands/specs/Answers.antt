@@ -22,7 +22,7 @@ use Rattle.plan_commands.specs.declared.refused.Input.TheVariants as input
 use Rattle.plan_commands.specs.declared.refused.Refused.{Refused}
 use Rattle.plan_commands.specs.declared.status.Status.{Status}
 use Rattle.plan_commands.specs.declared.status.Status.TheVariants as status
-use Rattle.plan_commands.specs.Lines.{fault_text}
+use Rattle.plan_texts.specs.Lines.{fault_text}
 use Rattle.plan_commands.specs.Statuses.{status_of, HasCause, yes_line}
 
 -- a stream before a call and after it: the bytes that a source has yet to give or a sink was given, and how often it

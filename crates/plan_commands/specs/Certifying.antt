@@ -16,7 +16,7 @@ use Rattle.plan_commands.specs.declared.refused.Refused.{Refused}
 use Rattle.plan_commands.specs.declared.status.Status.{Status}
 use Rattle.plan_commands.specs.declared.status.Status.TheVariants as status
 use Rattle.plan_commands.specs.Answers.{Stream, GavePlan, IsUnreadPlan, Fails}
-use Rattle.plan_commands.specs.Lines.{obstacle_text}
+use Rattle.plan_texts.specs.Lines.{obstacle_text}
 use Rattle.plan_commands.specs.Statuses.{status_of, HasCause}
 
 -- Every rule holds of the plan and the certificate; the certificate gives each level, place and rank as

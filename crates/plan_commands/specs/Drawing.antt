@@ -1,154 +1,21 @@
 -- What `draw` prints of a plan, in Graphviz' DOT language, and what the end of it says.
-use Rattle.std.specs.Prelude.{◌≡◌, ◌≢◌, ℕ, ◌+◌, ◌==◌, ◌||◌, List, [], ◌∷◌, ◌++◌, length, map, if◌then◌else◌, ⊤}
-use Rattle.std.specs.Prelude.{Option, Some, None, is_some, count_by, codes, chars, encode_utf8_all, string_bytes}
-use Rattle.std.specs.Fmt.{decimal}
-use Rattle.std.specs.List.{concat, enumerate_from, flat_map, list_any, sum_by}
+use Rattle.std.specs.Prelude.{◌≡◌, ◌≢◌, ℕ, List, [], ⊤}
+use Rattle.std.specs.Prelude.{Option, Some, None}
 use Rattle.net_check.specs.Certificates.{NamesObstacle, HasNoCertificate}
 use Rattle.net_check.specs.declared.certify_error.CertifyError.{CertifyError}
 use Rattle.net_check.specs.declared.certify_error.CertifyError.TheVariants as error
-use Rattle.net_check.specs.Owners.{given_level}
 use Rattle.net_check.specs.Rules.{Accepts}
-use Rattle.net_check.specs.Stretches.{ranges_of}
 use Rattle.net_plan.specs.declared.certificate.Certificate.{Certificate}
-use Rattle.net_plan.specs.declared.certificate.RankRange.{RankRange}
-use Rattle.net_plan.specs.declared.nodes.Bus.{Bus}
-use Rattle.net_plan.specs.declared.nodes.Kind.{Kind}
-use Rattle.net_plan.specs.declared.nodes.Kind.TheVariants as kind
-use Rattle.net_plan.specs.declared.nodes.Node.{Node}
-use Rattle.net_plan.specs.declared.nodes.Pool.{Pool}
-use Rattle.net_plan.specs.declared.nodes.Port.{Port}
 use Rattle.net_plan.specs.declared.plan.Plan.{Plan}
-use Rattle.net_plan.specs.declared.terminus.Terminus.{Terminus}
 use Rattle.plan_commands.specs.declared.refused.Refused.{Refused}
 use Rattle.plan_commands.specs.declared.status.Status.{Status}
 use Rattle.plan_commands.specs.declared.status.Status.TheVariants as status
 use Rattle.plan_commands.specs.Answers.{Stream, GavePlan}
 use Rattle.plan_commands.specs.Linting.{TellsOfPlan, IsPlanRefusedFor}
 use Rattle.plan_commands.specs.Statuses.{status_of}
-use Rattle.plan_commands.specs.Tracing.{address_text}
-
--- ---- parts of lines
-
--- a character as it stands between DOT's quotes: after a backslash where it is a quote or a backslash itself
-abbrev pub escaped_char : ℕ → List ℕ
-escaped_char c = if (c == 34) || (c == 92) then 92 ∷ c ∷ [] else c ∷ []
-
--- a text as it stands between DOT's quotes
-abbrev pub escaped : List ℕ → List ℕ
-escaped text = encode_utf8_all (flat_map escaped_char (chars text))
-
--- red for the places of a list, black for all others
-abbrev pub color_among : List ℕ → ℕ → List ℕ
-color_among red n = if list_any (λ m. m == n) red then codes "red" else codes "black"
-
-abbrev pub kind_word : Kind → List ℕ
-kind_word kind.Bridge = codes "bridge"
-kind_word kind.Endpoint = codes "endpoint"
-
-abbrev pub kind_shape : Kind → List ℕ
-kind_shape kind.Bridge = codes "octagon"
-kind_shape kind.Endpoint = codes "ellipse"
-
--- a pool in a line of its own within a label, where there is one
-abbrev pub pool_text : Option Pool → List ℕ
-pool_text (Some pool) = codes "\\npool " ++ (decimal pool.first.value ++ (codes " size " ++ decimal pool.size))
-pool_text None = []
-
--- a terminus's ID and the number of its records, where there is one
-abbrev pub terminus_text : Option Terminus → List ℕ
-terminus_text (Some terminus) =
-    codes "\\ntid " ++ (decimal terminus.tid ++ (codes " records " ++ decimal (length terminus.records.items)))
-terminus_text None = []
-
--- a node's name, its kind and endpoint ID, its pool, and its terminus
-abbrev pub label_text : Node → List ℕ
-label_text node = escaped (string_bytes node.name.text) ++ (codes "\\n" ++ (kind_word node.kind ++ (codes " eid "
-    ++ (decimal node.eid.value ++ (pool_text node.pool ++ terminus_text node.terminus)))))
-
--- the rank of some endpoint IDs, one after another
-abbrev pub range_text : RankRange → List ℕ
-range_text range = codes "\\neid " ++ (decimal range.first.value ++ (codes " size " ++ (decimal range.size
-    ++ (codes " rank " ++ decimal range.rank))))
-
--- what a certificate gives a node: its level and its ranks
-abbrev pub certified_text : Certificate → ℕ → List ℕ
-certified_text cert n = codes ", tooltip=\"level " ++ (decimal (given_level cert n)
-    ++ (flat_map range_text (ranges_of cert n) ++ codes "\""))
-
--- where there is a certificate, what it gives a node
-abbrev pub tooltip_text : Option Certificate → ℕ → List ℕ
-tooltip_text (Some cert) n = certified_text cert n
-tooltip_text None n = []
-
--- ---- lines
-
-abbrev pub first_line : List ℕ
-first_line = codes "digraph plan { rankdir=LR;\n"
-
-abbrev pub last_line : List ℕ
-last_line = codes "}\n"
-
-abbrev pub bus_line : ℕ → Bus → List ℕ
-bus_line b bus = codes "    bus_" ++ (decimal b ++ (codes " [shape=box, height=0.1, style=filled, label=\""
-    ++ (escaped (string_bytes bus.name.text) ++ codes "\"];\n")))
-
--- the line of a node, by its place, its shape, its color, its label and its tooltip
-abbrev pub shape_line : ℕ → (shape color label tooltip : List ℕ) → List ℕ
-shape_line n shape color label tooltip = codes "    node_" ++ (decimal n ++ (codes " [shape=" ++ (shape
-    ++ (codes ", color=" ++ (color ++ (codes ", label=\"" ++ (label ++ (codes "\"" ++ (tooltip ++ codes "];\n")))))))))
-
--- a node, of which those in the list are red
-abbrev pub node_line : List ℕ → Option Certificate → ℕ → Node → List ℕ
-node_line red cert n node =
-    shape_line n (kind_shape node.kind) (color_among red n) (label_text node) (tooltip_text cert n)
-
--- n's port p
-abbrev pub port_line : ℕ → ℕ → Port → List ℕ
-port_line n p port = codes "    node_" ++ (decimal n ++ (codes " -> bus_" ++ (decimal port.bus
-    ++ (codes " [dir=none, label=\"" ++ (decimal p ++ (codes ": " ++ (address_text port.address.items
-    ++ codes "\"];\n")))))))
-
--- the arrow from its owner to an owned node, of which those to nodes in the list are red
-abbrev pub owner_line : List ℕ → ℕ → ℕ → List ℕ
-owner_line red n owner = codes "    node_" ++ (decimal owner ++ (codes " -> node_" ++ (decimal n
-    ++ (codes " [style=dashed, color=" ++ (color_among red n ++ codes "];\n")))))
-
--- such an arrow, where the node has an owner
-abbrev pub owner_lines : List ℕ → ℕ → Option ℕ → List (List ℕ)
-owner_lines red n (Some owner) = owner_line red n owner ∷ []
-owner_lines red n None = []
+use Rattle.plan_texts.specs.DrawingLines.{IsDrawing}
 
 -- ---- drawings
-
--- what is said of each item of a list by its place
-abbrev pub by_place : {A B : Type 0} → (ℕ → A → B) → List A → List B
-by_place say items = map (λ placed. say placed.0 placed.1) (enumerate_from 0 items)
-
--- all that is said of the items of a list by their places, one after the other
-abbrev pub all_by_place : {A B : Type 0} → (ℕ → A → List B) → List A → List B
-all_by_place say items = flat_map (λ placed. say placed.0 placed.1) (enumerate_from 0 items)
-
--- The lines of a drawing: one for each bus, one for each node, one for each port of each node, and one for each node
--- that has an owner, in the order of the plan, between the first one and the last. Nodes of the one list are red, and
--- arrows to nodes of the other.
-abbrev pub drawing_lines : Plan → (red red_owned : List ℕ) → Option Certificate → List (List ℕ)
-drawing_lines plan red red_owned cert = first_line ∷ (by_place bus_line plan.buses.items
-    ++ (by_place (node_line red cert) plan.nodes.items
-    ++ (all_by_place (λ n node. by_place (port_line n) node.ports.items) plan.nodes.items
-    ++ (all_by_place (λ n node. owner_lines red_owned n node.owner) plan.nodes.items ++ last_line ∷ []))))
-
--- how many ports the nodes of a plan have, and how many of them have an owner
-abbrev pub port_count : Plan → ℕ
-port_count plan = sum_by (λ node. length node.ports.items) plan.nodes.items
-
-abbrev pub owned_count : Plan → ℕ
-owned_count plan = count_by (λ node. is_some node.owner) plan.nodes.items
-
--- The text is the lines of the drawing, and there is one for each bus, node, port and owned node, and two more.
-pub record IsDrawing (plan : Plan) (red red_owned : List ℕ) (cert : Option Certificate) (text : List ℕ) : Type 0 where
-  pub written : text ≡ concat (drawing_lines plan red red_owned cert)
-  pub counted : length (drawing_lines plan red red_owned cert)
-      ≡ length plan.buses.items + (length plan.nodes.items + (port_count plan + owned_count plan)) + 2
 
 -- the text is the drawing of a plan with its certificate, and nothing in it is red
 abbrev pub IsCertifiedDrawing : Plan → Certificate → List ℕ → Type 0

@@ -1,8 +1,6 @@
 pub mod Statuses
-pub mod Lines
 pub mod Answers
 pub mod Told
-pub mod Shown
 pub mod Show
 pub mod Certifying
 pub mod Assigning
@@ -12,11 +10,8 @@ pub mod Gathering
 pub mod Reaching
 pub mod Tracing
 pub mod Linting
-pub mod CauseLines
-pub mod EditLines
 pub mod Explaining
 pub mod Drawing
-pub mod OutcomeLines
 pub mod Simulating
 pub mod Moving
 pub mod MoveSimulating

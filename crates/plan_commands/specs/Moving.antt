@@ -1,11 +1,8 @@
 -- What the end of `move` says of the plans and the certificate that it read, and of what it wrote.
-use Rattle.std.specs.Prelude.{◌≡◌, ◌⊎◌, ℕ, List, ◌++◌, Option, Some, None, codes, ⊤}
+use Rattle.std.specs.Prelude.{◌≡◌, ◌⊎◌, ℕ, List, Some, ⊤}
 use Rattle.std.specs.Io.KnownBytes.{Appends}
 use Rattle.net_check.specs.declared.move_error.MoveError.{MoveError}
-use Rattle.net_check.specs.declared.move_error.MoveError.TheVariants as error
-use Rattle.net_check.specs.declared.move_fault.MoveFault.{MoveFault}
-use Rattle.net_check.specs.Faults.{eid_number}
-use Rattle.net_check.specs.MoveFaults.{code_of_move, NamesFirstMoveFault}
+use Rattle.net_check.specs.MoveFaults.{NamesFirstMoveFault}
 use Rattle.net_check.specs.MoveRules.{AcceptsMove}
 use Rattle.net_plan.specs.declared.plan.Plan.{Plan}
 use Rattle.net_plan.specs.declared.certificate.Certificate.{Certificate}
@@ -18,8 +15,8 @@ use Rattle.plan_commands.specs.declared.refused.Refused.{Refused}
 use Rattle.plan_commands.specs.declared.status.Status.{Status}
 use Rattle.plan_commands.specs.declared.status.Status.TheVariants as status
 use Rattle.plan_commands.specs.Answers.{Stream, Fails, GavePlan, GaveCertificate, GaveNothing}
-use Rattle.plan_commands.specs.Lines.{name_or_dash, number_or_dash}
 use Rattle.plan_commands.specs.Statuses.{status_of, HasCause, yes_line}
+use Rattle.plan_texts.specs.MoveLines.{move_error_text}
 
 -- one source gave the plan before, one the plan after, and one the certificate, which is read for the plan before
 pub record IsMoveGiven (befores afters certificates : Stream) (before after : Plan)
@@ -27,31 +24,6 @@ pub record IsMoveGiven (befores afters certificates : Stream) (before after : Pl
   pub before_text : GavePlan befores before
   pub after_text : GavePlan afters after
   pub certificate_text : GaveCertificate before certificates certificate
-
--- whose rule is broken: the code, the node's name, the entry and the endpoint ID
-abbrev pub move_fault_text : Plan → List ℕ → MoveFault → List ℕ
-move_fault_text plan whose fault =
-    codes "fault " ++ (whose ++ (code_of_move fault.rule ++ (codes " node " ++ (name_or_dash plan fault.node
-    ++ (codes " entry " ++ (number_or_dash fault.entry
-    ++ (codes " eid " ++ (number_or_dash (eid_number fault.eid) ++ codes "\n"))))))))
-
--- the name of the node at a place, or a dash where no place is given
-abbrev pub name_of_some : Plan → Option ℕ → List ℕ
-name_of_some plan (Some node) = name_or_dash plan node
-name_of_some plan None = codes "-"
-
--- the plans differ in more than rows, at a node of the name
-abbrev pub difference_text : Plan → Option ℕ → List ℕ
-difference_text plan node = codes "fault M01 node " ++ (name_of_some plan node ++ codes " entry - eid -\n")
-
--- why the plans and the certificate are not accepted as a move, where nodes have their names in the plan; want of
--- memory has no text
-abbrev pub move_error_text : Plan → MoveError → Option (List ℕ)
-move_error_text plan (error.Differ node) = Some (difference_text plan node)
-move_error_text plan (error.Old fault) = Some (move_fault_text plan (codes "old ") fault)
-move_error_text plan (error.New fault) = Some (move_fault_text plan (codes "new ") fault)
-move_error_text plan (error.Both fault) = Some (move_fault_text plan (codes "") fault)
-move_error_text plan error.OutOfMemory = None
 
 -- the text is the line of the first fault of the move
 abbrev pub IsMoveFaultText : Plan → Plan → Certificate → List ℕ → Type 0

@@ -11,14 +11,14 @@ use Rattle.pdr_record.specs.declared.record_error.RecordError.{RecordError}
 use Rattle.pdr_record.specs.Codes as records
 use Rattle.pdr_record.specs.Faults.{IsFault}
 use Rattle.pdr_record.specs.Records as record_of
-use Rattle.plan_commands.specs.declared.commands.show.Kind.{Kind}
-use Rattle.plan_commands.specs.declared.commands.show.Kind.TheVariants as kind
+use Rattle.plan_commands.specs.declared.commands.show.ShownKind.{ShownKind}
+use Rattle.plan_commands.specs.declared.commands.show.ShownKind.TheVariants as kind
 use Rattle.plan_commands.specs.declared.refused.Refused.{Refused}
 use Rattle.plan_commands.specs.declared.status.Status.{Status}
 use Rattle.plan_commands.specs.declared.status.Status.TheVariants as status
 use Rattle.plan_commands.specs.Answers.{Stream, Fails}
 use Rattle.plan_commands.specs.Statuses.{HasCause}
-use Rattle.plan_commands.specs.Shown.{refused_bytes, packet_bytes, record_text_bytes}
+use Rattle.plan_texts.specs.Shown.{refused_bytes, packet_bytes, record_text_bytes}
 
 -- the hex text, in digits of either case, is that of the bytes
 abbrev pub IsDecoded : List ℕ → List ℕ → Type 0
@@ -37,7 +37,7 @@ IsNoPacketFor packet.Version bytes =
     ¬ refusals.IsShort bytes × ¬ refusals.IsEmpty bytes × ¬ refusals.IsLong 64 bytes × refusals.HasOtherVersion bytes
 
 -- the text tells what the bytes are of the kind, or the code of the cause for which they are none
-abbrev pub IsShown : Status → Kind → List ℕ → List ℕ → Type 0
+abbrev pub IsShown : Status → ShownKind → List ℕ → List ℕ → Type 0
 IsShown status.Yes kind.Packet bytes text = (f : Frame) × Spelled 64 f bytes × (text ≡ packet_bytes f)
 IsShown status.Yes kind.Record bytes text =
     (r : record_of.RecordValue) × record_of.Spelled r bytes × (text ≡ record_text_bytes r)
@@ -49,21 +49,21 @@ IsShown status.Unreadable asked bytes text = ⊥
 IsShown status.NoMemory asked bytes text = ⊥
 
 -- the text tells what the bytes of the hex text are of the kind, or why they are none
-abbrev pub IsShowAnswer : Kind → List ℕ → List ℕ → Type 0
+abbrev pub IsShowAnswer : ShownKind → List ℕ → List ℕ → Type 0
 IsShowAnswer asked hex text = (bytes : List ℕ) × (ended : Status) × IsDecoded hex bytes × IsShown ended asked bytes text
 
 -- so it does, in a run that ends so
-abbrev pub ShowsSo : Kind → List ℕ → Status → List ℕ → Type 0
+abbrev pub ShowsSo : ShownKind → List ℕ → Status → List ℕ → Type 0
 ShowsSo asked hex ended text = (bytes : List ℕ) × IsDecoded hex bytes × IsShown ended asked bytes text
 
 -- the output was given the text of the bytes that the hex text is
-abbrev pub TellsOf : Status → Kind → List ℕ → Stream → Type 0
+abbrev pub TellsOf : Status → ShownKind → List ℕ → Stream → Type 0
 TellsOf ended asked hex output =
     (bytes : List ℕ) × (text : List ℕ) × IsDecoded hex bytes × IsShown ended asked bytes text
     × Appends output.before output.after text
 
 -- what the end of a run says of the hex text and of what was written
-abbrev pub Shows : Status → Kind → List ℕ → Stream → Type 0
+abbrev pub Shows : Status → ShownKind → List ℕ → Stream → Type 0
 Shows status.Yes asked hex output = TellsOf status.Yes asked hex output
 Shows status.Fault asked hex output = TellsOf status.Fault asked hex output
 Shows status.Unreadable asked hex output = IsNoHex hex ⊎ Fails output

@@ -27,7 +27,7 @@ use Rattle.plan_commands.specs.declared.status.Status.{Status}
 use Rattle.plan_commands.specs.declared.status.Status.TheVariants as status
 use Rattle.plan_commands.specs.Answers.{Stream, Fails, BreaksOff, AreGiven}
 use Rattle.plan_commands.specs.Answers.{GaveNothing, IsUnread, IsFaultText, TellsFault}
-use Rattle.plan_commands.specs.OutcomeLines.{outcome_lines}
+use Rattle.plan_texts.specs.OutcomeLines.{outcome_lines}
 use Rattle.plan_commands.specs.Statuses.{status_of, HasCause}
 
 -- The events are those of a run from the state, and the output was given the lines of what came of them.

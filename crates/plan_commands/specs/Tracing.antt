@@ -1,34 +1,30 @@
 -- What the end of `trace` says of the plan and the certificate that it read, and of what it wrote.
-use Rattle.std.specs.Prelude.{◌≡◌, ◌≤◌, ◌+◌, ◌==◌, ◌⊎◌, ℕ, List, [], ◌∷◌, ◌++◌, length, Option}
-use Rattle.std.specs.Prelude.{Some, None, true, option_map, slice_get, unwrap_or, find, codes, if◌then◌else◌, ⊤}
-use Rattle.std.specs.Fmt.{decimal}
+use Rattle.std.specs.Prelude.{◌≡◌, ◌≤◌, ◌⊎◌, ℕ, List, length}
+use Rattle.std.specs.Prelude.{true, ⊤}
 use Rattle.std.specs.Io.KnownBytes.{Appends}
 use Rattle.std.specs.Char.{is_ascii_digit}
 use Rattle.std.specs.List.{list_all}
 use Rattle.std.specs.Str.Parse.{digits_value}
-use Rattle.hex.specs.Hex.{encode_lower}
-use Rattle.mctp_bridge.specs.Decisions.{obstacle_code}
 use Rattle.mctp_transport.specs.Frames.{IsAssignable}
 use Rattle.net_check.specs.declared.fault.Fault.{Fault}
 use Rattle.net_check.specs.Faults.{IsFirstFault, place_of}
 use Rattle.net_check.specs.Ranks.{rank}
-use Rattle.net_check.specs.Routing.{Holds, ports_of}
+use Rattle.net_check.specs.Routing.{Holds}
 use Rattle.net_check.specs.Rules.{Accepts}
 use Rattle.net_plan.specs.declared.plan.Plan.{Plan}
-use Rattle.net_plan.specs.declared.nodes.Port.{Port}
 use Rattle.net_plan.specs.declared.certificate.Certificate.{Certificate}
-use Rattle.net_questions.specs.declared.step.Step.{Step}
+use Rattle.net_questions.specs.declared.step.WayStep.{WayStep}
 use Rattle.net_questions.specs.declared.way.End.{End}
-use Rattle.net_questions.specs.declared.way.End.TheVariants.{Arrives, Stops}
 use Rattle.net_questions.specs.Packets.{KeepsToWays}
 use Rattle.net_questions.specs.Ways.{IsWay}
 use Rattle.plan_commands.specs.declared.refused.Refused.{Refused}
 use Rattle.plan_commands.specs.declared.status.Status.{Status}
 use Rattle.plan_commands.specs.declared.status.Status.TheVariants as status
 use Rattle.plan_commands.specs.Answers.{Stream, AreGiven, IsUnread, IsFaultText, TellsOf, Fails}
-use Rattle.plan_commands.specs.Lines.{name_or_dash, bus_name_or_dash, fault_text}
+use Rattle.plan_texts.specs.Lines.{fault_text}
 use Rattle.plan_commands.specs.Statuses.{status_of, HasCause}
 use Rattle.plan_commands.specs.Walking.{IsFirstNamed}
+use Rattle.plan_texts.specs.WayLines.{trace_text}
 
 -- the word is ASCII digits, and e, which can be assigned, is their number
 abbrev pub IsEidWord : List ℕ → ℕ → Type 0
@@ -43,60 +39,10 @@ IsDestination plan word e = ((n : ℕ) × IsFirstNamed plan word n × Holds plan
 abbrev pub NameTheEnds : List ℕ → List ℕ → Plan → Type 0
 NameTheEnds from to plan = ((n : ℕ) × IsFirstNamed plan from n) × ((e : ℕ) × IsDestination plan to e)
 
--- the bus of the port by which a step leaves
-abbrev pub bus_of_step : Plan → Step → Option ℕ
-bus_of_step plan step =
-    option_map (λ (port : Port). port.bus) (slice_get (ports_of plan step.node) step.hop.port)
-
--- the name of a bus, or a dash where there is none
-abbrev pub bus_text : Plan → Option ℕ → List ℕ
-bus_text plan (Some bus) = bus_name_or_dash plan bus
-bus_text plan None = codes "-"
-
--- the address of the first of these ports that is on the bus; empty where none is
-abbrev pub first_address : List Port → ℕ → List ℕ
-first_address ports bus =
-    unwrap_or (option_map (λ (port : Port). port.address.items) (find (λ (port : Port). port.bus == bus) ports)) []
-
--- the address of a node's first port on a bus; empty where it has none there
-abbrev pub address_on : Plan → ℕ → Option ℕ → List ℕ
-address_on plan node (Some bus) = first_address (ports_of plan node) bus
-address_on plan node None = []
-
--- an address in hex, or a dash where it is empty
-abbrev pub address_text : List ℕ → List ℕ
-address_text address = if length address == 0 then codes "-" else encode_lower address
-
--- a hop's number, its node and port, the bus, the address of the next node there, and that node
-abbrev pub hop_text : ℕ → List ℕ → ℕ → (bus address next : List ℕ) → List ℕ
-hop_text number node port bus address next = decimal number ++ (codes " " ++ (node ++ (codes " port " ++ (decimal port
-    ++ (codes " bus " ++ (bus ++ (codes " address " ++ (address ++ (codes " to " ++ (next ++ codes "\n"))))))))))
-
--- the line of the step of a number
-abbrev pub step_line : Plan → ℕ → Step → List ℕ
-step_line plan number step = hop_text number (name_or_dash plan step.node) step.hop.port
-    (bus_text plan (bus_of_step plan step)) (address_text (address_on plan step.hop.next (bus_of_step plan step)))
-    (name_or_dash plan step.hop.next)
-
--- the lines of steps, numbered from one number on
-abbrev pub steps_from : Plan → ℕ → List Step → List ℕ
-steps_from plan number [] = []
-steps_from plan number (step ∷ steps) = step_line plan number step ++ steps_from plan (number + 1) steps
-
--- how many hops a packet makes that arrives, or where it stops and why
-abbrev pub end_line : Plan → ℕ → ℕ → End → List ℕ
-end_line plan hops last Arrives = codes "hops " ++ (decimal hops ++ codes "\n")
-end_line plan hops last (Stops why) =
-    codes "stops at " ++ (name_or_dash plan last ++ (codes " " ++ (obstacle_code why ++ codes "\n")))
-
--- a line for each step, numbered from 1, and one that says how the way ends
-abbrev pub trace_text : Plan → List Step → ℕ → End → List ℕ
-trace_text plan steps last end = steps_from plan 1 steps ++ end_line plan (length steps) last end
-
 -- The text is the lines of the way of a packet for e that is put in at n. It has no more hops than the certified rank,
 -- and in every run of the network each packet keeps to its way.
 pub record IsWayText (plan : Plan) (certificate : Certificate) (n e : ℕ) (text : List ℕ) : Type 0 where
-  pub steps : List Step
+  pub steps : List WayStep
   pub last : ℕ
   pub end : End
   pub way : IsWay plan e n steps last end

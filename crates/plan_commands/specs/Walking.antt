@@ -1,6 +1,5 @@
 -- What the end of `walk` says of the plan and the certificate that it read, and of what it wrote.
-use Rattle.std.specs.Prelude.{◌≡◌, ◌≢◌, ◌<◌, ◌-◌, ℕ, List, ◌++◌, length, Some, None, codes, sum_by, ⊤}
-use Rattle.std.specs.Fmt.{decimal}
+use Rattle.std.specs.Prelude.{◌≡◌, ◌≢◌, ◌<◌, ◌-◌, ℕ, List, ◌++◌, length, Some, None, sum_by, ⊤}
 use Rattle.std.specs.Io.KnownBytes.{Appends}
 use Rattle.std.specs.List.{flat_map}
 use Rattle.net_check.specs.declared.fault.Fault.{Fault}
@@ -10,14 +9,15 @@ use Rattle.net_check.specs.Repositories.{terminus_of, records_by_place}
 use Rattle.net_check.specs.Rules.{Accepts}
 use Rattle.net_plan.specs.declared.plan.Plan.{Plan}
 use Rattle.net_plan.specs.declared.certificate.Certificate.{Certificate}
-use Rattle.pdr_repository.specs.Records.{Entry, handle_in, bytes_by_place}
+use Rattle.pdr_repository.specs.Records.{Entry, bytes_by_place}
 use Rattle.pdr_repository.specs.Walks.{exchanges}
 use Rattle.plan_commands.specs.declared.refused.Refused.{Refused}
 use Rattle.plan_commands.specs.declared.status.Status.{Status}
 use Rattle.plan_commands.specs.declared.status.Status.TheVariants as status
 use Rattle.plan_commands.specs.Answers.{Stream, AreGiven, IsUnread, IsFaultText, TellsOf, Fails}
-use Rattle.plan_commands.specs.Lines.{fault_text}
+use Rattle.plan_texts.specs.Lines.{fault_text}
 use Rattle.plan_commands.specs.Statuses.{status_of, HasCause}
+use Rattle.plan_texts.specs.WalkLines.{record_line, count_line}
 
 -- n is the first node of the name
 pub record IsFirstNamed (plan : Plan) (name : List ℕ) (n : ℕ) : Type 0 where
@@ -30,16 +30,6 @@ IsTerminusNamed plan name n = IsFirstNamed plan name n × (terminus_of plan n �
 
 abbrev pub HasTerminusNamed : Plan → List ℕ → Type 0
 HasTerminusNamed plan name = (n : ℕ) × IsTerminusNamed plan name n
-
--- a record's handle, and how many bytes follow its header of ten bytes
-abbrev pub record_line : List ℕ → List ℕ
-record_line bytes =
-    codes "record " ++ (decimal (handle_in bytes) ++ (codes " length " ++ (decimal (length bytes - 10) ++ codes "\n")))
-
--- how many records there are, and how many requests they took
-abbrev pub count_line : ℕ → ℕ → List ℕ
-count_line records requests =
-    codes "records " ++ (decimal records ++ (codes " requests " ++ (decimal requests ++ codes "\n")))
 
 -- the line of each record by place, and the line of their number and of the requests for them, by parts of so many
 -- bytes

@@ -1,14 +1,14 @@
 //! The program's command line.
-use crate::commands::show::Kind;
+use crate::commands::show::ShownKind;
 use crate::commands::walk::PartSize;
 use crate::refused::Refused;
-use crate::texts::codes::text_of;
 use clap::{Arg, ArgAction, ArgMatches};
+use plan_texts::text_of;
 use std::alloc::{AllocError, Global};
 
 /// A command with its arguments.
 #[derive(Clone, Copy, Debug, PartialEq, Eq)]
-pub enum Command<'a> {
+pub enum Subcommand<'a> {
     /// Does the certificate in one file fit the plan in another?
     Check {
         plan: &'a str,
@@ -84,13 +84,13 @@ pub enum Command<'a> {
     Guide,
     /// What are the bytes of a hex text?
     Show {
-        kind: Kind,
+        kind: ShownKind,
         hex: &'a str,
     },
 }
 
 /// The command that a list of words stands for. The first word is the program's name.
-pub fn parse_command<'a>(alloc: Global, list: &'a [String]) -> Result<Command<'a>, Refused> {
+pub fn parse_command<'a>(alloc: Global, list: &'a [String]) -> Result<Subcommand<'a>, Refused> {
     let matches = grammar(alloc)?.try_get_matches_from(list)?;
     chosen(&matches).ok_or(Refused::Usage)
 }
@@ -140,7 +140,7 @@ fn with_arguments<'a>(
     Ok(command)
 }
 
-fn chosen<'a>(matches: &ArgMatches<'a>) -> Option<Command<'a>> {
+fn chosen<'a>(matches: &ArgMatches<'a>) -> Option<Subcommand<'a>> {
     let (name, arguments) = matches.subcommand()?;
     match name {
         "check" => checking(arguments),
@@ -157,49 +157,49 @@ fn chosen<'a>(matches: &ArgMatches<'a>) -> Option<Command<'a>> {
         "lint" => linting(arguments),
         "show" => showing(arguments),
         "code" => telling(arguments),
-        "guide" => Some(Command::Guide),
+        "guide" => Some(Subcommand::Guide),
         _ => None,
     }
 }
 
-fn checking<'a>(arguments: &ArgMatches<'a>) -> Option<Command<'a>> {
-    Some(Command::Check {
+fn checking<'a>(arguments: &ArgMatches<'a>) -> Option<Subcommand<'a>> {
+    Some(Subcommand::Check {
         plan: arguments.get_str("plan")?,
         certificate: arguments.get_str("certificate")?,
     })
 }
 
-fn certifying<'a>(arguments: &ArgMatches<'a>) -> Option<Command<'a>> {
-    Some(Command::Certify {
+fn certifying<'a>(arguments: &ArgMatches<'a>) -> Option<Subcommand<'a>> {
+    Some(Subcommand::Certify {
         plan: arguments.get_str("plan")?,
     })
 }
 
-fn assigning<'a>(arguments: &ArgMatches<'a>) -> Option<Command<'a>> {
-    Some(Command::Assign {
+fn assigning<'a>(arguments: &ArgMatches<'a>) -> Option<Subcommand<'a>> {
+    Some(Subcommand::Assign {
         plan: arguments.get_str("plan")?,
         certificate: arguments.get_str("certificate")?,
     })
 }
 
-fn playing<'a>(arguments: &ArgMatches<'a>) -> Option<Command<'a>> {
-    Some(Command::Sim {
+fn playing<'a>(arguments: &ArgMatches<'a>) -> Option<Subcommand<'a>> {
+    Some(Subcommand::Sim {
         plan: arguments.get_str("plan")?,
         certificate: arguments.get_str("certificate")?,
         events: arguments.get_str("events")?,
     })
 }
 
-fn moving<'a>(arguments: &ArgMatches<'a>) -> Option<Command<'a>> {
-    Some(Command::Move {
+fn moving<'a>(arguments: &ArgMatches<'a>) -> Option<Subcommand<'a>> {
+    Some(Subcommand::Move {
         before: arguments.get_str("old")?,
         after: arguments.get_str("new")?,
         certificate: arguments.get_str("certificate")?,
     })
 }
 
-fn playing_moves<'a>(arguments: &ArgMatches<'a>) -> Option<Command<'a>> {
-    Some(Command::SimMove {
+fn playing_moves<'a>(arguments: &ArgMatches<'a>) -> Option<Subcommand<'a>> {
+    Some(Subcommand::SimMove {
         before: arguments.get_str("old")?,
         after: arguments.get_str("new")?,
         certificate: arguments.get_str("certificate")?,
@@ -207,8 +207,8 @@ fn playing_moves<'a>(arguments: &ArgMatches<'a>) -> Option<Command<'a>> {
     })
 }
 
-fn walking<'a>(arguments: &ArgMatches<'a>) -> Option<Command<'a>> {
-    Some(Command::Walk {
+fn walking<'a>(arguments: &ArgMatches<'a>) -> Option<Subcommand<'a>> {
+    Some(Subcommand::Walk {
         plan: arguments.get_str("plan")?,
         certificate: arguments.get_str("certificate")?,
         node: arguments.get_str("node")?,
@@ -216,15 +216,15 @@ fn walking<'a>(arguments: &ArgMatches<'a>) -> Option<Command<'a>> {
     })
 }
 
-fn reaching<'a>(arguments: &ArgMatches<'a>) -> Option<Command<'a>> {
-    Some(Command::Reach {
+fn reaching<'a>(arguments: &ArgMatches<'a>) -> Option<Subcommand<'a>> {
+    Some(Subcommand::Reach {
         plan: arguments.get_str("plan")?,
         certificate: arguments.get_str("certificate")?,
     })
 }
 
-fn tracing<'a>(arguments: &ArgMatches<'a>) -> Option<Command<'a>> {
-    Some(Command::Trace {
+fn tracing<'a>(arguments: &ArgMatches<'a>) -> Option<Subcommand<'a>> {
+    Some(Subcommand::Trace {
         plan: arguments.get_str("plan")?,
         certificate: arguments.get_str("certificate")?,
         from: arguments.get_str("from")?,
@@ -232,37 +232,37 @@ fn tracing<'a>(arguments: &ArgMatches<'a>) -> Option<Command<'a>> {
     })
 }
 
-fn drawing<'a>(arguments: &ArgMatches<'a>) -> Option<Command<'a>> {
-    Some(Command::Draw {
+fn drawing<'a>(arguments: &ArgMatches<'a>) -> Option<Subcommand<'a>> {
+    Some(Subcommand::Draw {
         plan: arguments.get_str("plan")?,
         certificate: arguments.get_str("certificate"),
     })
 }
 
-fn explaining<'a>(arguments: &ArgMatches<'a>) -> Option<Command<'a>> {
-    Some(Command::Explain {
+fn explaining<'a>(arguments: &ArgMatches<'a>) -> Option<Subcommand<'a>> {
+    Some(Subcommand::Explain {
         plan: arguments.get_str("plan")?,
         certificate: arguments.get_str("certificate"),
     })
 }
 
-fn linting<'a>(arguments: &ArgMatches<'a>) -> Option<Command<'a>> {
-    Some(Command::Lint {
+fn linting<'a>(arguments: &ArgMatches<'a>) -> Option<Subcommand<'a>> {
+    Some(Subcommand::Lint {
         plan: arguments.get_str("plan")?,
     })
 }
 
-fn showing<'a>(arguments: &ArgMatches<'a>) -> Option<Command<'a>> {
-    Some(Command::Show {
+fn showing<'a>(arguments: &ArgMatches<'a>) -> Option<Subcommand<'a>> {
+    Some(Subcommand::Show {
         kind: kind_of(arguments.get_str("kind")?)?,
         hex: arguments.get_str("hex")?,
     })
 }
 
-fn kind_of(word: &str) -> Option<Kind> {
+fn kind_of(word: &str) -> Option<ShownKind> {
     match word {
-        "packet" => Some(Kind::Packet),
-        "record" => Some(Kind::Record),
+        "packet" => Some(ShownKind::Packet),
+        "record" => Some(ShownKind::Record),
         _ => None,
     }
 }
@@ -275,7 +275,7 @@ fn part_size_of(word: &str) -> Option<PartSize> {
     PartSize::of(word.parse().ok()?)
 }
 
-fn telling<'a>(arguments: &ArgMatches<'a>) -> Option<Command<'a>> {
+fn telling<'a>(arguments: &ArgMatches<'a>) -> Option<Subcommand<'a>> {
     let text = text_of(arguments.get_str("code")?)?;
-    Some(Command::Code { text })
+    Some(Subcommand::Code { text })
 }

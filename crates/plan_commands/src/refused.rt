@@ -1,10 +1,13 @@
 //! Why the program gives no answer.
-ghost use Rattle.std.specs.Prelude.{◌≡◌};
+ghost use Rattle.std.specs.Prelude.{◌≡◌, IsOk};
+ghost use Rattle.plan_commands.specs.declared.refused.Refused.TheVariants.{Unwritten};
 
 use crate::status::Status;
 use clap::error::ErrorKind;
 use net_plan::PlanError;
-use std::alloc::AllocError;
+use plan_texts::unread_line;
+use std::alloc::{AllocError, Global};
+use std::borrow::CowStr;
 use std::io;
 
 /// A file that the program reads.
@@ -89,6 +92,42 @@ impl From<io::Error> for Refused {
         match error.kind() {
             io::ErrorKind::OutOfMemory => Refused::NoMemory,
             _ => Refused::Usage,
+        }
+    }
+}
+
+/// What is said where there is too little memory, also too little for any other line.
+pub const NO_MEMORY: &str = "no memory\n";
+
+/// Why there is no answer.
+pub fn refusal_line(alloc: Global, refused: Refused) -> Result<CowStr<'static>, AllocError>
+    ensures { refused ≡ Unwritten → IsOk result }
+{
+    match refused {
+        Refused::Usage => Ok(CowStr::Borrowed("usage\n")),
+        Refused::Unreadable { input, cause } => {
+            let line = unread_line(alloc, input.role(), cause)?;
+            Ok(CowStr::Owned(line))
+        }
+        Refused::UnknownNode => Ok(CowStr::Borrowed("unreadable node: J06\n")),
+        Refused::UnreadableHex => Ok(CowStr::Borrowed("unreadable hex: J07\n")),
+        Refused::TooMuch => Ok(CowStr::Borrowed("unreadable walk: G09\n")),
+        Refused::Unwritten => Ok(CowStr::Borrowed("unreadable output: file\n")),
+        Refused::NoMemory => Ok(CowStr::Borrowed(NO_MEMORY)),
+    }
+}
+
+impl Input {
+    ghost use Rattle.plan_commands.specs.Statuses.{role_of};
+
+    /// What the program calls the file.
+    pub fn role(self) -> &'static str
+        ensures { result.now ≡ role_of self }
+    {
+        match self {
+            Input::Plan => "plan",
+            Input::Certificate => "certificate",
+            Input::Events => "events",
         }
     }
 }

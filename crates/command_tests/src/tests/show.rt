@@ -2,13 +2,19 @@
 
 use super::expect_told;
 use net_plan::Counted;
-use plan_commands::{Kind, Status, run_show};
+use plan_commands::{ShownKind, Status, run_show};
 use std::process::Abort;
 use std::test::Fail;
 
 /// Wants `show` of a hex text to end with this status and this text: an answer on standard output, anything else on
 /// standard error.
-fn expect_show(rt: &(impl Abort + AllocGlobal), kind: Kind, hex: &str, status: Status, text: &str) {
+fn expect_show(
+    rt: &(impl Abort + AllocGlobal),
+    kind: ShownKind,
+    hex: &str,
+    status: Status,
+    text: &str,
+) {
     let mut output = Counted::new(Vec::new(rt.alloc()));
     let mut errors = Counted::new(Vec::new(rt.alloc()));
     let ended = run_show(rt.alloc(), kind, hex, &mut output, &mut errors);
@@ -28,7 +34,7 @@ fn shows_packets(rt: HostRuntime) {
         ),
     ];
     for (hex, text) in rows {
-        expect_show(&rt, Kind::Packet, hex, Status::Yes, text);
+        expect_show(&rt, ShownKind::Packet, hex, Status::Yes, text);
     }
 }
 
@@ -73,41 +79,41 @@ fn shows_records(rt: HostRuntime) {
         ),
     ];
     for (hex, text) in rows {
-        expect_show(&rt, Kind::Record, hex, Status::Yes, text);
+        expect_show(&rt, ShownKind::Record, hex, Status::Yes, text);
     }
 }
 
 #[test]
 fn tells_refused_bytes(rt: HostRuntime) {
     let rows = [
-        (Kind::Packet, "", "refused P01\n"),
-        (Kind::Packet, "010a08", "refused P01\n"),
-        (Kind::Packet, "010a08c8", "refused P02\n"),
-        (Kind::Packet, "020a08c801", "refused P04\n"),
-        (Kind::Record, "", "refused D01\n"),
-        (Kind::Record, "00000000000000000000", "refused D02\n"),
+        (ShownKind::Packet, "", "refused P01\n"),
+        (ShownKind::Packet, "010a08", "refused P01\n"),
+        (ShownKind::Packet, "010a08c8", "refused P02\n"),
+        (ShownKind::Packet, "020a08c801", "refused P04\n"),
+        (ShownKind::Record, "", "refused D01\n"),
+        (ShownKind::Record, "00000000000000000000", "refused D02\n"),
         (
-            Kind::Record,
+            ShownKind::Record,
             "0100000001010000090001000101000001010a00",
             "refused D03\n",
         ),
         (
-            Kind::Record,
+            ShownKind::Record,
             "0100000001010000090001000101000001",
             "refused D03\n",
         ),
         (
-            Kind::Record,
+            ShownKind::Record,
             "01000000010100000800010001010000010a",
             "refused D04\n",
         ),
         (
-            Kind::Record,
+            ShownKind::Record,
             "0100000001010000090001000101000001000a",
             "refused D05\n",
         ),
         (
-            Kind::Record,
+            ShownKind::Record,
             "060000000102000017000100070041000100000000000200000000000000000106",
             "refused D06\n",
         ),
@@ -120,7 +126,7 @@ fn tells_refused_bytes(rt: HostRuntime) {
 #[test]
 fn tells_texts_that_are_no_hex(rt: HostRuntime) {
     let line = "unreadable hex: J07\n";
-    for kind in [Kind::Packet, Kind::Record] {
+    for kind in [ShownKind::Packet, ShownKind::Record] {
         for hex in ["0g", "0", "0x00", " 00", "é"] {
             expect_show(&rt, kind, hex, Status::Unreadable, line);
         }

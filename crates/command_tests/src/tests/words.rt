@@ -1,61 +1,61 @@
 //! Which words are which command.
 
-use plan_commands::{Command, Kind, PartSize, Refused, parse_command};
+use plan_commands::{PartSize, Refused, ShownKind, Subcommand, parse_command};
 use std::process::Abort;
 use std::test::Fail;
 
 #[test]
 fn gives_the_command_or_usage(rt: HostRuntime) -> Result<(), Fail> {
-    let check = Command::Check {
+    let check = Subcommand::Check {
         plan: "a",
         certificate: "b",
     };
-    let certify = Command::Certify { plan: "a" };
-    let packet = Command::Show {
-        kind: Kind::Packet,
+    let certify = Subcommand::Certify { plan: "a" };
+    let packet = Subcommand::Show {
+        kind: ShownKind::Packet,
         hex: "01",
     };
-    let record = Command::Show {
-        kind: Kind::Record,
+    let record = Subcommand::Show {
+        kind: ShownKind::Record,
         hex: "",
     };
-    let assign = Command::Assign {
+    let assign = Subcommand::Assign {
         plan: "a",
         certificate: "b",
     };
-    let sim = Command::Sim {
+    let sim = Subcommand::Sim {
         plan: "a",
         certificate: "b",
         events: "c",
     };
-    let moving = Command::Move {
+    let moving = Subcommand::Move {
         before: "a",
         after: "b",
         certificate: "c",
     };
-    let playing = Command::SimMove {
+    let playing = Subcommand::SimMove {
         before: "a",
         after: "b",
         certificate: "c",
         events: "d",
     };
-    let plain = Command::Draw {
+    let plain = Subcommand::Draw {
         plan: "a",
         certificate: None,
     };
-    let certified = Command::Draw {
+    let certified = Subcommand::Draw {
         plan: "a",
         certificate: Some("b"),
     };
-    let explained = Command::Explain {
+    let explained = Subcommand::Explain {
         plan: "a",
         certificate: None,
     };
-    let both = Command::Explain {
+    let both = Subcommand::Explain {
         plan: "a",
         certificate: Some("b"),
     };
-    let rows: [(&[&str], Result<Command, Refused>); 61] = [
+    let rows: [(&[&str], Result<Subcommand, Refused>); 61] = [
         (&["mctpplan", "explain", "a"], Ok(explained)),
         (&["mctpplan", "explain", "a", "b"], Ok(both)),
         (&["mctpplan", "explain"], Err(Refused::Usage)),
@@ -66,7 +66,7 @@ fn gives_the_command_or_usage(rt: HostRuntime) -> Result<(), Fail> {
         (&["mctpplan", "draw", "a", "b", "c"], Err(Refused::Usage)),
         (&["mctpplan", "lint"], Err(Refused::Usage)),
         (&["mctpplan", "lint", "a", "b"], Err(Refused::Usage)),
-        (&["mctpplan", "guide"], Ok(Command::Guide)),
+        (&["mctpplan", "guide"], Ok(Subcommand::Guide)),
         (&["mctpplan", "guide", "check"], Err(Refused::Usage)),
         (&["mctpplan", "code"], Err(Refused::Usage)),
         (&["mctpplan", "code", "C99"], Err(Refused::Usage)),
@@ -140,7 +140,7 @@ fn gives_the_command_or_usage(rt: HostRuntime) -> Result<(), Fail> {
 fn expect_words(
     rt: &(impl Abort + AllocGlobal),
     given: &[&str],
-    wanted: Result<Command, Refused>,
+    wanted: Result<Subcommand, Refused>,
 ) -> Result<(), Fail> {
     let mut list = Vec::new(rt.alloc());
     for word in given {
@@ -175,7 +175,7 @@ fn takes_part_sizes_of_8_to_4079(rt: HostRuntime) -> Result<(), Fail> {
     ];
     for (count, bytes) in rows {
         let wanted = match bytes.and_then(PartSize::of) {
-            Some(part) => Ok(Command::Walk {
+            Some(part) => Ok(Subcommand::Walk {
                 plan: "a",
                 certificate: "b",
                 node: "nic",

@@ -10,19 +10,23 @@ ghost use Rattle.plan_commands.specs.Linting.{clean_line};
 ghost use Rattle.plan_commands.specs.Statuses.{status_of, yes_line};
 ghost use Rattle.plan_commands.specs.Told.{IsTold};
 
-use crate::refused::Refused;
+use crate::refused::{NO_MEMORY, Refused, refusal_line};
 use crate::status::Status;
-use crate::texts::{self, CLEAN, NO_MEMORY, YES};
 use net_plan::{Sink, write_whole};
 use std::alloc::{AllocError, Global};
 use std::borrow::CowStr;
+
+/// The answer where a certificate fits its plan.
+pub const YES: &str = "yes\n";
+
+/// The answer where nothing in a plan looks wrong.
+const CLEAN: &str = "clean\n";
 
 /// The text of an answer, and how a run ends that tells it.
 #[derive(Drop)]
 pub struct Answer {
     pub status: Status,
     pub text: CowStr<'static>,
-    ghost readable: { status ≢ Unreadable },
     ghost memory: { status ≢ NoMemory },
 }
 
@@ -71,6 +75,17 @@ impl Answer {
         }
     }
 
+    /// The text that says why an input can't be read, where that is the answer.
+    pub fn unread(text: String) -> Answer
+        ensures status { result.status ≡ Unreadable }
+        ensures text { cow_str_bytes result.text ≡ string_bytes text }
+    {
+        Answer {
+            status: Status::Unreadable,
+            text: CowStr::Owned(text),
+        }
+    }
+
     /// The text that says what is wrong.
     pub fn fault(text: String) -> Answer
         ensures status { result.status ≡ Fault }
@@ -89,7 +104,7 @@ pub fn refuse<E: Sink>(alloc: Global, refused: Refused, errors: &mut E) -> Statu
     ensures status { (result ≡ status_of refused) ⊎ (result ≡ NoMemory) }
     ensures unwritten { refused ≡ Unwritten → result ≡ Unreadable }
 {
-    let (line, status) = match texts::refusal_line(alloc, refused) {
+    let (line, status) = match refusal_line(alloc, refused) {
         Ok(line) => (line, refused.status()),
         Err(AllocError) => (CowStr::Borrowed(NO_MEMORY), Status::NoMemory),
     };

@@ -11,10 +11,10 @@ use crate::commands::faults::fault_answer;
 use crate::commands::inputs::read_inputs;
 use crate::refused::Refused;
 use crate::status::Status;
-use crate::texts::assignments::assignment_lines;
 use net_check::{Checked, check};
 use net_plan::{Sink, Source};
 use net_sim::assign;
+use plan_texts::assignment_lines;
 use std::alloc::{AllocError, Global};
 
 /// Gives on `output` the requests that assign what a plan gives its nodes, where the certificate fits the plan. Where a

@@ -9,9 +9,9 @@ use crate::commands::answer::{Answer, tell};
 use crate::commands::inputs::given_plan;
 use crate::refused::Refused;
 use crate::status::Status;
-use crate::texts;
 use net_check::certify;
 use net_plan::{Sink, Source, text_of_certificate};
+use plan_texts::obstacle_line;
 use std::alloc::Global;
 
 /// Gives on `output` the certificate of a plan, or says there why it has none. Where the plan can't be read, says so on
@@ -48,6 +48,6 @@ fn answer_certify<P: Source>(alloc: Global, plan: &mut P) -> Result<Answer, Refu
     let plan = given_plan(alloc, plan)?;
     match certify(alloc, &plan) {
         Ok(certificate) => Ok(Answer::found(text_of_certificate(alloc, &plan, &certificate)?)),
-        Err(obstacle) => Ok(Answer::fault(texts::obstacle_line(alloc, &plan, &obstacle)?)),
+        Err(obstacle) => Ok(Answer::fault(obstacle_line(alloc, &plan, &obstacle)?)),
     }
 }

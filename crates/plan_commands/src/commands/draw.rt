@@ -3,7 +3,8 @@ ghost use Rattle.std.specs.Prelude.{◌≡◌, ◌≢◌, ◌⊎◌, ◌<◌, �
 ghost use Rattle.std.specs.Cow.{cow_str_bytes};
 ghost use Rattle.plan_commands.specs.declared.status.Status.TheVariants.{Yes, Fault, Unreadable, NoMemory};
 ghost use Rattle.plan_commands.specs.Answers.{stream, BreaksOff, IsPlanUnread};
-ghost use Rattle.plan_commands.specs.Drawing.{IsDrawing, IsPlanDrawing, IsDrawAnswer, DrawsSo, Draws, loop_nodes, owner_loop_nodes};
+ghost use Rattle.plan_texts.specs.DrawingLines.{IsDrawing};
+ghost use Rattle.plan_commands.specs.Drawing.{IsPlanDrawing, IsDrawAnswer, DrawsSo, Draws, loop_nodes, owner_loop_nodes};
 ghost use Rattle.net_check.specs.declared.certify_error.CertifyError.TheVariants.{OutOfMemory};
 
 pub mod certified;
@@ -12,9 +13,9 @@ use crate::commands::answer::{Answer, tell};
 use crate::commands::inputs::given_plan;
 use crate::refused::Refused;
 use crate::status::Status;
-use crate::texts::drawings::drawing;
 use net_check::{CertifyError, certify};
 use net_plan::{Plan, Sink, Source};
+use plan_texts::drawing;
 use std::alloc::{AllocError, Global};
 
 /// Draws a plan on `output` as it stands. A loop that rules certificates out, of rows or of owners, is red. Where the plan

@@ -3,24 +3,28 @@ ghost use Rattle.std.specs.Prelude.{◌≡◌, ◌⊎◌, ◌<◌, ◌^◌, ◌-
 ghost use Rattle.std.specs.Cow.{cow_str_bytes};
 ghost use Rattle.net_check.specs.Certificates.{NamesObstacle, RulesOutCertificates};
 ghost use Rattle.plan_commands.specs.declared.status.Status.TheVariants.{Yes, Fault, Unreadable, NoMemory};
-ghost use Rattle.plan_commands.specs.Answers.{stream, BreaksOff, IsPlanUnread};
-ghost use Rattle.plan_commands.specs.Explaining.{summary_text, IsObstacleText, IsExplainAnswer, ExplainsSo, Explains};
-ghost use Rattle.plan_commands.specs.Statuses.{yes_line};
+ghost use Rattle.plan_commands.specs.declared.refused.Refused.{Refused};
+ghost use Rattle.plan_commands.specs.Answers.{Stream, stream};
+ghost use Rattle.plan_texts.specs.ExplanationLines.{summary_text};
+ghost use Rattle.plan_commands.specs.Explaining.{IsObstacleText, IsExplained, ExplainsSo, Explains, IsUnreadBy, IsUnreadText};
+ghost use Rattle.plan_commands.specs.Statuses.{role_of, yes_line};
+ghost use Rattle.plan_texts.specs.ReadingLines.{unread_line};
 
 pub mod certified;
 
-use crate::commands::answer::{Answer, tell};
-use crate::commands::inputs::given_plan;
-use crate::refused::Refused;
+use crate::commands::answer::{Answer, YES, tell};
+use crate::commands::inputs::{Unread, plan_or_text};
+use crate::refused::{Input, Refused};
 use crate::status::Status;
-use crate::texts::explanations::{obstacle_lines, summary_line};
-use crate::texts::{YES, obstacle_line};
 use net_check::{CertifyError, certify};
-use net_plan::{Plan, Sink, Source};
+use net_plan::{Plan, PlanError, Sink, Source};
+use plan_texts::{
+    obstacle_line, obstacle_lines, plan_reading_lines, summary_line, unread_line, unread_words,
+};
 use std::alloc::{AllocError, Global};
 
 /// Says on `output` what `certify` says of a plan, `yes` in place of the certificate, and explains it. Where the plan can't
-/// be read, says so on `errors`.
+/// be read, it says so there too, and where the text's first fault is.
 pub fn run_explain<P: Source, O: Sink, E: Sink>(
     alloc: Global,
     plan: &mut P,
@@ -34,9 +38,6 @@ pub fn run_explain<P: Source, O: Sink, E: Sink>(
         let outputs = stream (O.contents output.old) (O.failures output.old) (O.contents output.new) (O.failures output.new) in
         Explains result plans outputs }
     ensures silent { (result ≡ Yes) ⊎ (result ≡ Fault) → errors.new ≡ errors.old }
-    ensures unwritten { let plans = stream (P.remaining plan.old) (P.failures plan.old) (P.remaining plan.new) (P.failures plan.new) in
-        let outputs = stream (O.contents output.old) (O.failures output.old) (O.contents output.new) (O.failures output.new) in
-        result ≡ Unreadable → (output.new ≡ output.old) ⊎ BreaksOff (IsExplainAnswer plans) outputs }
     ensures no_memory { result ≡ NoMemory → output.new ≡ output.old }
 {
     let answered = answer_explain(alloc, plan);
@@ -47,14 +48,60 @@ fn answer_explain<P: Source>(alloc: Global, plan: &mut P) -> Result<Answer, Refu
     requires { P.failures plan.old < 2 ^ 64 - 1 }
     ensures answers { let plans = stream (P.remaining plan.old) (P.failures plan.old) (P.remaining plan.new) (P.failures plan.new) in
         IfOk result (λ answer. ExplainsSo plans answer.status (cow_str_bytes answer.text)) }
-    ensures unread { let plans = stream (P.remaining plan.old) (P.failures plan.old) (P.remaining plan.new) (P.failures plan.new) in
-        IfErr result (λ why. IsPlanUnread why plans) }
+    ensures refused { IfErr result (λ why. why ≡ Refused.NoMemory) }
 {
-    let plan = given_plan(alloc, plan)?;
-    match certify(alloc, &plan) {
-        Ok(_certificate) => Ok(Answer::found(sound_text(alloc, &plan)?)),
-        Err(obstacle) => Ok(Answer::fault(obstacle_text(alloc, &plan, &obstacle)?)),
+    match plan_or_text(alloc, plan) {
+        Ok(plan) => explained_plan(alloc, &plan),
+        Err(unread) => unread_plan(alloc, &unread),
     }
+}
+
+/// The answer on a plan.
+fn explained_plan(alloc: Global, plan: &Plan) -> Result<Answer, Refused>
+    ensures answers { IfOk result (λ answer. IsExplained plan.now answer.status (cow_str_bytes answer.text)) }
+    ensures refused { IfErr result (λ why. why ≡ Refused.NoMemory) }
+{
+    match certify(alloc, plan) {
+        Ok(_certificate) => Ok(Answer::found(sound_text(alloc, plan)?)),
+        Err(obstacle) => Ok(Answer::fault(obstacle_text(alloc, plan, &obstacle)?)),
+    }
+}
+
+/// The answer where a source gave no plan.
+fn unread_plan(alloc: Global, unread: &Unread) -> Result<Answer, Refused>
+    ensures answers { IfOk result (λ answer. (answer.status ≡ Unreadable)
+        × ((plans : Stream) → IsUnreadBy plans unread.now → IsUnreadText plans (cow_str_bytes answer.text))) }
+    ensures refused { IfErr result (λ why. why ≡ Refused.NoMemory) }
+{
+    Ok(Answer::unread(unread_text(alloc, unread)?))
+}
+
+/// Says why a source gave no plan, and where its text has its first fault.
+fn unread_text(alloc: Global, unread: &Unread) -> Result<String, AllocError>
+    ensures { IfOk result (λ text. (plans : Stream) → IsUnreadBy plans unread.now → IsUnreadText plans (string_bytes text)) }
+{
+    match unread {
+        Unread::NoMemory => Err(AllocError),
+        Unread::NoText(cause) => unread_lines(alloc, Input::Plan, *cause, unread_words(*cause)),
+        Unread::Text { text, cause } => {
+            let lines = plan_reading_lines(alloc, text, *cause)?;
+            unread_lines(alloc, Input::Plan, *cause, &lines)
+        }
+    }
+}
+
+/// The line that tells that an input can't be read, and lines that explain it.
+fn unread_lines(
+    alloc: Global,
+    input: Input,
+    cause: PlanError,
+    lines: &str,
+) -> Result<String, AllocError>
+    ensures { IfOk result (λ text. string_bytes text ≡ unread_line (role_of input) cause ++ lines.now) }
+{
+    let mut text = unread_line(alloc, input.role(), cause)?;
+    text.push_str(lines)?;
+    Ok(text)
 }
 
 /// Says yes, and sums a plan up.

@@ -8,9 +8,9 @@ ghost use Rattle.plan_commands.specs.Answers.{stream, PrintsFault, FailsToPrint,
 use crate::commands::answer::{Answer, print};
 use crate::refused::Refused;
 use crate::status::Status;
-use crate::texts;
 use net_check::CheckError;
 use net_plan::{Plan, Sink};
+use plan_texts::fault_line;
 use std::alloc::Global;
 
 /// The answer where a plan and its certificate are not accepted.
@@ -19,7 +19,7 @@ pub fn fault_answer(alloc: Global, plan: &Plan, error: &CheckError) -> Result<An
     ensures refused { IfErr result (λ refused. refused ≡ Refused.NoMemory) }
 {
     match error {
-        CheckError::Fault(fault) => Ok(Answer::fault(texts::fault_line(alloc, plan, fault)?)),
+        CheckError::Fault(fault) => Ok(Answer::fault(fault_line(alloc, plan, fault)?)),
         CheckError::OutOfMemory => Err(Refused::NoMemory),
     }
 }

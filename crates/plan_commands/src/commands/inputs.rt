@@ -1,11 +1,18 @@
 //! The files that commands read.
 ghost use Rattle.std.specs.Prelude.{◌≡◌, ◌<◌, ◌^◌, ◌-◌, IfOk, IfErr};
 ghost use Rattle.plan_commands.specs.Answers.{stream, GavePlan, GaveCertificate, IsPlanUnread, IsCertificateUnread, AreGiven, AreUnread};
+ghost use Rattle.net_plan.specs.PlanText.{IsPlanOf};
+ghost use Rattle.net_plan.specs.PlanValues.{plan_value};
+ghost use Rattle.net_plan.specs.Texts.{StandsFor};
+ghost use Rattle.plan_commands.specs.Explaining.{IsUnreadBy, IsUnreadAs, unread_of};
 ghost use Rattle.plan_commands.specs.Moving.{IsMoveGiven, IsMoveUnread};
 ghost use Rattle.plan_commands.specs.Simulating.{GaveEvents, AreEventsUnread};
 
 use crate::refused::{Input, Refused};
-use net_plan::{Certificate, Event, Plan, Source, read_certificate, read_events, read_plan};
+use net_plan::{
+    Certificate, Event, Plan, PlanError, Source, TEXT_LIMIT, TextFault, plan_of_text,
+    read_certificate, read_events, read_plan, read_within,
+};
 use std::alloc::Global;
 
 /// The plan that a source gives.
@@ -19,6 +26,54 @@ pub fn given_plan<P: Source>(alloc: Global, plan: &mut P) -> Result<Plan, Refuse
     match read_plan(alloc, plan) {
         Ok(plan) => Ok(plan),
         Err(error) => Err(Refused::at_input(Input::Plan, error)),
+    }
+}
+
+/// Why a source gave no plan.
+#[derive(Debug, Drop)]
+pub enum Unread {
+    /// There was too little memory.
+    NoMemory,
+    /// It failed, or gave too many bytes.
+    NoText(PlanError),
+    /// It gave this text to its end.
+    Text { text: Vec<u8>, cause: PlanError },
+}
+
+/// The plan that a source gives, or why it gives none, with the text that it gave.
+pub fn plan_or_text<P: Source>(alloc: Global, plan: &mut P) -> Result<Plan, Unread>
+    requires { P.failures plan.old < 2 ^ 64 - 1 }
+    ensures given { let plans = stream (P.remaining plan.old) (P.failures plan.old) (P.remaining plan.new) (P.failures plan.new) in
+        IfOk result (λ read. GavePlan plans read) }
+    ensures unread { let plans = stream (P.remaining plan.old) (P.failures plan.old) (P.remaining plan.new) (P.failures plan.new) in
+        IfErr result (IsUnreadBy plans) }
+{
+    match read_within(alloc, plan, TEXT_LIMIT) {
+        Ok(text) => plan_in(alloc, text),
+        Err(fault) => Err(without_text(fault)),
+    }
+}
+
+/// The plan that a text is, or why it is none.
+fn plan_in(alloc: Global, text: Vec<u8>) -> Result<Plan, Unread>
+    ensures given { IfOk result (λ plan. StandsFor IsPlanOf text.items (plan_value plan)) }
+    ensures unread { IfErr result (IsUnreadAs text.items) }
+{
+    match plan_of_text(alloc, &text) {
+        Ok(plan) => Ok(plan),
+        Err(PlanError::OutOfMemory) => Err(Unread::NoMemory),
+        Err(cause) => Err(Unread::Text { text, cause }),
+    }
+}
+
+/// Why there is no plan where there is no text.
+fn without_text(fault: TextFault) -> Unread
+    ensures { result ≡ unread_of fault }
+{
+    match fault {
+        TextFault::TooLong => Unread::NoText(PlanError::OverLimit),
+        TextFault::Device => Unread::NoText(PlanError::Device),
+        TextFault::OutOfMemory => Unread::NoMemory,
     }
 }
 

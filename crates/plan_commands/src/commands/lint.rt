@@ -9,9 +9,9 @@ use crate::commands::answer::{Answer, tell};
 use crate::commands::inputs::given_plan;
 use crate::refused::Refused;
 use crate::status::Status;
-use crate::texts::findings::lint_lines;
 use net_plan::{Plan, Sink, Source};
 use net_questions::lint;
+use plan_texts::lint_lines;
 use std::alloc::{AllocError, Global};
 
 /// Tells on `output` all that is lawful in a plan and still looks wrong, or that the plan is clean. Where the plan can't

@@ -10,9 +10,9 @@ use crate::commands::answer::{Answer, print, tell};
 use crate::commands::inputs::read_move;
 use crate::refused::Refused;
 use crate::status::Status;
-use crate::texts::moves::move_error_line;
 use net_check::{MoveError, check_move};
 use net_plan::{Plan, Sink, Source};
+use plan_texts::move_error_line;
 use std::alloc::Global;
 
 /// Answers on `output` whether the nodes of the plan before may switch, one after another in any order, to the rows of

@@ -11,10 +11,10 @@ use crate::commands::faults::fault_answer;
 use crate::commands::inputs::read_inputs;
 use crate::refused::Refused;
 use crate::status::Status;
-use crate::texts::pairs::reach_lines;
 use net_check::{Checked, check};
 use net_plan::{Sink, Source};
 use net_questions::reach;
+use plan_texts::reach_lines;
 use std::alloc::{AllocError, Global};
 
 /// Tells on `output` for each two different nodes of a plan how many hops lead from the one to the other, where the

@@ -4,7 +4,7 @@ ghost use Rattle.std.specs.Option.{option_to_list};
 ghost use Rattle.pdr_repository.specs.Records.{entries};
 ghost use Rattle.net_check.specs.Repositories.{entry_of, records_of, places_of, record_at, records_by_place};
 
-use net_plan::{Certificate, Plan, Record, RecordPlace};
+use net_plan::{Certificate, Plan, PlannedRecord, RecordPlace};
 use std::alloc::{AllocError, Global};
 
 /// The records of a node's terminus by place, as handles and bytes; none where it has no terminus.
@@ -28,7 +28,7 @@ pub fn records_by_place(
 /// Adds a copy of the record, if there is one.
 fn push_record(
     alloc: Global,
-    found: Option<&Record>,
+    found: Option<&PlannedRecord>,
     ordered: &mut Vec<(u32, Vec<u8>)>,
 ) -> Result<(), AllocError>
     ensures { OnOk result (entries ordered.new.items ≡ entries ordered.old.items ++ option_to_list (option_map (λ r. entry_of r.now) found.entry)) }
@@ -40,7 +40,7 @@ fn push_record(
 }
 
 /// The records of a node's terminus, as the plan lists them.
-fn records_at(plan: &Plan, node: usize) -> &[Record]
+fn records_at(plan: &Plan, node: usize) -> &[PlannedRecord]
     ensures { result.now ≡ records_of plan.now node }
 {
     match plan.nodes.get(node) {
@@ -63,7 +63,11 @@ fn places_at(certificate: &Certificate, node: usize) -> &[RecordPlace]
 }
 
 /// The first record that is given a place.
-fn record_at<'a>(records: &'a [Record], places: &[RecordPlace], place: usize) -> Option<&'a Record>
+fn record_at<'a>(
+    records: &'a [PlannedRecord],
+    places: &[RecordPlace],
+    place: usize,
+) -> Option<&'a PlannedRecord>
     ensures { option_map (λ r. r.now) result ≡ record_at records.now (map (λ p. p.value) places.now) place }
 {
     match listed_at(places, place) {
@@ -73,7 +77,7 @@ fn record_at<'a>(records: &'a [Record], places: &[RecordPlace], place: usize) ->
 }
 
 /// The record that stands there in the list, if one does.
-fn record_in(records: &[Record], listed: usize) -> Option<&Record>
+fn record_in(records: &[PlannedRecord], listed: usize) -> Option<&PlannedRecord>
     ensures { option_map (λ r. r.now) result ≡ slice_get records.now listed }
 {
     if listed < records.len() {
@@ -93,7 +97,7 @@ fn listed_at(places: &[RecordPlace], place: usize) -> Option<usize>
 }
 
 /// A record's handle and a copy of its bytes.
-fn copy_of(alloc: Global, listed: &Record) -> Result<(u32, Vec<u8>), AllocError>
+fn copy_of(alloc: Global, listed: &PlannedRecord) -> Result<(u32, Vec<u8>), AllocError>
     ensures { IfOk result (λ copied. (copied.0 ≡ listed.now.handle) × (copied.1.items ≡ listed.now.bytes.items)) }
 {
     let mut bytes = Vec::with_capacity(alloc, listed.bytes.len())?;

@@ -5,8 +5,6 @@ ghost use Rattle.plan_commands.specs.declared.status.Status.TheVariants.{Yes, Fa
 ghost use Rattle.plan_commands.specs.Answers.{stream, BreaksOff};
 ghost use Rattle.plan_commands.specs.Show.{IsDecoded, IsNoHex, IsShown, ShowsSo, IsShowAnswer, Shows};
 
-mod texts;
-
 use crate::commands::answer::{Answer, tell};
 use crate::refused::Refused;
 use crate::status::Status;
@@ -14,11 +12,12 @@ use hex::FromHexError;
 use mctp_transport::{PacketView, Wire};
 use net_plan::Sink;
 use pdr_record::Record;
+use plan_texts::{packet_text, record_text, refused_text};
 use std::alloc::{AllocError, Global};
 
 /// What bytes are shown as.
 #[derive(Clone, Copy, Debug, PartialEq, Eq)]
-pub enum Kind {
+pub enum ShownKind {
     Packet,
     Record,
 }
@@ -27,7 +26,7 @@ pub enum Kind {
 /// `errors`.
 pub fn run_show<O: Sink, E: Sink>(
     alloc: Global,
-    kind: Kind,
+    kind: ShownKind,
     hex: &str,
     output: &mut O,
     errors: &mut E,
@@ -45,7 +44,7 @@ pub fn run_show<O: Sink, E: Sink>(
     tell(alloc, answered, output, errors)
 }
 
-fn answer_show(alloc: Global, kind: Kind, hex: &str) -> Result<Answer, Refused>
+fn answer_show(alloc: Global, kind: ShownKind, hex: &str) -> Result<Answer, Refused>
     ensures answers { IfOk result (λ answer. ShowsSo kind hex.now answer.status (cow_str_bytes answer.text)) }
     ensures no_hex { IfErr result (λ why. (why ≡ Refused.NoMemory) ⊎ ((why ≡ Refused.UnreadableHex) × IsNoHex hex.now)) }
 {
@@ -66,31 +65,31 @@ fn decode(alloc: Global, text: &str) -> Result<Vec<u8>, Refused>
 }
 
 /// What bytes are.
-fn shown(alloc: Global, kind: Kind, bytes: &[u8]) -> Result<Answer, AllocError>
+fn shown(alloc: Global, kind: ShownKind, bytes: &[u8]) -> Result<Answer, AllocError>
     ensures { IfOk result (λ shown. IsShown shown.status kind bytes.now (cow_str_bytes shown.text)) }
 {
     match kind {
-        Kind::Packet => shown_packet(alloc, bytes),
-        Kind::Record => shown_record(alloc, bytes),
+        ShownKind::Packet => shown_packet(alloc, bytes),
+        ShownKind::Record => shown_record(alloc, bytes),
     }
 }
 
 /// What bytes are as a packet.
 fn shown_packet(alloc: Global, bytes: &[u8]) -> Result<Answer, AllocError>
-    ensures { IfOk result (λ shown. IsShown shown.status Kind.Packet bytes.now (cow_str_bytes shown.text)) }
+    ensures { IfOk result (λ shown. IsShown shown.status ShownKind.Packet bytes.now (cow_str_bytes shown.text)) }
 {
     match PacketView::read(bytes) {
-        Ok(packet) => Ok(Answer::found(texts::packet_text(alloc, &packet)?)),
-        Err(error) => Ok(Answer::fault(texts::refused_text(alloc, error.code())?)),
+        Ok(packet) => Ok(Answer::found(packet_text(alloc, &packet)?)),
+        Err(error) => Ok(Answer::fault(refused_text(alloc, error.code())?)),
     }
 }
 
 /// What bytes are as a record.
 fn shown_record(alloc: Global, bytes: &[u8]) -> Result<Answer, AllocError>
-    ensures { IfOk result (λ shown. IsShown shown.status Kind.Record bytes.now (cow_str_bytes shown.text)) }
+    ensures { IfOk result (λ shown. IsShown shown.status ShownKind.Record bytes.now (cow_str_bytes shown.text)) }
 {
     match Record::read(bytes) {
-        Ok(record) => Ok(Answer::found(texts::record_text(alloc, &record)?)),
-        Err(error) => Ok(Answer::fault(texts::refused_text(alloc, error.code())?)),
+        Ok(record) => Ok(Answer::found(record_text(alloc, &record)?)),
+        Err(error) => Ok(Answer::fault(refused_text(alloc, error.code())?)),
     }
 }

@@ -20,11 +20,11 @@ use crate::commands::answer::refuse;
 use crate::commands::gathered::Gathered;
 use crate::refused::Refused;
 use crate::status::Status;
-use crate::texts::outcomes::outcome_line;
 use net_check::{Checked, CheckedMove};
 use net_plan::{Event, Plan, Sink};
 use net_sim::{Network, Outcome, Played};
 use pdr_repository::Terminus;
+use plan_texts::outcome_line;
 use std::alloc::Global;
 
 /// Plays events in the network of a checked plan, and gives on `output` what comes of each.

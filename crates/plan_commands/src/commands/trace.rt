@@ -12,12 +12,12 @@ use crate::commands::faults::fault_answer;
 use crate::commands::inputs::read_inputs;
 use crate::refused::Refused;
 use crate::status::Status;
-use crate::texts::ways::trace_lines;
 use ends::named_ends;
 use mctp_transport::Eid;
 use net_check::{Checked, check};
 use net_plan::{Sink, Source};
 use net_questions::follow;
+use plan_texts::trace_lines;
 use std::alloc::{AllocError, Global};
 
 /// Tells on `output` the way of a packet that the node of the name `from` sends to `to`: the name of a node, or else an

@@ -11,7 +11,6 @@ ghost use Rattle.plan_commands.specs.Walking.{walk_text, WalksSo, IsWalkText, Is
 mod collecting;
 mod naming;
 mod ordering;
-mod texts;
 
 use crate::commands::answer::{Answer, tell};
 use crate::commands::faults::fault_answer;
@@ -21,10 +20,10 @@ use crate::status::Status;
 use collecting::collect;
 use naming::named_terminus;
 use net_check::check;
-use net_plan::{Certificate, Plan, Sink, Source, Terminus};
+use net_plan::{Certificate, Plan, PlannedTerminus, Sink, Source};
 use ordering::terminus_by_place;
+use plan_texts::walk_text;
 use std::alloc::Global;
-use texts::walk_text;
 
 /// How many bytes of a record one GetPDR request asks for (DSP0248): 8 to 4079.
 #[derive(Clone, Copy, Debug, PartialEq, Eq)]
@@ -116,7 +115,7 @@ fn walked_text(
     plan: &Plan,
     certificate: &Certificate,
     node: usize,
-    terminus: &Terminus,
+    terminus: &PlannedTerminus,
     part: PartSize,
 ) -> Result<String, Refused>
     requires accepted { Accepts plan.now certificate.now }

@@ -11,9 +11,9 @@ use crate::commands::faults::fault_answer;
 use crate::commands::inputs::read_inputs;
 use crate::refused::Refused;
 use crate::status::Status;
-use crate::texts::drawings::drawing;
 use net_check::{Checked, check};
 use net_plan::{Sink, Source};
+use plan_texts::drawing;
 use std::alloc::{AllocError, Global};
 
 /// Draws a plan on `output` with the levels and ranks of its certificate, where that fits the plan. Where a file can't be

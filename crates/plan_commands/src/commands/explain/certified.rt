@@ -1,27 +1,28 @@
 //! The command `explain` of a plan with its certificate: what `check` answers, and why.
-ghost use Rattle.std.specs.Prelude.{◌≡◌, ◌⊎◌, ◌<◌, ◌^◌, ◌-◌, IfOk, IfErr, string_bytes};
+ghost use Rattle.std.specs.Prelude.{◌≡◌, ◌≢◌, ◌⊎◌, ◌++◌, ◌<◌, ◌^◌, ◌-◌, IfOk, IfErr, string_bytes};
 ghost use Rattle.std.specs.Cow.{cow_str_bytes};
 ghost use Rattle.net_check.specs.Errors.{NamesFirstFault};
 ghost use Rattle.net_check.specs.Faults.{IsFirstFault, place_of};
 ghost use Rattle.plan_commands.specs.declared.refused.Refused.TheVariants as refused;
 ghost use Rattle.plan_commands.specs.declared.status.Status.TheVariants as status;
-ghost use Rattle.plan_commands.specs.Answers.{stream, AreUnread, BreaksOff};
-ghost use Rattle.plan_commands.specs.Explaining.{IsFaultExplained, IsFaultTold, IsCertificateTold, IsCertifiedAnswer, ExplainsWithSo, ExplainsWith};
+ghost use Rattle.plan_commands.specs.Answers.{stream};
+ghost use Rattle.plan_commands.specs.Statuses.{role_of};
+ghost use Rattle.plan_texts.specs.ReadingLines.{unread_line, unread_words};
+ghost use Rattle.plan_commands.specs.Explaining.{IsFaultExplained, IsFaultTold, IsCertificateTold, IsBothExplained, IsExplainedWith, ExplainsWithSo, ExplainsWith};
 
-use super::{obstacle_text, sound_text};
+use super::{obstacle_text, sound_text, unread_lines, unread_plan};
 use crate::commands::answer::{Answer, tell};
-use crate::commands::inputs::read_inputs;
-use crate::refused::Refused;
+use crate::commands::inputs::plan_or_text;
+use crate::refused::{Input, Refused};
 use crate::status::Status;
-use crate::texts::explanations::cause_lines;
-use crate::texts::{NO_CERTIFICATE, REMEDY, fault_line};
 use net_check::{CheckError, Fault, certify, check};
 use net_explained::{Cause, find_cause};
-use net_plan::{Certificate, Plan, Sink, Source};
+use net_plan::{Certificate, Plan, PlanError, Sink, Source, read_certificate};
+use plan_texts::{NO_CERTIFICATE, REMEDY, cause_lines, fault_line, unread_words};
 use std::alloc::{AllocError, Global};
 
-/// Says on `output` what `check` says of a plan and its certificate, and explains it. Where a file can't be read, says so
-/// on `errors`; of two such files, the plan is told and the certificate is not read.
+/// Says on `output` what `check` says of a plan and its certificate, and explains it. Where a file can't be read, it says
+/// so there too; of two such files, the plan is told and the certificate is not read.
 pub fn run_explain_certified<P: Source, C: Source, O: Sink, E: Sink>(
     alloc: Global,
     plan: &mut P,
@@ -39,11 +40,6 @@ pub fn run_explain_certified<P: Source, C: Source, O: Sink, E: Sink>(
         let outputs = stream (O.contents output.old) (O.failures output.old) (O.contents output.new) (O.failures output.new) in
         ExplainsWith result plans certificates outputs }
     ensures silent { (result ≡ status.Yes) ⊎ (result ≡ status.Fault) → errors.new ≡ errors.old }
-    ensures unwritten { let plans = stream (P.remaining plan.old) (P.failures plan.old) (P.remaining plan.new) (P.failures plan.new) in
-        let certificates = stream (C.remaining certificate.old) (C.failures certificate.old)
-        (C.remaining certificate.new) (C.failures certificate.new) in
-        let outputs = stream (O.contents output.old) (O.failures output.old) (O.contents output.new) (O.failures output.new) in
-        result ≡ status.Unreadable → (output.new ≡ output.old) ⊎ BreaksOff (IsCertifiedAnswer plans certificates) outputs }
     ensures no_memory { result ≡ status.NoMemory → output.new ≡ output.old }
 {
     let answered = answer_explain_certified(alloc, plan, certificate);
@@ -61,15 +57,53 @@ fn answer_explain_certified<P: Source, C: Source>(
         let certificates = stream (C.remaining certificate.old) (C.failures certificate.old)
         (C.remaining certificate.new) (C.failures certificate.new) in
         IfOk result (λ answer. ExplainsWithSo plans certificates answer.status (cow_str_bytes answer.text)) }
-    ensures unread { let plans = stream (P.remaining plan.old) (P.failures plan.old) (P.remaining plan.new) (P.failures plan.new) in
-        let certificates = stream (C.remaining certificate.old) (C.failures certificate.old)
-        (C.remaining certificate.new) (C.failures certificate.new) in
-        IfErr result (λ why. AreUnread why plans certificates) }
+    ensures refused { IfErr result (λ why. why ≡ refused.NoMemory) }
 {
-    let (plan, certificate) = read_inputs(alloc, plan, certificate)?;
-    match check(alloc, &plan, &certificate) {
-        Ok(_checked) => Ok(Answer::found(sound_text(alloc, &plan)?)),
-        Err(error) => explained(alloc, &plan, &certificate, &error),
+    match plan_or_text(alloc, plan) {
+        Ok(plan) => answer_of_certificate(alloc, &plan, certificate),
+        Err(unread) => unread_plan(alloc, &unread),
+    }
+}
+
+/// The answer on a plan and the certificate that a source gives.
+fn answer_of_certificate<C: Source>(
+    alloc: Global,
+    plan: &Plan,
+    certificate: &mut C,
+) -> Result<Answer, Refused>
+    requires { C.failures certificate.old < 2 ^ 64 - 1 }
+    ensures answers { let certificates = stream (C.remaining certificate.old) (C.failures certificate.old)
+        (C.remaining certificate.new) (C.failures certificate.new) in
+        IfOk result (λ answer. IsExplainedWith plan.now certificates answer.status (cow_str_bytes answer.text)) }
+    ensures refused { IfErr result (λ why. why ≡ refused.NoMemory) }
+{
+    match read_certificate(alloc, plan, certificate) {
+        Ok(certificate) => answer_of_both(alloc, plan, &certificate),
+        Err(cause) => unread_certificate(alloc, cause),
+    }
+}
+
+/// The answer where a certificate can't be read.
+fn unread_certificate(alloc: Global, cause: PlanError) -> Result<Answer, Refused>
+    ensures answers { IfOk result (λ answer. (cause ≢ PlanError.OutOfMemory) × (answer.status ≡ status.Unreadable)
+        × (cow_str_bytes answer.text ≡ unread_line (role_of Input.Certificate) cause ++ unread_words cause)) }
+    ensures refused { IfErr result (λ why. why ≡ refused.NoMemory) }
+{
+    if cause == PlanError::OutOfMemory {
+        return Err(Refused::NoMemory);
+    }
+    let text = unread_lines(alloc, Input::Certificate, cause, unread_words(cause))?;
+    Ok(Answer::unread(text))
+}
+
+/// The answer on a plan and a certificate.
+fn answer_of_both(alloc: Global, plan: &Plan, certificate: &Certificate) -> Result<Answer, Refused>
+    ensures answers { IfOk result (λ answer. IsBothExplained plan.now certificate.now answer.status (cow_str_bytes answer.text)) }
+    ensures refused { IfErr result (λ why. why ≡ refused.NoMemory) }
+{
+    match check(alloc, plan, certificate) {
+        Ok(_checked) => Ok(Answer::found(sound_text(alloc, plan)?)),
+        Err(error) => explained(alloc, plan, certificate, &error),
     }
 }
 

@@ -4,11 +4,11 @@ ghost use Rattle.net_check.specs.Repositories.{terminus_of};
 ghost use Rattle.plan_commands.specs.Walking.{IsTerminusNamed, HasTerminusNamed};
 
 use crate::commands::naming::first_named;
-use net_plan::{Plan, Terminus};
+use net_plan::{Plan, PlannedTerminus};
 
 /// The terminus of the first node of the name, if it has one, and the place of that node.
 #[tactic(auto, using(crate::proofs::Naming::no_terminus))]
-pub fn named_terminus<'a>(plan: &'a Plan, name: &str) -> Option<(usize, &'a Terminus)>
+pub fn named_terminus<'a>(plan: &'a Plan, name: &str) -> Option<(usize, &'a PlannedTerminus)>
     ensures { MatchOption result (¬ HasTerminusNamed plan.now name.now)
         (λ found. IsTerminusNamed plan.now name.now found.0 × (terminus_of plan.now found.0 ≡ Some found.1.now)) }
 {
@@ -18,7 +18,7 @@ pub fn named_terminus<'a>(plan: &'a Plan, name: &str) -> Option<(usize, &'a Term
 }
 
 /// The terminus of the node at a place.
-fn terminus_at(plan: &Plan, place: usize) -> Option<&Terminus>
+fn terminus_at(plan: &Plan, place: usize) -> Option<&PlannedTerminus>
     ensures { MatchOption result (terminus_of plan.now place ≡ None) (λ terminus. terminus_of plan.now place ≡ Some terminus.now) }
 {
     plan.nodes.get(place)?.terminus.as_ref()

@@ -6,7 +6,7 @@ ghost use Rattle.pdr_repository.specs.ListTermini.{list_records};
 ghost use Rattle.pdr_repository.specs.Records.{IsLawful};
 
 use crate::commands::repositories::records_by_place;
-use net_plan::{Certificate, Plan, Terminus};
+use net_plan::{Certificate, Plan, PlannedTerminus};
 use pdr_repository::ListTerminus;
 use pldm_message::Tid;
 use std::alloc::{AllocError, Global};
@@ -17,7 +17,7 @@ pub fn terminus_by_place(
     plan: &Plan,
     certificate: &Certificate,
     node: usize,
-    terminus: &Terminus,
+    terminus: &PlannedTerminus,
 ) -> Result<ListTerminus, AllocError>
     requires accepted { Accepts plan.now certificate.now }
     requires there { terminus_of plan.now node ≡ Some terminus.now }

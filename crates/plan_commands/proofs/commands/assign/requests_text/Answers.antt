@@ -3,7 +3,8 @@ use Rattle.net_plan.specs.declared.plan.Plan.{Plan}
 use Rattle.net_plan.specs.declared.certificate.Certificate.{Certificate}
 use Rattle.net_sim.specs.Assignments.{AssignmentValue, IsAssignmentOf, assignment_value}
 use Rattle.net_sim.specs.AssignmentRuns.{CanBeCarriedOut, IsAcceptedThroughout, AssignsAll}
-use Rattle.plan_commands.specs.Assigning.{IsAssignmentText, assignment_lines}
+use Rattle.plan_commands.specs.Assigning.{IsAssignmentText}
+use Rattle.plan_texts.specs.AssignmentLines.{assignment_lines}
 use Rattle.plan_commands.proofs.Named.{assignment_named}
 use Rattle.plan_commands.proofs.commands.assign.requests_text.Goals as goal
 

@@ -6,7 +6,7 @@ use Rattle.net_check.specs.declared.certify_error.CertifyError.TheVariants as er
 use Rattle.plan_commands.specs.declared.status.Status.{Status}
 use Rattle.plan_commands.specs.Answers.{stream}
 use Rattle.plan_commands.specs.Certifying.{IsCertifiedBy, IsRuledOutBy, CertifiesSo}
-use Rattle.plan_commands.specs.Lines.{obstacle_text}
+use Rattle.plan_texts.specs.Lines.{obstacle_text}
 use Rattle.plan_commands.proofs.commands.certify.answer_certify.Goals as goal
 
 -- want of memory has no text

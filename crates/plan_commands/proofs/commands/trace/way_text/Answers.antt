@@ -2,16 +2,17 @@ use Rattle.std.proofs.Common.{◌≡◌, ◌≤◌, ℕ, List, length, string_by
 use Rattle.net_check.specs.Ranks.{rank}
 use Rattle.net_plan.specs.declared.plan.Plan.{Plan}
 use Rattle.net_plan.specs.declared.certificate.Certificate.{Certificate}
-use Rattle.net_questions.specs.declared.step.Step.{Step}
+use Rattle.net_questions.specs.declared.step.WayStep.{WayStep}
 use Rattle.net_questions.specs.declared.way.End.{End}
 use Rattle.net_questions.specs.Ways.{IsWay}
 use Rattle.net_questions.proofs.Packets.{keeps_to_ways}
 use Rattle.net_check.specs.Rules.{Accepts}
-use Rattle.plan_commands.specs.Tracing.{IsWayText, trace_text}
+use Rattle.plan_commands.specs.Tracing.{IsWayText}
+use Rattle.plan_texts.specs.WayLines.{trace_text}
 use Rattle.plan_commands.proofs.commands.trace.way_text.Goals as goal
 
 -- the lines of the way are its text
-lines_of : {A E : Type 0} (text : A → List ℕ) (plan read : Plan) (certificate : Certificate) (n e : ℕ) (steps : List Step) (last : ℕ) (end : End) (result : Result A E)
+lines_of : {A E : Type 0} (text : A → List ℕ) (plan read : Plan) (certificate : Certificate) (n e : ℕ) (steps : List WayStep) (last : ℕ) (end : End) (result : Result A E)
     → Accepts plan certificate → IsWay plan e n steps last end → length steps ≤ rank certificate n e → read ≡ plan
     → IfOk result (λ lines. text lines ≡ trace_text read steps last end) → IfOk result (λ lines. IsWayText plan certificate n e (text lines))
 lines_of text plan read certificate n e steps last end (Err error) accepted way within is written = tt

@@ -1,0 +1,15 @@
+use Rattle.std.proofs.Common.{◌∙◌, subst, sym}
+use Rattle.std.specs.Cow.{cow_str_bytes}
+use Rattle.plan_commands.specs.declared.status.Status.{Status}
+use Rattle.plan_commands.specs.Explaining.{IsBothExplained}
+use Rattle.plan_commands.proofs.Explained.{explained_so}
+use Rattle.plan_commands.proofs.commands.explain.certified.answer_of_both.Goals as goal
+
+pub returns-in_ok-sound_text-in-Ok-clause-answers : goal.returns-in_ok-sound_text-in-Ok-clause-answers
+returns-in_ok-sound_text-in-Ok-clause-answers c =
+    let text = c.in_ok-sound_text-in-Ok in
+    let S : Status → Type 0 = λ s. IsBothExplained c.args.plan.now c.args.certificate.now s (cow_str_bytes c.found.result.text) in
+    subst S (sym c.found.ensures.status) (c.in-Ok.ensures.accepted, c.found.ensures.text ∙ text.ensures)
+
+pub returns-in-Err-clause-answers : goal.returns-in-Err-clause-answers
+returns-in-Err-clause-answers c = explained_so c.args.plan.now c.args.certificate.now c.explained.result c.explained.ensures.answers

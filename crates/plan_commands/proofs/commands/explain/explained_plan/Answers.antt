@@ -1,0 +1,13 @@
+use Rattle.std.proofs.Common.{string_bytes, subst, sym}
+use Rattle.std.specs.Cow.{cow_str_bytes}
+use Rattle.plan_commands.specs.declared.status.Status.{Status}
+use Rattle.plan_commands.specs.Explaining.{IsSoundText, IsExplained}
+use Rattle.plan_commands.proofs.commands.explain.explained_plan.Goals as goal
+
+pub returns-in_ok-sound_text-in-Ok-clause-answers : goal.returns-in_ok-sound_text-in-Ok-clause-answers
+returns-in_ok-sound_text-in-Ok-clause-answers c =
+    let plan = c.args.plan.now in
+    let text = c.in_ok-sound_text-in-Ok in
+    let sound : IsSoundText plan (string_bytes text.field-0) = record { certificate = c.in-Ok._certificate; accepted = c.in-Ok.ensures.accepted; written = text.ensures } in
+    let S : Status → Type 0 = λ s. IsExplained plan s (cow_str_bytes c.found.result.text) in
+    subst S (sym c.found.ensures.status) (subst (IsSoundText plan) (sym c.found.ensures.text) sound)

@@ -1,4 +1,0 @@
-use Rattle.plan_commands.proofs.texts.causes.records.long_locator.Goals as goal
-
-pub returns : goal.returns
-returns c = rw (c.in_ok-entry.ensures, c.name_or_dash-name.ensures) at c.format.ensures.ok

@@ -1,0 +1,13 @@
+use Rattle.std.proofs.Common.{◌∙◌, string_bytes}
+use Rattle.std.specs.List.{concat}
+use Rattle.net_plan.specs.declared.nodes.Node.{Node}
+use Rattle.plan_texts.specs.DrawingLines.{owner_lines}
+use Rattle.plan_texts.proofs.Drawn.{one_more}
+use Rattle.plan_texts.proofs.drawings.arrow_lines.Goals as goal
+
+pub loop-place-preserved : goal.loop-place-preserved
+loop-place-preserved c =
+    let item = c.index-nodes-place in
+    c.in_ok-push_str.ensures.bytes
+    ∙ one_more (λ n (node : Node). concat (owner_lines c.args.red.now n node.owner)) c.args.nodes.now c.loop-place.place item.result (string_bytes c.loop-place.lines) c.deref.result.now
+    c.loop-place-test.true item.is c.loop-place.invariant (c.deref.ensures ∙ c.in_ok-owner_lines.ensures)

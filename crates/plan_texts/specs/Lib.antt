@@ -1,0 +1,14 @@
+pub mod Lines
+pub mod CauseLines
+pub mod EditLines
+pub mod WayLines
+pub mod ExplanationLines
+pub mod MoveLines
+pub mod FindingLines
+pub mod PairLines
+pub mod AssignmentLines
+pub mod OutcomeLines
+pub mod DrawingLines
+pub mod WalkLines
+pub mod ReadingLines
+pub mod Shown

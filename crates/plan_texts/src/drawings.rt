@@ -1,0 +1,348 @@
+//! What the command `draw` prints: a planned network in Graphviz' DOT language.
+ghost use Rattle.std.specs.Prelude.{◌≡◌, ◌==◌, ◌∷◌, [], List, ℕ, ◌++◌, IfOk, OnOk, Some, option_map, string_bytes, encode_utf8_all};
+ghost use Rattle.std.specs.List.{concat, flat_map, list_any};
+ghost use Rattle.net_check.specs.Owners.{given_level};
+ghost use Rattle.net_check.specs.Stretches.{ranges_of};
+ghost use Rattle.plan_texts.specs.DrawingLines.{escaped_char, escaped, color_among, kind_word, kind_shape, pool_text, terminus_text, label_text, range_text, certified_text, tooltip_text, first_line, last_line, bus_line, shape_line, node_line, port_line, owner_line, owner_lines, all_by_place, IsDrawing};
+ghost use Rattle.plan_texts.specs.WayLines.{address_text};
+
+use super::ways::address_text;
+use net_plan::{Bus, Certificate, Kind, Name, Node, Plan, PlannedTerminus, Pool, Port, RankRange};
+use std::alloc::{AllocError, Global};
+
+/// The first line of a drawing.
+const FIRST_LINE: &str = "digraph plan { rankdir=LR;\n";
+
+/// The last line of a drawing.
+const LAST_LINE: &str = "}\n";
+
+/// The drawing of a plan: a line for each bus, each node, each port and each node that has an owner. Nodes among `red` are
+/// red, and the arrows to nodes among `red_owned`. Where there is a certificate, its levels and ranks are tooltips.
+pub fn drawing(
+    alloc: Global,
+    plan: &Plan,
+    red: &[usize],
+    red_owned: &[usize],
+    certificate: Option<&Certificate>,
+) -> Result<String, AllocError>
+    ensures { IfOk result (λ text. IsDrawing plan.now red.now red_owned.now (option_map (λ cert. cert.now) certificate.entry) (string_bytes text)) }
+{
+    let mut lines = FIRST_LINE.to_string(alloc)?;
+    lines.push_str(&bus_lines(alloc, &plan.buses)?)?;
+    lines.push_str(&node_lines(alloc, &plan.nodes, red, certificate)?)?;
+    lines.push_str(&port_lines(alloc, &plan.nodes)?)?;
+    lines.push_str(&arrow_lines(alloc, &plan.nodes, red_owned)?)?;
+    lines.push_str(LAST_LINE)?;
+    Ok(lines)
+}
+
+// ---- buses
+
+/// The line of each bus.
+fn bus_lines(alloc: Global, buses: &[Bus]) -> Result<String, AllocError>
+    ensures { IfOk result (λ lines. string_bytes lines ≡ all_by_place bus_line buses.now) }
+{
+    let mut lines = String::new(alloc);
+    for (place, bus) in buses.iter().enumerate() {
+        lines.push_str(&bus_line(alloc, place, bus)?)?;
+    }
+    Ok(lines)
+}
+
+fn bus_line(alloc: Global, place: usize, bus: &Bus) -> Result<String, AllocError>
+    ensures { IfOk result (λ line. string_bytes line ≡ bus_line place bus.now) }
+{
+    let name = name_text(alloc, &bus.name)?;
+    format!(in alloc; "    bus_{place} [shape=box, height=0.1, style=filled, label=\"{name}\"];\n")
+}
+
+// ---- nodes
+
+/// The line of each node. Those among `red` are red.
+fn node_lines(
+    alloc: Global,
+    nodes: &[Node],
+    red: &[usize],
+    certificate: Option<&Certificate>,
+) -> Result<String, AllocError>
+    ensures { IfOk result (λ lines. string_bytes lines ≡ all_by_place (node_line red.now (option_map (λ cert. cert.now) certificate.entry)) nodes.now) }
+{
+    let mut lines = String::new(alloc);
+    for (place, node) in nodes.iter().enumerate() {
+        lines.push_str(&node_line(alloc, place, node, red, certificate)?)?;
+    }
+    Ok(lines)
+}
+
+fn node_line(
+    alloc: Global,
+    place: usize,
+    node: &Node,
+    red: &[usize],
+    certificate: Option<&Certificate>,
+) -> Result<String, AllocError>
+    ensures { IfOk result (λ line. string_bytes line ≡ node_line red.now (option_map (λ cert. cert.now) certificate.entry) place node.now) }
+{
+    let label = label_text(alloc, node)?;
+    let tooltip = tooltip_text(alloc, certificate, place)?;
+    let color = color_among(red, place);
+    shape_line(alloc, place, kind_shape(node.kind), color, &label, &tooltip)
+}
+
+/// The line of a node by its shape, its color, its label and its tooltip.
+fn shape_line(
+    alloc: Global,
+    place: usize,
+    shape: &str,
+    color: &str,
+    label: &str,
+    tooltip: &str,
+) -> Result<String, AllocError>
+    ensures { IfOk result (λ line. string_bytes line ≡ shape_line place shape.now color.now label.now tooltip.now) }
+{
+    format!(in alloc;
+        "    node_{place} [shape={shape}, color={color}, label=\"{label}\"{tooltip}];\n"
+    )
+}
+
+/// A node's name, its kind and endpoint ID, its pool, and its terminus.
+fn label_text(alloc: Global, node: &Node) -> Result<String, AllocError>
+    ensures { IfOk result (λ text. string_bytes text ≡ label_text node.now) }
+{
+    let name = name_text(alloc, &node.name)?;
+    let kind = kind_word(node.kind);
+    let eid = node.eid.value;
+    let pool = pool_text(alloc, node.pool)?;
+    let terminus = terminus_text(alloc, &node.terminus)?;
+    format!(in alloc; "{name}\\n{kind} eid {eid}{pool}{terminus}")
+}
+
+fn kind_word(kind: Kind) -> &'static str
+    ensures { result.now ≡ kind_word kind }
+{
+    match kind {
+        Kind::Bridge => "bridge",
+        Kind::Endpoint => "endpoint",
+    }
+}
+
+fn kind_shape(kind: Kind) -> &'static str
+    ensures { result.now ≡ kind_shape kind }
+{
+    match kind {
+        Kind::Bridge => "octagon",
+        Kind::Endpoint => "ellipse",
+    }
+}
+
+/// A pool in a line of its own within a label, where there is one.
+fn pool_text(alloc: Global, pool: Option<Pool>) -> Result<String, AllocError>
+    ensures { IfOk result (λ text. string_bytes text ≡ pool_text pool) }
+{
+    match pool {
+        Some(pool) => {
+            let first = pool.first.value;
+            let size = pool.size;
+            format!(in alloc; "\\npool {first} size {size}")
+        }
+        None => Ok(String::new(alloc)),
+    }
+}
+
+/// A terminus's ID and the number of its records, where there is one.
+fn terminus_text(alloc: Global, terminus: &Option<PlannedTerminus>) -> Result<String, AllocError>
+    ensures { IfOk result (λ text. string_bytes text ≡ terminus_text terminus.now) }
+{
+    match terminus {
+        Some(terminus) => {
+            let tid = terminus.tid;
+            let records = terminus.records.len();
+            format!(in alloc; "\\ntid {tid} records {records}")
+        }
+        None => Ok(String::new(alloc)),
+    }
+}
+
+/// Where there is a certificate, what it gives a node.
+fn tooltip_text(
+    alloc: Global,
+    certificate: Option<&Certificate>,
+    node: usize,
+) -> Result<String, AllocError>
+    ensures { IfOk result (λ text. string_bytes text ≡ tooltip_text (option_map (λ cert. cert.now) certificate.entry) node) }
+{
+    match certificate {
+        Some(certificate) => certified_text(alloc, certificate, node),
+        None => Ok(String::new(alloc)),
+    }
+}
+
+/// What a certificate gives a node: its level and its ranks.
+fn certified_text(
+    alloc: Global,
+    certificate: &Certificate,
+    node: usize,
+) -> Result<String, AllocError>
+    ensures { IfOk result (λ text. string_bytes text ≡ certified_text certificate.now node) }
+{
+    let level = level_given(certificate, node);
+    let ranks = ranges_text(alloc, ranges_given(certificate, node))?;
+    format!(in alloc; ", tooltip=\"level {level}{ranks}\"")
+}
+
+/// The level that the certificate gives a node; 0 where it gives none.
+fn level_given(certificate: &Certificate, node: usize) -> u8
+    ensures { result ≡ given_level certificate.now node }
+{
+    match certificate.levels.iter().find(|given| given.node == node) {
+        Some(given) => given.level,
+        None => 0,
+    }
+}
+
+/// The ranges that give a node its ranks, none where the certificate gives it no rank.
+fn ranges_given(certificate: &Certificate, node: usize) -> &[RankRange]
+    ensures { result.now ≡ ranges_of certificate.now node }
+{
+    match certificate.ranks.iter().find(|given| given.node == node) {
+        Some(given) => &given.ranges,
+        None => &[],
+    }
+}
+
+fn ranges_text(alloc: Global, ranges: &[RankRange]) -> Result<String, AllocError>
+    ensures { IfOk result (λ text. string_bytes text ≡ flat_map range_text ranges.now) }
+{
+    let mut text = String::new(alloc);
+    for range in ranges {
+        text.push_str(&range_text(alloc, range)?)?;
+    }
+    Ok(text)
+}
+
+/// The rank of some endpoint IDs, one after another.
+fn range_text(alloc: Global, range: &RankRange) -> Result<String, AllocError>
+    ensures { IfOk result (λ text. string_bytes text ≡ range_text range.now) }
+{
+    let first = range.first.value;
+    let size = range.size;
+    let rank = range.rank;
+    format!(in alloc; "\\neid {first} size {size} rank {rank}")
+}
+
+// ---- ports
+
+/// The line of each port of each node.
+fn port_lines(alloc: Global, nodes: &[Node]) -> Result<String, AllocError>
+    ensures { IfOk result (λ lines. string_bytes lines ≡ all_by_place (λ n node. all_by_place (port_line n) node.ports.items) nodes.now) }
+{
+    let mut lines = String::new(alloc);
+    for (place, node) in nodes.iter().enumerate() {
+        lines.push_str(&node_port_lines(alloc, place, &node.ports)?)?;
+    }
+    Ok(lines)
+}
+
+/// The line of each of a node's ports.
+fn node_port_lines(alloc: Global, node: usize, ports: &[Port]) -> Result<String, AllocError>
+    ensures { IfOk result (λ lines. string_bytes lines ≡ all_by_place (port_line node) ports.now) }
+{
+    let mut lines = String::new(alloc);
+    for (place, port) in ports.iter().enumerate() {
+        lines.push_str(&port_line(alloc, node, place, port)?)?;
+    }
+    Ok(lines)
+}
+
+fn port_line(alloc: Global, node: usize, place: usize, port: &Port) -> Result<String, AllocError>
+    ensures { IfOk result (λ line. string_bytes line ≡ port_line node place port.now) }
+{
+    let bus = port.bus;
+    let address = port_address(alloc, port)?;
+    format!(in alloc; "    node_{node} -> bus_{bus} [dir=none, label=\"{place}: {address}\"];\n")
+}
+
+/// A port's address in hex, or a dash where it is empty.
+fn port_address(alloc: Global, port: &Port) -> Result<String, AllocError>
+    ensures { IfOk result (λ text. string_bytes text ≡ address_text port.now.address.items) }
+{
+    address_text(alloc, &port.address)
+}
+
+// ---- owners
+
+/// The arrow to each node that has an owner. Those to nodes among `red` are red.
+fn arrow_lines(alloc: Global, nodes: &[Node], red: &[usize]) -> Result<String, AllocError>
+    ensures { IfOk result (λ lines. string_bytes lines ≡ all_by_place (λ n node. concat (owner_lines red.now n node.owner)) nodes.now) }
+{
+    let mut lines = String::new(alloc);
+    for (place, node) in nodes.iter().enumerate() {
+        lines.push_str(&owner_lines(alloc, red, place, node.owner)?)?;
+    }
+    Ok(lines)
+}
+
+/// The arrow to a node, where it has an owner.
+fn owner_lines(
+    alloc: Global,
+    red: &[usize],
+    node: usize,
+    owner: Option<usize>,
+) -> Result<String, AllocError>
+    ensures { IfOk result (λ lines. string_bytes lines ≡ concat (owner_lines red.now node owner)) }
+{
+    match owner {
+        Some(owner) => owner_line(alloc, red, node, owner),
+        None => Ok(String::new(alloc)),
+    }
+}
+
+fn owner_line(alloc: Global, red: &[usize], node: usize, owner: usize) -> Result<String, AllocError>
+    ensures { IfOk result (λ line. string_bytes line ≡ owner_line red.now node owner) }
+{
+    let color = color_among(red, node);
+    format!(in alloc; "    node_{owner} -> node_{node} [style=dashed, color={color}];\n")
+}
+
+// ---- parts of lines
+
+/// Red where the node is among those, black otherwise.
+fn color_among(red: &[usize], node: usize) -> &'static str
+    ensures { result.now ≡ color_among red.now node }
+{
+    if is_among(red, node) { "red" } else { "black" }
+}
+
+fn is_among(nodes: &[usize], node: usize) -> bool
+    ensures { result ≡ list_any (λ one. one == node) nodes.now }
+{
+    nodes.iter().any(|&one| one == node)
+}
+
+/// A name as it stands between DOT's quotes.
+fn name_text(alloc: Global, name: &Name) -> Result<String, AllocError>
+    ensures { IfOk result (λ written. string_bytes written ≡ escaped (string_bytes name.now.text)) }
+{
+    escaped(alloc, name.text.as_str())
+}
+
+/// A text as it stands between DOT's quotes.
+fn escaped(alloc: Global, text: &str) -> Result<String, AllocError>
+    ensures { IfOk result (λ written. string_bytes written ≡ escaped text.now) }
+{
+    let mut written = String::new(alloc);
+    for character in text.chars() {
+        push_escaped(&mut written, character)?;
+    }
+    Ok(written)
+}
+
+/// Adds a character, after a backslash where it is a quote or a backslash itself.
+fn push_escaped(written: &mut String, character: char) -> Result<(), AllocError>
+    ensures { OnOk result (string_bytes written.new ≡ string_bytes written.old ++ encode_utf8_all (escaped_char character)) }
+{
+    if character == '"' || character == '\\' {
+        written.push('\\')?;
+    }
+    written.push(character)
+}

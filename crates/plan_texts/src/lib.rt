@@ -1,0 +1,168 @@
+//! Every text of an answer that a user of the program sees.
+#![tactic(auto)]
+
+ghost use Rattle.std.specs.Prelude.{◌≡◌, Some, IfOk, string_bytes};
+ghost use Rattle.plan_texts.specs.Lines.{name_or_dash, bus_name_or_dash, names_text, fault_text, owner_loop_text, loop_text, chain_text, obstacle_text};
+
+mod assignments;
+mod causes;
+mod codes;
+mod drawings;
+mod explanations;
+mod findings;
+mod moves;
+mod outcomes;
+mod pairs;
+mod readings;
+mod shown;
+mod walks;
+mod ways;
+
+pub use assignments::assignment_lines;
+pub use codes::text_of;
+pub use drawings::drawing;
+pub use explanations::{cause_lines, obstacle_lines, summary_line};
+pub use findings::lint_lines;
+use mctp_transport::Eid;
+pub use moves::move_error_line;
+use net_check::{CertifyError, ChainFault, Fault};
+use net_plan::Plan;
+pub use outcomes::outcome_line;
+pub use pairs::reach_lines;
+pub use readings::{plan_reading_lines, unread_line, unread_words};
+pub use shown::{packet_text, record_text, refused_text};
+use std::alloc::{AllocError, Global};
+use std::fmt;
+pub use walks::walk_text;
+pub use ways::trace_lines;
+
+/// What is said where a certificate is at fault, and its plan has another.
+pub const REMEDY: &str = "This plan has a certificate: mctpplan certify makes it.\n";
+
+/// What is said where a certificate is at fault, and its plan has none.
+pub const NO_CERTIFICATE: &str =
+    "This plan has no certificate, whatever this one says. mctpplan certify says:\n";
+
+/// The commands, a line each with its words.
+pub const GUIDE: &str = "\
+check PLAN CERT              whether the certificate fits the plan
+certify PLAN                 the certificate of the plan, or why it has none
+move OLD NEW CERT            whether nodes may go over from the old plan's rows to the new one's
+assign PLAN CERT             the requests that give the nodes their endpoint IDs and pools
+sim PLAN CERT EVENTS         what comes of events in the planned network
+simmove OLD NEW CERT EVENTS  the same while nodes go over to new rows
+walk PLAN CERT NODE COUNT    the records that a walk over a node's terminus collects
+reach PLAN CERT              who reaches whom, and in how many hops
+trace PLAN CERT FROM TO      the way of a packet from a node to another, or to an endpoint ID
+draw PLAN [CERT]             the planned network as a drawing for Graphviz
+explain PLAN [CERT]          what certify says of the plan, or check of both, and why
+lint PLAN                    what is lawful in the plan and still looks wrong, or clean
+show packet HEX              what the bytes of a packet are
+show record HEX              what the bytes of a platform descriptor record are
+code CODE                    what a code, as C08 or N03, means, and what to do
+guide                        this list
+";
+
+/// The answer where a plan has a fault.
+pub fn fault_line(alloc: Global, plan: &Plan, fault: &Fault) -> Result<String, AllocError>
+    ensures { IfOk result (λ line. string_bytes line ≡ fault_text plan.now fault.now) }
+{
+    let rule = fault.rule.code();
+    let name = name_or_dash(plan, fault.node);
+    let entry = OrDash(fault.entry);
+    let eid = OrDash(fault.eid.map(|eid| eid.value));
+    format!(in alloc; "fault {rule} node {name} entry {entry} eid {eid}\n")
+}
+
+/// The line that says why a plan has no certificate. Out of memory is an error, and has no such line.
+pub fn obstacle_line(
+    alloc: Global,
+    plan: &Plan,
+    obstacle: &CertifyError,
+) -> Result<String, AllocError>
+    ensures { IfOk result (λ line. obstacle_text plan.now obstacle.now ≡ Some (string_bytes line)) }
+{
+    match obstacle {
+        CertifyError::Fault(fault) => fault_line(alloc, plan, fault),
+        CertifyError::OwnerLoop(nodes) => owner_loop_line(alloc, plan, nodes),
+        CertifyError::Loop(eid, nodes) => loop_line(alloc, plan, *eid, nodes),
+        CertifyError::BadChain(node, fault) => chain_line(alloc, plan, *node, *fault),
+        CertifyError::OutOfMemory => Err(AllocError),
+    }
+}
+
+fn owner_loop_line(alloc: Global, plan: &Plan, nodes: &[usize]) -> Result<String, AllocError>
+    ensures { IfOk result (λ line. string_bytes line ≡ owner_loop_text plan.now nodes.now) }
+{
+    let names = names_after_spaces(alloc, plan, nodes)?;
+    format!(in alloc; "owner loop nodes{names}\n")
+}
+
+fn loop_line(alloc: Global, plan: &Plan, eid: Eid, nodes: &[usize]) -> Result<String, AllocError>
+    ensures { IfOk result (λ line. string_bytes line ≡ loop_text plan.now eid.value nodes.now) }
+{
+    let eid = eid.value;
+    let names = names_after_spaces(alloc, plan, nodes)?;
+    format!(in alloc; "loop eid {eid} nodes{names}\n")
+}
+
+fn chain_line(
+    alloc: Global,
+    plan: &Plan,
+    node: usize,
+    fault: ChainFault,
+) -> Result<String, AllocError>
+    ensures { IfOk result (λ line. string_bytes line ≡ chain_text plan.now node fault) }
+{
+    let name = name_or_dash(plan, node);
+    let word = fault.word();
+    let entry = fault.entry();
+    format!(in alloc; "chain node {name} {word} entry {entry}\n")
+}
+
+/// The names of nodes, each after a space.
+fn names_after_spaces(alloc: Global, plan: &Plan, nodes: &[usize]) -> Result<String, AllocError>
+    ensures { IfOk result (λ names. string_bytes names ≡ names_text plan.now nodes.now) }
+{
+    let mut names = String::new(alloc);
+    for &node in nodes {
+        names.push_str(" ")?;
+        names.push_str(name_or_dash(plan, node))?;
+    }
+    Ok(names)
+}
+
+/// The name of the node at a place, or a dash where there is none.
+fn name_or_dash(plan: &Plan, node: usize) -> &str
+    ensures { result.now ≡ name_or_dash plan.now node }
+{
+    plan.nodes
+        .get(node)
+        .map_or("-", |node| node.name.text.as_str())
+}
+
+/// The name of the bus at a place, or a dash where there is none.
+fn bus_name_or_dash(plan: &Plan, bus: usize) -> &str
+    ensures { result.now ≡ bus_name_or_dash plan.now bus }
+{
+    plan.buses
+        .get(bus)
+        .map_or("-", |bus| bus.name.text.as_str())
+}
+
+/// A value that may be absent, which a dash tells.
+#[derive(Clone, Copy, Debug)]
+struct OrDash<T>(Option<T>);
+
+impl<T: fmt::Display> fmt::Display for OrDash<T> {
+    ghost use Rattle.plan_texts.specs.Lines.{or_dash};
+
+    ghost output = { λ shown. or_dash T.output shown.0 };
+
+    fn fmt<W: fmt::Write>(&self, f: &mut fmt::Formatter<W>) -> fmt::Result {
+        match &self.0 {
+            Some(value) => fmt::Display::fmt(value, f),
+            None => f.write_str("-"),
+        }
+    }
+}
