@@ -6,8 +6,8 @@ use Rattle.std.proofs.lemmas.Bool.{cases_lt, cases_order}
 use Rattle.std.proofs.lemmas.Option.{same_Some, none-some, slice_get_past, slice_get_within}
 use Rattle.net_plan.specs.declared.plan.Plan.{Plan}
 use Rattle.net_plan.specs.declared.certificate.Certificate.{Certificate}
-use Rattle.net_plan.specs.declared.terminus.Record.{Record}
-use Rattle.net_plan.specs.declared.terminus.Terminus.{Terminus}
+use Rattle.net_plan.specs.declared.terminus.PlannedRecord.{PlannedRecord}
+use Rattle.net_plan.specs.declared.terminus.PlannedTerminus.{PlannedTerminus}
 use Rattle.pdr_repository.specs.Records.{Entry, IsLawful}
 use Rattle.net_check.specs.Repositories.{terminus_of, records_of, places_of, entry_of, by_place, records_by_place, HaveOrder}
 use Rattle.net_check.specs.Rules.{Accepts}
@@ -46,20 +46,20 @@ alone_in (y ∷ []) x long is = ap (λ z. z ∷ []) (same_Some y x is)
 alone_in (y ∷ (z ∷ zs)) x long is = absurd (omega (arith, long))
 
 -- one record stands at place 0
-one_by_place : (r : Record) (places : List ℕ) → HaveOrder (r ∷ []) places → by_place (r ∷ []) places ≡ entry_of r ∷ []
+one_by_place : (r : PlannedRecord) (places : List ℕ) → HaveOrder (r ∷ []) places → by_place (r ∷ []) places ≡ entry_of r ∷ []
 one_by_place r places order =
     let chained = order.chained 0 r refl in
     let first : chained.place ≡ 0 = omega (arith, chained.within) in
     alone_in (by_place (r ∷ []) places) (entry_of r) (by_place_length (r ∷ []) places order)
     (placed (r ∷ []) places order 0 0 r refl (chained.given ∙ ap Some first))
 
-alone_planned : (plan : Plan) (cert : Certificate) (n : ℕ) (t : Terminus) (r : Record) → Accepts plan cert → IsAlone plan n → terminus_of plan n ≡ Some t → t.records.items ≡ r ∷ []
+alone_planned : (plan : Plan) (cert : Certificate) (n : ℕ) (t : PlannedTerminus) (r : PlannedRecord) → Accepts plan cert → IsAlone plan n → terminus_of plan n ≡ Some t → t.records.items ≡ r ∷ []
     → planned_termini plan cert ≡ record { tid = t.tid; records = entry_of r ∷ []; waiting = [] } ∷ []
 alone_planned plan cert n t r accepted alone there one =
     let state : TerminusState = record { tid = t.tid; records = entry_of r ∷ []; waiting = [] } in
     let listed = records_are plan n t r there one in
     let order = accepted_orders plan cert accepted n (λ none. absurd (none-some t (sym none ∙ there))) in
-    let P : List Record → Type 0 = λ rs. HaveOrder rs (places_of cert n) in
+    let P : List PlannedRecord → Type 0 = λ rs. HaveOrder rs (places_of cert n) in
     let read : records_by_place plan cert n ≡ entry_of r ∷ [] = ap (λ rs. by_place rs (places_of cert n)) listed ∙ one_by_place r (places_of cert n) (subst P listed order) in
     let here : terminus_at_start plan cert n ≡ Some state =
     ap (option_map (λ t. record { tid = t.tid; records = records_by_place plan cert n; waiting = [] })) there ∙ ap (λ rs. Some (record { tid = t.tid; records = rs; waiting = [] })) read in
@@ -67,10 +67,10 @@ alone_planned plan cert n t r accepted alone there one =
     (λ m other. ap (option_map (λ t. record { tid = t.tid; records = records_by_place plan cert m; waiting = [] })) (alone m other))
     0 (length plan.nodes.items) (omega arith) (omega (arith, within plan n t there))
   where
-    records_are : (plan : Plan) (n : ℕ) (t : Terminus) (r : Record) → terminus_of plan n ≡ Some t → t.records.items ≡ r ∷ [] → records_of plan n ≡ r ∷ []
+    records_are : (plan : Plan) (n : ℕ) (t : PlannedTerminus) (r : PlannedRecord) → terminus_of plan n ≡ Some t → t.records.items ≡ r ∷ [] → records_of plan n ≡ r ∷ []
     records_are plan n t r there one = rw there one
 
-    within : (plan : Plan) (n : ℕ) (t : Terminus) → terminus_of plan n ≡ Some t → n < length plan.nodes.items
+    within : (plan : Plan) (n : ℕ) (t : PlannedTerminus) → terminus_of plan n ≡ Some t → n < length plan.nodes.items
     within plan n t there = by (node_at plan n) refl
       where
         by : (node : Option _) → node_at plan n ≡ node → n < length plan.nodes.items
@@ -78,16 +78,16 @@ alone_planned plan cert n t r accepted alone there one =
         by (Some node) some = slice_get_within plan.nodes.items n node some
 
 -- a record of an accepted plan makes a lawful list
-alone_lawful : (plan : Plan) (cert : Certificate) (n : ℕ) (t : Terminus) (r : Record) → Accepts plan cert → terminus_of plan n ≡ Some t → t.records.items ≡ r ∷ [] → IsLawful (entry_of r ∷ [])
+alone_lawful : (plan : Plan) (cert : Certificate) (n : ℕ) (t : PlannedTerminus) (r : PlannedRecord) → Accepts plan cert → terminus_of plan n ≡ Some t → t.records.items ≡ r ∷ [] → IsLawful (entry_of r ∷ [])
 alone_lawful plan cert n t r accepted there one =
     let order = accepted_orders plan cert accepted n (λ none. absurd (none-some t (sym none ∙ there))) in
     let listed : records_of plan n ≡ r ∷ [] = rw there one in
-    let P : List Record → Type 0 = λ rs. HaveOrder rs (places_of cert n) in
+    let P : List PlannedRecord → Type 0 = λ rs. HaveOrder rs (places_of cert n) in
     let ordered = subst P listed order in
     subst IsLawful (one_by_place r (places_of cert n) ordered) (is_lawful (r ∷ []) (places_of cert n) ordered)
 
 -- the same of the plan that is read, and of a list of the record
-pub planned_here : (plan plan' : Plan) (cert : Certificate) (n tid : ℕ) (t : Terminus) (r : Record) (records : List Entry) → Accepts plan cert → plan' ≡ plan → IsAlone plan' n
+pub planned_here : (plan plan' : Plan) (cert : Certificate) (n tid : ℕ) (t : PlannedTerminus) (r : PlannedRecord) (records : List Entry) → Accepts plan cert → plan' ≡ plan → IsAlone plan' n
     → terminus_of plan' n ≡ Some t → t.records.items ≡ r ∷ [] → tid ≡ t.tid → records ≡ entry_of r ∷ []
     → planned_termini plan cert ≡ record { tid = tid; records = records; waiting = [] } ∷ []
 planned_here plan plan' cert n tid t r records accepted same alone there one id listed =
@@ -97,7 +97,7 @@ planned_here plan plan' cert n tid t r records accepted same alone there one id 
     alone_planned plan cert n t r accepted (subst P same alone) (subst Q same there) one
     ∙ (ap (λ k. state k (entry_of r ∷ [])) (sym id) ∙ ap (state tid) (sym listed))
 
-pub lawful_here : (plan plan' : Plan) (cert : Certificate) (n : ℕ) (t : Terminus) (r : Record) (records : List Entry) → Accepts plan cert → plan' ≡ plan → terminus_of plan' n ≡ Some t
+pub lawful_here : (plan plan' : Plan) (cert : Certificate) (n : ℕ) (t : PlannedTerminus) (r : PlannedRecord) (records : List Entry) → Accepts plan cert → plan' ≡ plan → terminus_of plan' n ≡ Some t
     → t.records.items ≡ r ∷ [] → records ≡ entry_of r ∷ [] → IsLawful records
 lawful_here plan plan' cert n t r records accepted same there one listed =
     let Q : Plan → Type 0 = λ p. terminus_of p n ≡ Some t in

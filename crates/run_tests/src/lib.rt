@@ -1,4 +1,4 @@
-//! Tests of runs of networks: packets, messages, termini, switches, assignments.
+//! Tests of runs of networks: what no command prints, and growths of memory that are refused.
 #![tactic(auto)]
 
 #[cfg(test)]

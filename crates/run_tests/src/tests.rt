@@ -1,16 +1,16 @@
-//! Tests over the public calls of `net_sim`.
+//! Tests over the public calls of `net_sim`: of what no command prints, and of growths of memory that are refused. What
+//! comes of lists of events the rows in `tests/` tell of the program, `runs.rows` and `walks.rows` first.
 mod asking_again;
 mod assigning;
+mod beyond;
 mod codes;
-mod exact;
-mod lines;
+mod collecting;
+mod keys;
+mod lists;
+mod networks;
 mod planned;
 mod playing;
 mod refused_runs;
 mod refused_walks;
-mod rows;
-mod switching;
+mod storage;
 mod termini;
-mod unit_runs;
-mod walks;
-mod ways;

@@ -1,10 +1,8 @@
-//! Tests over the public calls of `net_plan`.
+//! Tests over the public calls of `net_plan`: what is read, piece by piece too, and what is written. Which texts are
+//! refused, and why, the rows in `tests/` tell of the program.
 mod certificates;
-mod codes;
-mod doubled_keys;
 mod events;
 mod json_texts;
-mod name_bounds;
 mod names;
 mod plans;
 mod refused_texts;

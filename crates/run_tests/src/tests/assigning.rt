@@ -1,9 +1,9 @@
 //! The assignment of the riser network.
+use super::networks::{certificate_of, plan_of};
 use mctp_transport::Wire;
 use net_check::check;
 use net_plan::{Certificate, Plan};
 use net_sim::{Assignment, assign};
-use sample_runs::networks::{certificate_of, plan_of};
 use sample_texts::marks::{Mark, lacked, set_mark};
 use sample_texts::riser::{CERTIFICATE, PLAN};
 use std::alloc::Global;
@@ -48,22 +48,7 @@ fn asks_all(plan: &Plan, list: &[Assignment], wanted: &[Asked]) -> bool {
     list.len() == wanted.len()
 }
 
-/// Whether just these requests assign the riser network.
-fn is_assigned(alloc: Global, plan: &Plan, certificate: &Certificate) -> Result<bool, Fail> {
-    let checked = check(alloc, plan, certificate)?;
-    let list = assign(alloc, &checked)?;
-    Ok(asks_all(plan, &list, &WANTED))
-}
-
-#[test]
-fn assigns_the_riser_network(rt: HostRuntime) -> Result<(), Fail> {
-    let plan = plan_of(rt.alloc(), PLAN)?;
-    let certificate = certificate_of(rt.alloc(), &plan, CERTIFICATE)?;
-    assert!(rt; is_assigned(rt.alloc(), &plan, &certificate)?);
-    Ok(())
-}
-
-/// The same, or memory ran out between the marks.
+/// Whether just these requests assign the riser network, or memory ran out between the marks.
 fn is_assigned_or_lacked(
     alloc: Global,
     plan: &Plan,

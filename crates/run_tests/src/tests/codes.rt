@@ -1,5 +1,5 @@
-//! The codes of refused events and of obstacles on the way, which users see.
-use mctp_bridge::Obstacle;
+//! The codes of refused events. Two of them no command prints: texts have no node beyond the plan, and no list of events
+//! uses up the numbers of flights.
 use net_sim::Refusal;
 
 const OF_REFUSALS: [(Refusal, &str); 6] = [
@@ -11,22 +11,9 @@ const OF_REFUSALS: [(Refusal, &str); 6] = [
     (Refusal::NoNumbers, "N06"),
 ];
 
-const OF_OBSTACLES: [(Obstacle, &str); 3] = [
-    (Obstacle::Unassignable, "B10"),
-    (Obstacle::NoRow, "B11"),
-    (Obstacle::NoBridge, "B12"),
-];
-
 #[test]
 fn refusals_have_their_codes(rt: HostRuntime) {
     for (refusal, code) in OF_REFUSALS {
         assert_eq!(rt; refusal.code(), code);
-    }
-}
-
-#[test]
-fn obstacles_have_their_codes(rt: HostRuntime) {
-    for (obstacle, code) in OF_OBSTACLES {
-        assert_eq!(rt; obstacle.code(), code);
     }
 }

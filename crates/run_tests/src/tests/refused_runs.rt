@@ -1,30 +1,58 @@
 //! Networks in which any growth of memory may be refused. An event that is asked again then has the outcome that it has
 //! with ample memory. `tools/refuse-growths` refuses the growths one after another.
-use super::playing::{Scenario, play, termini_with};
-use super::rows::{AND_BACK, play_lists};
-use super::switching::{SWITCHED, by_right, play_on_two_ways};
-use super::ways::Way;
+use super::keys::are_there_and_back;
+use super::lists::{RUNS, SWITCHED};
+use super::networks::{certificate_of, moving_network_of, plan_of};
+use super::playing::{Way, outcomes_of, told_on};
+use super::termini::{Storage, TWENTY, termini_with};
 use net_check::{Checked, CheckedMove, check, check_move};
-use net_plan::{Certificate, Plan};
-use net_sim::{Network, planned_termini_count};
+use net_plan::{Certificate, Event, Plan, events_of_text};
+use net_sim::{Effect, Network, Outcome, planned_termini_count};
 use pdr_repository::Terminus;
-use sample_runs::networks::{certificate_of, plan_of};
-use sample_runs::repositories::TWENTY;
+use sample_texts::edited;
 use sample_texts::marks::{Mark, set_mark};
-use sample_texts::riser::{CERTIFICATE, PLAN};
+use sample_texts::riser::{CERTIFICATE, EVENTS, NIC, PLAN};
 use sample_texts::two_ways::{RANKS_OF_TWO_WAYS, TWO_WAYS};
 use std::alloc::Global;
 use std::process::Abort;
 use std::test::Fail;
 
+/// Whether the same comes of the events of a text, played this way, as with ample memory.
+fn is_same(
+    alloc: Global,
+    plan: &Plan,
+    certificate: &Certificate,
+    text: &str,
+    way: Way,
+) -> Result<bool, Fail> {
+    let events = events_of_text(alloc, plan, text.as_bytes())?;
+    let places = [(NIC, Storage::List)];
+    let wanted = told_on(alloc, plan, certificate, &places, (&events, Way::Run))?;
+    let came = told_on(alloc, plan, certificate, &places, (&events, way))?;
+    Ok(came == wanted)
+}
+
+/// Wants the same to come of these lists of events on the riser network, played this way, as with ample memory.
+pub fn expect_lists(rt: &(impl Abort + AllocGlobal), lists: &[&str], way: Way) -> Result<(), Fail> {
+    let plan = plan_of(rt.alloc(), PLAN)?;
+    let certificate = certificate_of(rt.alloc(), &plan, CERTIFICATE)?;
+    for text in lists {
+        assert!(rt;
+            is_same(rt.alloc(), &plan, &certificate, text, way)?,
+            "{text}"
+        );
+    }
+    Ok(())
+}
+
 #[test]
 fn refused_step(rt: HostRuntime) -> Result<(), Fail> {
-    play_lists(&rt, Way::RefusedSteps)
+    expect_lists(&rt, &RUNS, Way::RefusedSteps)
 }
 
 #[test]
 fn refused_run(rt: HostRuntime) -> Result<(), Fail> {
-    play_lists(&rt, Way::RefusedRun)
+    expect_lists(&rt, &RUNS, Way::RefusedRun)
 }
 
 /// The network of a checked plan; none where memory ran out.
@@ -55,20 +83,19 @@ fn over_20_records<'a>(
     new(alloc, checked, termini_with(alloc, &TWENTY)?)
 }
 
-/// Plays there and back on the network over 20 records; on none where memory ran out.
-fn expect_and_back(
-    rt: &(impl Abort + AllocGlobal),
+/// Whether a request and its answer come on the network over 20 records, or memory ran out.
+fn goes_and_comes(
+    alloc: Global,
     plan: &Plan,
     certificate: &Certificate,
-) -> Result<(), Fail> {
-    match over_20_records(rt.alloc(), plan, certificate)? {
-        Some(mut network) => play(
-            rt,
-            plan,
-            &mut network,
-            Scenario::Rows(&AND_BACK, Way::Steps),
-        ),
-        None => Ok(()),
+    events: &[Event],
+) -> Result<bool, Fail> {
+    match over_20_records(alloc, plan, certificate)? {
+        Some(mut network) => {
+            let outcomes = outcomes_of(alloc, &mut network, events, Way::Run)?;
+            Ok(are_there_and_back(&outcomes))
+        }
+        None => Ok(true),
     }
 }
 
@@ -76,7 +103,49 @@ fn expect_and_back(
 fn refused_network_new(rt: HostRuntime) -> Result<(), Fail> {
     let plan = plan_of(rt.alloc(), PLAN)?;
     let certificate = certificate_of(rt.alloc(), &plan, CERTIFICATE)?;
-    expect_and_back(&rt, &plan, &certificate)
+    let events = events_of_text(rt.alloc(), &plan, EVENTS.as_bytes())?;
+    assert!(rt; goes_and_comes(rt.alloc(), &plan, &certificate, &events)?);
+    Ok(())
+}
+
+/// The plan in which host goes by right.
+pub fn by_right(alloc: Global) -> Result<Plan, Fail> {
+    let text = edited(alloc, TWO_WAYS, &[(r#""left"}]"#, r#""right"}]"#)])?;
+    plan_of(alloc, &text)
+}
+
+/// The node to which a flight has moved, if one has.
+fn moved_to(outcome: &Outcome) -> Option<usize> {
+    match outcome {
+        Outcome::Happened {
+            effect: Effect::Moved { node, .. },
+            handed: None,
+        } => Some(*node),
+        _ => None,
+    }
+}
+
+/// Where flights move: first by left to x, and once host has switched by right.
+const MOVES: [Option<usize>; 9] = [
+    None,
+    Some(1),
+    None,
+    Some(3),
+    None,
+    None,
+    Some(2),
+    None,
+    Some(3),
+];
+
+/// Whether flights move so.
+fn are_switched(outcomes: &[Outcome]) -> bool {
+    for (outcome, wanted) in outcomes.iter().zip(&MOVES) {
+        if moved_to(outcome) != *wanted {
+            return false;
+        }
+    }
+    outcomes.len() == MOVES.len()
 }
 
 /// The network of a checked move; none where memory ran out.
@@ -97,22 +166,21 @@ fn new_move<'a>(
     Ok(made.ok())
 }
 
-/// Plays the switch on the network of a move; on none where memory ran out.
-fn expect_switched(
-    rt: &(impl Abort + AllocGlobal),
+/// Whether flights move so on the network of a move, or memory ran out.
+fn switches(
+    alloc: Global,
     before: &Plan,
     after: &Plan,
     certificate: &Certificate,
-) -> Result<(), Fail> {
-    let checked = check_move(rt.alloc(), before, after, certificate)?;
-    match new_move(rt.alloc(), checked, Vec::new(rt.alloc()))? {
-        Some(mut network) => play(
-            rt,
-            before,
-            &mut network,
-            Scenario::Rows(&SWITCHED, Way::Steps),
-        ),
-        None => Ok(()),
+    events: &[Event],
+) -> Result<bool, Fail> {
+    let checked = check_move(alloc, before, after, certificate)?;
+    match new_move(alloc, checked, Vec::new(alloc))? {
+        Some(mut network) => {
+            let outcomes = outcomes_of(alloc, &mut network, events, Way::Run)?;
+            Ok(are_switched(&outcomes))
+        }
+        None => Ok(true),
     }
 }
 
@@ -121,10 +189,31 @@ fn refused_new_move(rt: HostRuntime) -> Result<(), Fail> {
     let before = plan_of(rt.alloc(), TWO_WAYS)?;
     let after = by_right(rt.alloc())?;
     let certificate = certificate_of(rt.alloc(), &before, RANKS_OF_TWO_WAYS)?;
-    expect_switched(&rt, &before, &after, &certificate)
+    let events = events_of_text(rt.alloc(), &before, SWITCHED.as_bytes())?;
+    assert!(rt; switches(rt.alloc(), &before, &after, &certificate, &events)?);
+    Ok(())
+}
+
+/// Whether flights move so where each event is asked again.
+fn switches_in_steps(
+    alloc: Global,
+    before: &Plan,
+    after: &Plan,
+    certificate: &Certificate,
+    events: &[Event],
+) -> Result<bool, Fail> {
+    let checked = check_move(alloc, before, after, certificate)?;
+    let mut network = moving_network_of(alloc, checked, Vec::new(alloc))?;
+    let outcomes = outcomes_of(alloc, &mut network, events, Way::RefusedSteps)?;
+    Ok(are_switched(&outcomes))
 }
 
 #[test]
 fn refused_step_of_switches(rt: HostRuntime) -> Result<(), Fail> {
-    play_on_two_ways(&rt, Scenario::Rows(&SWITCHED, Way::RefusedSteps))
+    let before = plan_of(rt.alloc(), TWO_WAYS)?;
+    let after = by_right(rt.alloc())?;
+    let certificate = certificate_of(rt.alloc(), &before, RANKS_OF_TWO_WAYS)?;
+    let events = events_of_text(rt.alloc(), &before, SWITCHED.as_bytes())?;
+    assert!(rt; switches_in_steps(rt.alloc(), &before, &after, &certificate, &events)?);
+    Ok(())
 }

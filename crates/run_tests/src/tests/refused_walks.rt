@@ -1,27 +1,26 @@
 //! Walks in which any growth of memory may be refused. An event that is asked again then has the outcome that it has
 //! with ample memory. `tools/refuse-growths` refuses the growths one after another.
 use super::asking_again::step;
-use super::playing::{Scenario, expect_rows, play_with};
-use super::walks::play_lists;
-use super::ways::Way;
+use super::lists::WALKS;
+use super::networks::{certificate_of, network_of, plan_of};
+use super::playing::Way;
+use super::refused_runs::expect_lists;
+use super::termini::{TWENTY, has_collected, records_of, termini_with};
 use mctp_transport::{Eid, Tag};
-use net_plan::{Event, Plan};
+use net_plan::{Certificate, Event, Plan};
 use net_sim::Network;
-use sample_runs::repositories::{TWENTY, has_collected, records_of};
-use sample_runs::rows::Row;
-use sample_texts::riser::{HOST, NIC};
+use sample_texts::riser::{CERTIFICATE, HOST, NIC, PLAN};
 use std::alloc::{AllocError, Global};
-use std::process::Abort;
 use std::test::Fail;
 
 #[test]
 fn refused_step_of_walkers(rt: HostRuntime) -> Result<(), Fail> {
-    play_lists(&rt, Way::RefusedSteps)
+    expect_lists(&rt, &WALKS, Way::RefusedSteps)
 }
 
 #[test]
 fn refused_run_of_walkers(rt: HostRuntime) -> Result<(), Fail> {
-    play_lists(&rt, Way::RefusedRun)
+    expect_lists(&rt, &WALKS, Way::RefusedRun)
 }
 
 /// Carries a flight over the three steps from host to nic, or back.
@@ -42,12 +41,6 @@ fn exchange(alloc: Global, network: &mut Network, number: u32) -> Result<(), All
     carry(alloc, network, request.saturating_add(1))
 }
 
-/// All records are there.
-const ALL: [Row; 1] = [(
-    r#"{"do":"collected","walker":1}"#,
-    "collected 1 records 20 done",
-)];
-
 /// Walks over 20 records, each of which comes with one exchange.
 fn walk(alloc: Global, network: &mut Network) -> Result<(), AllocError> {
     let walk = Event::Walk {
@@ -63,19 +56,18 @@ fn walk(alloc: Global, network: &mut Network) -> Result<(), AllocError> {
     Ok(())
 }
 
-/// Wants each record to come with one exchange, and all to be there at the end.
-pub fn expect_20_records(
-    rt: &(impl Abort + AllocGlobal),
-    plan: &Plan,
-    network: &mut Network,
-) -> Result<(), Fail> {
-    walk(rt.alloc(), network)?;
-    expect_rows(rt, plan, network, &ALL, Way::RefusedSteps)?;
-    assert!(rt; has_collected(network, 1, &records_of(rt.alloc(), &TWENTY)?));
-    Ok(())
+/// Whether all 20 records come.
+fn collects_20(alloc: Global, plan: &Plan, certificate: &Certificate) -> Result<bool, Fail> {
+    let termini = termini_with(alloc, &TWENTY)?;
+    let mut network = network_of(alloc, plan, certificate, termini)?;
+    walk(alloc, &mut network)?;
+    Ok(has_collected(&network, 1, &records_of(alloc, &TWENTY)?))
 }
 
 #[test]
 fn refused_step_over_20_records(rt: HostRuntime) -> Result<(), Fail> {
-    play_with(&rt, &TWENTY, Scenario::Refused20Records)
+    let plan = plan_of(rt.alloc(), PLAN)?;
+    let certificate = certificate_of(rt.alloc(), &plan, CERTIFICATE)?;
+    assert!(rt; collects_20(rt.alloc(), &plan, &certificate)?);
+    Ok(())
 }

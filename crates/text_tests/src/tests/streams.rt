@@ -38,22 +38,6 @@ fn one_byte_a_call(text: &str, fails_at: usize) -> Slow {
     }
 }
 
-/// A reader that gives the same byte so many times.
-#[derive(Drop)]
-struct Same {
-    byte: u8,
-    left: usize,
-}
-
-impl Read for Same {
-    fn read(&mut self, buf: &mut [u8]) -> io::Result<usize> {
-        let count = buf.len().min(self.left);
-        buf[..count].fill(self.byte);
-        self.left = self.left.saturating_sub(count);
-        Ok(count)
-    }
-}
-
 /// A writer that keeps one byte a call, and fails at one call.
 #[derive(Drop)]
 struct Narrow {
@@ -162,31 +146,6 @@ fn tells_a_failure_at_each_call(rt: HostRuntime) -> Result<(), Fail> {
         first_other_in_events(rt.alloc(), &plan),
     );
     assert_eq!(rt; others, (None, None, None));
-    Ok(())
-}
-
-/// The most bytes that are taken are no JSON, and one more is too many, whatever the bytes are.
-#[test]
-fn bounds_the_text(rt: HostRuntime) -> Result<(), Fail> {
-    for (byte, left, wanted) in [
-        (b' ', 16_777_216, PlanError::NotJson),
-        (255, 16_777_217, PlanError::OverLimit),
-    ] {
-        let read = read_plan(rt.alloc(), &mut Counted::new(Same { byte, left }));
-        assert_eq!(rt; read.err(), Some(wanted));
-    }
-    Ok(())
-}
-
-#[test]
-fn bounds_the_text_of_a_certificate(rt: HostRuntime) -> Result<(), Fail> {
-    let plan = read_plan(rt.alloc(), &mut Counted::new(riser::PLAN.as_bytes()))?;
-    let more = Same {
-        byte: b'[',
-        left: 16_777_217,
-    };
-    let read = read_certificate(rt.alloc(), &plan, &mut Counted::new(more));
-    assert_eq!(rt; read.err(), Some(PlanError::OverLimit));
     Ok(())
 }
 

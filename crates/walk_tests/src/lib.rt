@@ -1,5 +1,0 @@
-//! Tests of walks through networks.
-#![tactic(auto)]
-
-#[cfg(test)]
-mod tests;
