@@ -13,20 +13,20 @@ use Rattle.mctp_bridge.specs.declared.row.TableRow.{TableRow}
 use Rattle.mctp_bridge.specs.declared.row.Hop.{Hop}
 use Rattle.mctp_bridge.specs.Rows.{AreApart, IsLawful, AreLawful, Routes, HasSameRoutes, LiesBelow, IsTable}
 
--- the place in the list before a and b changed places
-place : ℕ → ℕ → ℕ → ℕ
-place a b m = cond (eqb m a) b (cond (eqb m b) a m)
+-- the index in the list before a and b changed places
+index : ℕ → ℕ → ℕ → ℕ
+index a b m = cond (eqb m a) b (cond (eqb m b) a m)
 
-places_apart : (a b i j : ℕ) → i ≢ j → place a b i ≢ place a b j
-unfolding place
+places_apart : (a b i j : ℕ) → i ≢ j → index a b i ≢ index a b j
+unfolding index
 places_apart a b i j ne = grind (arith, nat_tests)
 
-place_below : (a b m n : ℕ) → a < n → b < n → m < n → place a b m < n
-unfolding place
+place_below : (a b m n : ℕ) → a < n → b < n → m < n → index a b m < n
+unfolding index
 place_below a b m n la lb lm = grind (arith, nat_tests)
 
-place_was : {X : Type 0} (f g : ℕ → X) (a b m : ℕ) → g a ≡ f b → g b ≡ f a → ((m : ℕ) → (m ≡ a → ⊥) → (m ≡ b → ⊥) → g m ≡ f m) → g m ≡ f (place a b m)
-unfolding place
+place_was : {X : Type 0} (f g : ℕ → X) (a b m : ℕ) → g a ≡ f b → g b ≡ f a → ((m : ℕ) → (m ≡ a → ⊥) → (m ≡ b → ⊥) → g m ≡ f m) → g m ≡ f (index a b m)
+unfolding index
 place_was f g a b m at_a at_b other =
     elim (eqb_tells m a) [
       | inl same ↦ rw same.0 (ap g same.1 ∙ at_a)
@@ -66,7 +66,7 @@ all2_swapped rows a b la lb apart i j d ne li lj =
     let same = length-swap rows a b in
     let below_i = place_below a b i (length rows) la lb (omega arith) in
     let below_j = place_below a b j (length rows) la lb (omega arith) in
-    rw (was_i, was_j) (apart (place a b i) (place a b j) d (places_apart a b i j ne) below_i below_j)
+    rw (was_i, was_j) (apart (index a b i) (index a b j) d (places_apart a b i j ne) below_i below_j)
 
 -- rows that lie apart still do in another order
 pub apart_moved : (rows others : List TableRow) → IsPermutation rows others → AllPairs AreApart rows → AllPairs AreApart others

@@ -1,4 +1,4 @@
--- The entries of the rows up to a place, and of one row more.
+-- The entries of the rows up to an index, and of one row more.
 use Rattle.std.proofs.Common.{◌≡◌, ℕ, ◌+◌, ◌<◌, ◌≤◌, List, [], ◌∷◌, ◌++◌, length, get_or, take, ap, ◌∙◌, arith}
 use Rattle.std.specs.List.{flat_map, zip}
 use Rattle.std.proofs.lemmas.List.{take_more, take_all, append-nil}
@@ -9,7 +9,7 @@ use Rattle.mctp_bridge.specs.declared.row.TableRow.{TableRow}
 use Rattle.mctp_bridge.specs.declared.routing_entries.Neighbor.{Neighbor}
 use Rattle.mctp_bridge.specs.Entries.{row_entries, table_entries}
 
--- the entries of the rows before a place
+-- the entries of the rows before an index
 abbrev pub entries_before : List TableRow → List Neighbor → ℕ → List EntryValue
 entries_before rows neighbors i = flat_map (λ p. row_entries p.0 p.1) (take i (zip rows neighbors))
 

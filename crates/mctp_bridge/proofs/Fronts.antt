@@ -1,4 +1,4 @@
--- The rows before a place, and one more.
+-- The rows before an index, and one more.
 use Rattle.std.proofs.Common.{◌≡◌, ℕ, ◌+◌, ◌<◌, List, length, get_or, take, Some, false, sym, ap, subst, ◌∙◌}
 use Rattle.std.specs.Prelude.{◌↔◌, IsTrue, All, slice_get}
 use Rattle.std.proofs.lemmas.Bool.{false≢true}
@@ -14,7 +14,7 @@ use Rattle.mctp_bridge.proofs.Apart.{turned}
 pub refuted : {P : Type 0} → (IsTrue false ↔ P) → ¬ P
 refuted decided p = false≢true (decided.1 p)
 
--- the element that was read is at its place
+-- the element that was read is at its index
 pub stands : (rows : List TableRow) (i : ℕ) (row : TableRow) → i < length rows → row ≡ get_or rows i row → slice_get rows i ≡ Some row
 stands rows i row lt is = slice_get-get_or rows i row lt ∙ ap Some (sym is)
 

@@ -7,7 +7,7 @@ use Rattle.mctp_bridge.specs.declared.row.TableRow.{TableRow}
 use Rattle.mctp_bridge.specs.declared.pieces.Piece.{Piece}
 use Rattle.mctp_bridge.specs.Pieces.{PieceValue, piece_value, LiesIn, ArePieces}
 
--- an element of a list, at its place
+-- an element of a list, at its index
 element : {X : Type 0} (xs : List X) (k : ℕ) → k < length xs → (x : X) × (get_or xs k x ≡ x)
 element [] k lt = absurd (omega arith)
 element (x ∷ xs) zero lt = (x, refl)
@@ -17,42 +17,42 @@ element (x ∷ xs) (suc k) lt = element xs k (omega arith)
 pub seen : {X : Type 0} (P Q : X → Type 0) (xs : List X) → All P xs → Any Q xs → (x : X) × P x × Q x
 seen P Q xs each (k, x, lt, is, holds) = (x, subst P is (each k x lt), holds)
 
--- what holds of each piece holds of the one at a place
+-- what holds of each piece holds of the one at an index
 pub at_place : (P : PieceValue → Type 0) (all : List PieceValue) (k : ℕ) (piece : PieceValue) → All P all → k < length all → piece ≡ get_or all k piece → P piece
 at_place P all k piece each lt is = subst P (sym is) (each k piece lt)
 
 -- an EID before a piece lies in no later one
-not_from : (rows : List TableRow) (first last : ℕ) (all : List PieceValue) (place k : ℕ) (piece other : PieceValue) (e : ℕ) → ArePieces rows first last all
-    → place < length all → piece ≡ get_or all place piece → e < piece.first → k < length all → get_or all k other ≡ other → LiesIn e other → ¬ (place ≤ k)
-not_from rows first last all place k piece other e are lt is before within at lies from =
-    let filled = at_place (λ p. p.first ≤ p.last) all place piece are.filled lt is in
+not_from : (rows : List TableRow) (first last : ℕ) (all : List PieceValue) (index k : ℕ) (piece other : PieceValue) (e : ℕ) → ArePieces rows first last all
+    → index < length all → piece ≡ get_or all index piece → e < piece.first → k < length all → get_or all k other ≡ other → LiesIn e other → ¬ (index ≤ k)
+not_from rows first last all index k piece other e are lt is before within at lies from =
+    let filled = at_place (λ p. p.first ≤ p.last) all index piece are.filled lt is in
     let begins = lies.0 in
-    elim (cases_lt place k) [
+    elim (cases_lt index k) [
       | inl later ↦
-          (let order = are.ascending place k piece later within in
-          let this : get_or all place piece ≡ piece = sym is in
+          (let order = are.ascending index k piece later within in
+          let this : get_or all index piece ≡ piece = sym is in
           let that : get_or all k piece ≡ other = get_or_default all k piece other within ∙ at in
           let apart = rw (this, that) at order in
           absurd (omega arith))
       | inr upto ↦
-          (let same : k ≡ place = omega arith in
+          (let same : k ≡ index = omega arith in
           let one : other ≡ piece = sym at ∙ get_or_default all k other piece within ∙ ap (λ n. get_or all n piece) same ∙ sym is in
           let low : piece.first ≤ e = subst (λ (p : PieceValue). p.first ≤ e) one lies.0 in
           absurd (omega arith))
     ]
 
 -- an EID of the interval before a piece lies in an earlier one
-earlier_piece : (rows : List TableRow) (first last : ℕ) (all : List PieceValue) (place : ℕ) (piece : PieceValue) (e : ℕ) → ArePieces rows first last all
-    → place < length all → piece ≡ get_or all place piece → first ≤ e → e < piece.first
-    → (k : ℕ) × (other : PieceValue) × (k < place) × (get_or all k other ≡ other) × LiesIn e other
-earlier_piece rows first last all place piece e are lt is low before =
-    let filled = at_place (λ p. p.first ≤ p.last) all place piece are.filled lt is in
-    let inside = (are.covering piece.last).0 (place, piece, lt, sym is, (filled, omega arith)) in
+earlier_piece : (rows : List TableRow) (first last : ℕ) (all : List PieceValue) (index : ℕ) (piece : PieceValue) (e : ℕ) → ArePieces rows first last all
+    → index < length all → piece ≡ get_or all index piece → first ≤ e → e < piece.first
+    → (k : ℕ) × (other : PieceValue) × (k < index) × (get_or all k other ≡ other) × LiesIn e other
+earlier_piece rows first last all index piece e are lt is low before =
+    let filled = at_place (λ p. p.first ≤ p.last) all index piece are.filled lt is in
+    let inside = (are.covering piece.last).0 (index, piece, lt, sym is, (filled, omega arith)) in
     let to_last = inside.1 in
     let some = (are.covering e).1 (low, omega arith) in
-    elim (cases_lt some.0 place) [
+    elim (cases_lt some.0 index) [
       | inl earlier ↦ (some.0, some.1, earlier, some.3, some.4)
-      | inr from ↦ absurd (not_from rows first last all place some.0 piece some.1 e are lt is before some.2 some.3 some.4 from)
+      | inr from ↦ absurd (not_from rows first last all index some.0 piece some.1 e are lt is before some.2 some.3 some.4 from)
     ]
 
 module _ (rows : List TableRow) (first last : ℕ) (all : List PieceValue) (are : ArePieces rows first last all) (xs : List Piece)
@@ -65,7 +65,7 @@ module _ (rows : List TableRow) (first last : ℕ) (all : List PieceValue) (are 
   pub yielded_hold : (P : PieceValue → Type 0) → length xs ≤ length all → All P all → All (λ piece. P (piece_value piece)) xs
   yielded_hold P le each k d lt = subst P (sym (value_at k d lt)) (each k (piece_value d) (omega arith))
 
-  -- the piece at such a place came
+  -- the piece at such an index came
   came : (e k : ℕ) (other : PieceValue) → k < length xs → k < length all → get_or all k other ≡ other → LiesIn e other
       → Any (λ piece. LiesIn e (piece_value piece)) xs
   came e k other lt within at lies =
@@ -101,10 +101,10 @@ module _ (rows : List TableRow) (first last : ℕ) (all : List PieceValue) (are 
       found.1 e found.2
 
 -- a piece lies in the interval
-pub inside_interval : (rows : List TableRow) (first last : ℕ) (all : List PieceValue) (place : ℕ) (piece : PieceValue) → ArePieces rows first last all
-    → place < length all → piece ≡ get_or all place piece → (first ≤ piece.first) × (piece.first ≤ piece.last) × (piece.last ≤ last)
-inside_interval rows first last all place piece are lt is =
-    let filled = at_place (λ p. p.first ≤ p.last) all place piece are.filled lt is in
-    let low = (are.covering piece.first).0 (place, piece, lt, sym is, (omega arith, filled)) in
-    let high = (are.covering piece.last).0 (place, piece, lt, sym is, (filled, omega arith)) in
+pub inside_interval : (rows : List TableRow) (first last : ℕ) (all : List PieceValue) (index : ℕ) (piece : PieceValue) → ArePieces rows first last all
+    → index < length all → piece ≡ get_or all index piece → (first ≤ piece.first) × (piece.first ≤ piece.last) × (piece.last ≤ last)
+inside_interval rows first last all index piece are lt is =
+    let filled = at_place (λ p. p.first ≤ p.last) all index piece are.filled lt is in
+    let low = (are.covering piece.first).0 (index, piece, lt, sym is, (omega arith, filled)) in
+    let high = (are.covering piece.last).0 (index, piece, lt, sym is, (filled, omega arith)) in
     (low.0, filled, high.1)

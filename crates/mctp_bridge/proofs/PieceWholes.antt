@@ -159,11 +159,11 @@ still_covered rows first passed within ended e past (k, row, lt, is, covers) =
     elim (cases_lt k passed) [
       | inl before ↦ (let not_reached = rw is at (ended k row (omega arith) before) in absurd (not_reached (let high = covers.1 in omega arith)))
       | inr from ↦
-          (let place : passed + (k - passed) ≡ k = omega arith in (
+          (let index : passed + (k - passed) ≡ k = omega arith in (
             k - passed,
             row,
             omega (arith, length-drop passed rows),
-            get_or-drop passed rows (k - passed) row ∙ ap (λ n. get_or rows n row) place ∙ is,
+            get_or-drop passed rows (k - passed) row ∙ ap (λ n. get_or rows n row) index ∙ is,
             covers,
           ))
     ]

@@ -41,8 +41,8 @@ pub fn route_entries(
     ensures { IfOk result (λ entries. map entry_value entries.items ≡ table_entries table.now neighbors.now) }
 {
     let mut entries = Vec::new(alloc);
-    for (place, row) in table.rows().iter().enumerate() {
-        push_entries(&mut entries, row, &neighbors[place])?;
+    for (index, row) in table.rows().iter().enumerate() {
+        push_entries(&mut entries, row, &neighbors[index])?;
     }
     Ok(entries)
 }

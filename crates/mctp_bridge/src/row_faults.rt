@@ -10,8 +10,8 @@ use crate::table_fault::TableFault;
 pub(crate) fn first_fault(rows: &[TableRow]) -> Option<TableFault>
     ensures { MatchOption result (AreLawful rows.now) (IsFirstFault rows.now) }
 {
-    for place in 0..rows.len() {
-        let fault = fault_at(rows, place);
+    for index in 0..rows.len() {
+        let fault = fault_at(rows, index);
         if fault.is_some() {
             return fault;
         }
@@ -20,21 +20,21 @@ pub(crate) fn first_fault(rows: &[TableRow]) -> Option<TableFault>
 }
 
 /// What is wrong with a row, where the rows before it are lawful.
-fn fault_at(rows: &[TableRow], place: usize) -> Option<TableFault>
-    requires within { place < length rows.now }
-    requires before { AreLawful (take place rows.now) }
-    ensures { MatchOption result (AreLawful (take (place + 1) rows.now)) (IsFirstFault rows.now) }
+fn fault_at(rows: &[TableRow], index: usize) -> Option<TableFault>
+    requires within { index < length rows.now }
+    requires before { AreLawful (take index rows.now) }
+    ensures { MatchOption result (AreLawful (take (index + 1) rows.now)) (IsFirstFault rows.now) }
 {
-    let row = rows[place];
+    let row = rows[index];
     if row.is_empty() {
-        return Some(TableFault::Empty { row: place });
+        return Some(TableFault::Empty { row: index });
     }
     if row.is_outside() {
-        return Some(TableFault::Outside { row: place });
+        return Some(TableFault::Outside { row: index });
     }
-    match first_overlap(&rows[..place], &row) {
+    match first_overlap(&rows[..index], &row) {
         Some(earlier) => Some(TableFault::Overlap {
-            row: place,
+            row: index,
             earlier,
         }),
         None => None,
@@ -45,9 +45,9 @@ fn fault_at(rows: &[TableRow], place: usize) -> Option<TableFault>
 fn first_overlap(rows: &[TableRow], row: &TableRow) -> Option<usize>
     ensures { MatchOption result (All (AreApart row.now) rows.now) (IsFirstOverlap rows.now row.now) }
 {
-    for (place, other) in rows.iter().enumerate() {
+    for (index, other) in rows.iter().enumerate() {
         if !row.is_apart_from(other) {
-            return Some(place);
+            return Some(index);
         }
     }
     None

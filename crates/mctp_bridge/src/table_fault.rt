@@ -4,7 +4,7 @@ use std::alloc::AllocError;
 use std::error::Error;
 use std::fmt;
 
-/// Why rows make no routing table. The first row with a fault is told, by its place, and of its faults the first of
+/// Why rows make no routing table. The first row with a fault is told, by its index, and of its faults the first of
 /// these.
 #[derive(Clone, Copy, Debug, PartialEq, Eq)]
 pub enum TableFault {

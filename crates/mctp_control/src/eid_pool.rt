@@ -55,9 +55,9 @@ impl EidPool {
         ensures was_out { IsTrue result ↔ IsOut (pool_value self.old) eid.value }
         ensures back { ComesBack (pool_value self.old) (pool_value self.new) eid.value }
     {
-        let place = eid.value as usize;
-        let was_out = self.range.contains(eid) && self.out[place];
-        self.out[place] = false;
+        let index = eid.value as usize;
+        let was_out = self.range.contains(eid) && self.out[index];
+        self.out[index] = false;
         was_out
     }
 

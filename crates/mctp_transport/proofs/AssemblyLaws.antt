@@ -27,7 +27,7 @@ use Rattle.std.proofs.lemmas.Option.{same_Some, none-some}
 use Rattle.std.specs.Prelude.{◌↔◌, is_some, is_none, count_by, fold, ◌++◌, All}
 use Rattle.std.proofs.lemmas.List.Elements.{All-head, All-tail}
 
--- the place among the slots is the place in the table
+-- the index among the slots is the index in the table
 prefix_rows : (test : Option Partial → Bool) (open_test : Option OpenMessage → Bool) (size : ℕ) (block : List ℕ) (i : ℕ) (os : List (Option OpenMessage))
     → ((o : Option OpenMessage) (bytes : List ℕ) → test (partial_of o bytes) ≡ open_test o) → prefix_len test (rows partial_of size block i os) ≡ prefix_len open_test os
 prefix_rows test open_test size block i [] same = refl
@@ -102,17 +102,17 @@ start_takes old mid new p key answer som is table slots limit after_table after_
     }
 
 -- where the key is found, its message goes on
-pub record GoesOnThere (limit : ℕ) (t : Table) (p : Frame) (place : ℕ) : Type 0 where
+pub record GoesOnThere (limit : ℕ) (t : Table) (p : Frame) (index : ℕ) : Type 0 where
   pub held : Partial
-  pub there : slice_get t place ≡ Some (Some held)
-  pub table : (carried limit t p (position (is_at (key_of p)) t)).0 ≡ slice_set t place (next_partial limit held p)
+  pub there : slice_get t index ≡ Some (Some held)
+  pub table : (carried limit t p (position (is_at (key_of p)) t)).0 ≡ slice_set t index (next_partial limit held p)
   pub answer : (carried limit t p (position (is_at (key_of p)) t)).1 ≡ next_answer limit held p
 
-pub carried_there : (limit : ℕ) (t : Table) (p : Frame) (place : ℕ) → position (is_at (key_of p)) t ≡ Some place → GoesOnThere limit t p place
-carried_there limit t p place e =
-    let at = position-some (is_at (key_of p)) t place e in
+pub carried_there : (limit : ℕ) (t : Table) (p : Frame) (index : ℕ) → position (is_at (key_of p)) t ≡ Some index → GoesOnThere limit t p index
+carried_there limit t p index e =
+    let at = position-some (is_at (key_of p)) t index e in
     let mine = found_key (key_of p) at.0 at.2 in
-    let here : slice_get t place ≡ Some (Some mine.0) = at.1 ∙ ap Some mine.1 in
+    let here : slice_get t index ≡ Some (Some mine.0) = at.1 ∙ ap Some mine.1 in
     record { held = mine.0; there = here; table = rw (e, here) refl; answer = rw (e, here) refl }
 
 -- what the table holds at a slot

@@ -7,7 +7,7 @@ use Rattle.mctp_transport.specs.Frames.{KeyValue}
 use Rattle.mctp_transport.specs.Histories.{Input, History, after, same_key, key_of_input, ArePackets, FewerThan, AsManyAs, IsOpen, IsOtherOpen}
 use Rattle.mctp_transport.specs.Tables.{Partial, Holds, HoldsLast, TableStandsFor, Table, is_at}
 use Rattle.mctp_transport.specs.TableChanges.{ended}
-use Rattle.mctp_transport.proofs.Places.{key_cases, same_key-same}
+use Rattle.mctp_transport.proofs.FirstIndexes.{key_cases, same_key-same}
 use Rattle.mctp_transport.proofs.LastStarts.{last-other}
 use Rattle.mctp_transport.proofs.Openness.{open_other}
 use Rattle.mctp_transport.proofs.Slots.{Among, get_set_same, get_set_other, position-none, position-some, no_more, held_keys, keys_fewer, keys_all, keys_among, keys_have, keys_apart}
@@ -86,17 +86,17 @@ cleared_stands slots limit t u history i s c shut = record {
 }
 
 -- the key is open after the input, and a slot that was free holds it
-pub placed_stands : (slots limit : ℕ) (t u : Table) (history : History) (i : Input) (place : ℕ) (q : Partial) → TableStandsFor slots limit t history → Cleared (key_of_input i) t u
-    → slice_get u place ≡ Some None → q.key ≡ key_of_input i → IsOpen slots limit (after history i) (key_of_input i) → HoldsLast (after history i) q
-    → TableStandsFor slots limit (set u place (Some q)) (after history i)
-placed_stands slots limit t u history i place q s c free key_is opened holds =
-    let within = slice_get_within u place None free in
-    let new : Holds (set u place (Some q)) place q = get_set_same u place (Some q) within in
-    let old : ((j : ℕ) (r : Partial) → place ≢ j → Holds (set u place (Some q)) j r → Holds u j r) = λ j r n a. sym (get_set_other u place j (Some q) n) ∙ a in
-    let mine : ((j : ℕ) (r : Partial) → place ≡ j → Holds (set u place (Some q)) j r → q ≡ r) =
-    λ j r e a. same_held (set u place (Some q)) place q r new (subst (λ n. Holds (set u place (Some q)) n r) (sym e) a) in
+pub placed_stands : (slots limit : ℕ) (t u : Table) (history : History) (i : Input) (index : ℕ) (q : Partial) → TableStandsFor slots limit t history → Cleared (key_of_input i) t u
+    → slice_get u index ≡ Some None → q.key ≡ key_of_input i → IsOpen slots limit (after history i) (key_of_input i) → HoldsLast (after history i) q
+    → TableStandsFor slots limit (set u index (Some q)) (after history i)
+placed_stands slots limit t u history i index q s c free key_is opened holds =
+    let within = slice_get_within u index None free in
+    let new : Holds (set u index (Some q)) index q = get_set_same u index (Some q) within in
+    let old : ((j : ℕ) (r : Partial) → index ≢ j → Holds (set u index (Some q)) j r → Holds u j r) = λ j r n a. sym (get_set_other u index j (Some q) n) ∙ a in
+    let mine : ((j : ℕ) (r : Partial) → index ≡ j → Holds (set u index (Some q)) j r → q ≡ r) =
+    λ j r e a. same_held (set u index (Some q)) index q r new (subst (λ n. Holds (set u index (Some q)) n r) (sym e) a) in
     record {
-      held = λ j r a. elim (cases_eq place j) [
+      held = λ j r a. elim (cases_eq index j) [
         | inl e ↦ subst (λ (x : Partial). IsOpen slots limit (after history i) x.key × HoldsLast (after history i) x) (mine j r e a)
             (subst (λ k. IsOpen slots limit (after history i) k) (sym key_is) opened, holds)
         | inr n ↦
@@ -106,19 +106,19 @@ placed_stands slots limit t u history i place q s c free key_is opened holds =
             ((open_other slots limit history i r.key apart).1 h.0, holds_other history i r apart h.1)
       ];
       opened = λ key o. elim (key_cases (key_of_input i) key) [
-        | inl h ↦ (place, q, new, key_is ∙ h.1)
+        | inl h ↦ (index, q, new, key_is ∙ h.1)
         | inr h ↦
             let w = s.opened key ((open_other slots limit history i key h.0).0 o) in
             let b = c.kept w.0 w.1 (λ e. h.1 (sym e ∙ w.3)) w.2 in
-            let n : place ≢ w.0 = λ e. not_held u place w.1 free (subst (λ m. Holds u m w.1) (sym e) b) in
-            (w.0, w.1, get_set_other u place w.0 (Some q) n ∙ b, w.3)
+            let n : index ≢ w.0 = λ e. not_held u index w.1 free (subst (λ m. Holds u m w.1) (sym e) b) in
+            (w.0, w.1, get_set_other u index w.0 (Some q) n ∙ b, w.3)
       ];
-      once = λ j k r v a b e. elim (cases_eq place j) [
-        | inl x ↦ elim (cases_eq place k) [
+      once = λ j k r v a b e. elim (cases_eq index j) [
+        | inl x ↦ elim (cases_eq index k) [
           | inl y ↦ sym x ∙ y
           | inr y ↦ absurd ((c.only k v (old k v y b)).1 (sym e ∙ ap (λ (z : Partial). z.key) (sym (mine j r x a)) ∙ key_is))
         ]
-        | inr x ↦ elim (cases_eq place k) [
+        | inr x ↦ elim (cases_eq index k) [
           | inl y ↦ absurd ((c.only j r (old j r x a)).1 (e ∙ ap (λ (z : Partial). z.key) (sym (mine k v y b)) ∙ key_is))
           | inr y ↦ s.once j k r v (c.only j r (old j r x a)).0 (c.only k v (old k v y b)).0 e
         ]
@@ -126,14 +126,14 @@ placed_stands slots limit t u history i place q s c free key_is opened holds =
     }
 
 -- a free slot, told by the other open keys
-pub room : (slots limit : ℕ) (t u : Table) (history : History) (key : KeyValue) (place : ℕ) → TableStandsFor slots limit t history → Cleared key t u → length t ≡ slots
-    → slice_get u place ≡ Some None → FewerThan slots (IsOtherOpen slots limit history key)
-room slots limit t u history key place s c long free keys apart all =
+pub room : (slots limit : ℕ) (t u : Table) (history : History) (key : KeyValue) (index : ℕ) → TableStandsFor slots limit t history → Cleared key t u → length t ≡ slots
+    → slice_get u index ≡ Some None → FewerThan slots (IsOtherOpen slots limit history key)
+room slots limit t u history key index s c long free keys apart all =
     let most = no_more keys (held_keys u) apart (λ k d within.
     let o = all k d within in
     let w = s.opened _ o.1 in
     subst (λ (x : KeyValue). Among x (held_keys u)) w.3 (keys_among u w.0 w.1 (c.kept w.0 w.1 (λ e. o.0 (sym w.3 ∙ e)) w.2))) in
-    let fewer = keys_fewer u place free in
+    let fewer = keys_fewer u index free in
     let same = c.long in
     omega arith
 

@@ -5,7 +5,7 @@ use Rattle.std.proofs.lemmas.Bool.{cases_Bool}
 use Rattle.mctp_transport.specs.Frames.{Frame, KeyValue, key_of}
 use Rattle.mctp_transport.specs.Messages.{Joined}
 use Rattle.mctp_transport.specs.Histories.{Input, Arrived, TimeUp, History, EachArrival, after, key_of_input, last_of, IsOpen, Comes}
-use Rattle.mctp_transport.proofs.Places.{key_cases, same_key-same}
+use Rattle.mctp_transport.proofs.FirstIndexes.{key_cases, same_key-same}
 use Rattle.mctp_transport.proofs.Arrivals.{EachArrival-append, packets_arrived}
 use Rattle.mctp_transport.proofs.LastStarts.{last-other, last-start, last-more}
 use Rattle.mctp_transport.proofs.Openness.{open_other, open_expired, open_more, has_started, comes_with}

@@ -9,7 +9,7 @@ use Rattle.mctp_transport.specs.Tables.{Partial, HoldsLast}
 use Rattle.mctp_transport.specs.TableChanges.{fault_at}
 use Rattle.mctp_transport.specs.declared.drop_cause.DropCause.{DropCause}
 use Rattle.mctp_transport.specs.declared.drop_cause.DropCause.TheVariants as drop_cause
-use Rattle.mctp_transport.proofs.Places.{get_first, get_end}
+use Rattle.mctp_transport.proofs.FirstIndexes.{get_first, get_end}
 
 -- what each cause means of the packets since the start
 abbrev pub Means : ℕ → List Frame → Frame → Option DropCause → Type 0

@@ -52,10 +52,10 @@ carried_length limit t p (Some i) = carried_at_length limit t p i (slice_get t i
 moved_length : (limit : ℕ) (t : Table) (p : Frame) → length (moved limit t p).0 ≡ length t
 moved_length limit t p =
     let P : Table × Answer → Type 0 = λ x. length x.0 ≡ length t in
-    let place = position (is_at (key_of p)) t in
+    let index = position (is_at (key_of p)) t in
     elim (cases_Bool p.som) [
-      | inl y ↦ pick_true P p.som _ _ y (started_length limit (ended t place) p ∙ ended_length t place)
-      | inr n ↦ pick_false P p.som _ _ n (carried_length limit t p place)
+      | inl y ↦ pick_true P p.som _ _ y (started_length limit (ended t index) p ∙ ended_length t index)
+      | inr n ↦ pick_false P p.som _ _ n (carried_length limit t p index)
     ]
 
 -- a table of so many slots that stands for the history

@@ -7,7 +7,7 @@ use Rattle.std.proofs.lemmas.List.Elements.{All-head}
 use Rattle.mctp_transport.specs.Frames.{Frame, KeyValue, key_of}
 use Rattle.mctp_transport.specs.Messages.{Joined, EachPacket}
 use Rattle.mctp_transport.specs.Histories.{Input, Arrived, History, after, has_start, inputs_of, last_of, before_last_start, ArePackets, FewerThan, IsOpen, IsOtherOpen, Comes}
-use Rattle.mctp_transport.proofs.Places.{same_key-equal}
+use Rattle.mctp_transport.proofs.FirstIndexes.{same_key-equal}
 use Rattle.mctp_transport.proofs.Joining.{payloads_length}
 use Rattle.mctp_transport.proofs.Openness.{open_from}
 

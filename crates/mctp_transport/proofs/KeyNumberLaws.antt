@@ -16,7 +16,7 @@ use Rattle.mctp_transport.specs.Packets.{key_value}
 use Rattle.mctp_transport.specs.Tables.{is_at}
 use Rattle.mctp_transport.specs.Assembly.{partial_of}
 use Rattle.mctp_transport.specs.KeyNumbers.{key_number, slot_number}
-use Rattle.mctp_transport.proofs.Places.{key_cases}
+use Rattle.mctp_transport.proofs.FirstIndexes.{key_cases}
 
 -- the source, the owner bit and the tag are known from a number
 source_is : (s o t s' o' t' : ℕ) → o ≤ 1 → t < 8 → o' ≤ 1 → t' < 8 → 16 * s + 8 * o + t ≡ 16 * s' + 8 * o' + t' → s ≡ s'
@@ -75,15 +75,15 @@ numbers_free (o ∷ os) (suc k) empty few =
     let rest = numbers_free os k (All-tail (λ x. x ≡ None) o os empty) (omega arith) in
     cc
 
--- the place of a number among the first ones
+-- the index of a number among the first ones
 abbrev pub FoundWithin : ℕ → ℕ → ℕ → Type 0
-FoundWithin count place found = (place < count → found ≡ place) × (count ≤ place → found ≡ count)
+FoundWithin count index found = (index < count → found ≡ index) × (count ≤ index → found ≡ count)
 
-first_or_later : (b : Bool) (c : Bool) (k place found : ℕ) → b ≡ c → FoundWithin k place found → FoundWithin (suc k) (cond (not b) (1 + place) 0) (cond (not c) (1 + found) 0)
-first_or_later true true k place found e h = (λ small. refl, λ large. absurd (omega arith))
-first_or_later false false k place found e h = (λ small. ap (λ n. 1 + n) (h.0 (omega arith)), λ large. (let rest = h.1 (omega arith) in omega arith))
-first_or_later true false k place found e h = absurd (true≢false e)
-first_or_later false true k place found e h = absurd (false≢true e)
+first_or_later : (b : Bool) (c : Bool) (k index found : ℕ) → b ≡ c → FoundWithin k index found → FoundWithin (suc k) (cond (not b) (1 + index) 0) (cond (not c) (1 + found) 0)
+first_or_later true true k index found e h = (λ small. refl, λ large. absurd (omega arith))
+first_or_later false false k index found e h = (λ small. ap (λ n. 1 + n) (h.0 (omega arith)), λ large. (let rest = h.1 (omega arith) in omega arith))
+first_or_later true false k index found e h = absurd (true≢false e)
+first_or_later false true k index found e h = absurd (false≢true e)
 
 pub found_within : {O : Type 0} (test : ℕ → Bool) (number : O → ℕ) (os : List O) (ns : List ℕ) → take (length os) ns ≡ map number os
     → FoundWithin (length os) (position_or_len test ns) (position_or_len (λ o. test (number o)) os)
@@ -95,22 +95,22 @@ found_within test number (o ∷ os) (n ∷ ns) same =
     first_or_later (test n) (test (number o)) (length os) (position_or_len test ns) (position_or_len (λ x. test (number x)) os) (ap test head) (found_within test number os ns rest)
 
 -- it is that of the slot
-pub position_within : {O : Type 0} (test : ℕ → Bool) (number : O → ℕ) (os : List O) (ns : List ℕ) (place : ℕ) → take (length os) ns ≡ map number os
-    → place ≡ position_or_len test ns → place < length os → Some place ≡ position (λ o. test (number o)) os
-position_within test number os ns place same e small =
+pub position_within : {O : Type 0} (test : ℕ → Bool) (number : O → ℕ) (os : List O) (ns : List ℕ) (index : ℕ) → take (length os) ns ≡ map number os
+    → index ≡ position_or_len test ns → index < length os → Some index ≡ position (λ o. test (number o)) os
+position_within test number os ns index same e small =
     let found = (found_within test number os ns same).0 (omega arith) in
-    let at : position_or_len (λ o. test (number o)) os ≡ place = found ∙ sym e in
-    let inside : nat_lt (position_or_len (λ o. test (number o)) os) (length os) ≡ true = ap (λ k. nat_lt k (length os)) at ∙ lt-ltb place (length os) small in
+    let at : position_or_len (λ o. test (number o)) os ≡ index = found ∙ sym e in
+    let inside : nat_lt (position_or_len (λ o. test (number o)) os) (length os) ≡ true = ap (λ k. nat_lt k (length os)) at ∙ lt-ltb index (length os) small in
     sym (ap (λ b. cond b (Some (position_or_len (λ o. test (number o)) os)) None) inside ∙ ap Some at)
 
-pub position_past : {O : Type 0} (test : ℕ → Bool) (number : O → ℕ) (os : List O) (ns : List ℕ) (place : ℕ) → take (length os) ns ≡ map number os
-    → place ≡ position_or_len test ns → length os ≤ place → None ≡ position (λ o. test (number o)) os
-position_past test number os ns place same e large =
+pub position_past : {O : Type 0} (test : ℕ → Bool) (number : O → ℕ) (os : List O) (ns : List ℕ) (index : ℕ) → take (length os) ns ≡ map number os
+    → index ≡ position_or_len test ns → length os ≤ index → None ≡ position (λ o. test (number o)) os
+position_past test number os ns index same e large =
     let found = (found_within test number os ns same).1 (omega arith) in
     let outside : nat_lt (position_or_len (λ o. test (number o)) os) (length os) ≡ false = ap (λ k. nat_lt k (length os)) found ∙ le-ltb (length os) (length os) (omega arith) in
     sym (ap (λ b. cond b (Some (position_or_len (λ o. test (number o)) os)) None) outside)
 
--- the first place of a number among all, from a search that goes over them
+-- the first index of a number among all, from a search that goes over them
 pub record IsFirstSoFar (test : ℕ → Bool) (ns : List ℕ) (count at first : ℕ) : Type 0 where
   pub most : first ≤ count
   pub before : (k : ℕ) → k < first → k < at → test (get_or ns k 0) ≡ false

@@ -1,7 +1,7 @@
 pub mod PacketsLeftLaws
 pub mod Cuts
 pub mod PacketLists
-pub mod Places
+pub mod FirstIndexes
 pub mod Joining
 pub mod LastStarts
 pub mod Openness

@@ -110,7 +110,7 @@ packets_join unit message destination key start fs some x =
       whole = x.cut.whole ∙ joined_payloads fs;
     }
 
--- what the iterator has left, place by place
+-- what the iterator has left, index by index
 record AreLeft (unit : ℕ) (f : Frame) (fs : List Frame) : Type 0 where
   pub cut : IsCut unit f.payload (payloads fs)
   pub addressed : EachPacket fs (λ i g. g.destination ≡ f.destination)

@@ -35,7 +35,7 @@ next_place s i j least most most' e = omega arith
 not_same : (m n : ℕ) → m ≢ n → nat_eq m n ≡ false
 not_same m n other = grind (arith, nat_tests, other)
 
--- what joins packets of the list stands in it place by place
+-- what joins packets of the list stands in it index by index
 stands : (unit : ℕ) (message whole : List ℕ) (d : ℕ) (key : KeyValue) (s : ℕ) (qs ps : List Frame) → ArePacketsOf unit message d key s qs → length qs ≤ 5 → Joined ps whole
     → ((j : ℕ) (p : Frame) → slice_get ps j ≡ Some p → (i : ℕ) × (slice_get qs i ≡ Some p)) → (j : ℕ) (p : Frame) → slice_get ps j ≡ Some p → slice_get qs j ≡ Some p
 stands unit message whole d key s qs ps are few joined placed zero p at =
@@ -75,7 +75,7 @@ same_list (p ∷ ps) (q ∷ qs) long each =
     let rest = same_list ps qs (omega arith) (λ j r at. each (suc j) r at) in
     λ i. sym first i ∷ rest i
 
--- what holds of each packet holds of the one at a place
+-- what holds of each packet holds of the one at an index
 at_place : (P : Frame → Type 0) (ps : List Frame) (i : ℕ) (p : Frame) → AllByRecursion P ps → slice_get ps i ≡ Some p → P p
 at_place P [] i p all at = absurd (none-some p at)
 at_place P (q ∷ ps) zero p all at = subst P (same_Some q p at) all.0

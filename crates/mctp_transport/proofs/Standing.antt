@@ -12,7 +12,7 @@ use Rattle.mctp_transport.specs.Tables.{Partial, Holds, HoldsLast, TableStandsFo
 use Rattle.mctp_transport.specs.TableChanges.{begun, fault_at, extended, goes_on, answers_on, placed, started, ended, carried_at, carried, moved, expired}
 use Rattle.mctp_transport.specs.declared.drop_cause.DropCause.{DropCause}
 use Rattle.mctp_transport.specs.declared.drop_cause.DropCause.TheVariants as drop_cause
-use Rattle.mctp_transport.proofs.Places.{same_key-same, get_cases}
+use Rattle.mctp_transport.proofs.FirstIndexes.{same_key-same, get_cases}
 use Rattle.mctp_transport.proofs.Joining.{first_of_snoc, payloads_snoc}
 use Rattle.mctp_transport.proofs.Openness.{open_expired, open_packets, are_alone, one_payload, are_more, has_started}
 use Rattle.mctp_transport.proofs.Verdicts.{Told, heard_from, hears_one, hears_only}

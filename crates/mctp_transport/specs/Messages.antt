@@ -6,7 +6,7 @@ use Rattle.mctp_transport.specs.Frames.{Frame, key_of}
 abbrev pub payloads_of : List Frame → List ℕ
 payloads_of ps = flat_map (λ p. p.payload) ps
 
--- each packet has the property, at its place in the list
+-- each packet has the property, at its index in the list
 abbrev pub EachPacket : List Frame → (ℕ → Frame → Type 0) → Type 0
 EachPacket ps P = (i : ℕ) (p : Frame) → slice_get ps i ≡ Some p → P i p
 
@@ -14,7 +14,7 @@ EachPacket ps P = (i : ℕ) (p : Frame) → slice_get ps i ≡ Some p → P i p
 abbrev pub EachNext : List Frame → (Frame → Frame → Type 0) → Type 0
 EachNext ps R = (i : ℕ) (p q : Frame) → slice_get ps i ≡ Some p → slice_get ps (i + 1) ≡ Some q → R p q
 
--- the first packet and each packet of the list, at its place, are so related
+-- the first packet and each packet of the list, at its index, are so related
 abbrev pub FirstAndEach : List Frame → (ℕ → Frame → Frame → Type 0) → Type 0
 FirstAndEach ps R = (i : ℕ) (p q : Frame) → slice_get ps 0 ≡ Some p → slice_get ps i ≡ Some q → R i p q
 

@@ -16,11 +16,11 @@ step_answer new p step.Held = Held
 step_answer new p (step.Dropped w) = Dropped w
 
 -- a whole message lies inside the block
-abbrev pub IsPlace : Assembler → Step → Type 0
-IsPlace new (step.At start end) = (start ≤ end) × (end ≤ length new.block.items)
-IsPlace new step.Alone = Unit {0}
-IsPlace new step.Held = Unit {0}
-IsPlace new (step.Dropped w) = Unit {0}
+abbrev pub IsWithinBlock : Assembler → Step → Type 0
+IsWithinBlock new (step.At start end) = (start ≤ end) × (end ≤ length new.block.items)
+IsWithinBlock new step.Alone = Unit {0}
+IsWithinBlock new step.Held = Unit {0}
+IsWithinBlock new (step.Dropped w) = Unit {0}
 
 -- the step is what the table does
 pub record Takes (old : Assembler) (p : Frame) (answer : Answer) (new : Assembler) : Type 0 where

@@ -52,12 +52,12 @@ started limit t p =
     if nat_lt limit (length p.payload) then (t, Dropped drop_cause.Limit)
     else (if p.eom then (t, Whole p.payload) else placed t p (position is_none t))
 
--- t with the message at that place ended
+-- t with the message at that index ended
 abbrev pub ended : Table → Option ℕ → Table
 ended t None = t
 ended t (Some i) = slice_set t i None
 
--- a packet that starts nothing, at the place of its key
+-- a packet that starts nothing, at the index of its key
 abbrev pub carried_at : ℕ → Table → Frame → ℕ → Option (Option Partial) → Table × Answer
 carried_at limit t p i (Some (Some q)) = (slice_set t i (next_partial limit q p), next_answer limit q p)
 carried_at limit t p i _ = (t, Dropped drop_cause.NotOpen)

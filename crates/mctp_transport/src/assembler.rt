@@ -6,16 +6,16 @@ ghost use Rattle.mctp_transport.specs.KeyNumbers.{slot_number};
 mod block;
 mod key_numbers;
 mod open_message;
-mod places;
+mod open_slots;
 
 use crate::address::Key;
 use crate::cutting::MAX_MESSAGE;
 use crate::drop_cause::DropCause;
 use crate::packet::PacketView;
 use block::write;
-use key_numbers::{FREE, first_place, number_in, number_of};
+use key_numbers::{FREE, first_index, number_in, number_of};
 use open_message::OpenMessage;
-use places::open_in;
+use open_slots::open_in;
 use std::alloc::{AllocError, Global};
 
 /// The most slots of an assembler.
@@ -77,7 +77,7 @@ impl Assembler {
     ghost use Rattle.mctp_transport.specs.Assembly.{answer_of, Feeds, StandsFor, partial_of, table_of, assembler_slots, assembler_limit, assembler_memory};
     ghost use Rattle.mctp_transport.specs.Hearing.{HearsOnly};
     ghost use Rattle.mctp_transport.specs.Lending.{EndsAs};
-    ghost use Rattle.mctp_transport.specs.Steps.{IsPlace, Takes, step_answer};
+    ghost use Rattle.mctp_transport.specs.Steps.{IsWithinBlock, Takes, step_answer};
 
     /// An assembler of 1 to 64 slots for messages of at most `limit` bytes, 1 to 4096. All of its memory is taken
     /// here: `slots * limit` bytes and the table of slots.
@@ -139,7 +139,7 @@ impl Assembler {
         ensures { (h : History) → StandsFor self.now h
             → IsTrue result ↔ IsOpen (assembler_slots self.now) (assembler_limit self.now) h (key_value key) }
     {
-        self.place_of(key).is_some()
+        self.slot_of_key(key).is_some()
     }
 
     /// How many messages are open, each of another key.
@@ -160,16 +160,16 @@ impl Assembler {
     }
 
     /// The slot of the key's open message.
-    fn place_of(&self, key: Key) -> Option<usize>
-        ensures place { result ≡ position (is_at (key_value key)) (table_of self.now) }
+    fn slot_of_key(&self, key: Key) -> Option<usize>
+        ensures index { result ≡ position (is_at (key_value key)) (table_of self.now) }
         ensures within { IfSome result (λ i. i < assembler_slots self.now) }
     {
         self.slot_of(number_of(key))
     }
 
     /// A free slot.
-    fn free_place(&self) -> Option<usize>
-        ensures place { result ≡ position is_none (table_of self.now) }
+    fn free_slot(&self) -> Option<usize>
+        ensures index { result ≡ position is_none (table_of self.now) }
         ensures within { IfSome result (λ i. i < assembler_slots self.now) }
     {
         self.slot_of(FREE)
@@ -177,52 +177,52 @@ impl Assembler {
 
     /// The first slot of this number.
     fn slot_of(&self, number: u16) -> Option<usize>
-        ensures place { result ≡ position (λ slot. slot_number slot == number) self.now.slots.items }
+        ensures index { result ≡ position (λ slot. slot_number slot == number) self.now.slots.items }
         ensures within { IfSome result (λ i. i < assembler_slots self.now) }
     {
-        let place = first_place(&self.numbers, number);
-        if place < self.slots.len() {
-            Some(place)
+        let index = first_index(&self.numbers, number);
+        if index < self.slots.len() {
+            Some(index)
         } else {
             None
         }
     }
 
     /// Frees a slot.
-    fn close(&mut self, place: usize)
-        requires { place < assembler_slots self.old }
-        ensures table { table_of self.new ≡ slice_set (table_of self.old) place None }
+    fn close(&mut self, index: usize)
+        requires { index < assembler_slots self.old }
+        ensures table { table_of self.new ≡ slice_set (table_of self.old) index None }
         ensures slots { assembler_slots self.new ≡ assembler_slots self.old }
         ensures limit { assembler_limit self.new ≡ assembler_limit self.old }
         ensures memory { assembler_memory self.new ≡ assembler_memory self.old }
     {
-        self.slots[place] = None;
-        self.numbers[place] = FREE;
+        self.slots[index] = None;
+        self.numbers[index] = FREE;
     }
 
     /// Writes bytes into a slot's part of the block, and says what is open there then.
-    fn put(&mut self, place: usize, at: usize, bytes: &[u8], message: Option<OpenMessage>)
-        requires place { place < assembler_slots self.old }
+    fn put(&mut self, index: usize, at: usize, bytes: &[u8], message: Option<OpenMessage>)
+        requires index { index < assembler_slots self.old }
         requires fits { at + length bytes.now ≤ assembler_limit self.old }
         requires within { IfSome message (λ begun. begun.len ≤ assembler_limit self.old) }
-        ensures table { let bytes = part (assembler_limit self.old) self.new.block.items place in
-            table_of self.new ≡ slice_set (table_of self.old) place (partial_of message bytes) }
-        ensures part { take (at + length bytes.now) (part (assembler_limit self.old) self.new.block.items place)
-            ≡ take at (part (assembler_limit self.old) self.old.block.items place) ++ bytes.now }
+        ensures table { let bytes = part (assembler_limit self.old) self.new.block.items index in
+            table_of self.new ≡ slice_set (table_of self.old) index (partial_of message bytes) }
+        ensures part { take (at + length bytes.now) (part (assembler_limit self.old) self.new.block.items index)
+            ≡ take at (part (assembler_limit self.old) self.old.block.items index) ++ bytes.now }
         ensures slots { assembler_slots self.new ≡ assembler_slots self.old }
         ensures limit { assembler_limit self.new ≡ assembler_limit self.old }
         ensures memory { assembler_memory self.new ≡ assembler_memory self.old }
     {
-        write(&mut self.block, place * self.limit + at, bytes);
-        self.slots[place] = message;
-        self.numbers[place] = number_in(message);
+        write(&mut self.block, index * self.limit + at, bytes);
+        self.slots[index] = message;
+        self.numbers[index] = number_in(message);
     }
 
     /// Opens a message in a slot.
-    fn begin(&mut self, place: usize, packet: &PacketView)
-        requires place { place < assembler_slots self.old }
+    fn begin(&mut self, index: usize, packet: &PacketView)
+        requires index { index < assembler_slots self.old }
         requires fits { length packet.now.payload.now ≤ assembler_limit self.old }
-        ensures table { table_of self.new ≡ slice_set (table_of self.old) place (Some (begun (frame_of packet.now))) }
+        ensures table { table_of self.new ≡ slice_set (table_of self.old) index (Some (begun (frame_of packet.now))) }
         ensures slots { assembler_slots self.new ≡ assembler_slots self.old }
         ensures limit { assembler_limit self.new ≡ assembler_limit self.old }
         ensures memory { assembler_memory self.new ≡ assembler_memory self.old }
@@ -233,7 +233,7 @@ impl Assembler {
             unit: packet.payload.len(),
             len: packet.payload.len(),
         };
-        self.put(place, 0, packet.payload, Some(message));
+        self.put(index, 0, packet.payload, Some(message));
     }
 
     /// Ends the key's open message. True where there was one.
@@ -244,10 +244,10 @@ impl Assembler {
         ensures limit { assembler_limit self.new ≡ assembler_limit self.old }
         ensures memory { assembler_memory self.new ≡ assembler_memory self.old }
     {
-        match self.place_of(key) {
+        match self.slot_of_key(key) {
             None => false,
-            Some(place) => {
-                self.close(place);
+            Some(index) => {
+                self.close(index);
                 true
             }
         }
@@ -255,7 +255,7 @@ impl Assembler {
 
     /// Takes a packet in. All changes are made here, since `feed` lends the block.
     fn take(&mut self, packet: &PacketView) -> Step
-        ensures place { IsPlace self.new result }
+        ensures index { IsWithinBlock self.new result }
         ensures takes { let frame = frame_of packet.now in
             Takes self.old frame (step_answer self.new frame result) self.new }
     {
@@ -269,7 +269,7 @@ impl Assembler {
 
     /// Takes a first packet, with no message of its key open.
     fn start(&mut self, packet: &PacketView) -> Step
-        ensures place { IsPlace self.new result }
+        ensures index { IsWithinBlock self.new result }
         ensures table { let frame = frame_of packet.now in
             table_of self.new ≡ (started (assembler_limit self.old) (table_of self.old) frame).0 }
         ensures answer { let frame = frame_of packet.now in
@@ -284,62 +284,62 @@ impl Assembler {
         if packet.header.eom {
             return Step::Alone;
         }
-        let Some(place) = self.free_place() else {
+        let Some(index) = self.free_slot() else {
             return Step::Dropped(DropCause::Full);
         };
-        self.begin(place, packet);
+        self.begin(index, packet);
         Step::Held
     }
 
     /// Takes a middle packet or an end packet.
     fn carry(&mut self, packet: &PacketView) -> Step
-        ensures place { IsPlace self.new result }
+        ensures index { IsWithinBlock self.new result }
         ensures table { let frame = frame_of packet.now in
-            let place = position (is_at (key_of frame)) (table_of self.old) in
-            table_of self.new ≡ (carried (assembler_limit self.old) (table_of self.old) frame place).0 }
+            let index = position (is_at (key_of frame)) (table_of self.old) in
+            table_of self.new ≡ (carried (assembler_limit self.old) (table_of self.old) frame index).0 }
         ensures answer { let frame = frame_of packet.now in
-            let place = position (is_at (key_of frame)) (table_of self.old) in
+            let index = position (is_at (key_of frame)) (table_of self.old) in
             step_answer self.new frame result
-            ≡ (carried (assembler_limit self.old) (table_of self.old) frame place).1 }
+            ≡ (carried (assembler_limit self.old) (table_of self.old) frame index).1 }
         ensures slots { assembler_slots self.new ≡ assembler_slots self.old }
         ensures limit { assembler_limit self.new ≡ assembler_limit self.old }
         ensures memory { assembler_memory self.new ≡ assembler_memory self.old }
     {
-        match self.place_of(packet.key()) {
+        match self.slot_of_key(packet.key()) {
             None => Step::Dropped(DropCause::NotOpen),
-            Some(place) => self.go_on(place, packet),
+            Some(index) => self.go_on(index, packet),
         }
     }
 
     /// Takes a middle packet or an end packet of the message that is open in a slot.
-    fn go_on(&mut self, place: usize, packet: &PacketView) -> Step
-        requires { place < assembler_slots self.old }
-        ensures place { IsPlace self.new result }
-        ensures table { (q : Partial) → slice_get (table_of self.old) place ≡ Some (Some q)
+    fn go_on(&mut self, index: usize, packet: &PacketView) -> Step
+        requires { index < assembler_slots self.old }
+        ensures index { IsWithinBlock self.new result }
+        ensures table { (q : Partial) → slice_get (table_of self.old) index ≡ Some (Some q)
             → let next = next_partial (assembler_limit self.old) q (frame_of packet.now) in
-            table_of self.new ≡ slice_set (table_of self.old) place next }
-        ensures answer { (q : Partial) → slice_get (table_of self.old) place ≡ Some (Some q)
+            table_of self.new ≡ slice_set (table_of self.old) index next }
+        ensures answer { (q : Partial) → slice_get (table_of self.old) index ≡ Some (Some q)
             → let frame = frame_of packet.now in
             step_answer self.new frame result ≡ next_answer (assembler_limit self.old) q frame }
         ensures slots { assembler_slots self.new ≡ assembler_slots self.old }
         ensures limit { assembler_limit self.new ≡ assembler_limit self.old }
         ensures memory { assembler_memory self.new ≡ assembler_memory self.old }
     {
-        let Some(open) = self.slots[place] else {
+        let Some(open) = self.slots[index] else {
             return Step::Dropped(DropCause::NotOpen);
         };
         match open.next(self.limit, packet) {
             Err(why) => {
-                self.close(place);
+                self.close(index);
                 Step::Dropped(why)
             }
             Ok(next) => {
                 if packet.header.eom {
-                    self.put(place, open.len, packet.payload, None);
-                    let start = place * self.limit;
+                    self.put(index, open.len, packet.payload, None);
+                    let start = index * self.limit;
                     Step::At(start, start + next.len)
                 } else {
-                    self.put(place, open.len, packet.payload, Some(next));
+                    self.put(index, open.len, packet.payload, Some(next));
                     Step::Held
                 }
             }

@@ -12,7 +12,7 @@ use Rattle.net_check.specs.Moves.{IsEnd}
 use Rattle.net_check.specs.Routing.{OfItem}
 use Rattle.net_check.specs.Circles.{EndsAfter, IsLeastOnCircle}
 use Rattle.net_check.specs.Repositories.{IsChained}
-use Rattle.net_check.specs.RecordChains.{HasNext, HasNewNext, IsFollowedBy, ArePlaces, IsIndexOf, IsFirstPlaceOf, AreLinked, AreFromTheEnd}
+use Rattle.net_check.specs.RecordChains.{HasNext, HasNewNext, IsFollowedBy, ArePlaces, IsIndexOf, IsFirstIndexOf, AreLinked, AreFromTheEnd}
 use Rattle.net_check.proofs.Circling.{one_less, circle_never_ends, ends_once, spot, spot_parts}
 use Rattle.net_check.proofs.Elements.{element, in_set, in_push}
 use Rattle.net_check.proofs.Lines.{lands_within}
@@ -204,14 +204,14 @@ module _ (f : PlannedRecord → ℕ) (records : List PlannedRecord) where
   module _ (index : BTreeMap ℕ ℕ) (indexed : IsIndexOf (map f records) index) (key : ℕ) where
     pub index_some : (k : ℕ) → get nat_cmp index key ≡ Some k → (r : PlannedRecord) × (slice_get records k ≡ Some r) × (f r ≡ key) × ((i : ℕ) (other : PlannedRecord) → i < k → slice_get records i ≡ Some other → f other ≢ key)
     index_some k found =
-        let P : Option ℕ → Type 0 = λ o. MatchOption o ((i : ℕ) → slice_get (map f records) i ≢ Some key) (IsFirstPlaceOf (map f records) key) in
+        let P : Option ℕ → Type 0 = λ o. MatchOption o ((i : ℕ) → slice_get (map f records) i ≢ Some key) (IsFirstIndexOf (map f records) key) in
         let first = subst P found (indexed key) in
         let r = mapped k key first.0 in
         (r.0, r.1, r.2, λ i other less is same. first.1 i less (unmapped i other is ∙ ap Some same))
 
     pub index_none : get nat_cmp index key ≡ None → (i : ℕ) (other : PlannedRecord) → slice_get records i ≡ Some other → f other ≢ key
     index_none found i other is same =
-        let P : Option ℕ → Type 0 = λ o. MatchOption o ((i : ℕ) → slice_get (map f records) i ≢ Some key) (IsFirstPlaceOf (map f records) key) in
+        let P : Option ℕ → Type 0 = λ o. MatchOption o ((i : ℕ) → slice_get (map f records) i ≢ Some key) (IsFirstIndexOf (map f records) key) in
         subst P found (indexed key) i (unmapped i other is ∙ ap Some same)
 
 pub has_next_tells : (records : List PlannedRecord) (j : ℕ) (r : PlannedRecord) (index : BTreeMap ℕ ℕ) → slice_get records j ≡ Some r → IsIndexOf (map (λ (x : PlannedRecord). x.handle) records) index → r.next ≢ 0

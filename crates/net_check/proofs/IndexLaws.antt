@@ -8,11 +8,11 @@ use Rattle.std.proofs.lemmas.Map.Lookups.{exact_unsigned}
 use Rattle.std.specs.BTreeMap.{BTreeMap, get, Updates, is_at}
 use Rattle.std.proofs.lemmas.Bool.{cases_lt, cases_eq, true≢false}
 use Rattle.std.proofs.lemmas.Option.{same_Some, slice_get_within}
-use Rattle.net_check.specs.RecordChains.{IsFirstPlaceOf, IsIndexOf}
+use Rattle.net_check.specs.RecordChains.{IsFirstIndexOf, IsIndexOf}
 
 -- what the index says of a key, after so many of them
 abbrev pub SaysBelow : List ℕ → ℕ → ℕ → Option ℕ → Type 0
-SaysBelow keys count key place = MatchOption place ((i : ℕ) → i < count → slice_get keys i ≢ Some key) (λ p. (p < count) × IsFirstPlaceOf keys key p)
+SaysBelow keys count key place = MatchOption place ((i : ℕ) → i < count → slice_get keys i ≢ Some key) (λ p. (p < count) × IsFirstIndexOf keys key p)
 
 abbrev pub IsIndexBelow : List ℕ → ℕ → BTreeMap ℕ ℕ → Type 0
 IsIndexBelow keys count index = (key : ℕ) → SaysBelow keys count key (get nat_cmp index key)
@@ -73,7 +73,7 @@ module _ (keys : List ℕ) (count key : ℕ) (index : BTreeMap ℕ ℕ) (below :
           let Q : Option ℕ → Type 0 = λ o. SaysBelow keys (count + 1) key o in
           subst Q (sym e) (says_had keys count key p (subst P e (below key)))
 
-says_all : (keys : List ℕ) (count key : ℕ) (o : Option ℕ) → length keys ≤ count → SaysBelow keys count key o → MatchOption o ((i : ℕ) → slice_get keys i ≢ Some key) (IsFirstPlaceOf keys key)
+says_all : (keys : List ℕ) (count key : ℕ) (o : Option ℕ) → length keys ≤ count → SaysBelow keys count key o → MatchOption o ((i : ℕ) → slice_get keys i ≢ Some key) (IsFirstIndexOf keys key)
 says_all keys count key None long none = λ i is. none i (omega (arith, slice_get_within keys i key is)) is
 says_all keys count key (Some p) long h = h.1
 

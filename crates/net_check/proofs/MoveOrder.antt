@@ -15,7 +15,7 @@ use Rattle.net_check.specs.HeldEids.{IsLedOn}
 use Rattle.net_check.specs.Superfluous.{NeedsWhatItIsGiven, NeedsItsRank}
 use Rattle.net_check.specs.TwoPlans.{Tables, moving}
 use Rattle.net_check.specs.MoveRules.{Requirement, SameFrame, SameNode, Before, After, WayOnBefore, WayOnAfter, Given, HaveSameFrame, IsSameNode, but_rows, DemandsBefore, DemandsAfter, MoveDemands, AcceptsMove}
-use Rattle.net_check.specs.MoveFaults.{MovePlace, order_of_requirement, order_of_its_rule, MoveComesBefore, IsMoveMet, IsFirstMoveFault, required_before, required_after, required_of_both, move_place, IsFirstFaultOf}
+use Rattle.net_check.specs.MoveFaults.{MoveFaultSite, order_of_requirement, order_of_its_rule, MoveComesBefore, IsMoveMet, IsFirstMoveFault, required_before, required_after, required_of_both, move_site, IsFirstFaultOf}
 use Rattle.net_check.specs.MoveSearch.{IsFirstUnlike, NodeComesBefore, IsFirstByRules, IsFirstByNode}
 use Rattle.net_check.proofs.Spots.{node_fails}
 use Rattle.net_check.proofs.Beyond.{at_node}
@@ -112,7 +112,7 @@ module _ (before after : Plan) (cert : Certificate) where
       → IsFirstMoveFault before after cert (record { requirement = asked_at k rule; node = n; entry = entry; eid = eid })
   first_here k rule n entry eid there below broken first = record { broken = broken; first = λ other earlier. met other earlier }
     where
-      met : (other : MovePlace) → MoveComesBefore other (record { requirement = asked_at k rule; node = n; entry = entry; eid = eid }) → IsMoveMet before after cert other
+      met : (other : MoveFaultSite) → MoveComesBefore other (record { requirement = asked_at k rule; node = n; entry = entry; eid = eid }) → IsMoveMet before after cert other
       met other earlier = elim earlier [
         | inl less ↦ below other.requirement (omega (arith, less, there)) other.node other.entry other.eid
         | inr (same, rest) ↦
@@ -129,7 +129,7 @@ module _ (before after : Plan) (cert : Certificate) where
       → IsFirstMoveFault before after cert (record { requirement = requirement; node = n; entry = entry; eid = eid })
   first_alone k requirement n entry eid asked there alone below found = record { broken = found.0; first = λ other earlier. met other earlier }
     where
-      met : (other : MovePlace) → MoveComesBefore other (record { requirement = requirement; node = n; entry = entry; eid = eid }) → IsMoveMet before after cert other
+      met : (other : MoveFaultSite) → MoveComesBefore other (record { requirement = requirement; node = n; entry = entry; eid = eid }) → IsMoveMet before after cert other
       met other earlier = elim earlier [
         | inl less ↦ below other.requirement (omega (arith, less, there)) other.node other.entry other.eid
         | inr (same, rest) ↦
@@ -192,13 +192,13 @@ module _ (before after : Plan) (cert : Certificate) where
 
   -- ways on
   named_before : (fault : MoveFault) (rule : MoveRule) (requirement : Requirement) → fault.rule ≡ rule → required_before rule ≡ Some requirement
-      → IsFirstMoveFault before after cert (move_place requirement fault) → IsFirstFaultOf before after cert (required_before fault.rule) fault
+      → IsFirstMoveFault before after cert (move_site requirement fault) → IsFirstFaultOf before after cert (required_before fault.rule) fault
   named_before fault rule requirement same asked first =
       let P : Option Requirement → Type 0 = λ r. IsFirstFaultOf before after cert r fault in
       subst P (sym (ap required_before same ∙ asked)) first
 
   named_after : (fault : MoveFault) (rule : MoveRule) (requirement : Requirement) → fault.rule ≡ rule → required_after rule ≡ Some requirement
-      → IsFirstMoveFault before after cert (move_place requirement fault) → IsFirstFaultOf before after cert (required_after fault.rule) fault
+      → IsFirstMoveFault before after cert (move_site requirement fault) → IsFirstFaultOf before after cert (required_after fault.rule) fault
   named_after fault rule requirement same asked first =
       let P : Option Requirement → Type 0 = λ r. IsFirstFaultOf before after cert r fault in
       subst P (sym (ap required_after same ∙ asked)) first

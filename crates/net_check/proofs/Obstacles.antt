@@ -13,7 +13,7 @@ use Rattle.net_check.specs.Routing.{MovesTo}
 use Rattle.net_check.specs.Owners.{IsOwnedBy}
 use Rattle.net_check.specs.Repositories.{records_of, places_given, places_of, HasRecords}
 use Rattle.net_check.specs.RecordChains.{HaveNewHandles}
-use Rattle.net_check.specs.Faults.{Place, place_of, order_of, ComesBefore}
+use Rattle.net_check.specs.Faults.{FaultSite, site_of, order_of, ComesBefore}
 use Rattle.net_check.specs.PlanFaults.{PlanMeets, IsMetByPlan, IsFirstOfPlanRule}
 use Rattle.net_check.specs.RoutingLoops.{RowsAreApart, RowsAreInRange}
 use Rattle.net_check.specs.Certificates.{AreExactLevels, AreExactPlaces, AreExactRanks, IsMadeBefore, CanBeMetBefore, NamesOwnerLoop, NamesRoutingLoop, NamesBadChain, NamesObstacle, RulesOutCertificates}
@@ -107,7 +107,7 @@ fault_named plan rule made fault is (here, broken, first) =
     let C : Rule → Type 0 = λ r. CanBeMetBefore plan (order_of r) in
     (subst C (sym here) (made_can plan (order_of rule) made is), record { broken = broken; first = λ other before. earlier other before })
   where
-    earlier : (other : Place) → ComesBefore other (place_of fault) → IsMetByPlan plan other
+    earlier : (other : FaultSite) → ComesBefore other (site_of fault) → IsMetByPlan plan other
     earlier other before = elim before [
       | inl less ↦ is.meets other.rule (let at = ap order_of here in omega (arith, less, at)) other.node other.entry other.eid
       | inr (same, rest) ↦ first other (one_order other.rule fault.rule same ∙ here) (inr (same, rest))
@@ -137,7 +137,7 @@ bad_chain_named plan made (error.BadChain node fault) is named = (made_can plan 
 -- what is named leaves no certificate
 pub ruled_out : (plan : Plan) (e : CertifyError) → NamesObstacle plan e → RulesOutCertificates plan e
 ruled_out plan error.OutOfMemory named = λ some. absurd (some refl)
-ruled_out plan (error.Fault fault) named = λ some cert accepted. (let p = place_of fault in named.1.broken ((accepted p.rule p.node p.entry p.eid).0))
+ruled_out plan (error.Fault fault) named = λ some cert accepted. (let p = site_of fault in named.1.broken ((accepted p.rule p.node p.entry p.eid).0))
 ruled_out plan (error.OwnerLoop nodes) named = λ some cert accepted. first_loop_breaks_levels plan nodes.items named.2 cert (λ n. (accepted C07 n None None).1)
 ruled_out plan (error.Loop eid nodes) named = λ some. looped_has_none plan eid.value nodes.items named.1
 ruled_out plan (error.BadChain node fault) named = λ some cert accepted.

@@ -9,7 +9,7 @@ use Rattle.net_check.specs.declared.rule.Rule.TheVariants.{C01, C02, C03, C04, C
 use Rattle.net_plan.specs.declared.plan.Plan.{Plan}
 use Rattle.net_plan.specs.declared.certificate.Certificate.{Certificate}
 use Rattle.net_check.specs.Rules.{RuleHolds}
-use Rattle.net_check.specs.Faults.{Place, place_of, eid_number, order_of, ComesBefore, IsMet, IsFirstFault}
+use Rattle.net_check.specs.Faults.{FaultSite, site_of, eid_number, order_of, ComesBefore, IsMet, IsFirstFault}
 use Rattle.net_check.specs.Search.{IsFirstOfRule}
 use Rattle.net_check.specs.MoveSearch.{IsFirstByRule, IsFirstByRules}
 
@@ -90,10 +90,10 @@ more_hold P k d within before here other less =
 
 -- the first fault of the first rule that has one is the first of all
 pub first_of_first : (plan : Plan) (cert : Certificate) (k : ℕ) (d : Rule) (fault : Fault) → k < 16 → ((other : Rule) → order_of other < k → RuleHolds plan cert other)
-    → IsFirstOfRule plan cert (get_or in_order k d) (Some fault) → IsFirstFault plan cert (place_of fault)
+    → IsFirstOfRule plan cert (get_or in_order k d) (Some fault) → IsFirstFault plan cert (site_of fault)
 first_of_first plan cert k d fault within before (here, broken, first) = record { broken = broken; first = λ other earlier. met other earlier }
   where
-    met : (other : Place) → ComesBefore other (place_of fault) → IsMet plan cert other
+    met : (other : FaultSite) → ComesBefore other (site_of fault) → IsMet plan cert other
     met other earlier = elim earlier [
       | inl less ↦ before other.rule (let at = order_at k d within in let same = ap order_of here in omega (arith, less, at, same)) other.node other.entry other.eid
       | inr (same, rest) ↦ first other (one_order other.rule fault.rule same ∙ here) (inr (same, rest))
@@ -106,7 +106,7 @@ pub first_by_rules : (D : Rule → ℕ → Option ℕ → Option ℕ → Type 0)
 first_by_rules D k d fault within before (here, broken, first) =
     (let P : Rule → Type 0 = λ rule. ¬ D rule fault.node fault.entry (eid_number fault.eid) in subst P (sym here) broken, λ other earlier. met other earlier)
   where
-    met : (other : Place) → ComesBefore other (place_of fault) → D other.rule other.node other.entry other.eid
+    met : (other : FaultSite) → ComesBefore other (site_of fault) → D other.rule other.node other.entry other.eid
     met other earlier = elim earlier [
       | inl less ↦ before other.rule (let at = order_at k d within in let same = ap order_of here in omega (arith, less, at, same)) other.node other.entry other.eid
       | inr (same, rest) ↦

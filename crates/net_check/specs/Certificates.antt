@@ -18,7 +18,7 @@ use Rattle.net_check.specs.Ranks.{rank_given}
 use Rattle.net_check.specs.Repositories.{records_of, places_given}
 use Rattle.net_check.specs.RecordChains.{ArePlaces, IsBadChain}
 use Rattle.net_check.specs.Rules.{Accepts}
-use Rattle.net_check.specs.Faults.{order_of, place_of}
+use Rattle.net_check.specs.Faults.{order_of, site_of}
 use Rattle.net_check.specs.PlanFaults.{PlanMeets, IsFirstPlanFault}
 use Rattle.net_check.specs.Circles.{HasNoCircle}
 use Rattle.net_check.specs.RoutingLoops.{IsRank, IsFirstRoutingLoop}
@@ -83,7 +83,7 @@ pub record CanBeMetBefore (plan : Plan) (order : ℕ) : Type 0 where
 abbrev pub NamesObstacle : Plan → CertifyError → Type 0
 NamesObstacle plan error.OutOfMemory = Unit {0}
 NamesObstacle plan (error.Fault fault) =
-    CanBeMetBefore plan (order_of fault.rule) × IsFirstPlanFault plan (place_of fault)
+    CanBeMetBefore plan (order_of fault.rule) × IsFirstPlanFault plan (site_of fault)
 NamesObstacle plan (error.OwnerLoop nodes) =
     CanBeMetBefore plan (order_of C07) × PlanMeets plan C07 × IsFirstOwnerLoop plan nodes.items
 NamesObstacle plan (error.Loop eid nodes) =

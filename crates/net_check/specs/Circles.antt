@@ -1,11 +1,11 @@
--- Where moves from place to place lead: to an end, or round a circle.
+-- Where moves from index to index lead: to an end, or round a circle.
 use Rattle.std.specs.Prelude.{◌≡◌, ◌≢◌, ℕ, suc, ◌+◌, ◌-◌, ◌<◌, ◌≤◌, List}
 use Rattle.std.specs.Prelude.{length, slice_get, Option, Some, option_and_then}
 use Rattle.net_check.specs.declared.certifying.walks.Walked.{Walked}
 use Rattle.net_check.specs.declared.certifying.walks.Walked.TheVariants.{Ended, Circled}
 use Rattle.net_check.specs.Moves.{Leads, IsEnd}
 
--- so many moves lead from n to a place that no move leaves
+-- so many moves lead from n to an index that no move leaves
 abbrev pub EndsAfter : (ℕ → ℕ → Type 0) → ℕ → ℕ → Type 0
 EndsAfter Move n k = (m : ℕ) × Leads Move n k m × IsEnd Move m
 
@@ -25,21 +25,21 @@ pub record IsLoop (Move : ℕ → ℕ → Type 0) (places : List ℕ) : Type 0 w
   pub closed : slice_get places (length places - 1) ≡ slice_get places 0
   pub joined : (i n m : ℕ) → slice_get places i ≡ Some n → slice_get places (i + 1) ≡ Some m → Move n m
 
--- A loop from a place up to the first return to it.
+-- A loop from an index up to the first return to it.
 pub record IsLoopFrom (Move : ℕ → ℕ → Type 0) (first : ℕ) (places : List ℕ) : Type 0 where
   pub loop : IsLoop Move places
   pub starts : slice_get places 0 ≡ Some first
   pub once : (i : ℕ) → 0 < i → i + 1 < length places → slice_get places i ≢ Some first
 
--- the place is on a circle, and no lesser one is
+-- the index is on a circle, and no lesser one is
 abbrev pub IsLeastOnCircle : (ℕ → ℕ → Type 0) → ℕ → Type 0
 IsLeastOnCircle Move first = IsOnCircle Move first × ((n : ℕ) → IsOnCircle Move n → first ≤ n)
 
--- the loop from the least place on a circle
+-- the loop from the least index on a circle
 abbrev pub IsLeastLoop : (ℕ → ℕ → Type 0) → List ℕ → Type 0
 IsLeastLoop Move places = (first : ℕ) × IsLeastOnCircle Move first × IsLoopFrom Move first places
 
--- moves by a table: each place's next place, if any
+-- moves by a table: each index's next index, if any
 abbrev pub next_in : List (Option ℕ) → ℕ → Option ℕ
 next_in table n = option_and_then (λ next. next) (slice_get table n)
 
@@ -51,12 +51,12 @@ abbrev pub AreMovesToEnds : (ℕ → ℕ → Type 0) → ℕ → List ℕ → Ty
 AreMovesToEnds Move places counts =
     (length counts ≡ places) × ((n k : ℕ) → slice_get counts n ≡ Some k → EndsAfter Move n k)
 
--- each number that is given for a place is that of the moves from it to its end
+-- each number that is given for an index is that of the moves from it to its end
 abbrev pub AreKnown : (ℕ → ℕ → Type 0) → List (Option ℕ) → Type 0
 AreKnown Move known = (n k : ℕ) → slice_get known n ≡ Some (Some k) → EndsAfter Move n k
 
--- either no place is on a circle, and these are the numbers of moves to the ends; or this is the loop from the least
--- place on a circle
+-- either no index is on a circle, and these are the numbers of moves to the ends; or this is the loop from the least
+-- index on a circle
 abbrev pub IsWalked : (ℕ → ℕ → Type 0) → ℕ → Walked → Type 0
 IsWalked Move places (Ended counts) = HasNoCircle Move × AreMovesToEnds Move places counts.items
 IsWalked Move places (Circled loop) = IsLeastLoop Move loop.items

@@ -3,9 +3,9 @@ use Rattle.net_plan.specs.declared.plan.Plan.{Plan}
 use Rattle.net_plan.specs.declared.certificate.Certificate.{Certificate}
 use Rattle.net_check.specs.declared.check_error.CheckError.{CheckError}
 use Rattle.net_check.specs.declared.check_error.CheckError.TheVariants as error
-use Rattle.net_check.specs.Faults.{IsFirstFault, place_of}
+use Rattle.net_check.specs.Faults.{IsFirstFault, site_of}
 
 -- unless memory ran out, the error names the first fault
 abbrev pub NamesFirstFault : Plan → Certificate → CheckError → Type 0
 NamesFirstFault plan cert error.OutOfMemory = Unit {0}
-NamesFirstFault plan cert (error.Fault fault) = IsFirstFault plan cert (place_of fault)
+NamesFirstFault plan cert (error.Fault fault) = IsFirstFault plan cert (site_of fault)

@@ -1,4 +1,4 @@
--- Where a rule is broken, and which of the places is the first.
+-- Where a rule is broken, and which of the sites is the first.
 use Rattle.std.specs.Prelude.{◌≡◌, ◌⊎◌, ℕ, suc, ◌<◌, List, [], ◌∷◌, Option, Some, None, option_map}
 use Rattle.mctp_transport.specs.declared.address.Eid.{Eid}
 use Rattle.net_check.specs.declared.rule.Rule.{Rule}
@@ -10,7 +10,7 @@ use Rattle.net_plan.specs.declared.certificate.Certificate.{Certificate}
 use Rattle.net_check.specs.Rules.{Demands}
 
 -- a rule and a node, with an entry and an EID where the rule speaks of them
-pub record Place : Type 0 where
+pub record FaultSite : Type 0 where
   pub rule : Rule
   pub node : ℕ
   pub entry : Option ℕ
@@ -20,10 +20,10 @@ pub record Place : Type 0 where
 abbrev pub eid_number : Option Eid → Option ℕ
 eid_number eid = option_map (λ e. e.value) eid
 
-abbrev pub place_of : Fault → Place
-place_of fault = record { rule = fault.rule; node = fault.node; entry = fault.entry; eid = eid_number fault.eid }
+abbrev pub site_of : Fault → FaultSite
+site_of fault = record { rule = fault.rule; node = fault.node; entry = fault.entry; eid = eid_number fault.eid }
 
--- a rule's place in the order of the rules
+-- a rule's site in the order of the rules
 abbrev pub order_of : Rule → ℕ
 order_of C01 = 0
 order_of C02 = 1
@@ -47,26 +47,26 @@ abbrev pub order_of_number : Option ℕ → ℕ
 order_of_number None = 0
 order_of_number (Some k) = suc k
 
--- at the first place where the lists differ, the first list's number is less
+-- at the first site where the lists differ, the first list's number is less
 abbrev pub LessByFirstDifference : List ℕ → List ℕ → Type 0
 LessByFirstDifference (a ∷ rest) (b ∷ others) = (a < b) ⊎ ((a ≡ b) × LessByFirstDifference rest others)
 LessByFirstDifference [] others = ⊥
 LessByFirstDifference (a ∷ rest) [] = ⊥
 
 -- by rule, then node, then entry, then EID
-abbrev pub ComesBefore : Place → Place → Type 0
+abbrev pub ComesBefore : FaultSite → FaultSite → Type 0
 ComesBefore p q = LessByFirstDifference
     (order_of p.rule ∷ p.node ∷ order_of_number p.entry ∷ order_of_number p.eid ∷ [])
     (order_of q.rule ∷ q.node ∷ order_of_number q.entry ∷ order_of_number q.eid ∷ [])
 
--- the rule holds at the place
-abbrev pub IsMet : Plan → Certificate → Place → Type 0
+-- the rule holds at the site
+abbrev pub IsMet : Plan → Certificate → FaultSite → Type 0
 IsMet plan cert p = Demands plan cert p.rule p.node p.entry p.eid
 
-abbrev pub IsBroken : Plan → Certificate → Place → Type 0
+abbrev pub IsBroken : Plan → Certificate → FaultSite → Type 0
 IsBroken plan cert p = ¬ IsMet plan cert p
 
--- the rule is broken at the place, and none is at a place before it
-pub record IsFirstFault (plan : Plan) (cert : Certificate) (place : Place) : Type 0 where
-  pub broken : IsBroken plan cert place
-  pub first : (other : Place) → ComesBefore other place → IsMet plan cert other
+-- the rule is broken at the site, and none is at a site before it
+pub record IsFirstFault (plan : Plan) (cert : Certificate) (site : FaultSite) : Type 0 where
+  pub broken : IsBroken plan cert site
+  pub first : (other : FaultSite) → ComesBefore other site → IsMet plan cert other

@@ -43,7 +43,7 @@ abbrev pub DoNewRowsFollow : Plans → ℕ → RowOrder → Type 0
 DoNewRowsFollow plans n order =
     (after : Plan) → option_map (λ a. a.now) plans.after ≡ Some after → DoRowsFollow after n order
 
--- tables of ranks by EID, each as the certificate gives them to the node of its place
+-- tables of ranks by EID, each as the certificate gives them to the node of its index
 abbrev pub AreRankTables : Certificate → List (List ℕ) → Type 0
 AreRankTables cert tables =
     (n : ℕ) → OfItem tables n (λ table. (e : ℕ) → e < 256 → slice_index_or table e 0 ≡ rank cert n e)

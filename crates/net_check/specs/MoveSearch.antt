@@ -5,7 +5,7 @@ use Rattle.net_check.specs.declared.fault.Fault.{Fault}
 use Rattle.net_check.specs.declared.move_fault.MoveRule.{MoveRule}
 use Rattle.net_check.specs.declared.move_fault.MoveFault.{MoveFault}
 use Rattle.net_plan.specs.declared.plan.Plan.{Plan}
-use Rattle.net_check.specs.Faults.{Place, place_of, eid_number, order_of_number, LessByFirstDifference, ComesBefore}
+use Rattle.net_check.specs.Faults.{FaultSite, site_of, eid_number, order_of_number, LessByFirstDifference, ComesBefore}
 use Rattle.net_check.specs.MoveRules.{IsSameNode}
 
 -- the first node that is not the same, if any
@@ -32,7 +32,7 @@ abbrev pub IsFirstByRules : (Rule → ℕ → Option ℕ → Option ℕ → Type
 IsFirstByRules D None = (rule : Rule) (n : ℕ) (entry eid : Option ℕ) → D rule n entry eid
 IsFirstByRules D (Some fault) =
     ¬ D fault.rule fault.node fault.entry (eid_number fault.eid)
-    × ((other : Place) → ComesBefore other (place_of fault) → D other.rule other.node other.entry other.eid)
+    × ((other : FaultSite) → ComesBefore other (site_of fault) → D other.rule other.node other.entry other.eid)
 
 -- the first fault of a rule of both plans, by what it demands at each node, if any
 abbrev pub IsFirstByNode : MoveRule → (ℕ → Option ℕ → Option ℕ → Type 0) → Option MoveFault → Type 0

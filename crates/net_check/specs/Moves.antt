@@ -1,4 +1,4 @@
--- Moves from place to place, one after another.
+-- Moves from index to index, one after another.
 use Rattle.std.specs.Prelude.{◌≡◌, ℕ, zero, suc}
 
 -- so many moves lead from n to m

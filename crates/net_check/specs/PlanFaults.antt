@@ -4,7 +4,7 @@ use Rattle.net_check.specs.declared.rule.Rule.{Rule}
 use Rattle.net_check.specs.declared.fault.Fault.{Fault}
 use Rattle.net_plan.specs.declared.plan.Plan.{Plan}
 use Rattle.net_check.specs.Rules.{PlanDemands}
-use Rattle.net_check.specs.Faults.{Place, place_of, ComesBefore}
+use Rattle.net_check.specs.Faults.{FaultSite, site_of, ComesBefore}
 
 -- the plan meets the rule everywhere, as far as the rule speaks of the plan alone
 abbrev pub PlanMeets : Plan → Rule → Type 0
@@ -14,17 +14,17 @@ PlanMeets plan rule = (n : ℕ) (entry eid : Option ℕ) → PlanDemands plan ru
 abbrev pub PlanMeetsAll : Plan → Type 0
 PlanMeetsAll plan = (rule : Rule) → PlanMeets plan rule
 
-abbrev pub IsMetByPlan : Plan → Place → Type 0
+abbrev pub IsMetByPlan : Plan → FaultSite → Type 0
 IsMetByPlan plan p = PlanDemands plan p.rule p.node p.entry p.eid
 
--- The plan breaks the rule at the place, and none at a place before it.
-pub record IsFirstPlanFault (plan : Plan) (place : Place) : Type 0 where
-  pub broken : ¬ IsMetByPlan plan place
-  pub first : (other : Place) → ComesBefore other place → IsMetByPlan plan other
+-- The plan breaks the rule at the site, and none at a site before it.
+pub record IsFirstPlanFault (plan : Plan) (site : FaultSite) : Type 0 where
+  pub broken : ¬ IsMetByPlan plan site
+  pub first : (other : FaultSite) → ComesBefore other site → IsMetByPlan plan other
 
 -- what the search answers: the first fault of one rule, if any
 abbrev pub IsFirstOfPlanRule : Plan → Rule → Option Fault → Type 0
 IsFirstOfPlanRule plan rule None = PlanMeets plan rule
 IsFirstOfPlanRule plan rule (Some fault) =
-    (fault.rule ≡ rule) × ¬ IsMetByPlan plan (place_of fault)
-    × ((other : Place) → other.rule ≡ rule → ComesBefore other (place_of fault) → IsMetByPlan plan other)
+    (fault.rule ≡ rule) × ¬ IsMetByPlan plan (site_of fault)
+    × ((other : FaultSite) → other.rule ≡ rule → ComesBefore other (site_of fault) → IsMetByPlan plan other)

@@ -32,7 +32,7 @@ abbrev pub Continues : List RankRange → ℕ → ℕ → Type 0
 Continues ranges e rank =
     (last : RankRange) × (slice_get ranges (length ranges - 1) ≡ Some last) × Precedes last e rank
 
--- each of so many nodes, by its place, has no ranges
+-- each of so many nodes, by its index, has no ranges
 abbrev pub AreNone : ℕ → List NodeRanks → Type 0
 AreNone count given = (length given ≡ count)
     × ((n : ℕ) (one : NodeRanks) → slice_get given n ≡ Some one → (one.node ≡ n) × (one.ranges.items ≡ []))

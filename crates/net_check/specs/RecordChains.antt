@@ -71,13 +71,13 @@ chain_entry_of (Doubled j) = j
 chain_entry_of (Circle j) = j
 
 -- the place is the first at which the key stands
-abbrev pub IsFirstPlaceOf : List ℕ → ℕ → ℕ → Type 0
-IsFirstPlaceOf keys key place = (slice_get keys place ≡ Some key) × ((i : ℕ) → i < place → slice_get keys i ≢ Some key)
+abbrev pub IsFirstIndexOf : List ℕ → ℕ → ℕ → Type 0
+IsFirstIndexOf keys key place = (slice_get keys place ≡ Some key) × ((i : ℕ) → i < place → slice_get keys i ≢ Some key)
 
 -- each key of the list is mapped to its first place, and no other is
 abbrev pub IsIndexOf : List ℕ → BTreeMap ℕ ℕ → Type 0
 IsIndexOf keys index =
-    (key : ℕ) → MatchOption (get nat_cmp index key) ((i : ℕ) → slice_get keys i ≢ Some key) (IsFirstPlaceOf keys key)
+    (key : ℕ) → MatchOption (get nat_cmp index key) ((i : ℕ) → slice_get keys i ≢ Some key) (IsFirstIndexOf keys key)
 
 -- no record is without its next one, and no two have one next handle
 pub record AreLinked (records : List PlannedRecord) : Type 0 where

@@ -8,7 +8,7 @@ use Rattle.net_plan.specs.declared.nodes.Row.{Row}
 use Rattle.net_plan.specs.declared.certificate.Certificate.{Certificate}
 use Rattle.net_check.specs.Routing.{OfItem, Covers}
 use Rattle.net_check.specs.Rules.{RuleHolds, Accepts}
-use Rattle.net_check.specs.Faults.{Place, place_of, eid_number, order_of_number}
+use Rattle.net_check.specs.Faults.{FaultSite, site_of, eid_number, order_of_number}
 use Rattle.net_check.specs.Faults.{LessByFirstDifference, ComesBefore, IsMet, IsBroken, IsFirstFault}
 
 -- the first item of the list of which the fact fails, if any
@@ -38,10 +38,10 @@ IsFirstSpot D (Some spot) =
 abbrev pub IsFirstOfRule : Plan → Certificate → Rule → Option Fault → Type 0
 IsFirstOfRule plan cert rule None = RuleHolds plan cert rule
 IsFirstOfRule plan cert rule (Some fault) =
-    (fault.rule ≡ rule) × IsBroken plan cert (place_of fault)
-    × ((other : Place) → other.rule ≡ rule → ComesBefore other (place_of fault) → IsMet plan cert other)
+    (fault.rule ≡ rule) × IsBroken plan cert (site_of fault)
+    × ((other : FaultSite) → other.rule ≡ rule → ComesBefore other (site_of fault) → IsMet plan cert other)
 
 -- the first fault of all, if any
 abbrev pub IsFirstOfAll : Plan → Certificate → Option Fault → Type 0
 IsFirstOfAll plan cert None = Accepts plan cert
-IsFirstOfAll plan cert (Some fault) = IsFirstFault plan cert (place_of fault)
+IsFirstOfAll plan cert (Some fault) = IsFirstFault plan cert (site_of fault)

@@ -8,9 +8,9 @@ use mctp_transport::Eid;
 #[derive(Clone, Copy, Debug, PartialEq, Eq)]
 pub struct Fault {
     pub rule: Rule,
-    /// The place of the node in the plan's list.
+    /// The index of the node in the plan's list.
     pub node: usize,
-    /// The place of the row in the node's list, or of the record in its terminus's, where the rule speaks of one.
+    /// The index of the row in the node's list, or of the record in its terminus's, where the rule speaks of one.
     pub entry: Option<usize>,
     /// The endpoint ID, where the rule speaks of one.
     pub eid: Option<Eid>,

@@ -71,7 +71,7 @@ fn ranks_for<'a>(
     }
 }
 
-/// The first place at the node where the rule is broken.
+/// The first spot at the node where the rule is broken.
 fn first_at(
     alloc: Global,
     plan: &Plan,

@@ -1,4 +1,4 @@
-//! What a plan and its certificate say of a node, by the node's place in the plan's list.
+//! What a plan and its certificate say of a node, by the node's index in the plan's list.
 ghost use Rattle.std.specs.Prelude.{◌≡◌, ℕ, ◌+◌, ◌<◌, ◌↔◌, ◌==◌, IsTrue, map, option_map, slice_get};
 ghost use Rattle.std.specs.List.{list_any};
 ghost use Rattle.net_check.specs.Routing.{Holds, Covers, HasRow, IsBridge, eid_of, rows_of, ports_of};

@@ -13,7 +13,7 @@ pub enum MoveRule {
     /// A row leads an endpoint ID that another node holds to a node that holds it, or to a bridge with a row for it in
     /// both plans.
     M02,
-    /// The certificate gives no level or place that the old plan has no use for, and no rank that neither plan has a
+    /// The certificate gives no level or index that the old plan has no use for, and no rank that neither plan has a
     /// use for.
     M03,
 }
@@ -36,9 +36,9 @@ impl MoveRule {
 #[derive(Clone, Copy, Debug, PartialEq, Eq)]
 pub struct MoveFault {
     pub rule: MoveRule,
-    /// The place of the node in the plans' lists.
+    /// The index of the node in the plans' lists.
     pub node: usize,
-    /// The place of the row in the node's list, or of the record in its terminus's, where the rule speaks of one.
+    /// The index of the row in the node's list, or of the record in its terminus's, where the rule speaks of one.
     pub entry: Option<usize>,
     /// The endpoint ID, where the rule speaks of one.
     pub eid: Option<Eid>,

@@ -13,7 +13,7 @@ use crate::spot::Spot;
 use net_plan::Plan;
 use std::alloc::{AllocError, Global};
 
-/// The first place where the plan breaks the rule.
+/// The first spot where the plan breaks the rule.
 pub fn first_of_plan_rule(
     alloc: Global,
     plan: &Plan,
@@ -36,7 +36,7 @@ pub fn first_of_plan_rule(
     Ok(None)
 }
 
-/// The first place at the node where the plan breaks the rule.
+/// The first spot at the node where the plan breaks the rule.
 pub fn first_of_plan_at(
     alloc: Global,
     plan: &Plan,

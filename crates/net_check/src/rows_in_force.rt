@@ -189,15 +189,15 @@ fn border_by_halving(plan: &Plan, node: usize, eid: Eid) -> u16
     }
 }
 
-/// Where the rows end that follow the row at a place, which has the endpoint ID, without a gap.
-fn end_of_joined(rows: &[Row], place: usize, eid: Eid) -> u16
-    requires within { place < length rows.now }
-    requires has { OfItem rows.now place (λ row. Covers row eid.value) }
+/// Where the rows end that follow the row at an index, which has the endpoint ID, without a gap.
+fn end_of_joined(rows: &[Row], index: usize, eid: Eid) -> u16
+    requires within { index < length rows.now }
+    requires has { OfItem rows.now index (λ row. Covers row eid.value) }
     ensures later { eid.value < result }
     ensures joined { HaveRowsFor rows.now eid.value result }
 {
-    let mut end = row_end(&rows[place]);
-    for next in place + 1..rows.len() {
+    let mut end = row_end(&rows[index]);
+    for next in index + 1..rows.len() {
         let row = &rows[next];
         if u16::from(row.first.value) != end {
             return end;

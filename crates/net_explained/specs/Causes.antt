@@ -1,4 +1,4 @@
--- Why a plan breaks a rule at a place, and who else is involved.
+-- Why a plan breaks a rule at a site, and who else is involved.
 use Rattle.std.specs.Prelude.{◌≡◌, ◌≢◌, ℕ, ◌<◌, ◌≤◌, List, [], ◌∷◌, length, Option, Some, None, slice_get}
 use Rattle.std.specs.Option.{IsSomeAnd}
 use Rattle.mctp_transport.specs.Frames.{IsAssignable}
@@ -17,7 +17,7 @@ use Rattle.net_check.specs.Owners.{IsOwnedBy, owner_of, ShareBus}
 use Rattle.net_check.specs.Pools.{pool_of, IsInPoolOf, IsPoolInRange}
 use Rattle.net_check.specs.Repositories.{terminus_of, records_of}
 use Rattle.net_check.specs.Locators.{IsEidLocator, IsHeldByTerminus}
-use Rattle.net_check.specs.Faults.{Place}
+use Rattle.net_check.specs.Faults.{FaultSite}
 use Rattle.net_check.specs.PlanFaults.{IsMetByPlan}
 use Rattle.net_explained.specs.declared.cause.Cause.{Cause}
 use Rattle.net_explained.specs.declared.cause.Cause.TheVariants.{SharedName, UnassignableEid, SharedEid}
@@ -131,12 +131,12 @@ LocatesOther plan n holder tid j e = Locates plan n j tid e × Holds plan holder
 
 -- ---- causes
 
--- so it is at a place with an entry and an endpoint ID
-abbrev pub AtEntryAndEid : Place → (ℕ → ℕ → Type 0) → Type 0
+-- so it is at a site with an entry and an endpoint ID
+abbrev pub AtEntryAndEid : FaultSite → (ℕ → ℕ → Type 0) → Type 0
 AtEntryAndEid p P = IsSomeAnd p.entry (λ i. IsSomeAnd p.eid (P i))
 
--- the plan breaks the rule at the place for this cause
-abbrev pub IsCause : Plan → Place → Cause → Type 0
+-- the plan breaks the rule at the site for this cause
+abbrev pub IsCause : Plan → FaultSite → Cause → Type 0
 IsCause plan p (SharedName m) = (p.rule ≡ C01) × SharesName plan p.node m
 IsCause plan p UnassignableEid = (p.rule ≡ C02) × IsSomeAnd p.eid (HoldsUnassignable plan p.node)
 IsCause plan p (SharedEid m) = (p.rule ≡ C03) × IsSomeAnd p.eid (SharesEid plan p.node m)
@@ -177,7 +177,7 @@ IsCause plan p LongLocator = (p.rule ≡ C15) × IsSomeAnd p.entry (LocatesNoEid
 IsCause plan p (NobodyHolds tid) = (p.rule ≡ C15) × AtEntryAndEid p (LocatesNobody plan p.node tid)
 IsCause plan p (OtherTerminus holder tid) = (p.rule ≡ C15) × AtEntryAndEid p (LocatesOther plan p.node holder tid)
 
--- the cause for which the plan breaks the rule at the place; none exactly where the plan meets the rule there
-abbrev pub IsCauseAt : Plan → Place → Option Cause → Type 0
+-- the cause for which the plan breaks the rule at the site; none exactly where the plan meets the rule there
+abbrev pub IsCauseAt : Plan → FaultSite → Option Cause → Type 0
 IsCauseAt plan p None = IsMetByPlan plan p
 IsCauseAt plan p (Some cause) = IsCause plan p cause × ¬ IsMetByPlan plan p

@@ -1,8 +1,8 @@
-//! Why a plan breaks a rule at a place.
+//! Why a plan breaks a rule at an index.
 use mctp_transport::Eid;
 
-/// Why a plan breaks a rule at a place, and who else is involved. A node is told by its place in the plan's list; a row
-/// or a record by its place in its node's list.
+/// Why a plan breaks a rule at an index, and who else is involved. A node is told by its index in the plan's list; a row
+/// or a record by its index in its node's list.
 #[derive(Clone, Copy, Debug, PartialEq, Eq)]
 pub enum Cause {
     /// C01: an earlier node has the node's name.

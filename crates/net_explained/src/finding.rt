@@ -1,5 +1,5 @@
 //! The cause of a fault.
-ghost use Rattle.net_check.specs.Faults.{place_of};
+ghost use Rattle.net_check.specs.Faults.{site_of};
 ghost use Rattle.net_explained.specs.Causes.{IsCauseAt};
 
 use crate::cause::Cause;
@@ -7,10 +7,10 @@ use crate::causes::{eids, locators, names, owners, pools, records, rows, ways};
 use net_check::{Fault, Rule};
 use net_plan::Plan;
 
-/// Why the plan breaks the fault's rule at the fault's place; none exactly where the plan meets the rule there, whatever
+/// Why the plan breaks the fault's rule at the fault's spot; none exactly where the plan meets the rule there, whatever
 /// the certificate. Where several causes apply, the contract leaves open which of them is told.
 pub fn find_cause(plan: &Plan, fault: &Fault) -> Option<Cause>
-    ensures { IsCauseAt plan.now (place_of fault.now) result }
+    ensures { IsCauseAt plan.now (site_of fault.now) result }
 {
     let node = fault.node;
     match (fault.rule, fault.entry, fault.eid) {

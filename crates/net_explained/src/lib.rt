@@ -1,4 +1,4 @@
-//! Why a plan breaks a rule: what is wrong at the place, and who else is involved.
+//! Why a plan breaks a rule: what is wrong at the spot, and who else is involved.
 #![tactic(auto)]
 
 mod cause;

@@ -11,7 +11,7 @@ use Rattle.net_plan.specs.CertificateText.{IsLevelOf, ArePlacesOf, IsRangeOf, Is
 use Rattle.net_plan.specs.CertificateValues.{LevelValue, PlacesValue, RangeValue, NodeRanksValue, CertificateValue}
 use Rattle.net_plan.specs.Json.{keyed, at_key, all_of, demand, reference, whole_number}
 use Rattle.net_plan.specs.JsonWords.{At, IsListOf, IsNumberWithin}
-use Rattle.net_plan.specs.Names.{place_among}
+use Rattle.net_plan.specs.Names.{index_among}
 use Rattle.net_plan.specs.PlanReading.{byte}
 use Rattle.net_plan.specs.PlanValues.{PlanValue, node_names}
 use Rattle.net_plan.specs.declared.error.ValueFault.TheVariants.{OutOfRange, UnknownName, Doubled}
@@ -79,18 +79,18 @@ both_true : (a b : Bool) → a ≡ true → b ≡ true → (a && b) ≡ true
 both_true a b p q = rw (p, q) refl
 
 module _ (nodes : List (List ℕ)) where
-  level_sound : (d : Data) (v : LevelValue) → level (place_among nodes) d ≡ Ok v → nat_lt v.node (length nodes) ≡ true → IsLevelOf nodes d v
+  level_sound : (d : Data) (v : LevelValue) → level (index_among nodes) d ≡ Ok v → nat_lt v.node (length nodes) ≡ true → IsLevelOf nodes d v
   level_sound d v e pass =
       let k = then_Ok (keyed level_keys d) _ v e in
       let l = then_Ok (at_key (codes "level") (whole_number 1 63) d) _ v k.2 in
-      let n = then_Ok (at_key (codes "node") (reference (place_among nodes)) d) _ v l.2 in
+      let n = then_Ok (at_key (codes "node") (reference (index_among nodes)) d) _ v l.2 in
       subst (IsLevelOf nodes d) (same_Ok n.2) (record {
         keys = keys_sound level_keys d k.0 k.1;
         level = (number_at (codes "level") 1 63).sound d l.0 l.1 refl;
         node = (reference_at nodes (codes "node")).sound d n.0 n.1 (ap (λ x. nat_lt x.node (length nodes)) (same_Ok n.2) ∙ pass);
       })
 
-  level_whole : (d : Data) (v : LevelValue) → IsLevelOf nodes d v → level (place_among nodes) d ≡ Ok v
+  level_whole : (d : Data) (v : LevelValue) → IsLevelOf nodes d v → level (index_among nodes) d ≡ Ok v
   level_whole d v h =
       let l = (number_at (codes "level") 1 63).whole d v.level h.level in
       let n = (reference_at nodes (codes "node")).whole d v.node h.node in
@@ -99,17 +99,17 @@ module _ (nodes : List (List ℕ)) where
   abbrev known_level : LevelValue → Bool
   known_level l = nat_lt l.node (length nodes)
 
-  levels_at : Tells (at_key (codes "levels") (all_of (level (place_among nodes)))) (list_all known_level) (At (codes "levels") (IsListOf (IsLevelOf nodes)))
-  levels_at = at_key_tells (codes "levels") (all_of (level (place_among nodes))) (list_all known_level) (IsListOf (IsLevelOf nodes))
-      (all_tells (level (place_among nodes)) known_level (IsLevelOf nodes) (record { sound = level_sound; whole = level_whole; passes = λ d v h. (reference_at nodes (codes "node")).passes d v.node h.node }))
+  levels_at : Tells (at_key (codes "levels") (all_of (level (index_among nodes)))) (list_all known_level) (At (codes "levels") (IsListOf (IsLevelOf nodes)))
+  levels_at = at_key_tells (codes "levels") (all_of (level (index_among nodes))) (list_all known_level) (IsListOf (IsLevelOf nodes))
+      (all_tells (level (index_among nodes)) known_level (IsLevelOf nodes) (record { sound = level_sound; whole = level_whole; passes = λ d v h. (reference_at nodes (codes "node")).passes d v.node h.node }))
 
   record_places_at : Tells (at_key (codes "places") (all_of (whole_number 0 4095))) any (At (codes "places") (IsListOf (IsNumberWithin 0 4095)))
   record_places_at = at_key_tells (codes "places") (all_of (whole_number 0 4095)) any (IsListOf (IsNumberWithin 0 4095)) (all_any_tells (whole_number 0 4095) (IsNumberWithin 0 4095) (number_tells 0 4095))
 
-  places_sound : (d : Data) (v : PlacesValue) → node_places (place_among nodes) d ≡ Ok v → nat_lt v.node (length nodes) ≡ true → ArePlacesOf nodes d v
+  places_sound : (d : Data) (v : PlacesValue) → node_places (index_among nodes) d ≡ Ok v → nat_lt v.node (length nodes) ≡ true → ArePlacesOf nodes d v
   places_sound d v e pass =
       let k = then_Ok (keyed places_keys d) _ v e in
-      let n = then_Ok (at_key (codes "node") (reference (place_among nodes)) d) _ v k.2 in
+      let n = then_Ok (at_key (codes "node") (reference (index_among nodes)) d) _ v k.2 in
       let p = then_Ok (at_key (codes "places") (all_of (whole_number 0 4095)) d) _ v n.2 in
       subst (ArePlacesOf nodes d) (same_Ok p.2) (record {
         keys = keys_sound places_keys d k.0 k.1;
@@ -117,7 +117,7 @@ module _ (nodes : List (List ℕ)) where
         places = record_places_at.sound d p.0 p.1 refl;
       })
 
-  places_whole : (d : Data) (v : PlacesValue) → ArePlacesOf nodes d v → node_places (place_among nodes) d ≡ Ok v
+  places_whole : (d : Data) (v : PlacesValue) → ArePlacesOf nodes d v → node_places (index_among nodes) d ≡ Ok v
   places_whole d v h =
       let n = (reference_at nodes (codes "node")).whole d v.node h.node in
       let p = record_places_at.whole d v.places h.places in
@@ -126,17 +126,17 @@ module _ (nodes : List (List ℕ)) where
   abbrev known_places : PlacesValue → Bool
   known_places p = nat_lt p.node (length nodes)
 
-  places_at : Tells (at_key (codes "places") (all_of (node_places (place_among nodes)))) (list_all known_places) (At (codes "places") (IsListOf (ArePlacesOf nodes)))
-  places_at = at_key_tells (codes "places") (all_of (node_places (place_among nodes))) (list_all known_places) (IsListOf (ArePlacesOf nodes))
-      (all_tells (node_places (place_among nodes)) known_places (ArePlacesOf nodes) (record { sound = places_sound; whole = places_whole; passes = λ d v h. (reference_at nodes (codes "node")).passes d v.node h.node }))
+  places_at : Tells (at_key (codes "places") (all_of (node_places (index_among nodes)))) (list_all known_places) (At (codes "places") (IsListOf (ArePlacesOf nodes)))
+  places_at = at_key_tells (codes "places") (all_of (node_places (index_among nodes))) (list_all known_places) (IsListOf (ArePlacesOf nodes))
+      (all_tells (node_places (index_among nodes)) known_places (ArePlacesOf nodes) (record { sound = places_sound; whole = places_whole; passes = λ d v h. (reference_at nodes (codes "node")).passes d v.node h.node }))
 
   abbrev good_ranks : NodeRanksValue → Bool
   good_ranks r = nat_lt r.node (length nodes) && ascends 0 r.ranges
 
-  ranks_sound : (d : Data) (v : NodeRanksValue) → node_ranks (place_among nodes) d ≡ Ok v → good_ranks v ≡ true → AreRanksOf nodes d v
+  ranks_sound : (d : Data) (v : NodeRanksValue) → node_ranks (index_among nodes) d ≡ Ok v → good_ranks v ≡ true → AreRanksOf nodes d v
   ranks_sound d v e pass =
       let k = then_Ok (keyed ranks_keys d) _ v e in
-      let n = then_Ok (at_key (codes "node") (reference (place_among nodes)) d) _ v k.2 in
+      let n = then_Ok (at_key (codes "node") (reference (index_among nodes)) d) _ v k.2 in
       let r = then_Ok (at_key (codes "ranges") (all_of range) d) _ v n.2 in
       let good = both (nat_lt n.0 (length nodes)) (ascends 0 r.0) (ap good_ranks (same_Ok r.2) ∙ pass) in
       subst (AreRanksOf nodes d) (same_Ok r.2) (record {
@@ -146,15 +146,15 @@ module _ (nodes : List (List ℕ)) where
         ascending = (ascends_sound 0 r.0 good.1).1;
       })
 
-  ranks_whole : (d : Data) (v : NodeRanksValue) → AreRanksOf nodes d v → node_ranks (place_among nodes) d ≡ Ok v
+  ranks_whole : (d : Data) (v : NodeRanksValue) → AreRanksOf nodes d v → node_ranks (index_among nodes) d ≡ Ok v
   ranks_whole d v h =
       let n = (reference_at nodes (codes "node")).whole d v.node h.node in
       let r = ranges_at.whole d v.ranges h.ranges in
       rw (keys_whole ranks_keys d h.keys, n, r) refl
 
-  ranks_at : Tells (at_key (codes "ranks") (all_of (node_ranks (place_among nodes)))) (list_all good_ranks) (At (codes "ranks") (IsListOf (AreRanksOf nodes)))
-  ranks_at = at_key_tells (codes "ranks") (all_of (node_ranks (place_among nodes))) (list_all good_ranks) (IsListOf (AreRanksOf nodes))
-      (all_tells (node_ranks (place_among nodes)) good_ranks (AreRanksOf nodes) (record {
+  ranks_at : Tells (at_key (codes "ranks") (all_of (node_ranks (index_among nodes)))) (list_all good_ranks) (At (codes "ranks") (IsListOf (AreRanksOf nodes)))
+  ranks_at = at_key_tells (codes "ranks") (all_of (node_ranks (index_among nodes))) (list_all good_ranks) (IsListOf (AreRanksOf nodes))
+      (all_tells (node_ranks (index_among nodes)) good_ranks (AreRanksOf nodes) (record {
         sound = ranks_sound;
         whole = ranks_whole;
         passes = λ d v h. both_true (nat_lt v.node (length nodes)) (ascends 0 v.ranges) ((reference_at nodes (codes "node")).passes d v.node h.node) (ascends_whole 0 v.ranges (all_low v.ranges) h.ascending);
@@ -181,12 +181,12 @@ module _ (nodes : List (List ℕ)) where
     places : At (codes "places") (IsListOf (ArePlacesOf nodes)) d c.places
     ranks : At (codes "ranks") (IsListOf (AreRanksOf nodes)) d c.ranks
 
-  entries_sound : (d : Data) (c : CertificateValue) → entries (place_among nodes) d ≡ Ok c → are_known (length nodes) c ≡ true → list_all (λ r. ascends 0 r.ranges) c.ranks ≡ true → AreEntriesOf d c
+  entries_sound : (d : Data) (c : CertificateValue) → entries (index_among nodes) d ≡ Ok c → are_known (length nodes) c ≡ true → list_all (λ r. ascends 0 r.ranges) c.ranks ≡ true → AreEntriesOf d c
   unfolding entries
   entries_sound d c e known ascending =
-      let l = then_Ok (at_key (codes "levels") (all_of (level (place_among nodes))) d) _ c e in
-      let p = then_Ok (at_key (codes "places") (all_of (node_places (place_among nodes))) d) _ c l.2 in
-      let r = then_Ok (at_key (codes "ranks") (all_of (node_ranks (place_among nodes))) d) _ c p.2 in
+      let l = then_Ok (at_key (codes "levels") (all_of (level (index_among nodes))) d) _ c e in
+      let p = then_Ok (at_key (codes "places") (all_of (node_places (index_among nodes))) d) _ c l.2 in
+      let r = then_Ok (at_key (codes "ranks") (all_of (node_ranks (index_among nodes))) d) _ c p.2 in
       let made : CertificateValue = record { levels = l.0; places = p.0; ranks = r.0 } in
       let same : made ≡ c = same_Ok r.2 in
       let parts = both (list_all known_level l.0) (list_all known_places p.0 && list_all (λ r. nat_lt r.node (length nodes)) r.0) (ap (are_known (length nodes)) same ∙ known) in
@@ -194,7 +194,7 @@ module _ (nodes : List (List ℕ)) where
       let good = all_good r.0 lists.1 (ap (λ x. list_all (λ r. ascends 0 r.ranges) x.ranks) same ∙ ascending) in
       subst (AreEntriesOf d) same (record { levels = levels_at.sound d l.0 l.1 parts.0; places = places_at.sound d p.0 p.1 lists.0; ranks = ranks_at.sound d r.0 r.1 good })
 
-  entries_whole : (d : Data) (c : CertificateValue) → AreEntriesOf d c → entries (place_among nodes) d ≡ Ok c
+  entries_whole : (d : Data) (c : CertificateValue) → AreEntriesOf d c → entries (index_among nodes) d ≡ Ok c
   unfolding entries
   entries_whole d c h = rw (levels_at.whole d c.levels h.levels, places_at.whole d c.places h.places, ranks_at.whole d c.ranks h.ranks) refl
 
@@ -214,7 +214,7 @@ certificate_sound p d v e =
     let nodes = node_names p.nodes in
     let k = then_Ok (keyed certificate_keys d) _ v e in
     let f = then_Ok (at_key (codes "format") (whole_number 1 1) d) _ v k.2 in
-    let c = then_Ok (entries (place_among nodes) d) _ v f.2 in
+    let c = then_Ok (entries (index_among nodes) d) _ v f.2 in
     let u = then_Ok (entries_differ d) _ v c.2 in
     let a = then_Ok (demand Doubled (list_all (λ r. ascends 0 r.ranges) c.0.ranks)) _ v u.2 in
     let n = then_Ok (demand UnknownName (are_known (length nodes) c.0)) _ v a.2 in
@@ -252,7 +252,7 @@ pub read_known : (nodes : List (List ℕ)) (d : Data) (v : CertificateValue) →
 read_known nodes d v e =
     let k = then_Ok (keyed certificate_keys d) _ v e in
     let f = then_Ok (at_key (codes "format") (whole_number 1 1) d) _ v k.2 in
-    let c = then_Ok (entries (place_among nodes) d) _ v f.2 in
+    let c = then_Ok (entries (index_among nodes) d) _ v f.2 in
     let u = then_Ok (entries_differ d) _ v c.2 in
     let a = then_Ok (demand Doubled (list_all (λ r. ascends 0 r.ranges) c.0.ranks)) _ v u.2 in
     let n = then_Ok (demand UnknownName (are_known (length nodes) c.0)) _ v a.2 in

@@ -10,7 +10,7 @@ use Rattle.net_plan.specs.EventValues.{EventEntry, put, move, lose, expire, answ
 use Rattle.net_plan.specs.Json.{keyed, some_object, at_key, list_within, demand, reference, whole_number, truth, hex_text}
 use Rattle.net_plan.specs.JsonWords.{HasKeys, At, IsShortListOf, IsNumberWithin, IsTruth, IsText}
 use Rattle.net_plan.specs.Keys.{events_keys, put_keys, move_keys, lose_keys, expire_keys, answer_keys, switch_keys, walk_keys, ask_keys, collected_keys}
-use Rattle.net_plan.specs.Names.{place_among}
+use Rattle.net_plan.specs.Names.{index_among}
 use Rattle.net_plan.specs.PlanReading.{byte, word}
 use Rattle.net_plan.specs.PlanValues.{PlanValue, node_names}
 use Rattle.net_plan.specs.declared.error.ValueFault.{ValueFault}
@@ -169,10 +169,10 @@ module _ (format : Format) (nodes : List (List ℕ)) where
   abbrev Known : EventEntry → Type 0
   Known e = is_known_event (length nodes) e ≡ true
 
-  put_sound : (d : Data) (e : EventEntry) → Does (codes "put") d → put_event (place_among nodes) d ≡ Ok e → Known e → IsEventOf format nodes d e
+  put_sound : (d : Data) (e : EventEntry) → Does (codes "put") d → put_event (index_among nodes) d ≡ Ok e → Known e → IsEventOf format nodes d e
   put_sound d e does said known =
       let k = then_Ok (keyed put_keys d) _ e said in
-      let n = then_Ok (at_key (codes "node") (reference (place_among nodes)) d) _ e k.2 in
+      let n = then_Ok (at_key (codes "node") (reference (index_among nodes)) d) _ e k.2 in
       let b = then_Ok (at_key (codes "bytes") hex_text d) _ e n.2 in
       let same : put n.0 b.0 ≡ e = same_Ok b.2 in
       let here : IsPutOf nodes d n.0 b.0 = record {
@@ -212,10 +212,10 @@ module _ (format : Format) (nodes : List (List ℕ)) where
   owner_sound : (d : Data) (n : ℕ) → at_key (codes "owner") (whole_number 0 1) d ≡ Ok n → At (codes "owner") IsBit d (n == 1)
   owner_sound d n e = let h = (number_at (codes "owner") 0 1).sound d n e refl in (h.0, h.1, bit_sound h.0 n h.2)
 
-  expire_sound : (d : Data) (e : EventEntry) → Does (codes "expire") d → expire_event (place_among nodes) d ≡ Ok e → Known e → IsEventOf format nodes d e
+  expire_sound : (d : Data) (e : EventEntry) → Does (codes "expire") d → expire_event (index_among nodes) d ≡ Ok e → Known e → IsEventOf format nodes d e
   expire_sound d e does said known =
       let k = then_Ok (keyed expire_keys d) _ e said in
-      let n = then_Ok (at_key (codes "node") (reference (place_among nodes)) d) _ e k.2 in
+      let n = then_Ok (at_key (codes "node") (reference (index_among nodes)) d) _ e k.2 in
       let s = then_Ok (at_key (codes "source") byte d) _ e n.2 in
       let t = then_Ok (at_key (codes "tag") (whole_number 0 7) d) _ e s.2 in
       let o = then_Ok (at_key (codes "owner") (whole_number 0 1) d) _ e t.2 in
@@ -230,10 +230,10 @@ module _ (format : Format) (nodes : List (List ℕ)) where
       } in
       subst (IsEventOf format nodes d) same here
 
-  answer_sound : (d : Data) (e : EventEntry) → Does (codes "answer") d → answer_event (place_among nodes) d ≡ Ok e → Known e → IsEventOf format nodes d e
+  answer_sound : (d : Data) (e : EventEntry) → Does (codes "answer") d → answer_event (index_among nodes) d ≡ Ok e → Known e → IsEventOf format nodes d e
   answer_sound d e does said known =
       let k = then_Ok (keyed answer_keys d) _ e said in
-      let n = then_Ok (at_key (codes "node") (reference (place_among nodes)) d) _ e k.2 in
+      let n = then_Ok (at_key (codes "node") (reference (index_among nodes)) d) _ e k.2 in
       let same : answer n.0 ≡ e = same_Ok n.2 in
       let here : IsAnswerOf nodes d n.0 = record {
         keys = keys_sound answer_keys d k.0 k.1;
@@ -242,10 +242,10 @@ module _ (format : Format) (nodes : List (List ℕ)) where
       } in
       subst (IsEventOf format nodes d) same here
 
-  switch_event_sound : (d : Data) (e : EventEntry) → format ≢ One → Does (codes "switch") d → switch_event (place_among nodes) d ≡ Ok e → Known e → IsEventOf format nodes d e
+  switch_event_sound : (d : Data) (e : EventEntry) → format ≢ One → Does (codes "switch") d → switch_event (index_among nodes) d ≡ Ok e → Known e → IsEventOf format nodes d e
   switch_event_sound d e later does said known =
       let k = then_Ok (keyed switch_keys d) _ e said in
-      let n = then_Ok (at_key (codes "node") (reference (place_among nodes)) d) _ e k.2 in
+      let n = then_Ok (at_key (codes "node") (reference (index_among nodes)) d) _ e k.2 in
       let same : switch n.0 ≡ e = same_Ok n.2 in
       let here : IsSwitchOf format nodes d n.0 = record {
         later = later;
@@ -255,10 +255,10 @@ module _ (format : Format) (nodes : List (List ℕ)) where
       } in
       subst (IsEventOf format nodes d) same here
 
-  walk_sound : (d : Data) (e : EventEntry) → format ≡ Three → Does (codes "walk") d → walk_event (place_among nodes) d ≡ Ok e → Known e → IsEventOf format nodes d e
+  walk_sound : (d : Data) (e : EventEntry) → format ≡ Three → Does (codes "walk") d → walk_event (index_among nodes) d ≡ Ok e → Known e → IsEventOf format nodes d e
   walk_sound d e third does said known =
       let k = then_Ok (keyed walk_keys d) _ e said in
-      let n = then_Ok (at_key (codes "node") (reference (place_among nodes)) d) _ e k.2 in
+      let n = then_Ok (at_key (codes "node") (reference (index_among nodes)) d) _ e k.2 in
       let a = then_Ok (at_key (codes "eid") (whole_number 8 254) d) _ e n.2 in
       let t = then_Ok (at_key (codes "tag") (whole_number 0 7) d) _ e a.2 in
       let c = then_Ok (at_key (codes "count") (whole_number 8 4079) d) _ e t.2 in
@@ -300,7 +300,7 @@ module _ (format : Format) (nodes : List (List ℕ)) where
       } in
       subst (IsEventOf format nodes d) same here
 
-  of_sound : (v : Verb) (d : Data) (e : EventEntry) → Does (word_of v) d → Allows format v → event_of v (place_among nodes) d ≡ Ok e → Known e → IsEventOf format nodes d e
+  of_sound : (v : Verb) (d : Data) (e : EventEntry) → Does (word_of v) d → Allows format v → event_of v (index_among nodes) d ≡ Ok e → Known e → IsEventOf format nodes d e
   of_sound Put d e does allows said known = put_sound d e does said known
   of_sound Move d e does allows said known = move_sound d e does said
   of_sound Lose d e does allows said known = lose_sound d e does said
@@ -311,7 +311,7 @@ module _ (format : Format) (nodes : List (List ℕ)) where
   of_sound Ask d e does allows said known = ask_sound d e allows does said
   of_sound Collected d e does allows said known = collected_sound d e allows does said
 
-  event_sound : (d : Data) (e : EventEntry) → event format (place_among nodes) d ≡ Ok e → Known e → IsEventOf format nodes d e
+  event_sound : (d : Data) (e : EventEntry) → event format (index_among nodes) d ≡ Ok e → Known e → IsEventOf format nodes d e
   unfolding event
   event_sound d e said known =
       let o = then_Ok (some_object d) _ e said in
@@ -319,7 +319,7 @@ module _ (format : Format) (nodes : List (List ℕ)) where
       let h = (verb_at format).sound d v.0 v.1 refl in
       of_sound v.0 d e (h.0, h.1, h.2.0) h.2.1 v.2 known
 
-  event_whole : (d : Data) (e : EventEntry) → IsEventOf format nodes d e → event format (place_among nodes) d ≡ Ok e
+  event_whole : (d : Data) (e : EventEntry) → IsEventOf format nodes d e → event format (index_among nodes) d ≡ Ok e
   unfolding event
   event_whole d (put node bytes) h =
       rw (is_object put_keys d h.keys, (verb_at format).whole d Put (said format d Put h.does tt), keys_whole put_keys d h.keys, (reference_at nodes (codes "node")).whole d node h.at_node, (hex_at (codes "bytes")).whole d bytes h.packet) refl
@@ -353,16 +353,16 @@ module _ (format : Format) (nodes : List (List ℕ)) where
   event_passes d (ask walker) h = refl
   event_passes d (collected walker) h = refl
 
-  list_at : Tells (at_key (codes "events") (list_within 100000 (event format (place_among nodes)))) (list_all (is_known_event (length nodes))) (At (codes "events") (IsShortListOf 100000 (IsEventOf format nodes)))
-  list_at = at_key_tells (codes "events") (list_within 100000 (event format (place_among nodes))) (list_all (is_known_event (length nodes))) (IsShortListOf 100000 (IsEventOf format nodes))
-      (within_tells (event format (place_among nodes)) (is_known_event (length nodes)) (IsEventOf format nodes) (record { sound = event_sound; whole = event_whole; passes = event_passes }) 100000)
+  list_at : Tells (at_key (codes "events") (list_within 100000 (event format (index_among nodes)))) (list_all (is_known_event (length nodes))) (At (codes "events") (IsShortListOf 100000 (IsEventOf format nodes)))
+  list_at = at_key_tells (codes "events") (list_within 100000 (event format (index_among nodes))) (list_all (is_known_event (length nodes))) (IsShortListOf 100000 (IsEventOf format nodes))
+      (within_tells (event format (index_among nodes)) (is_known_event (length nodes)) (IsEventOf format nodes) (record { sound = event_sound; whole = event_whole; passes = event_passes }) 100000)
 
 events_sound : (p : PlanValue) (d : Data) (es : List EventEntry) → events (node_names p.nodes) d ≡ Ok es → AreEventsOf p d es
 events_sound p d es e =
     let nodes = node_names p.nodes in
     let k = then_Ok (keyed events_keys d) _ es e in
     let f = then_Ok (at_key (codes "format") format d) _ es k.2 in
-    let l = then_Ok (at_key (codes "events") (list_within 100000 (event f.0 (place_among nodes))) d) _ es f.2 in
+    let l = then_Ok (at_key (codes "events") (list_within 100000 (event f.0 (index_among nodes))) d) _ es f.2 in
     let u = then_Ok (demand UnknownName (list_all (is_known_event (length nodes)) l.0)) _ es l.2 in
     subst (AreEventsOf p d) (same_Ok u.2) (record {
       keys = keys_sound events_keys d k.0 k.1;
@@ -384,6 +384,6 @@ pub events_known : (nodes : List (List ℕ)) (d : Data) (es : List EventEntry) �
 events_known nodes d es e =
     let k = then_Ok (keyed events_keys d) _ es e in
     let f = then_Ok (at_key (codes "format") format d) _ es k.2 in
-    let l = then_Ok (at_key (codes "events") (list_within 100000 (event f.0 (place_among nodes))) d) _ es f.2 in
+    let l = then_Ok (at_key (codes "events") (list_within 100000 (event f.0 (index_among nodes))) d) _ es f.2 in
     let u = then_Ok (demand UnknownName (list_all (is_known_event (length nodes)) l.0)) _ es l.2 in
     ap (list_all (is_known_event (length nodes))) (sym (same_Ok u.2)) ∙ demanded UnknownName (list_all (is_known_event (length nodes)) l.0) u.0 u.1

@@ -16,15 +16,15 @@ use Rattle.serde_json.specs.Find.{as_u64}
 use Rattle.serde_json.specs.Read.{number_of}
 use Rattle.net_plan.specs.Gathered.{with_last, IsPlain, ArePlain, IsGathered, IsNext, EachIs, IsArrayOf, IsPlainText}
 use Rattle.net_plan.specs.Json.{is_among}
-use Rattle.net_plan.specs.JsonWords.{HasKeys, At, AreItems, IsShortListOf, IsNumber, IsName, IsPlace, IsText, IsTruth, IsHex}
+use Rattle.net_plan.specs.JsonWords.{HasKeys, At, AreItems, IsShortListOf, IsNumber, IsName, IsIndexOfName, IsText, IsTruth, IsHex}
 use Rattle.net_plan.specs.NameText.{is_name}
 use Rattle.net_plan.specs.Names.{are_new, names_differ}
-use Rattle.net_plan.specs.Places.{ArePlaces}
+use Rattle.net_plan.specs.NameIndexes.{IsIndexOf}
 use Rattle.net_plan.specs.SingleKeys.{single, items_single, members_single}
 use Rattle.net_plan.specs.Texts.{StandsFor}
 use Rattle.net_plan.specs.Trees.{data_of, items_of, members_of, or_other, num_of, fits, items_fit, members_fit}
 use Rattle.net_plan.proofs.KeysLaw.{among_Contains, any_false, not_false}
-use Rattle.net_plan.proofs.PlanLaw.{first_place}
+use Rattle.net_plan.proofs.PlanLaw.{first_index}
 use Rattle.net_plan.proofs.Telling.{both}
 use Rattle.net_plan.proofs.SingleKeys.{single_sound, whole_tree}
 use Rattle.net_plan.proofs.Trees.{get_of, read_whole}
@@ -165,9 +165,9 @@ pub at_gathered : {A : Type 0} (key : List ℕ) (R : Data → A → Type 0) (x :
 at_gathered key R x ms h = (data_of h.0, get_of key (object ms) ∙ ap (option_map data_of) h.1, h.2)
 
 -- the first of the nodes that has the name at `node`
-pub placed_at : (names : List (List ℕ)) (find : List ℕ → Option ℕ) → ArePlaces find names → (name : List ℕ) (place : ℕ) → find name ≡ Some place → (ms : Members) → IsGathered (codes "node") IsName (Some name) ms
-    → At (codes "node") (IsPlace names) (data_of (object ms)) place
-placed_at names find places name place found ms h = at_gathered (codes "node") (IsPlace names) place ms (h.0, h.1, (name, h.2, first_place names name place (sym (places name) ∙ found)))
+pub placed_at : (names : List (List ℕ)) (find : List ℕ → Option ℕ) → IsIndexOf find names → (name : List ℕ) (place : ℕ) → find name ≡ Some place → (ms : Members) → IsGathered (codes "node") IsName (Some name) ms
+    → At (codes "node") (IsIndexOfName names) (data_of (object ms)) place
+placed_at names find places name place found ms h = at_gathered (codes "node") (IsIndexOfName names) place ms (h.0, h.1, (name, h.2, first_index names name place (sym (places name) ∙ found)))
 
 pub not_yet : {A : Type 0} (key : List ℕ) (R : Data → A → Type 0) (o : Option A) (ms : Members) → is_some o ≡ false → IsGathered key R o ms → get_member key ms ≡ None
 not_yet key R None ms e h = h

@@ -29,13 +29,13 @@ no_parts = record { plain = none_plain level_keys; level = refl; node = refl }
 
 pub level_of : (find : List ℕ → Option ℕ) → (p : LevelParts) (level : ℕ) (node : Bor (List ℕ)) (place : ℕ) → p.level ≡ Some level → p.node ≡ Some node → find node.now ≡ Some place → (ms : Members) → AreLevelParts p ms
     → IsLevelBy find (data_of (object ms)) (record { level = level; node = place }) × IsPlain (object ms)
-level_of find p level node place is_level is_node is_place ms h =
+level_of find p level node place is_level is_node is_index ms h =
     let level_here = subst (λ o. IsGathered (codes "level") (IsNumberWithin 1 63) o ms) is_level h.level in
     let node_here = subst (λ o. IsGathered (codes "node") IsName o ms) (ap (option_map (λ name. name.now)) is_node) h.node in (
       λ names places. record {
         keys = all_keys level_keys ms h.plain (rw (level_here.1, node_here.1) refl);
         level = at_gathered (codes "level") (IsNumberWithin 1 63) level ms level_here;
-        node = placed_at names find places node.now place is_place ms node_here;
+        node = placed_at names find places node.now place is_index ms node_here;
       },
       object_plain level_keys ms h.plain,
     )

@@ -1,11 +1,11 @@
--- Names in a list, and their places.
+-- Names in a list, and their indices.
 use Rattle.std.proofs.Common.{◌≡◌, ℕ, suc, ◌+◌, ◌<◌, ◌||◌, drop, drop-cons, unwrap_or, List, [], ◌∷◌, ◌++◌, length, map, take, get_or, Bool, true, false, cond, if◌then◌else◌, Option, Some, None, option_map, is_some, not, refl, sym, ap, ◌∙◌, arith, add-one, true≢false}
 use Rattle.std.proofs.lemmas.List.{take_more, map-append, length-map, length-take-le}
 use Rattle.std.specs.Option.{option_or}
 use Rattle.std.specs.Str.{bytes_eq}
 use Rattle.std.proofs.lemmas.Slice.Eq.{bytes_eq-Decides}
 use Rattle.net_plan.specs.Json.{is_among}
-use Rattle.net_plan.specs.Names.{place_of, place_among, are_new}
+use Rattle.net_plan.specs.Names.{index_of, index_among, are_new}
 
 later : (o : Option ℕ) (b : Bool) (n : ℕ) → option_map suc (option_or o (cond b (Some n) None)) ≡ option_or (option_map suc o) (cond b (Some (suc n)) None)
 later None true n = refl
@@ -18,16 +18,16 @@ pushed true all first b n e = refl
 pushed false all first b n e = ap (option_map suc) e ∙ later first b n
 
 -- one more name has its place, if it had none
-pub place_of-push : (ns : List (List ℕ)) (n q : List ℕ) → place_of (ns ++ n ∷ []) q ≡ option_or (place_of ns q) (if bytes_eq q n then Some (length ns) else None)
-place_of-push [] n q = refl
-place_of-push (m ∷ ns) n q = pushed (bytes_eq q m) _ _ (bytes_eq q n) (length ns) (place_of-push ns n q)
+pub index_of-push : (ns : List (List ℕ)) (n q : List ℕ) → index_of (ns ++ n ∷ []) q ≡ option_or (index_of ns q) (if bytes_eq q n then Some (length ns) else None)
+index_of-push [] n q = refl
+index_of-push (m ∷ ns) n q = pushed (bytes_eq q m) _ _ (bytes_eq q n) (length ns) (index_of-push ns n q)
 
-pub place_of-take : {T : Type 0} (f : T → List ℕ) (items : List T) (i : ℕ) (x : T) (q : List ℕ) → i < length items → x ≡ get_or items i x
-    → place_of (map f (take (i + 1) items)) q ≡ option_or (place_of (map f (take i items)) q) (if bytes_eq q (f x) then Some i else None)
-place_of-take f items i x q within is =
+pub index_of-take : {T : Type 0} (f : T → List ℕ) (items : List T) (i : ℕ) (x : T) (q : List ℕ) → i < length items → x ≡ get_or items i x
+    → index_of (map f (take (i + 1) items)) q ≡ option_or (index_of (map f (take i items)) q) (if bytes_eq q (f x) then Some i else None)
+index_of-take f items i x q within is =
     let few : length (map f (take i items)) ≡ i = length-map (take i items) f ∙ length-take-le i items (omega arith) in
     let more : map f (take (i + 1) items) ≡ map f (take i items) ++ f x ∷ [] = ap (map f) (take_more items i x within ∙ ap (λ y. take i items ++ y ∷ []) (sym is)) ∙ map-append f (take i items) (x ∷ []) in
-    ap (λ ns. place_of ns q) more ∙ place_of-push (map f (take i items)) (f x) q ∙ ap (λ n. option_or (place_of (map f (take i items)) q) (if bytes_eq q (f x) then Some n else None)) few
+    ap (λ ns. index_of ns q) more ∙ index_of-push (map f (take i items)) (f x) q ∙ ap (λ n. option_or (index_of (map f (take i items)) q) (if bytes_eq q (f x) then Some n else None)) few
 
 swapped : (b : Bool) (a c : List ℕ) → bytes_eq a c ≡ b → bytes_eq c a ≡ b
 swapped true a c e = (bytes_eq-Decides c a).1 (sym ((bytes_eq-Decides a c).0 e))
@@ -59,19 +59,19 @@ noted_again find between after name place before q had e again = again ∙ ap (c
     by false (Some p) d h = refl
 
 -- the place that was noted, or the length of the list
-pub place_among-of : (ns : List (List ℕ)) (q : List ℕ) → unwrap_or (place_of ns q) (length ns) ≡ place_among ns q
-place_among-of [] q = refl
-place_among-of (n ∷ ns) q = by (bytes_eq q n) (place_of ns q) (place_among-of ns q)
+pub index_among-of : (ns : List (List ℕ)) (q : List ℕ) → unwrap_or (index_of ns q) (length ns) ≡ index_among ns q
+index_among-of [] q = refl
+index_among-of (n ∷ ns) q = by (bytes_eq q n) (index_of ns q) (index_among-of ns q)
   where
-    by : (b : Bool) (o : Option ℕ) → unwrap_or o (length ns) ≡ place_among ns q → unwrap_or (cond b (Some 0) (option_map suc o)) (suc (length ns)) ≡ cond b 0 (suc (place_among ns q))
+    by : (b : Bool) (o : Option ℕ) → unwrap_or o (length ns) ≡ index_among ns q → unwrap_or (cond b (Some 0) (option_map suc o)) (suc (length ns)) ≡ cond b 0 (suc (index_among ns q))
     by true o e = refl
     by false None e = ap suc e
     by false (Some p) e = ap suc e
 
 -- a name has a place where it stands in the list
-pub place_of-among : (ns : List (List ℕ)) (q : List ℕ) → is_some (place_of ns q) ≡ is_among ns q
-place_of-among [] q = refl
-place_of-among (n ∷ ns) q = by (bytes_eq q n) (place_of ns q) (place_of-among ns q)
+pub index_of-among : (ns : List (List ℕ)) (q : List ℕ) → is_some (index_of ns q) ≡ is_among ns q
+index_of-among [] q = refl
+index_of-among (n ∷ ns) q = by (bytes_eq q n) (index_of ns q) (index_of-among ns q)
   where
     by : (b : Bool) (o : Option ℕ) → is_some o ≡ is_among ns q → is_some (cond b (Some 0) (option_map suc o)) ≡ (b || is_among ns q)
     by true o e = refl
@@ -101,11 +101,11 @@ pub names_drop : {T : Type 0} (f : T → List ℕ) (items : List T) (i : ℕ) (x
 names_drop f items i x within is = ap (map f) (drop-cons items i x within ∙ ap (λ y. y ∷ drop (suc i) items) (sym is)) ∙ ap (λ j. f x ∷ map f (drop j items)) (sym (add-one i))
 
 -- a name that has a place has one within the list
-pub place_within : (ns : List (List ℕ)) (q : List ℕ) (n : ℕ) → place_of ns q ≡ Some n → n < length ns
-place_within [] q n e = cc
-place_within (m ∷ ns) q n e = by (bytes_eq q m) (place_of ns q) refl e (place_within ns q)
+pub index_within : (ns : List (List ℕ)) (q : List ℕ) (n : ℕ) → index_of ns q ≡ Some n → n < length ns
+index_within [] q n e = cc
+index_within (m ∷ ns) q n e = by (bytes_eq q m) (index_of ns q) refl e (index_within ns q)
   where
-    by : (b : Bool) (o : Option ℕ) → place_of ns q ≡ o → cond b (Some 0) (option_map suc o) ≡ Some n → ((k : ℕ) → place_of ns q ≡ Some k → k < length ns) → n < suc (length ns)
+    by : (b : Bool) (o : Option ℕ) → index_of ns q ≡ o → cond b (Some 0) (option_map suc o) ≡ Some n → ((k : ℕ) → index_of ns q ≡ Some k → k < length ns) → n < suc (length ns)
     by true o is e below = let zero : 0 ≡ n = cc in omega arith
     by false None is e below = cc
     by false (Some k) is e below =

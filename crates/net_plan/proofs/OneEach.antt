@@ -6,8 +6,8 @@ use Rattle.std.specs.List.{AllByRecursion, All}
 use Rattle.serde_json.specs.Data.{Data, Items, no_items, item}
 use Rattle.net_plan.specs.CertificateReading.{nodes_differ}
 use Rattle.net_plan.specs.Json.{at_key, demand, found}
-use Rattle.net_plan.specs.JsonWords.{At, IsListOf, IsPlace, IsFirstOf, AreItems}
-use Rattle.net_plan.specs.Names.{place_among, names_differ, text_found, text_at, each_text_at, texts_at}
+use Rattle.net_plan.specs.JsonWords.{At, IsListOf, IsIndexOfName, IsFirstOf, AreItems}
+use Rattle.net_plan.specs.Names.{index_among, names_differ, text_found, text_at, each_text_at, texts_at}
 use Rattle.net_plan.specs.Reading.{then_with}
 use Rattle.net_plan.specs.declared.error.ValueFault.TheVariants.{Doubled}
 use Rattle.net_plan.proofs.Differing.{differ_sound, differ_whole}
@@ -19,7 +19,7 @@ stands_at [] k name is = cc
 stands_at (n ∷ ns) zero name is = cc
 stands_at (n ∷ ns) (suc k) name is = stands_at ns k name is
 
-module _ {A : Type 0} (R : Data → A → Type 0) (node_of : A → ℕ) (nodes : List (List ℕ)) (named : (d : Data) (x : A) → R d x → At (codes "node") (IsPlace nodes) d (node_of x)) where
+module _ {A : Type 0} (R : Data → A → Type 0) (node_of : A → ℕ) (nodes : List (List ℕ)) (named : (d : Data) (x : A) → R d x → At (codes "node") (IsIndexOfName nodes) d (node_of x)) where
   abbrev IsItsFirst : A → Type 0
   IsItsFirst x = IsFirstOf nodes (get_or nodes (node_of x) []) (node_of x)
 
@@ -58,7 +58,7 @@ module _ {A : Type 0} (R : Data → A → Type 0) (node_of : A → ℕ) (nodes :
       let one = get_or all i x in
       let other = get_or all j x in
       let names : f one ≡ f other = sym (get_or-map f all i x e in_i) ∙ same ∙ get_or-map f all j x e in_j in
-      h i j x below in_j (sym (first_only nodes (f one) (node_of one) (first i x in_i)) ∙ ap (place_among nodes) names ∙ first_only nodes (f other) (node_of other) (first j x in_j))
+      h i j x below in_j (sym (first_only nodes (f one) (node_of one) (first i x in_i)) ∙ ap (index_among nodes) names ∙ first_only nodes (f other) (node_of other) (first j x in_j))
 
   pub differ_tells : (d : Data) (xs : List A) (u : Unit {0}) → IsListOf R d xs → nodes_differ d ≡ Ok u → AllPairs (λ a b. node_of a ≢ node_of b) xs
   differ_tells d xs u h e =

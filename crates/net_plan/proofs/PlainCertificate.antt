@@ -12,7 +12,7 @@ use Rattle.net_plan.specs.JsonWords.{IsNumber, IsNumberWithin, IsListOf}
 use Rattle.net_plan.specs.Keys.{certificate_keys}
 use Rattle.net_plan.specs.LevelParts.{IsLevelBy}
 use Rattle.net_plan.specs.PlaceParts.{ArePlacesBy}
-use Rattle.net_plan.specs.Places.{noted}
+use Rattle.net_plan.specs.NameIndexes.{noted}
 use Rattle.net_plan.specs.PlainCertificate.{AreCertificateParts, IsCertificateBy}
 use Rattle.net_plan.specs.PlanValues.{node_names}
 use Rattle.net_plan.specs.RankParts.{AreRanksBy}
@@ -20,7 +20,7 @@ use Rattle.net_plan.specs.Trees.{data_of}
 use Rattle.net_plan.specs.declared.certificate.NodeLevel.{NodeLevel}
 use Rattle.net_plan.specs.declared.certificate.NodePlaces.{NodePlaces}
 use Rattle.net_plan.specs.declared.certificate.NodeRanks.{NodeRanks}
-use Rattle.net_plan.specs.declared.places.Places.{Places}
+use Rattle.net_plan.specs.declared.name_index.NameIndex.{NameIndex}
 use Rattle.net_plan.specs.declared.plain_certificate.CertificateParts.{CertificateParts}
 use Rattle.net_plan.proofs.Gathered.{gathered_now, gathered_other, none_plain, plain_last, object_plain, all_keys, at_gathered, not_yet, is_some_map, each_moved}
 
@@ -65,7 +65,7 @@ module _ (p : CertificateParts) (ms : Members) (j : Json) (plain : IsPlain j) (h
     ranks = gathered_now (IsListOf (AreRanksBy (noted p.nodes.now))) (map node_ranks_value x.items) ms (codes "ranks") j is;
   }
 
-pub no_parts : (nodes : Bor Places) → AreCertificateParts (record { nodes = nodes; format = None; levels = None; places = None; ranks = None }) no_members
+pub no_parts : (nodes : Bor NameIndex) → AreCertificateParts (record { nodes = nodes; format = None; levels = None; places = None; ranks = None }) no_members
 no_parts nodes = record { plain = none_plain certificate_keys; format = refl; levels = refl; places = refl; ranks = refl }
 
 -- ---- entries of other nodes

@@ -12,14 +12,14 @@ use Rattle.net_plan.specs.Gathered.{with_last, IsPlain, IsGathered}
 use Rattle.net_plan.specs.JsonWords.{AreItems, IsShortListOf}
 use Rattle.net_plan.specs.Keys.{events_keys}
 use Rattle.net_plan.specs.PlainEvents.{AreEventsParts, AreEventsBy, is_event_in}
-use Rattle.net_plan.specs.Places.{noted, ArePlaces}
+use Rattle.net_plan.specs.NameIndexes.{noted, IsIndexOf}
 use Rattle.net_plan.specs.PlanValues.{node_names}
 use Rattle.net_plan.specs.Trees.{data_of}
 use Rattle.net_plan.specs.declared.event.Event.{Event}
 use Rattle.net_plan.specs.declared.event_text.Format.{Format}
 use Rattle.net_plan.specs.declared.event_text.Format.TheVariants.{One, Two, Three}
 use Rattle.net_plan.specs.declared.plain_events.EventsParts.{EventsParts}
-use Rattle.net_plan.specs.declared.places.Places.{Places}
+use Rattle.net_plan.specs.declared.name_index.NameIndex.{NameIndex}
 use Rattle.net_plan.proofs.Gathered.{gathered_now, gathered_other, none_plain, plain_last, object_plain, all_keys, at_gathered, not_yet, is_some_map}
 use Rattle.net_plan.proofs.Telling.{both}
 
@@ -42,7 +42,7 @@ module _ (p : EventsParts) (ms : Members) (j : Json) (plain : IsPlain j) (h : Ar
     events = gathered_now AreBy (map event_entry v.items) ms (codes "events") j is;
   }
 
-pub no_parts : (nodes : Bor Places) → AreEventsParts (record { nodes = nodes; format = None; events = None }) no_members
+pub no_parts : (nodes : Bor NameIndex) → AreEventsParts (record { nodes = nodes; format = None; events = None }) no_members
 no_parts nodes = record { plain = none_plain events_keys; format = refl; events = refl }
 
 -- ---- the format
@@ -69,7 +69,7 @@ module _ (f : Format) (names : List (List ℕ)) where
   in_format d (ask walker) h has = record { third = third f has; keys = h.keys; does = h.does; number = h.number }
   in_format d (collected walker) h has = record { third = third f has; keys = h.keys; does = h.does; number = h.number }
 
-  all_in_format : (find : List ℕ → Option ℕ) → ArePlaces find names → (ds : whole.Items) (es : List EventEntry) → AreItems (IsEventBy find) ds es → list_all (is_event_in f) es ≡ true → AreItems (IsEventOf f names) ds es
+  all_in_format : (find : List ℕ → Option ℕ) → IsIndexOf find names → (ds : whole.Items) (es : List EventEntry) → AreItems (IsEventBy find) ds es → list_all (is_event_in f) es ≡ true → AreItems (IsEventOf f names) ds es
   all_in_format find places whole.no_items [] h has = tt
   all_in_format find places whole.no_items (e ∷ es) h has = absurd h
   all_in_format find places (whole.item d ds) [] h has = absurd h

@@ -9,9 +9,9 @@ use Rattle.hex.specs.Hex.{decode_of}
 use Rattle.hex.specs.declared.error.FromHexError.{FromHexError}
 use Rattle.serde_json.specs.Data.{Data, null, boolean, number, string, array, object, Items, no_items, item}
 use Rattle.net_plan.specs.Json.{each, items_count, keyed, at_key, list_within, optional, demand, name_text, reference, whole_number, hex_text, address_text, decoded, found}
-use Rattle.net_plan.specs.JsonWords.{HasKeys, At, IsShortListOf, IsOptional, IsNumber, IsNumberWithin, IsName, IsHex, IsAddress, IsPlace, IsFirstOf, AreItems}
+use Rattle.net_plan.specs.JsonWords.{HasKeys, At, IsShortListOf, IsOptional, IsNumber, IsNumberWithin, IsName, IsHex, IsAddress, IsIndexOfName, IsFirstOf, AreItems}
 use Rattle.net_plan.specs.NameText.{is_name}
-use Rattle.net_plan.specs.Names.{place_of, place_among, names_differ, text_found, text_at, each_text_at, texts_at}
+use Rattle.net_plan.specs.Names.{index_of, index_among, names_differ, text_found, text_at, each_text_at, texts_at}
 use Rattle.net_plan.specs.Keys.{plan_keys, bus_keys, port_keys, row_keys, pool_keys, record_keys, terminus_keys, node_keys}
 use Rattle.net_plan.specs.Placed.{is_port_placed, is_row_placed, is_owner_placed, is_node_placed, are_placed}
 use Rattle.net_plan.specs.PlanReading.{byte, word, bus, port, row, pool, repository_record, terminus, kind_text, node, nodes_among, unit_by, unit, plan}
@@ -26,7 +26,7 @@ use Rattle.net_plan.specs.declared.plan_format.PlanFormat.{PlanFormat}
 use Rattle.net_plan.specs.declared.plan_format.PlanFormat.TheVariants.{One, Two}
 use Rattle.net_plan.proofs.Differing.{differ_sound, differ_whole}
 use Rattle.net_plan.proofs.KeysLaw.{keys_sound, keys_whole}
-use Rattle.net_plan.proofs.Names.{place_among-of, place_within}
+use Rattle.net_plan.proofs.Names.{index_among-of, index_within}
 use Rattle.net_plan.proofs.Telling.{Tells, any, no_value, same_Ok, then_Ok, demanded, both, at_key_tells, within_tells, within_any_tells, optional_tells, optional_any_tells, number_tells}
 
 -- ---- texts
@@ -101,34 +101,34 @@ same_Some e = cc
 no_Some : {A : Type 0} {a : A} → None ≡ Some a → ⊥
 no_Some e = cc
 
-pub first_within : (names : List (List ℕ)) (s : List ℕ) → place_among names s < length names → IsFirstOf names s (place_among names s)
+pub first_within : (names : List (List ℕ)) (s : List ℕ) → index_among names s < length names → IsFirstOf names s (index_among names s)
 first_within [] s below = absurd (omega arith)
 first_within (n ∷ ns) s below = by (bytes_eq s n) refl below (first_within ns s)
   where
-    by : (b : Bool) → bytes_eq s n ≡ b → cond b 0 (suc (place_among ns s)) < suc (length ns) → (place_among ns s < length ns → IsFirstOf ns s (place_among ns s)) → IsFirstOf (n ∷ ns) s (cond b 0 (suc (place_among ns s)))
+    by : (b : Bool) → bytes_eq s n ≡ b → cond b 0 (suc (index_among ns s)) < suc (length ns) → (index_among ns s < length ns → IsFirstOf ns s (index_among ns s)) → IsFirstOf (n ∷ ns) s (cond b 0 (suc (index_among ns s)))
     by true is below rest = record { stands = ap Some (sym ((bytes_eq-Decides s n).0 is)); first = λ k under. absurd (omega arith) }
     by false is below rest =
-        let first : IsFirstOf ns s (place_among ns s) = rest (omega arith) in
+        let first : IsFirstOf ns s (index_among ns s) = rest (omega arith) in
         record { stands = first.stands; first = passed first }
       where
-        passed : IsFirstOf ns s (place_among ns s) → (k : ℕ) → k < suc (place_among ns s) → slice_get (n ∷ ns) k ≢ Some s
+        passed : IsFirstOf ns s (index_among ns s) → (k : ℕ) → k < suc (index_among ns s) → slice_get (n ∷ ns) k ≢ Some s
         passed first zero under here = true≢false (sym ((bytes_eq-Decides s n).1 (sym (same_Some here))) ∙ is)
         passed first (suc k) under here = first.first k (omega arith) here
 
-pub first_place : (names : List (List ℕ)) (s : List ℕ) (k : ℕ) → place_of names s ≡ Some k → IsFirstOf names s k
-first_place names s k e =
-    let same : place_among names s ≡ k = sym (place_among-of names s) ∙ ap (λ o. unwrap_or o (length names)) e in
-    let below : k < length names = place_within names s k e in
+pub first_index : (names : List (List ℕ)) (s : List ℕ) (k : ℕ) → index_of names s ≡ Some k → IsFirstOf names s k
+first_index names s k e =
+    let same : index_among names s ≡ k = sym (index_among-of names s) ∙ ap (λ o. unwrap_or o (length names)) e in
+    let below : k < length names = index_within names s k e in
     subst (IsFirstOf names s) same (first_within names s (omega arith))
 
-pub first_only : (names : List (List ℕ)) (s : List ℕ) (p : ℕ) → IsFirstOf names s p → place_among names s ≡ p
+pub first_only : (names : List (List ℕ)) (s : List ℕ) (p : ℕ) → IsFirstOf names s p → index_among names s ≡ p
 first_only [] s p h = absurd (no_Some h.stands)
-first_only (n ∷ ns) s zero h = ap (λ b. cond b 0 (suc (place_among ns s))) ((bytes_eq-Decides s n).1 (sym (same_Some h.stands)))
+first_only (n ∷ ns) s zero h = ap (λ b. cond b 0 (suc (index_among ns s))) ((bytes_eq-Decides s n).1 (sym (same_Some h.stands)))
 first_only (n ∷ ns) s (suc p) h =
     let rest : IsFirstOf ns s p = record { stands = h.stands; first = λ k below. h.first (suc k) (omega arith) } in
     by (bytes_eq s n) refl (first_only ns s p rest)
   where
-    by : (b : Bool) → bytes_eq s n ≡ b → place_among ns s ≡ p → cond b 0 (suc (place_among ns s)) ≡ suc p
+    by : (b : Bool) → bytes_eq s n ≡ b → index_among ns s ≡ p → cond b 0 (suc (index_among ns s)) ≡ suc p
     by true is e = absurd (h.first 0 (omega arith) (ap Some (sym ((bytes_eq-Decides s n).0 is))))
     by false is e = ap suc e
 
@@ -139,20 +139,20 @@ within_list (y ∷ ys) zero x is = omega arith
 within_list (y ∷ ys) (suc k) x is = let rest = within_list ys k x is in omega arith
 
 module _ (names : List (List ℕ)) where
-  reference_sound : (d : Data) (k : ℕ) → reference (place_among names) d ≡ Ok k → nat_lt k (length names) ≡ true → IsPlace names d k
+  reference_sound : (d : Data) (k : ℕ) → reference (index_among names) d ≡ Ok k → nat_lt k (length names) ≡ true → IsIndexOfName names d k
   reference_sound d k e pass =
       let p = then_Ok (name_text d) _ k e in
-      let below : place_among names p.0 < length names = ltb-true (place_among names p.0) (length names) (ap (λ j. nat_lt j (length names)) (same_Ok p.2) ∙ pass) in
-      subst (IsPlace names d) (same_Ok p.2) (p.0, name_sound d p.0 p.1, first_within names p.0 below)
+      let below : index_among names p.0 < length names = ltb-true (index_among names p.0) (length names) (ap (λ j. nat_lt j (length names)) (same_Ok p.2) ∙ pass) in
+      subst (IsIndexOfName names d) (same_Ok p.2) (p.0, name_sound d p.0 p.1, first_within names p.0 below)
 
-  reference_whole : (d : Data) (k : ℕ) → IsPlace names d k → reference (place_among names) d ≡ Ok k
-  reference_whole d k h = ap (λ r. then_with r (λ name. Ok (place_among names name))) (name_tells.whole d h.0 h.1) ∙ ap Ok (first_only names h.0 k h.2)
+  reference_whole : (d : Data) (k : ℕ) → IsIndexOfName names d k → reference (index_among names) d ≡ Ok k
+  reference_whole d k h = ap (λ r. then_with r (λ name. Ok (index_among names name))) (name_tells.whole d h.0 h.1) ∙ ap Ok (first_only names h.0 k h.2)
 
-  pub reference_tells : Tells (reference (place_among names)) (λ k. nat_lt k (length names)) (IsPlace names)
+  pub reference_tells : Tells (reference (index_among names)) (λ k. nat_lt k (length names)) (IsIndexOfName names)
   reference_tells = record { sound = reference_sound; whole = reference_whole; passes = λ d k h. lt-ltb k (length names) (within_list names k h.0 h.2.stands) }
 
-  pub reference_at : (key : List ℕ) → Tells (at_key key (reference (place_among names))) (λ k. nat_lt k (length names)) (At key (IsPlace names))
-  reference_at key = at_key_tells key (reference (place_among names)) (λ k. nat_lt k (length names)) (IsPlace names) reference_tells
+  pub reference_at : (key : List ℕ) → Tells (at_key key (reference (index_among names))) (λ k. nat_lt k (length names)) (At key (IsIndexOfName names))
+  reference_at key = at_key_tells key (reference (index_among names)) (λ k. nat_lt k (length names)) (IsIndexOfName names) reference_tells
 
 -- ---- what a plan is made of
 
@@ -255,10 +255,10 @@ terminus_tells : Tells terminus any IsTerminusOf
 terminus_tells = record { sound = λ d v e pass. terminus_sound d v e; whole = terminus_whole; passes = λ d v h. refl }
 
 module _ (buses : List (List ℕ)) where
-  port_sound : (d : Data) (v : PortValue) → port (place_among buses) d ≡ Ok v → is_port_placed (length buses) v ≡ true → IsPortOf buses d v
+  port_sound : (d : Data) (v : PortValue) → port (index_among buses) d ≡ Ok v → is_port_placed (length buses) v ≡ true → IsPortOf buses d v
   port_sound d v e pass =
       let k = then_Ok (keyed port_keys d) _ v e in
-      let b = then_Ok (at_key (codes "bus") (reference (place_among buses)) d) _ v k.2 in
+      let b = then_Ok (at_key (codes "bus") (reference (index_among buses)) d) _ v k.2 in
       let a = then_Ok (at_key (codes "address") address_text d) _ v b.2 in
       subst (IsPortOf buses d) (same_Ok a.2) (record {
         keys = keys_sound port_keys d k.0 k.1;
@@ -266,27 +266,27 @@ module _ (buses : List (List ℕ)) where
         address = (at_key_tells (codes "address") address_text any IsAddress address_tells).sound d a.0 a.1 refl;
       })
 
-  port_whole : (d : Data) (v : PortValue) → IsPortOf buses d v → port (place_among buses) d ≡ Ok v
+  port_whole : (d : Data) (v : PortValue) → IsPortOf buses d v → port (index_among buses) d ≡ Ok v
   port_whole d v h =
       let b = (reference_at buses (codes "bus")).whole d v.bus h.bus in
       let a = (at_key_tells (codes "address") address_text any IsAddress address_tells).whole d v.address h.address in
       rw (keys_whole port_keys d h.keys, b, a) refl
 
-  port_tells : Tells (port (place_among buses)) (is_port_placed (length buses)) (IsPortOf buses)
+  port_tells : Tells (port (index_among buses)) (is_port_placed (length buses)) (IsPortOf buses)
   port_tells = record { sound = port_sound; whole = port_whole; passes = λ d v h. (reference_at buses (codes "bus")).passes d v.bus h.bus }
 
-  ports_at : Tells (at_key (codes "ports") (list_within 32 (port (place_among buses)))) (list_all (is_port_placed (length buses))) (At (codes "ports") (IsShortListOf 32 (IsPortOf buses)))
-  ports_at = at_key_tells (codes "ports") (list_within 32 (port (place_among buses))) (list_all (is_port_placed (length buses))) (IsShortListOf 32 (IsPortOf buses))
-      (within_tells (port (place_among buses)) (is_port_placed (length buses)) (IsPortOf buses) port_tells 32)
+  ports_at : Tells (at_key (codes "ports") (list_within 32 (port (index_among buses)))) (list_all (is_port_placed (length buses))) (At (codes "ports") (IsShortListOf 32 (IsPortOf buses)))
+  ports_at = at_key_tells (codes "ports") (list_within 32 (port (index_among buses))) (list_all (is_port_placed (length buses))) (IsShortListOf 32 (IsPortOf buses))
+      (within_tells (port (index_among buses)) (is_port_placed (length buses)) (IsPortOf buses) port_tells 32)
 
 module _ (nodes : List (List ℕ)) where
-  row_sound : (d : Data) (v : RowValue) → row (place_among nodes) d ≡ Ok v → is_row_placed (length nodes) v ≡ true → IsRowOf nodes d v
+  row_sound : (d : Data) (v : RowValue) → row (index_among nodes) d ≡ Ok v → is_row_placed (length nodes) v ≡ true → IsRowOf nodes d v
   row_sound d v e pass =
       let k = then_Ok (keyed row_keys d) _ v e in
       let f = then_Ok (at_key (codes "first") byte d) _ v k.2 in
       let s = then_Ok (at_key (codes "size") byte d) _ v f.2 in
       let p = then_Ok (at_key (codes "port") (whole_number 0 31) d) _ v s.2 in
-      let n = then_Ok (at_key (codes "next") (reference (place_among nodes)) d) _ v p.2 in
+      let n = then_Ok (at_key (codes "next") (reference (index_among nodes)) d) _ v p.2 in
       subst (IsRowOf nodes d) (same_Ok n.2) (record {
         keys = keys_sound row_keys d k.0 k.1;
         first = (number_at (codes "first") 0 255).sound d f.0 f.1 refl;
@@ -295,7 +295,7 @@ module _ (nodes : List (List ℕ)) where
         next = (reference_at nodes (codes "next")).sound d n.0 n.1 (ap (is_row_placed (length nodes)) (same_Ok n.2) ∙ pass);
       })
 
-  row_whole : (d : Data) (v : RowValue) → IsRowOf nodes d v → row (place_among nodes) d ≡ Ok v
+  row_whole : (d : Data) (v : RowValue) → IsRowOf nodes d v → row (index_among nodes) d ≡ Ok v
   row_whole d v h =
       let f = (number_at (codes "first") 0 255).whole d v.first h.first in
       let s = (number_at (codes "size") 0 255).whole d v.size h.size in
@@ -303,16 +303,16 @@ module _ (nodes : List (List ℕ)) where
       let n = (reference_at nodes (codes "next")).whole d v.next h.next in
       rw (keys_whole row_keys d h.keys, f, s, p, n) refl
 
-  row_tells : Tells (row (place_among nodes)) (is_row_placed (length nodes)) (IsRowOf nodes)
+  row_tells : Tells (row (index_among nodes)) (is_row_placed (length nodes)) (IsRowOf nodes)
   row_tells = record { sound = row_sound; whole = row_whole; passes = λ d v h. (reference_at nodes (codes "next")).passes d v.next h.next }
 
-  rows_at : Tells (at_key (codes "rows") (list_within 256 (row (place_among nodes)))) (list_all (is_row_placed (length nodes))) (At (codes "rows") (IsShortListOf 256 (IsRowOf nodes)))
-  rows_at = at_key_tells (codes "rows") (list_within 256 (row (place_among nodes))) (list_all (is_row_placed (length nodes))) (IsShortListOf 256 (IsRowOf nodes))
-      (within_tells (row (place_among nodes)) (is_row_placed (length nodes)) (IsRowOf nodes) row_tells 256)
+  rows_at : Tells (at_key (codes "rows") (list_within 256 (row (index_among nodes)))) (list_all (is_row_placed (length nodes))) (At (codes "rows") (IsShortListOf 256 (IsRowOf nodes)))
+  rows_at = at_key_tells (codes "rows") (list_within 256 (row (index_among nodes))) (list_all (is_row_placed (length nodes))) (IsShortListOf 256 (IsRowOf nodes))
+      (within_tells (row (index_among nodes)) (is_row_placed (length nodes)) (IsRowOf nodes) row_tells 256)
 
-  owner_at : Tells (at_key (codes "owner") (optional (reference (place_among nodes)))) (is_owner_placed (length nodes)) (At (codes "owner") (IsOptional (IsPlace nodes)))
-  owner_at = at_key_tells (codes "owner") (optional (reference (place_among nodes))) (is_owner_placed (length nodes)) (IsOptional (IsPlace nodes))
-      (optional_tells (reference (place_among nodes)) (λ k. nat_lt k (length nodes)) (IsPlace nodes) (reference_tells nodes))
+  owner_at : Tells (at_key (codes "owner") (optional (reference (index_among nodes)))) (is_owner_placed (length nodes)) (At (codes "owner") (IsOptional (IsIndexOfName nodes)))
+  owner_at = at_key_tells (codes "owner") (optional (reference (index_among nodes))) (is_owner_placed (length nodes)) (IsOptional (IsIndexOfName nodes))
+      (optional_tells (reference (index_among nodes)) (λ k. nat_lt k (length nodes)) (IsIndexOfName nodes) (reference_tells nodes))
 
 pool_at : Tells (at_key (codes "pool") (optional pool)) any (At (codes "pool") (IsOptional IsPoolOf))
 pool_at = at_key_tells (codes "pool") (optional pool) any (IsOptional IsPoolOf) (optional_any_tells pool IsPoolOf pool_tells)
@@ -324,16 +324,16 @@ kind_at : Tells (at_key (codes "kind") kind_text) any (At (codes "kind") IsKindO
 kind_at = at_key_tells (codes "kind") kind_text any IsKindOf kind_tells
 
 module _ (buses nodes : List (List ℕ)) where
-  node_sound : (d : Data) (v : NodeValue) → node (place_among buses) (place_among nodes) d ≡ Ok v → is_node_placed (length buses) (length nodes) v ≡ true → IsNodeOf buses nodes d v
+  node_sound : (d : Data) (v : NodeValue) → node (index_among buses) (index_among nodes) d ≡ Ok v → is_node_placed (length buses) (length nodes) v ≡ true → IsNodeOf buses nodes d v
   node_sound d v e pass =
       let k = then_Ok (keyed node_keys d) _ v e in
       let n = then_Ok (at_key (codes "name") name_text d) _ v k.2 in
       let kind = then_Ok (at_key (codes "kind") kind_text d) _ v n.2 in
       let eid = then_Ok (at_key (codes "eid") byte d) _ v kind.2 in
-      let o = then_Ok (at_key (codes "owner") (optional (reference (place_among nodes))) d) _ v eid.2 in
+      let o = then_Ok (at_key (codes "owner") (optional (reference (index_among nodes))) d) _ v eid.2 in
       let q = then_Ok (at_key (codes "pool") (optional pool) d) _ v o.2 in
-      let ps = then_Ok (at_key (codes "ports") (list_within 32 (port (place_among buses))) d) _ v q.2 in
-      let rs = then_Ok (at_key (codes "rows") (list_within 256 (row (place_among nodes))) d) _ v ps.2 in
+      let ps = then_Ok (at_key (codes "ports") (list_within 32 (port (index_among buses))) d) _ v q.2 in
+      let rs = then_Ok (at_key (codes "rows") (list_within 256 (row (index_among nodes))) d) _ v ps.2 in
       let t = then_Ok (at_key (codes "terminus") (optional terminus) d) _ v rs.2 in
       let placed : is_node_placed (length buses) (length nodes) (record { name = n.0; kind = kind.0; eid = eid.0; owner = o.0; pool = q.0; ports = ps.0; rows = rs.0; terminus = t.0 }) ≡ true = ap (is_node_placed (length buses) (length nodes)) (same_Ok t.2) ∙ pass in
       let first = both (is_owner_placed (length nodes) o.0) (list_all (is_port_placed (length buses)) ps.0 && list_all (is_row_placed (length nodes)) rs.0) placed in
@@ -350,7 +350,7 @@ module _ (buses nodes : List (List ℕ)) where
         terminus = terminus_at.sound d t.0 t.1 refl;
       })
 
-  node_whole : (d : Data) (v : NodeValue) → IsNodeOf buses nodes d v → node (place_among buses) (place_among nodes) d ≡ Ok v
+  node_whole : (d : Data) (v : NodeValue) → IsNodeOf buses nodes d v → node (index_among buses) (index_among nodes) d ≡ Ok v
   node_whole d v h =
       let n = (name_at (codes "name")).whole d v.name h.name in
       let kind = kind_at.whole d v.kind h.kind in
@@ -365,11 +365,11 @@ module _ (buses nodes : List (List ℕ)) where
   node_passes : (d : Data) (v : NodeValue) → IsNodeOf buses nodes d v → is_node_placed (length buses) (length nodes) v ≡ true
   node_passes d v h = rw ((owner_at nodes).passes d v.owner h.owner, (ports_at buses).passes d v.ports h.ports, (rows_at nodes).passes d v.rows h.rows) refl
 
-  node_tells : Tells (node (place_among buses) (place_among nodes)) (is_node_placed (length buses) (length nodes)) (IsNodeOf buses nodes)
+  node_tells : Tells (node (index_among buses) (index_among nodes)) (is_node_placed (length buses) (length nodes)) (IsNodeOf buses nodes)
   node_tells = record { sound = node_sound; whole = node_whole; passes = node_passes }
 
-  list_tells : Tells (list_within 64 (node (place_among buses) (place_among nodes))) (list_all (is_node_placed (length buses) (length nodes))) (IsShortListOf 64 (IsNodeOf buses nodes))
-  list_tells = within_tells (node (place_among buses) (place_among nodes)) (is_node_placed (length buses) (length nodes)) (IsNodeOf buses nodes) node_tells 64
+  list_tells : Tells (list_within 64 (node (index_among buses) (index_among nodes))) (list_all (is_node_placed (length buses) (length nodes))) (IsShortListOf 64 (IsNodeOf buses nodes))
+  list_tells = within_tells (node (index_among buses) (index_among nodes)) (is_node_placed (length buses) (length nodes)) (IsNodeOf buses nodes) node_tells 64
 
   -- the names of nodes stand where the nodes do
   named : (ds : Items) (ns : List NodeValue) → AreItems (IsNodeOf buses nodes) ds ns → each_text_at (codes "name") ds ≡ node_names ns
@@ -414,13 +414,13 @@ module _ (buses : List (List ℕ)) where
   unfolding nodes_among
   nodes_sound d ns e pass =
       let names = texts_at (codes "name") d in
-      let placed : list_all (is_node_placed (length buses) (length names)) ns ≡ true = ap (λ count. list_all (is_node_placed (length buses) count) ns) (counted (node (place_among buses) (place_among names)) d ns e) ∙ pass in
+      let placed : list_all (is_node_placed (length buses) (length names)) ns ≡ true = ap (λ count. list_all (is_node_placed (length buses) count) ns) (counted (node (index_among buses) (index_among names)) d ns e) ∙ pass in
       let among = (list_tells buses names).sound d ns e placed in
       subst (λ names. IsShortListOf 64 (IsNodeOf buses names) d ns) (texts_named names d ns among) among
 
   nodes_whole : (d : Data) (ns : List NodeValue) → AreNodesOf buses d ns → nodes_among buses d ≡ Ok ns
   unfolding nodes_among
-  nodes_whole d ns h = ap (λ names. list_within 64 (node (place_among buses) (place_among names)) d) (texts_named (node_names ns) d ns h) ∙ (list_tells buses (node_names ns)).whole d ns h
+  nodes_whole d ns h = ap (λ names. list_within 64 (node (index_among buses) (index_among names)) d) (texts_named (node_names ns) d ns h) ∙ (list_tells buses (node_names ns)).whole d ns h
 
   nodes_pass : (d : Data) (ns : List NodeValue) → AreNodesOf buses d ns → are_placed (length buses) ns ≡ true
   nodes_pass d ns h = ap (λ count. list_all (is_node_placed (length buses) count) ns) (sym (length-map ns (λ n. n.name))) ∙ (list_tells buses (node_names ns)).passes d ns h

@@ -80,12 +80,12 @@ no_parts_of_ranks = record { plain = none_plain ranks_keys; node = refl; ranges 
 
 pub ranks_of : (find : List ℕ → Option ℕ) → (p : RanksParts) (node : Bor (List ℕ)) (ranges : Vec RankRange Global) (place : ℕ) → p.node ≡ Some node → p.ranges ≡ Some ranges → find node.now ≡ Some place → ascends 0 (map range_value ranges.items) ≡ true → (ms : Members) → AreRanksParts p ms
     → AreRanksBy find (data_of (object ms)) (record { node = place; ranges = map range_value ranges.items }) × IsPlain (object ms)
-ranks_of find p node ranges place is_node is_ranges is_place ascending ms h =
+ranks_of find p node ranges place is_node is_ranges is_index ascending ms h =
     let node_here = subst (λ o. IsGathered (codes "node") IsName o ms) (ap (option_map (λ name. name.now)) is_node) h.node in
     let ranges_here = subst (λ o. IsGathered (codes "ranges") (IsListOf IsRangeOf) o ms) (ap (option_map (λ v. map range_value v.items)) is_ranges) h.ranges in (
       λ names places. record {
         keys = all_keys ranks_keys ms h.plain (rw (node_here.1, ranges_here.1) refl);
-        node = placed_at names find places node.now place is_place ms node_here;
+        node = placed_at names find places node.now place is_index ms node_here;
         ranges = at_gathered (codes "ranges") (IsListOf IsRangeOf) (map range_value ranges.items) ms ranges_here;
         ascending = (ascends_sound 0 (map range_value ranges.items) ascending).1;
       },

@@ -12,7 +12,7 @@ use Rattle.serde_json.specs.Read.{read}
 use Rattle.net_plan.specs.CertificateReading.{are_known, certificate}
 use Rattle.net_plan.specs.CertificateText.{IsLevelOf, ArePlacesOf, IsRangeOf, IsAscending, AreRanksOf, IsCertificateOf}
 use Rattle.net_plan.specs.CertificateValues.{CertificateValue, level_value, places_value, range_value, node_ranks_value, certificate_value}
-use Rattle.net_plan.specs.JsonWords.{AreItems, IsNumberWithin, IsPlace, IsFirstOf}
+use Rattle.net_plan.specs.JsonWords.{AreItems, IsNumberWithin, IsIndexOfName, IsFirstOf}
 use Rattle.net_plan.specs.Keys.{certificate_keys, level_keys, places_keys, ranks_keys, range_keys}
 use Rattle.net_plan.specs.NameText.{is_name}
 use Rattle.net_plan.specs.PlanValues.{PlanValue, node_value, node_names, plan_value}
@@ -42,8 +42,8 @@ spelled (n ∷ ns) zero within = n.name.spelled
 spelled (n ∷ ns) (suc k) within = spelled ns k (omega arith)
 
 module _ (names : List (List ℕ)) (lawful : (k : ℕ) → k < length names → is_name (get_or names k []) ≡ true) (differ : AllPairs (λ a b. a ≢ b) names) where
-  is_place : (k : ℕ) → nat_lt k (length names) ≡ true → IsPlace names (name_data names k) k
-  is_place k known =
+  is_index : (k : ℕ) → nat_lt k (length names) ≡ true → IsIndexOfName names (name_data names k) k
+  is_index k known =
       let within : k < length names = ltb-true k (length names) known in
       let first : IsFirstOf names (get_or names k []) k = record {
         stands = slice_get-get_or names k [] within;
@@ -55,7 +55,7 @@ module _ (names : List (List ℕ)) (lawful : (k : ℕ) → k < length names → 
   level_stands l known = record {
     keys = keys_sound level_keys (level_data names (level_value l)) tt refl;
     level = (number_data l.level, refl, (refl, l.owned, l.within));
-    node = (name_data names l.node, refl, is_place l.node known);
+    node = (name_data names l.node, refl, is_index l.node known);
   }
 
   levels_stand : (ls : List NodeLevel) → list_all (λ l. nat_lt l.node (length names)) (map level_value ls) ≡ true → AreItems (IsLevelOf names) (items_of (map (level_data names) (map level_value ls))) (map level_value ls)
@@ -71,7 +71,7 @@ module _ (names : List (List ℕ)) (lawful : (k : ℕ) → k < length names → 
   places_stand : (p : NodePlaces) → nat_lt p.node (length names) ≡ true → ArePlacesOf names (places_data names (places_value p)) (places_value p)
   places_stand p known = record {
     keys = keys_sound places_keys (places_data names (places_value p)) tt refl;
-    node = (name_data names p.node, refl, is_place p.node known);
+    node = (name_data names p.node, refl, is_index p.node known);
     places = (list_data number_data (places_value p).places, refl, (items_of (map number_data (places_value p).places), refl, numbers_stand p.places.items));
   }
 
@@ -99,7 +99,7 @@ module _ (names : List (List ℕ)) (lawful : (k : ℕ) → k < length names → 
   ranks_stand : (r : NodeRanks) → nat_lt r.node (length names) ≡ true → IsAscending (node_ranks_value r).ranges → AreRanksOf names (ranks_data names (node_ranks_value r)) (node_ranks_value r)
   ranks_stand r known ascending = record {
     keys = keys_sound ranks_keys (ranks_data names (node_ranks_value r)) tt refl;
-    node = (name_data names r.node, refl, is_place r.node known);
+    node = (name_data names r.node, refl, is_index r.node known);
     ranges = (list_data range_data (node_ranks_value r).ranges, refl, (items_of (map range_data (node_ranks_value r).ranges), refl, ranges_stand r.ranges.items));
     ascending = ascending;
   }

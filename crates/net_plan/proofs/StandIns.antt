@@ -16,10 +16,10 @@ use Rattle.serde_json.specs.Data.{Data}
 use Rattle.serde_json.specs.Find as find
 use Rattle.serde_json.specs.Find.{get}
 use Rattle.net_plan.specs.Gathered.{with_last, IsPlain, EachIs}
-use Rattle.net_plan.specs.JsonWords.{HasKeys, At, AreItems, IsShortListOf, IsOptional, IsNumberWithin, IsName, IsPlace}
+use Rattle.net_plan.specs.JsonWords.{HasKeys, At, AreItems, IsShortListOf, IsOptional, IsNumberWithin, IsName, IsIndexOfName}
 use Rattle.net_plan.specs.Keys.{node_keys, plan_keys}
 use Rattle.net_plan.specs.NodeValues.{NodeValue, TerminusValue, node_value, terminus_value, bus_names, node_names}
-use Rattle.net_plan.specs.Names.{names_differ, place_among}
+use Rattle.net_plan.specs.Names.{names_differ, index_among}
 use Rattle.net_plan.specs.PlanText.{IsByte, IsBusOf, IsPortOf, IsRowOf, IsPoolOf, IsTerminusOf, IsKindOf, IsNodeOf, IsPlanFormat, IsUnitOf, IsPlanOf}
 use Rattle.net_plan.specs.PlanValues.{PlanValue}
 use Rattle.net_plan.specs.SingleKeys.{single, items_single, members_single}
@@ -157,44 +157,44 @@ module _ (cut : List ℕ) where
 -- ---- nodes
 
 module _ (nodes : List (List ℕ)) where
-  row_full : (d : Data) (r : NamedRowValue) → IsNamedRowOf d r → is_row_placed (length nodes) (found_row (place_among nodes) r) ≡ true → IsRowOf nodes d (found_row (place_among nodes) r)
+  row_full : (d : Data) (r : NamedRowValue) → IsNamedRowOf d r → is_row_placed (length nodes) (found_row (index_among nodes) r) ≡ true → IsRowOf nodes d (found_row (index_among nodes) r)
   row_full d r is pass = record {
     keys = is.keys;
     first = is.first;
     size = is.size;
     port = is.port;
-    next = (is.next.0, is.next.1, (r.next, is.next.2, first_within nodes r.next (ltb-true (place_among nodes r.next) (length nodes) pass)));
+    next = (is.next.0, is.next.1, (r.next, is.next.2, first_within nodes r.next (ltb-true (index_among nodes r.next) (length nodes) pass)));
   }
 
-  rows_full : (ds : whole.Items) (rs : List NamedRowValue) → AreItems IsNamedRowOf ds rs → list_all (is_row_placed (length nodes)) (map (found_row (place_among nodes)) rs) ≡ true
-      → AreItems (IsRowOf nodes) ds (map (found_row (place_among nodes)) rs)
+  rows_full : (ds : whole.Items) (rs : List NamedRowValue) → AreItems IsNamedRowOf ds rs → list_all (is_row_placed (length nodes)) (map (found_row (index_among nodes)) rs) ≡ true
+      → AreItems (IsRowOf nodes) ds (map (found_row (index_among nodes)) rs)
   rows_full whole.no_items [] h pass = tt
   rows_full whole.no_items (r ∷ rs) h pass = absurd h
   rows_full (whole.item d ds) [] h pass = absurd h
   rows_full (whole.item d ds) (r ∷ rs) h pass =
-      let p = both (is_row_placed (length nodes) (found_row (place_among nodes) r)) (list_all (is_row_placed (length nodes)) (map (found_row (place_among nodes)) rs)) pass in
+      let p = both (is_row_placed (length nodes) (found_row (index_among nodes) r)) (list_all (is_row_placed (length nodes)) (map (found_row (index_among nodes)) rs)) pass in
       (row_full d r h.0 p.0, rows_full ds rs h.1 p.1)
 
-  short_rows_full : (d : Data) (rs : List NamedRowValue) → IsShortListOf 256 IsNamedRowOf d rs → list_all (is_row_placed (length nodes)) (map (found_row (place_among nodes)) rs) ≡ true
-      → IsShortListOf 256 (IsRowOf nodes) d (map (found_row (place_among nodes)) rs)
-  short_rows_full d rs h pass = ((h.0.0, h.0.1, rows_full h.0.0 rs h.0.2 pass), subst (λ n. n ≤ 256) (sym (length-map rs (found_row (place_among nodes)))) h.1)
+  short_rows_full : (d : Data) (rs : List NamedRowValue) → IsShortListOf 256 IsNamedRowOf d rs → list_all (is_row_placed (length nodes)) (map (found_row (index_among nodes)) rs) ≡ true
+      → IsShortListOf 256 (IsRowOf nodes) d (map (found_row (index_among nodes)) rs)
+  short_rows_full d rs h pass = ((h.0.0, h.0.1, rows_full h.0.0 rs h.0.2 pass), subst (λ n. n ≤ 256) (sym (length-map rs (found_row (index_among nodes)))) h.1)
 
 module _ (buses nodes : List (List ℕ)) where
   node_full : (v : NodeValue) (c : CutValue) (ms mid ls : Members) → AreStandIns (codes "terminus") (IsCutTerminus (Some c.terminus)) ms mid → AreStandIns (codes "rows") (IsCutRows (Some c.rows)) mid ls
-      → list_all (is_row_placed (length nodes)) (map (found_row (place_among nodes)) c.rows) ≡ true → IsNodeOf buses nodes (data_of (object ls)) v
-      → IsNodeOf buses nodes (data_of (object ms)) (with_part v (found_value (place_among nodes) c))
+      → list_all (is_row_placed (length nodes)) (map (found_row (index_among nodes)) c.rows) ≡ true → IsNodeOf buses nodes (data_of (object ls)) v
+      → IsNodeOf buses nodes (data_of (object ms)) (with_part v (found_value (index_among nodes) c))
   node_full v c ms mid ls h i pass is =
       let cut = codes "terminus" in
       let R = IsCutTerminus (Some c.terminus) in
       let rows = codes "rows" in
       let S = IsCutRows (Some c.rows) in
-      let found = map (found_row (place_among nodes)) c.rows in
+      let found = map (found_row (index_among nodes)) c.rows in
       record {
         keys = keys_full cut R ms mid h node_keys (keys_full rows S mid ls i node_keys is.keys);
         name = at_same cut R ms mid h (codes "name") IsName v.name refl (at_same rows S mid ls i (codes "name") IsName v.name refl is.name);
         kind = at_same cut R ms mid h (codes "kind") IsKindOf v.kind refl (at_same rows S mid ls i (codes "kind") IsKindOf v.kind refl is.kind);
         eid = at_same cut R ms mid h (codes "eid") IsByte v.eid refl (at_same rows S mid ls i (codes "eid") IsByte v.eid refl is.eid);
-        owner = at_same cut R ms mid h (codes "owner") (IsOptional (IsPlace nodes)) v.owner refl (at_same rows S mid ls i (codes "owner") (IsOptional (IsPlace nodes)) v.owner refl is.owner);
+        owner = at_same cut R ms mid h (codes "owner") (IsOptional (IsIndexOfName nodes)) v.owner refl (at_same rows S mid ls i (codes "owner") (IsOptional (IsIndexOfName nodes)) v.owner refl is.owner);
         pool = at_same cut R ms mid h (codes "pool") (IsOptional IsPoolOf) v.pool refl (at_same rows S mid ls i (codes "pool") (IsOptional IsPoolOf) v.pool refl is.pool);
         ports = at_same cut R ms mid h (codes "ports") (IsShortListOf 32 (IsPortOf buses)) v.ports refl (at_same rows S mid ls i (codes "ports") (IsShortListOf 32 (IsPortOf buses)) v.ports refl is.ports);
         rows = at_same cut R ms mid h rows (IsShortListOf 256 (IsRowOf nodes)) found refl
@@ -204,10 +204,10 @@ module _ (buses nodes : List (List ℕ)) where
       }
 
   item_full : (v : NodeValue) (j : Json) (s : NodeSkeleton) → IsNodeSkeleton j s → IsNodeOf buses nodes (view s.value) v
-      → list_all (is_row_placed (length nodes)) (map (found_row (place_among nodes)) (cut_value s.parts).rows) ≡ true
-      → IsNodeOf buses nodes (data_of j) (with_part v (found_value (place_among nodes) (cut_value s.parts)))
+      → list_all (is_row_placed (length nodes)) (map (found_row (index_among nodes)) (cut_value s.parts).rows) ≡ true
+      → IsNodeOf buses nodes (data_of j) (with_part v (found_value (index_among nodes) (cut_value s.parts)))
   item_full v j s h is pass =
-      subst (λ i. IsNodeOf buses nodes (data_of i) (with_part v (found_value (place_among nodes) (cut_value s.parts)))) (sym h.3)
+      subst (λ i. IsNodeOf buses nodes (data_of i) (with_part v (found_value (index_among nodes) (cut_value s.parts)))) (sym h.3)
       (node_full v (cut_value s.parts) h.0 h.1 h.2 h.5 h.6 pass (subst (λ i. IsNodeOf buses nodes (data_of i) v) h.4 is))
 
   rows_placed : (b : ℕ) (n : NodeValue) → is_node_placed b (length nodes) n ≡ true → list_all (is_row_placed (length nodes)) n.rows ≡ true
@@ -216,7 +216,7 @@ module _ (buses nodes : List (List ℕ)) where
       (both (list_all (is_port_placed b) n.ports) (list_all (is_row_placed (length nodes)) n.rows) first.1).1
 
   abbrev filled : List NodeValue → List NodeSkeleton → List NodeValue
-  filled vs ss = with_parts vs (map (found_value (place_among nodes)) (map (λ s. cut_value s.parts) ss))
+  filled vs ss = with_parts vs (map (found_value (index_among nodes)) (map (λ s. cut_value s.parts) ss))
 
   items_full : (b : ℕ) (js : Items) (ss : List NodeSkeleton) (vs : List NodeValue) → EachIs IsNodeSkeleton js ss → AreItems (IsNodeOf buses nodes) (items_view (map (λ s. s.value) ss)) vs
       → list_all (is_node_placed b (length nodes)) (filled vs ss) ≡ true → AreItems (IsNodeOf buses nodes) (items_of js) (filled vs ss)
@@ -226,7 +226,7 @@ module _ (buses nodes : List (List ℕ)) where
   items_full b (item j js) [] vs h is pass = absurd h
   items_full b (item j js) (s ∷ ss) [] h is pass = absurd is
   items_full b (item j js) (s ∷ ss) (v ∷ vs) h is pass =
-      let here = with_part v (found_value (place_among nodes) (cut_value s.parts)) in
+      let here = with_part v (found_value (index_among nodes) (cut_value s.parts)) in
       let p = both (is_node_placed b (length nodes) here) (list_all (is_node_placed b (length nodes)) (filled vs ss)) pass in
       (item_full v j s h.0 is.0 (rows_placed b here p.0), items_full b js ss vs h.1 is.1 p.1)
 
@@ -246,7 +246,7 @@ AreNodes buses d vs = IsShortListOf 64 (IsNodeOf buses (node_names vs)) d vs
 
 -- the nodes of a plan with these parts
 abbrev pub all_filled : List NodeValue → List CutValue → List NodeValue
-all_filled vs cs = with_parts vs (map (found_value (place_among (node_names vs))) cs)
+all_filled vs cs = with_parts vs (map (found_value (index_among (node_names vs))) cs)
 
 list_full : (buses : List (List ℕ)) (b : ℕ) (cs : List CutValue) (vs : List NodeValue) (j l : Json) → IsCutNodes (Some cs) j l → are_placed b (all_filled vs cs) ≡ true → AreNodes buses (data_of l) vs
     → AreNodes buses (data_of j) (all_filled vs cs)

@@ -11,9 +11,9 @@ list_data f xs = array (items_of (map f xs))
 abbrev pub number_data : ℕ → Data
 number_data n = number (unsigned n)
 
--- the name of the node at a place
+-- the name of the node at an index
 abbrev pub name_data : List (List ℕ) → ℕ → Data
-name_data nodes place = string (slice_index_or nodes place [])
+name_data nodes index = string (slice_index_or nodes index [])
 
 abbrev pub level_data : List (List ℕ) → LevelValue → Data
 level_data nodes l =

@@ -5,7 +5,7 @@ use Rattle.serde_json.specs.Data.{Data}
 use Rattle.net_plan.specs.CertificateValues.{LevelValue, PlacesValue, RangeValue, NodeRanksValue, CertificateValue}
 use Rattle.net_plan.specs.Json.{keyed, at_key, all_of, demand, reference, whole_number}
 use Rattle.net_plan.specs.Keys.{certificate_keys, level_keys, places_keys, ranks_keys, range_keys}
-use Rattle.net_plan.specs.Names.{place_among, names_differ, texts_at}
+use Rattle.net_plan.specs.Names.{index_among, names_differ, texts_at}
 use Rattle.net_plan.specs.PlanReading.{byte}
 use Rattle.net_plan.specs.Reading.{then_with}
 use Rattle.net_plan.specs.declared.error.ValueFault.{ValueFault}
@@ -50,7 +50,7 @@ are_known nodes c =
     list_all (λ l. nat_lt l.node nodes) c.levels
     && (list_all (λ p. nat_lt p.node nodes) c.places && list_all (λ r. nat_lt r.node nodes) c.ranks)
 
--- the three lists, by what finds the places of nodes
+-- the three lists, by what finds the indices of nodes
 unfoldable pub entries : (List ℕ → ℕ) → Data → Result CertificateValue ValueFault
 entries find d =
     then_with (at_key (codes "levels") (all_of (level find)) d) (λ ls.
@@ -68,7 +68,7 @@ abbrev pub certificate : List (List ℕ) → Data → Result CertificateValue Va
 certificate nodes d =
     then_with (keyed certificate_keys d) (λ _.
     then_with (at_key (codes "format") (whole_number 1 1) d) (λ _.
-    then_with (entries (place_among nodes) d) (λ c.
+    then_with (entries (index_among nodes) d) (λ c.
     then_with (entries_differ d) (λ _.
     then_with (demand Doubled (list_all (λ r. ascends 0 r.ranges) c.ranks)) (λ _.
     then_with (demand UnknownName (are_known (length nodes) c)) (λ _. Ok c))))))

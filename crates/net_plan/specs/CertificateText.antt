@@ -3,7 +3,7 @@ use Rattle.std.specs.Prelude.{ℕ, ◌≢◌, ◌+◌, ◌≤◌, codes, List, A
 use Rattle.serde_json.specs.Data.{Data}
 use Rattle.net_plan.specs.Keys.{certificate_keys, level_keys, places_keys, ranks_keys, range_keys}
 use Rattle.net_plan.specs.CertificateValues.{LevelValue, PlacesValue, RangeValue, NodeRanksValue, CertificateValue}
-use Rattle.net_plan.specs.JsonWords.{HasKeys, At, IsListOf, IsNumber, IsNumberWithin, IsPlace}
+use Rattle.net_plan.specs.JsonWords.{HasKeys, At, IsListOf, IsNumber, IsNumberWithin, IsIndexOfName}
 use Rattle.net_plan.specs.PlanText.{IsByte}
 use Rattle.net_plan.specs.PlanValues.{PlanValue, node_names}
 
@@ -11,12 +11,12 @@ use Rattle.net_plan.specs.PlanValues.{PlanValue, node_names}
 pub record IsLevelOf (nodes : List (List ℕ)) (d : Data) (l : LevelValue) : Type 0 where
   pub keys : HasKeys level_keys d
   pub level : At (codes "level") (IsNumberWithin 1 63) d l.level
-  pub node : At (codes "node") (IsPlace nodes) d l.node
+  pub node : At (codes "node") (IsIndexOfName nodes) d l.node
 
 -- the places of the records of the first node of a name
 pub record ArePlacesOf (nodes : List (List ℕ)) (d : Data) (p : PlacesValue) : Type 0 where
   pub keys : HasKeys places_keys d
-  pub node : At (codes "node") (IsPlace nodes) d p.node
+  pub node : At (codes "node") (IsIndexOfName nodes) d p.node
   pub places : At (codes "places") (IsListOf (IsNumberWithin 0 4095)) d p.places
 
 -- a run of endpoint IDs that ends at 255 or before
@@ -34,7 +34,7 @@ IsAscending rs = AllPairs (λ a b. a.first + a.size ≤ b.first) rs
 -- the ranks of the first node of a name
 pub record AreRanksOf (nodes : List (List ℕ)) (d : Data) (r : NodeRanksValue) : Type 0 where
   pub keys : HasKeys ranks_keys d
-  pub node : At (codes "node") (IsPlace nodes) d r.node
+  pub node : At (codes "node") (IsIndexOfName nodes) d r.node
   pub ranges : At (codes "ranges") (IsListOf IsRangeOf) d r.ranges
   pub ascending : IsAscending r.ranges
 

@@ -6,7 +6,7 @@ use Rattle.net_plan.specs.declared.certificate.NodePlaces.{NodePlaces}
 use Rattle.net_plan.specs.declared.certificate.NodeRanks.{NodeRanks}
 use Rattle.net_plan.specs.declared.certificate.RankRange.{RankRange}
 
--- `node` is the place of the node in the plan's list
+-- `node` is the index of the node in the plan's list
 pub record LevelValue : Type 0 where
   pub level : ℕ
   pub node : ℕ
@@ -22,7 +22,7 @@ pub record RangeValue : Type 0 where
   pub rank : ℕ
   pub size : ℕ
 
--- `node` is the place of the node in the plan's list
+-- `node` is the index of the node in the plan's list
 pub record NodeRanksValue : Type 0 where
   pub node : ℕ
   pub ranges : List RangeValue

@@ -6,7 +6,7 @@ use Rattle.net_plan.specs.EventText.{IsBit, IsEventOf}
 use Rattle.net_plan.specs.EventValues.{EventEntry}
 use Rattle.net_plan.specs.Gathered.{ArePlain, IsGathered, IsPlain}
 use Rattle.net_plan.specs.JsonWords.{IsText, IsName, IsHex, IsTruth, IsNumberWithin}
-use Rattle.net_plan.specs.Places.{ArePlaces}
+use Rattle.net_plan.specs.NameIndexes.{IsIndexOf}
 use Rattle.net_plan.specs.PlanText.{IsByte, IsWord}
 use Rattle.net_plan.specs.Trees.{data_of}
 use Rattle.net_plan.specs.declared.event_parts.EventParts.{EventParts}
@@ -46,9 +46,9 @@ keys_given p =
     given p.node + given p.bytes + given p.flight + given p.keep + given p.source + given p.tag + given p.owner
     + given p.eid + given p.count + given p.walker
 
--- an event of format 3 at the nodes whose places are found
+-- an event of format 3 at the nodes whose indices are found
 abbrev pub IsEventBy : (List ℕ → Option ℕ) → Data → EventEntry → Type 0
-IsEventBy find d e = (names : List (List ℕ)) → ArePlaces find names → IsEventOf Three names d e
+IsEventBy find d e = (names : List (List ℕ)) → IsIndexOf find names → IsEventOf Three names d e
 
 -- an object of these parts, where this word stands at `do`, is this event
 abbrev pub IsMadeOf : List ℕ → (List ℕ → Option ℕ) → EventParts → EventEntry → Type 0

@@ -9,7 +9,7 @@ use Rattle.net_plan.specs.Json.{keyed, some_object, at_key, list_within, demand}
 use Rattle.net_plan.specs.Json.{reference, whole_number, truth, hex_text}
 use Rattle.net_plan.specs.Keys.{events_keys, put_keys, move_keys, lose_keys, expire_keys}
 use Rattle.net_plan.specs.Keys.{answer_keys, switch_keys, walk_keys, ask_keys, collected_keys}
-use Rattle.net_plan.specs.Names.{place_among}
+use Rattle.net_plan.specs.Names.{index_among}
 use Rattle.net_plan.specs.PlanReading.{byte, word}
 use Rattle.net_plan.specs.Reading.{then_with}
 use Rattle.net_plan.specs.declared.error.ValueFault.{ValueFault}
@@ -134,5 +134,5 @@ event f find d = then_with (some_object d) (λ _. then_with (at_key (codes "do")
 
 abbrev pub events : List (List ℕ) → Data → Result (List EventEntry) ValueFault
 events nodes d = then_with (keyed events_keys d) (λ _. then_with (at_key (codes "format") format d) (λ f.
-    then_with (at_key (codes "events") (list_within 100000 (event f (place_among nodes))) d) (λ es.
+    then_with (at_key (codes "events") (list_within 100000 (event f (index_among nodes))) d) (λ es.
     then_with (demand UnknownName (list_all (is_known_event (length nodes)) es)) (λ _. Ok es))))

@@ -3,7 +3,7 @@ use Rattle.std.specs.Prelude.{ℕ, ◌≡◌, ◌≢◌, Bool, true, false, code
 use Rattle.serde_json.specs.Data.{Data}
 use Rattle.net_plan.specs.EventValues.{EventEntry, put, move, lose, expire, answer, switch, walk, ask, collected}
 use Rattle.net_plan.specs.JsonWords.{HasKeys, At, IsShortListOf, IsNumber}
-use Rattle.net_plan.specs.JsonWords.{IsNumberWithin, IsTruth, IsText, IsHex, IsPlace}
+use Rattle.net_plan.specs.JsonWords.{IsNumberWithin, IsTruth, IsText, IsHex, IsIndexOfName}
 use Rattle.net_plan.specs.Keys.{events_keys, put_keys, move_keys, lose_keys, expire_keys}
 use Rattle.net_plan.specs.Keys.{answer_keys, switch_keys, walk_keys, ask_keys, collected_keys}
 use Rattle.net_plan.specs.PlanText.{IsByte, IsWord}
@@ -18,7 +18,7 @@ Does word d = At (codes "do") (λ e w. IsText w e) d word
 pub record IsPutOf (nodes : List (List ℕ)) (d : Data) (node : ℕ) (bytes : List ℕ) : Type 0 where
   pub keys : HasKeys put_keys d
   pub does : Does (codes "put") d
-  pub at_node : At (codes "node") (IsPlace nodes) d node
+  pub at_node : At (codes "node") (IsIndexOfName nodes) d node
   pub packet : At (codes "bytes") IsHex d bytes
 
 pub record IsMoveOf (d : Data) (flight : ℕ) (keep : Bool) : Type 0 where
@@ -40,7 +40,7 @@ IsBit d false = IsNumber d 0
 pub record IsExpireOf (nodes : List (List ℕ)) (d : Data) (node source tag : ℕ) (owner : Bool) : Type 0 where
   pub keys : HasKeys expire_keys d
   pub does : Does (codes "expire") d
-  pub at_node : At (codes "node") (IsPlace nodes) d node
+  pub at_node : At (codes "node") (IsIndexOfName nodes) d node
   pub from : At (codes "source") IsByte d source
   pub tagged : At (codes "tag") (IsNumberWithin 0 7) d tag
   pub owned : At (codes "owner") IsBit d owner
@@ -48,21 +48,21 @@ pub record IsExpireOf (nodes : List (List ℕ)) (d : Data) (node source tag : �
 pub record IsAnswerOf (nodes : List (List ℕ)) (d : Data) (node : ℕ) : Type 0 where
   pub keys : HasKeys answer_keys d
   pub does : Does (codes "answer") d
-  pub at_node : At (codes "node") (IsPlace nodes) d node
+  pub at_node : At (codes "node") (IsIndexOfName nodes) d node
 
 -- the event is one of formats 2 and 3
 pub record IsSwitchOf (format : Format) (nodes : List (List ℕ)) (d : Data) (node : ℕ) : Type 0 where
   pub later : format ≢ One
   pub keys : HasKeys switch_keys d
   pub does : Does (codes "switch") d
-  pub at_node : At (codes "node") (IsPlace nodes) d node
+  pub at_node : At (codes "node") (IsIndexOfName nodes) d node
 
 -- the event is one of format 3 alone; the endpoint ID can be assigned, and a part of a record has 8 to 4079 bytes
 pub record IsWalkOf (format : Format) (nodes : List (List ℕ)) (d : Data) (node eid tag count : ℕ) : Type 0 where
   pub third : format ≡ Three
   pub keys : HasKeys walk_keys d
   pub does : Does (codes "walk") d
-  pub at_node : At (codes "node") (IsPlace nodes) d node
+  pub at_node : At (codes "node") (IsIndexOfName nodes) d node
   pub asked : At (codes "eid") (IsNumberWithin 8 254) d eid
   pub tagged : At (codes "tag") (IsNumberWithin 0 7) d tag
   pub counted : At (codes "count") (IsNumberWithin 8 4079) d count

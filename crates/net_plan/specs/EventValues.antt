@@ -4,7 +4,7 @@ use Rattle.net_plan.specs.declared.event.Event.{Event}
 use Rattle.net_plan.specs.declared.event.Event.TheVariants.{Put, Move, Lose, Expire, Answer}
 use Rattle.net_plan.specs.declared.event.Event.TheVariants.{Switch, Walk, Ask, Collected}
 
--- an entry of a list of events; nodes are places in the plan's list
+-- an entry of a list of events; nodes are indices into the plan's list
 pub data EventEntry : Type 0 where
   -- the node, and the packet's bytes
   put : ℕ → List ℕ → EventEntry

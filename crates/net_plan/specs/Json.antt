@@ -98,7 +98,7 @@ abbrev pub name_text : Data → Result (List ℕ) ValueFault
 name_text (string s) = if is_name s then Ok s else Err OutOfRange
 name_text _ = Err WrongKind
 
--- the place of a name, by what finds places
+-- the index of a name, by what finds the indices
 abbrev pub reference : (List ℕ → ℕ) → Data → Result ℕ ValueFault
 reference find d = then_with (name_text d) (λ name. Ok (find name))
 

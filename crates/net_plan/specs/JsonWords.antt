@@ -61,11 +61,11 @@ IsHex d bytes = (s : List ℕ) × (d ≡ string s) × (decode_of s ≡ Ok bytes)
 abbrev pub IsAddress : Data → List ℕ → Type 0
 IsAddress d bytes = IsHex d bytes × (length bytes ≤ 8)
 
--- the first place of a name in a list
-pub record IsFirstOf (names : List (List ℕ)) (name : List ℕ) (place : ℕ) : Type 0 where
-  pub stands : slice_get names place ≡ Some name
-  pub first : (k : ℕ) → k < place → slice_get names k ≢ Some name
+-- the first index of a name in a list
+pub record IsFirstOf (names : List (List ℕ)) (name : List ℕ) (index : ℕ) : Type 0 where
+  pub stands : slice_get names index ≡ Some name
+  pub first : (k : ℕ) → k < index → slice_get names k ≢ Some name
 
--- the text of a name that stands in a list, at this place first
-abbrev pub IsPlace : List (List ℕ) → Data → ℕ → Type 0
-IsPlace names d place = (name : List ℕ) × IsName d name × IsFirstOf names name place
+-- the text of a name that stands in a list, at this index first
+abbrev pub IsIndexOfName : List (List ℕ) → Data → ℕ → Type 0
+IsIndexOfName names d index = (name : List ℕ) × IsName d name × IsFirstOf names name index

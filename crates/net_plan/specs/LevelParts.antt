@@ -7,7 +7,7 @@ use Rattle.net_plan.specs.CertificateValues.{LevelValue}
 use Rattle.net_plan.specs.Gathered.{ArePlain, IsGathered}
 use Rattle.net_plan.specs.JsonWords.{IsName, IsNumberWithin}
 use Rattle.net_plan.specs.Keys.{level_keys}
-use Rattle.net_plan.specs.Places.{ArePlaces}
+use Rattle.net_plan.specs.NameIndexes.{IsIndexOf}
 use Rattle.net_plan.specs.declared.level_parts.LevelParts.{LevelParts}
 
 pub record AreLevelParts (p : LevelParts) (ms : Members) : Type 0 where
@@ -15,6 +15,6 @@ pub record AreLevelParts (p : LevelParts) (ms : Members) : Type 0 where
   pub level : IsGathered (codes "level") (IsNumberWithin 1 63) p.level ms
   pub node : IsGathered (codes "node") IsName (option_map (λ name. name.now) p.node) ms
 
--- the level of a node whose place is found
+-- the level of a node whose index is found
 abbrev pub IsLevelBy : (List ℕ → Option ℕ) → Data → LevelValue → Type 0
-IsLevelBy find d l = (names : List (List ℕ)) → ArePlaces find names → IsLevelOf names d l
+IsLevelBy find d l = (names : List (List ℕ)) → IsIndexOf find names → IsLevelOf names d l

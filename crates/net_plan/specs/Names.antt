@@ -1,4 +1,4 @@
--- Names in lists of JSON values, and their places.
+-- Names in lists of JSON values, and their indices.
 use Rattle.std.specs.Prelude.{ℕ, suc, ◌&&◌, List, [], ◌∷◌, ◌++◌, Bool, true, not}
 use Rattle.std.specs.Prelude.{if◌then◌else◌, Option, Some, None, option_map}
 use Rattle.std.specs.Str.{bytes_eq}
@@ -6,15 +6,15 @@ use Rattle.serde_json.specs.Data.{Data, string, array, Items, no_items, item}
 use Rattle.serde_json.specs.Find.{get}
 use Rattle.net_plan.specs.Json.{is_among}
 
--- the place of the first such name, or the length of the list where there is none
-abbrev pub place_among : List (List ℕ) → List ℕ → ℕ
-place_among [] s = 0
-place_among (n ∷ ns) s = if bytes_eq s n then 0 else suc (place_among ns s)
+-- the index of the first such name, or the length of the list where there is none
+abbrev pub index_among : List (List ℕ) → List ℕ → ℕ
+index_among [] s = 0
+index_among (n ∷ ns) s = if bytes_eq s n then 0 else suc (index_among ns s)
 
--- the place of the first such name
-abbrev pub place_of : List (List ℕ) → List ℕ → Option ℕ
-place_of [] s = None
-place_of (n ∷ ns) s = if bytes_eq s n then Some 0 else option_map suc (place_of ns s)
+-- the index of the first such name
+abbrev pub index_of : List (List ℕ) → List ℕ → Option ℕ
+index_of [] s = None
+index_of (n ∷ ns) s = if bytes_eq s n then Some 0 else option_map suc (index_of ns s)
 
 -- each name is new after those that were seen
 abbrev pub are_new : List (List ℕ) → List (List ℕ) → Bool

@@ -15,12 +15,12 @@ pub record BusValue : Type 0 where
   pub binding : ℕ
   pub media : ℕ
 
--- `bus` is the place of the bus in the plan's list
+-- `bus` is the index of the bus in the plan's list
 pub record PortValue : Type 0 where
   pub bus : ℕ
   pub address : List ℕ
 
--- `next` is the place of the next node in the plan's list
+-- `next` is the index of the next node in the plan's list
 pub record RowValue : Type 0 where
   pub first : ℕ
   pub size : ℕ
@@ -42,7 +42,7 @@ pub record TerminusValue : Type 0 where
   pub tid : ℕ
   pub records : List RecordValue
 
--- `owner` is the place of the owner in the plan's list
+-- `owner` is the index of the owner in the plan's list
 pub record NodeValue : Type 0 where
   pub name : List ℕ
   pub kind : Kind

@@ -7,7 +7,7 @@ use Rattle.net_plan.specs.CertificateValues.{PlacesValue}
 use Rattle.net_plan.specs.Gathered.{ArePlain, IsGathered}
 use Rattle.net_plan.specs.JsonWords.{IsName, IsNumberWithin, IsListOf}
 use Rattle.net_plan.specs.Keys.{places_keys}
-use Rattle.net_plan.specs.Places.{ArePlaces}
+use Rattle.net_plan.specs.NameIndexes.{IsIndexOf}
 use Rattle.net_plan.specs.declared.place_parts.PlacesParts.{PlacesParts}
 
 pub record ArePlacesParts (p : PlacesParts) (ms : Members) : Type 0 where
@@ -18,4 +18,4 @@ pub record ArePlacesParts (p : PlacesParts) (ms : Members) : Type 0 where
 
 -- the places of the records of a node whose place is found
 abbrev pub ArePlacesBy : (List ℕ → Option ℕ) → Data → PlacesValue → Type 0
-ArePlacesBy find d p = (names : List (List ℕ)) → ArePlaces find names → ArePlacesOf names d p
+ArePlacesBy find d p = (names : List (List ℕ)) → IsIndexOf find names → ArePlacesOf names d p

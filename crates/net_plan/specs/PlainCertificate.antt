@@ -9,7 +9,7 @@ use Rattle.net_plan.specs.JsonWords.{IsNumberWithin, IsListOf}
 use Rattle.net_plan.specs.Keys.{certificate_keys}
 use Rattle.net_plan.specs.LevelParts.{IsLevelBy}
 use Rattle.net_plan.specs.PlaceParts.{ArePlacesBy}
-use Rattle.net_plan.specs.Places.{noted, ArePlaces}
+use Rattle.net_plan.specs.NameIndexes.{noted, IsIndexOf}
 use Rattle.net_plan.specs.PlanValues.{PlanValue, node_names}
 use Rattle.net_plan.specs.RankParts.{AreRanksBy}
 use Rattle.net_plan.specs.declared.plain_certificate.CertificateParts.{CertificateParts}
@@ -24,6 +24,6 @@ pub record AreCertificateParts (p : CertificateParts) (ms : Members) : Type 0 wh
   pub ranks : IsGathered (codes "ranks") (IsListOf (AreRanksBy (noted p.nodes.now)))
       (option_map (λ v. map node_ranks_value v.items) p.ranks) ms
 
--- a certificate of the nodes whose places are found
+-- a certificate of the nodes whose indices are found
 abbrev pub IsCertificateBy : (List ℕ → Option ℕ) → Data → CertificateValue → Type 0
-IsCertificateBy find d c = (plan : PlanValue) → ArePlaces find (node_names plan.nodes) → IsCertificateOf plan d c
+IsCertificateBy find d c = (plan : PlanValue) → IsIndexOf find (node_names plan.nodes) → IsCertificateOf plan d c

@@ -10,7 +10,7 @@ use Rattle.net_plan.specs.EventValues.{switch, walk, ask, collected, event_entry
 use Rattle.net_plan.specs.Gathered.{ArePlain, IsGathered}
 use Rattle.net_plan.specs.JsonWords.{IsShortListOf}
 use Rattle.net_plan.specs.Keys.{events_keys}
-use Rattle.net_plan.specs.Places.{noted, ArePlaces}
+use Rattle.net_plan.specs.NameIndexes.{noted, IsIndexOf}
 use Rattle.net_plan.specs.PlanValues.{PlanValue, node_names}
 use Rattle.net_plan.specs.declared.event_text.Format.{Format}
 use Rattle.net_plan.specs.declared.event_text.Verb.TheVariants as verb
@@ -34,6 +34,6 @@ is_event_in f (walk node eid tag count) = is_in f verb.Walk
 is_event_in f (ask walker) = is_in f verb.Ask
 is_event_in f (collected walker) = is_in f verb.Collected
 
--- events at the nodes whose places are found
+-- events at the nodes whose indices are found
 abbrev pub AreEventsBy : (List ℕ → Option ℕ) → Data → List EventEntry → Type 0
-AreEventsBy find d es = (plan : PlanValue) → ArePlaces find (node_names plan.nodes) → AreEventsOf plan d es
+AreEventsBy find d es = (plan : PlanValue) → IsIndexOf find (node_names plan.nodes) → AreEventsOf plan d es

@@ -6,7 +6,7 @@ use Rattle.net_plan.specs.Json.{keyed, at_key, list_within, optional, demand, na
 use Rattle.net_plan.specs.Json.{reference, whole_number, hex_text, address_text}
 use Rattle.net_plan.specs.Keys.{bus_keys, node_keys, plan_keys, pool_keys}
 use Rattle.net_plan.specs.Keys.{port_keys, record_keys, row_keys, terminus_keys}
-use Rattle.net_plan.specs.Names.{place_among, names_differ, texts_at}
+use Rattle.net_plan.specs.Names.{index_among, names_differ, texts_at}
 use Rattle.net_plan.specs.Placed.{are_placed}
 use Rattle.net_plan.specs.PlanValues.{BusValue, PortValue, RowValue, PoolValue, RecordValue}
 use Rattle.net_plan.specs.PlanValues.{TerminusValue, NodeValue, PlanValue, bus_names}
@@ -76,7 +76,7 @@ abbrev pub kind_text : Data → Result Kind ValueFault
 kind_text (string s) = kind_of s
 kind_text _ = Err WrongKind
 
--- a node, by what finds the places of buses and of nodes
+-- a node, by what finds the indices of buses and of nodes
 abbrev pub node : (List ℕ → ℕ) → (List ℕ → ℕ) → Data → Result NodeValue ValueFault
 node find_bus find_node d =
     then_with (keyed node_keys d) (λ _.
@@ -92,7 +92,7 @@ node find_bus find_node d =
 
 -- nodes that name each other, and the buses of these names
 unfoldable pub nodes_among : List (List ℕ) → Data → Result (List NodeValue) ValueFault
-nodes_among buses d = list_within 64 (node (place_among buses) (place_among (texts_at (codes "name") d))) d
+nodes_among buses d = list_within 64 (node (index_among buses) (index_among (texts_at (codes "name") d))) d
 
 -- the format by whose tests a plan is read: 2 where it says so, else 1
 abbrev pub plan_format : Data → PlanFormat

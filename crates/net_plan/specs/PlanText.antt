@@ -2,7 +2,7 @@
 use Rattle.std.specs.Prelude.{ℕ, ◌≡◌, ◌≢◌, codes, List, AllPairs}
 use Rattle.serde_json.specs.Data.{Data}
 use Rattle.net_plan.specs.JsonWords.{HasKeys, At, IsShortListOf, IsOptional, IsNumber}
-use Rattle.net_plan.specs.JsonWords.{IsNumberWithin, IsName, IsText, IsHex, IsAddress, IsPlace}
+use Rattle.net_plan.specs.JsonWords.{IsNumberWithin, IsName, IsText, IsHex, IsAddress, IsIndexOfName}
 use Rattle.net_plan.specs.Keys.{plan_keys, bus_keys, port_keys, row_keys}
 use Rattle.net_plan.specs.Keys.{pool_keys, record_keys, terminus_keys, node_keys}
 use Rattle.net_plan.specs.PlanValues.{BusValue, PortValue, RowValue, PoolValue, RecordValue}
@@ -28,7 +28,7 @@ pub record IsBusOf (d : Data) (b : BusValue) : Type 0 where
 -- a port on one of the buses with these names
 pub record IsPortOf (buses : List (List ℕ)) (d : Data) (p : PortValue) : Type 0 where
   pub keys : HasKeys port_keys d
-  pub bus : At (codes "bus") (IsPlace buses) d p.bus
+  pub bus : At (codes "bus") (IsIndexOfName buses) d p.bus
   pub address : At (codes "address") IsAddress d p.address
 
 -- a row that leads to the first of the nodes that has the name at `next`
@@ -37,7 +37,7 @@ pub record IsRowOf (nodes : List (List ℕ)) (d : Data) (r : RowValue) : Type 0 
   pub first : At (codes "first") IsByte d r.first
   pub size : At (codes "size") IsByte d r.size
   pub port : At (codes "port") (IsNumberWithin 0 31) d r.port
-  pub next : At (codes "next") (IsPlace nodes) d r.next
+  pub next : At (codes "next") (IsIndexOfName nodes) d r.next
 
 pub record IsPoolOf (d : Data) (p : PoolValue) : Type 0 where
   pub keys : HasKeys pool_keys d
@@ -65,7 +65,7 @@ pub record IsNodeOf (buses nodes : List (List ℕ)) (d : Data) (n : NodeValue) :
   pub name : At (codes "name") IsName d n.name
   pub kind : At (codes "kind") IsKindOf d n.kind
   pub eid : At (codes "eid") IsByte d n.eid
-  pub owner : At (codes "owner") (IsOptional (IsPlace nodes)) d n.owner
+  pub owner : At (codes "owner") (IsOptional (IsIndexOfName nodes)) d n.owner
   pub pool : At (codes "pool") (IsOptional IsPoolOf) d n.pool
   pub ports : At (codes "ports") (IsShortListOf 32 (IsPortOf buses)) d n.ports
   pub rows : At (codes "rows") (IsShortListOf 256 (IsRowOf nodes)) d n.rows

@@ -7,7 +7,7 @@ use Rattle.net_plan.specs.CertificateValues.{NodeRanksValue, range_value}
 use Rattle.net_plan.specs.Gathered.{ArePlain, IsGathered}
 use Rattle.net_plan.specs.JsonWords.{IsName, IsNumberWithin, IsListOf}
 use Rattle.net_plan.specs.Keys.{range_keys, ranks_keys}
-use Rattle.net_plan.specs.Places.{ArePlaces}
+use Rattle.net_plan.specs.NameIndexes.{IsIndexOf}
 use Rattle.net_plan.specs.PlanText.{IsByte}
 use Rattle.net_plan.specs.declared.rank_parts.RangeParts.{RangeParts}
 use Rattle.net_plan.specs.declared.rank_parts.RanksParts.{RanksParts}
@@ -23,6 +23,6 @@ pub record AreRanksParts (p : RanksParts) (ms : Members) : Type 0 where
   pub node : IsGathered (codes "node") IsName (option_map (λ name. name.now) p.node) ms
   pub ranges : IsGathered (codes "ranges") (IsListOf IsRangeOf) (option_map (λ v. map range_value v.items) p.ranges) ms
 
--- the ranks of a node whose place is found
+-- the ranks of a node whose index is found
 abbrev pub AreRanksBy : (List ℕ → Option ℕ) → Data → NodeRanksValue → Type 0
-AreRanksBy find d r = (names : List (List ℕ)) → ArePlaces find names → AreRanksOf names d r
+AreRanksBy find d r = (names : List (List ℕ)) → IsIndexOf find names → AreRanksOf names d r

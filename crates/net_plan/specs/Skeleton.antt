@@ -78,7 +78,7 @@ IsPlanSkeleton text s =
     (ms ls : Members) × (value max_depth (tokens text) ≡ Some (object ms, [])) × (value_view s.value ≡ object ls)
     × AreStandIns (codes "nodes") (IsCutNodes (Some (map cut_value s.parts.items))) ms ls × (fits (object ls) ≡ true)
 
--- a row whose next node stands at the place that was found
+-- a row whose next node stands at the index that was found
 abbrev pub found_row : (List ℕ → ℕ) → NamedRowValue → RowValue
 found_row find r = record { first = r.first; size = r.size; port = r.port; next = find r.next }
 

@@ -21,7 +21,7 @@ pub struct RankRange {
 /// The ranks that a certificate gives one node; an endpoint ID in none of the ranges has rank 0.
 #[derive(Debug, Drop)]
 pub struct NodeRanks {
-    /// The place of the node in the plan's list.
+    /// The index of the node in the plan's list.
     pub node: usize,
     pub ranges: Vec<RankRange>,
 }
@@ -31,13 +31,13 @@ pub struct NodeRanks {
 pub struct NodeLevel {
     /// 1 to 63.
     pub level: u8,
-    /// The place of the node in the plan's list.
+    /// The index of the node in the plan's list.
     pub node: usize,
     pub ghost owned: { 0 < level },
     pub ghost within: { level ≤ 63 },
 }
 
-/// The place of a record along the next handles of its list, 0 to 4,095.
+/// The index of a record along the next handles of its list, 0 to 4,095.
 #[derive(Clone, Copy, Debug, PartialEq, Eq)]
 pub struct RecordPlace {
     pub value: u16,
@@ -47,7 +47,7 @@ pub struct RecordPlace {
 /// The places of one node's records, in the order of its list.
 #[derive(Debug, Drop)]
 pub struct NodePlaces {
-    /// The place of the node in the plan's list.
+    /// The index of the node in the plan's list.
     pub node: usize,
     pub places: Vec<RecordPlace>,
 }

@@ -41,11 +41,11 @@ fn list_value<W: WriteItem>(
     Ok(Value::Array(list))
 }
 
-/// The name of the node at a place; an empty text past the last node.
-fn name_at(nodes: &[Node], place: usize) -> &str
-    ensures { result.now ≡ slice_index_or (node_names (map node_value nodes.now)) place [] }
+/// The name of the node at an index; an empty text past the last node.
+fn name_at(nodes: &[Node], index: usize) -> &str
+    ensures { result.now ≡ slice_index_or (node_names (map node_value nodes.now)) index [] }
 {
-    match nodes.get(place) {
+    match nodes.get(index) {
         Some(node) => node.name.text.as_str(),
         None => "",
     }

@@ -6,16 +6,16 @@ ghost use Rattle.net_plan.specs.EventText.{IsBit};
 ghost use Rattle.net_plan.specs.EventValues.{event_entry};
 ghost use Rattle.net_plan.specs.Gathered.{IsNext, IsOneMore, IsThere, IsPlain};
 ghost use Rattle.net_plan.specs.JsonWords.{IsNumberWithin};
-ghost use Rattle.net_plan.specs.Places.{noted};
+ghost use Rattle.net_plan.specs.NameIndexes.{noted};
 ghost use Rattle.net_plan.specs.Trees.{data_of};
 
 use crate::event::Event;
 use crate::event_text::{LEAST_COUNT, MOST_COUNT};
 use crate::gather::{Gather, NextItem, read_object};
+use crate::name_index::NameIndex;
 use crate::next_value::{
     next_byte, next_hex, next_name, next_number_within, next_text, next_truth, next_word,
 };
-use crate::places::Places;
 use json::Reader;
 use mctp_transport::{Eid, Key, Tag};
 use std::alloc::Global;
@@ -165,7 +165,7 @@ impl<'t> EventParts<'t> {
         Some(())
     }
 
-    fn event(self, nodes: &Places) -> Option<Event>
+    fn event(self, nodes: &NameIndex) -> Option<Event>
         ensures { IfSome result (λ e. (ms : Members) → AreEventParts self.entry ms → IsEventBy (noted nodes.now) (data_of (object ms)) (event_entry e) × IsPlain (object ms)) }
     {
         match self.does? {
@@ -198,7 +198,7 @@ impl<'t> EventParts<'t> {
             + given(&self.walker)
     }
 
-    fn put(self, nodes: &Places) -> Option<Event>
+    fn put(self, nodes: &NameIndex) -> Option<Event>
         ensures { IfSome result (λ e. IsMadeOf (codes "put") (noted nodes.now) self.entry (event_entry e)) }
     {
         if self.keys_given() != 2 {
@@ -206,8 +206,8 @@ impl<'t> EventParts<'t> {
         }
         let node = self.node?;
         let bytes = self.bytes?;
-        let place = nodes.place(node)?;
-        Some(Event::Put { node: place, bytes })
+        let index = nodes.index_of(node)?;
+        Some(Event::Put { node: index, bytes })
     }
 
     fn move_on(&self) -> Option<Event>
@@ -231,7 +231,7 @@ impl<'t> EventParts<'t> {
         Some(Event::Lose { flight })
     }
 
-    fn expire(&self, nodes: &Places) -> Option<Event>
+    fn expire(&self, nodes: &NameIndex) -> Option<Event>
         ensures { IfSome result (λ e. IsMadeOf (codes "expire") (noted nodes.now) self.now (event_entry e)) }
     {
         if self.keys_given() != 4 {
@@ -241,9 +241,9 @@ impl<'t> EventParts<'t> {
         let source = self.source?;
         let tag = self.tag?;
         let owner = self.owner?;
-        let place = nodes.place(node)?;
+        let index = nodes.index_of(node)?;
         Some(Event::Expire {
-            node: place,
+            node: index,
             key: Key {
                 source: Eid::new(source),
                 tag,
@@ -252,29 +252,29 @@ impl<'t> EventParts<'t> {
         })
     }
 
-    fn answer(&self, nodes: &Places) -> Option<Event>
+    fn answer(&self, nodes: &NameIndex) -> Option<Event>
         ensures { IfSome result (λ e. IsMadeOf (codes "answer") (noted nodes.now) self.now (event_entry e)) }
     {
         if self.keys_given() != 1 {
             return None;
         }
         let node = self.node?;
-        let place = nodes.place(node)?;
-        Some(Event::Answer { node: place })
+        let index = nodes.index_of(node)?;
+        Some(Event::Answer { node: index })
     }
 
-    fn switch(&self, nodes: &Places) -> Option<Event>
+    fn switch(&self, nodes: &NameIndex) -> Option<Event>
         ensures { IfSome result (λ e. IsMadeOf (codes "switch") (noted nodes.now) self.now (event_entry e)) }
     {
         if self.keys_given() != 1 {
             return None;
         }
         let node = self.node?;
-        let place = nodes.place(node)?;
-        Some(Event::Switch { node: place })
+        let index = nodes.index_of(node)?;
+        Some(Event::Switch { node: index })
     }
 
-    fn walk(&self, nodes: &Places) -> Option<Event>
+    fn walk(&self, nodes: &NameIndex) -> Option<Event>
         ensures { IfSome result (λ e. IsMadeOf (codes "walk") (noted nodes.now) self.now (event_entry e)) }
     {
         if self.keys_given() != 4 {
@@ -284,9 +284,9 @@ impl<'t> EventParts<'t> {
         let eid = self.eid?;
         let tag = self.tag?;
         let count = self.count?;
-        let place = nodes.place(node)?;
+        let index = nodes.index_of(node)?;
         Some(Event::Walk {
-            node: place,
+            node: index,
             eid: Eid::new(eid),
             tag,
             count,
@@ -370,10 +370,10 @@ fn next_bit(reader: &mut Reader<'_>) -> Option<bool>
     Some(next_number_within(reader, 0, 1)? == 1)
 }
 
-/// Reads events at nodes that have these places.
+/// Reads events at nodes that this index finds.
 #[derive(Clone, Copy)]
 pub struct NextEvent<'p, 'n> {
-    pub nodes: &'p Places<'n>,
+    pub nodes: &'p NameIndex<'n>,
 }
 
 impl<'p, 'n, 't> NextItem<'t> for NextEvent<'p, 'n> {

@@ -57,8 +57,8 @@ fn keys_differ(members: &Vec<(&str, Value<'_>)>) -> bool
 fn are_keys_new(members: &[(&str, Value<'_>)]) -> bool
     ensures { result ≡ names_differ (map (λ m. m.0.now) members.now) }
 {
-    for (place, member) in members.iter().enumerate() {
-        if is_key_of(&members[..place], member.0) {
+    for (index, member) in members.iter().enumerate() {
+        if is_key_of(&members[..index], member.0) {
             return false;
         }
     }

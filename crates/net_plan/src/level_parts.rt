@@ -4,13 +4,13 @@ ghost use Rattle.json.specs.Json.{Members, no_members, object};
 ghost use Rattle.net_plan.specs.CertificateValues.{level_value};
 ghost use Rattle.net_plan.specs.Gathered.{IsOneMore, IsPlain};
 ghost use Rattle.net_plan.specs.LevelParts.{AreLevelParts, IsLevelBy};
-ghost use Rattle.net_plan.specs.Places.{noted};
+ghost use Rattle.net_plan.specs.NameIndexes.{noted};
 ghost use Rattle.net_plan.specs.Trees.{data_of};
 
 use crate::certificate::NodeLevel;
 use crate::gather::{Gather, NextItem, read_object};
+use crate::name_index::NameIndex;
 use crate::next_value::{next_name, next_number_within};
-use crate::places::Places;
 use json::Reader;
 use std::alloc::Global;
 
@@ -51,16 +51,16 @@ impl<'t> LevelParts<'t> {
         Some(())
     }
 
-    fn level(&self, nodes: &Places) -> Option<NodeLevel>
+    fn level(&self, nodes: &NameIndex) -> Option<NodeLevel>
         ensures { IfSome result (λ l. (ms : Members) → AreLevelParts self.now ms → IsLevelBy (noted nodes.now) (data_of (object ms)) (level_value l) × IsPlain (object ms)) }
     {
         let level = self.level?;
         let node = self.node?;
-        let place = nodes.place(node)?;
+        let index = nodes.index_of(node)?;
         if level == 0 || level > 63 {
             return None;
         }
-        Some(NodeLevel { level, node: place })
+        Some(NodeLevel { level, node: index })
     }
 }
 
@@ -86,10 +86,10 @@ impl<'t> Gather<'t> for LevelParts<'t> {
     }
 }
 
-/// Reads the levels of nodes that have these places.
+/// Reads the levels of nodes that this index finds.
 #[derive(Clone, Copy)]
 pub struct NextLevel<'p, 'n> {
-    pub nodes: &'p Places<'n>,
+    pub nodes: &'p NameIndex<'n>,
 }
 
 impl<'p, 'n, 't> NextItem<'t> for NextLevel<'p, 'n> {

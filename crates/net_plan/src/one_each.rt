@@ -8,7 +8,7 @@ use crate::certificate::{NodeLevel, NodePlaces, NodeRanks};
 pub trait Entry {
     ghost node_of: { Self → ℕ };
 
-    /// The place of the node in the plan's list.
+    /// The index of the node in the plan's list.
     fn node(&self) -> usize
         ensures { result ≡ node_of self.now };
 }
@@ -41,8 +41,8 @@ impl Entry for NodeRanks {
 pub fn nodes_differ<E: Entry>(entries: &[E]) -> bool
     ensures { IsTrue result → AllPairs (λ a b. E.node_of a ≢ E.node_of b) entries.now }
 {
-    for (place, entry) in entries.iter().enumerate() {
-        if has_entry(&entries[..place], entry.node()) {
+    for (index, entry) in entries.iter().enumerate() {
+        if has_entry(&entries[..index], entry.node()) {
             return false;
         }
     }

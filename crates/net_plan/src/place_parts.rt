@@ -5,13 +5,13 @@ ghost use Rattle.net_plan.specs.CertificateValues.{places_value};
 ghost use Rattle.net_plan.specs.Gathered.{IsMore, IsOneMore, IsPlain};
 ghost use Rattle.net_plan.specs.JsonWords.{IsNumberWithin};
 ghost use Rattle.net_plan.specs.PlaceParts.{ArePlacesParts, ArePlacesBy};
-ghost use Rattle.net_plan.specs.Places.{noted};
+ghost use Rattle.net_plan.specs.NameIndexes.{noted};
 ghost use Rattle.net_plan.specs.Trees.{data_of};
 
 use crate::certificate::{NodePlaces, RecordPlace};
 use crate::gather::{Gather, NextItem, next_list, read_object};
+use crate::name_index::NameIndex;
 use crate::next_value::{next_name, next_number_within};
-use crate::places::Places;
 use json::Reader;
 use std::alloc::Global;
 
@@ -72,14 +72,14 @@ impl<'t> PlacesParts<'t> {
         Some(())
     }
 
-    fn places(self, nodes: &Places) -> Option<NodePlaces>
+    fn places(self, nodes: &NameIndex) -> Option<NodePlaces>
         ensures { IfSome result (λ p. (ms : Members) → ArePlacesParts self.entry ms → ArePlacesBy (noted nodes.now) (data_of (object ms)) (places_value p) × IsPlain (object ms)) }
     {
         let node = self.node?;
         let places = self.places?;
-        let place = nodes.place(node)?;
+        let index = nodes.index_of(node)?;
         Some(NodePlaces {
-            node: place,
+            node: index,
             places,
         })
     }
@@ -107,10 +107,10 @@ impl<'t> Gather<'t> for PlacesParts<'t> {
     }
 }
 
-/// Reads the places of the records of nodes that have these places.
+/// Reads the places of the records of nodes that this index finds.
 #[derive(Clone, Copy)]
 pub struct NextPlaces<'p, 'n> {
-    pub nodes: &'p Places<'n>,
+    pub nodes: &'p NameIndex<'n>,
 }
 
 impl<'p, 'n, 't> NextItem<'t> for NextPlaces<'p, 'n> {

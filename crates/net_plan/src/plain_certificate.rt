@@ -5,28 +5,28 @@ ghost use Rattle.net_plan.specs.CertificateText.{IsCertificateOf};
 ghost use Rattle.net_plan.specs.CertificateValues.{certificate_value};
 ghost use Rattle.net_plan.specs.Gathered.{IsMore, IsPlain, IsPlainText};
 ghost use Rattle.net_plan.specs.PlainCertificate.{AreCertificateParts, IsCertificateBy};
-ghost use Rattle.net_plan.specs.Places.{noted};
+ghost use Rattle.net_plan.specs.NameIndexes.{noted};
 ghost use Rattle.net_plan.specs.PlanValues.{plan_value};
 ghost use Rattle.net_plan.specs.Trees.{data_of};
-ghost use Rattle.net_plan.specs.declared.places.Places.{Places};
+ghost use Rattle.net_plan.specs.declared.name_index.NameIndex.{NameIndex};
 
 use crate::certificate::{Certificate, NodeLevel, NodePlaces, NodeRanks};
 use crate::gather::{Gather, next_list, read_text};
 use crate::level_parts::NextLevel;
+use crate::name_index::NameIndex;
 use crate::naming::NodeName;
 use crate::next_value::next_number_within;
 use crate::one_each::nodes_differ;
 use crate::place_parts::NextPlaces;
-use crate::places::Places;
 use crate::plan::Plan;
 use crate::rank_parts::NextRanks;
 use json::{Reader, Scratch};
 use std::alloc::Global;
 
-/// What is known so far of a certificate of nodes that have these places.
+/// What is known so far of a certificate of nodes that this index finds.
 #[derive(Drop)]
 pub struct CertificateParts<'p, 'n> {
-    nodes: &'p Places<'n>,
+    nodes: &'p NameIndex<'n>,
     format: Option<u64>,
     levels: Option<Vec<NodeLevel>>,
     places: Option<Vec<NodePlaces>>,
@@ -34,7 +34,7 @@ pub struct CertificateParts<'p, 'n> {
 }
 
 impl<'p, 'n> CertificateParts<'p, 'n> {
-    fn none(nodes: &'p Places<'n>) -> CertificateParts<'p, 'n>
+    fn none(nodes: &'p NameIndex<'n>) -> CertificateParts<'p, 'n>
         ensures none { AreCertificateParts result no_members }
         ensures nodes { result.nodes.now ≡ nodes.now }
     {
@@ -121,7 +121,7 @@ impl<'p, 'n> CertificateParts<'p, 'n> {
 impl<'p, 'n, 't> Gather<'t> for CertificateParts<'p, 'n> {
     ghost Holds = { AreCertificateParts };
 
-    ghost Given = { Places };
+    ghost Given = { NameIndex };
 
     ghost given = { λ p. p.nodes.now };
 
@@ -146,11 +146,11 @@ impl<'p, 'n, 't> Gather<'t> for CertificateParts<'p, 'n> {
 pub fn plain_certificate(alloc: Global, plan: &Plan, text: &str) -> Option<Certificate>
     ensures { IfSome result (λ c. IsPlainText (IsCertificateOf (plan_value plan.now)) text.now (certificate_value c)) }
 {
-    let Ok(places) = Places::of(alloc, &NodeName, plan.nodes.as_slice()) else {
+    let Ok(index) = NameIndex::of(alloc, &NodeName, plan.nodes.as_slice()) else {
         return None;
     };
     let mut scratch = Scratch::new(alloc);
-    let mut parts = CertificateParts::none(&places);
+    let mut parts = CertificateParts::none(&index);
     read_text(alloc, &mut parts, text, &mut scratch)?;
     parts.certificate()
 }

@@ -7,32 +7,32 @@ ghost use Rattle.net_plan.specs.EventText.{IsFormat, AreEventsOf};
 ghost use Rattle.net_plan.specs.EventValues.{event_entry};
 ghost use Rattle.net_plan.specs.Gathered.{IsMore, IsNext, IsPlain, IsPlainText};
 ghost use Rattle.net_plan.specs.PlainEvents.{AreEventsParts, AreEventsBy, is_event_in};
-ghost use Rattle.net_plan.specs.Places.{noted};
+ghost use Rattle.net_plan.specs.NameIndexes.{noted};
 ghost use Rattle.net_plan.specs.PlanValues.{plan_value};
 ghost use Rattle.net_plan.specs.Trees.{data_of};
-ghost use Rattle.net_plan.specs.declared.places.Places.{Places};
+ghost use Rattle.net_plan.specs.declared.name_index.NameIndex.{NameIndex};
 
 use crate::event::Event;
 use crate::event_parts::NextEvent;
 use crate::event_text::{Format, MOST_EVENTS, Verb, format_of, is_in};
 use crate::gather::{Gather, next_list, read_text};
+use crate::name_index::NameIndex;
 use crate::naming::NodeName;
 use crate::next_value::next_number_within;
-use crate::places::Places;
 use crate::plan::Plan;
 use json::{Reader, Scratch};
 use std::alloc::Global;
 
-/// What is known so far of a list of events at nodes that have these places.
+/// What is known so far of a list of events at nodes that this index finds.
 #[derive(Drop)]
 pub struct EventsParts<'p, 'n> {
-    nodes: &'p Places<'n>,
+    nodes: &'p NameIndex<'n>,
     format: Option<Format>,
     events: Option<Vec<Event>>,
 }
 
 impl<'p, 'n> EventsParts<'p, 'n> {
-    fn none(nodes: &'p Places<'n>) -> EventsParts<'p, 'n>
+    fn none(nodes: &'p NameIndex<'n>) -> EventsParts<'p, 'n>
         ensures none { AreEventsParts result no_members }
         ensures nodes { result.nodes.now ≡ nodes.now }
     {
@@ -81,7 +81,7 @@ impl<'p, 'n> EventsParts<'p, 'n> {
 impl<'p, 'n, 't> Gather<'t> for EventsParts<'p, 'n> {
     ghost Holds = { AreEventsParts };
 
-    ghost Given = { Places };
+    ghost Given = { NameIndex };
 
     ghost given = { λ p. p.nodes.now };
 
@@ -135,11 +135,11 @@ fn is_event_in(format: Format, event: &Event) -> bool
 pub fn plain_events(alloc: Global, plan: &Plan, text: &str) -> Option<Vec<Event>>
     ensures { IfSome result (λ v. IsPlainText (AreEventsOf (plan_value plan.now)) text.now (map event_entry v.items)) }
 {
-    let Ok(places) = Places::of(alloc, &NodeName, plan.nodes.as_slice()) else {
+    let Ok(index) = NameIndex::of(alloc, &NodeName, plan.nodes.as_slice()) else {
         return None;
     };
     let mut scratch = Scratch::new(alloc);
-    let mut parts = EventsParts::none(&places);
+    let mut parts = EventsParts::none(&index);
     read_text(alloc, &mut parts, text, &mut scratch)?;
     parts.events()
 }

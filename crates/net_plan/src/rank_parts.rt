@@ -4,15 +4,15 @@ ghost use Rattle.json.specs.Json.{Members, no_members, object};
 ghost use Rattle.net_plan.specs.CertificateText.{IsRangeOf};
 ghost use Rattle.net_plan.specs.CertificateValues.{range_value, node_ranks_value};
 ghost use Rattle.net_plan.specs.Gathered.{IsMore, IsOneMore, IsPlain};
-ghost use Rattle.net_plan.specs.Places.{noted};
+ghost use Rattle.net_plan.specs.NameIndexes.{noted};
 ghost use Rattle.net_plan.specs.RankParts.{AreRangeParts, AreRanksParts, AreRanksBy};
 ghost use Rattle.net_plan.specs.Trees.{data_of};
 
 use crate::certificate::{NodeRanks, RankRange};
 use crate::certificate_text::ascends;
 use crate::gather::{Gather, NextItem, next_list, read_object};
+use crate::name_index::NameIndex;
 use crate::next_value::{next_byte, next_name, next_number_within};
-use crate::places::Places;
 use json::Reader;
 use mctp_transport::Eid;
 use std::alloc::Global;
@@ -159,17 +159,17 @@ impl<'t> RanksParts<'t> {
         Some(())
     }
 
-    fn ranks(self, nodes: &Places) -> Option<NodeRanks>
+    fn ranks(self, nodes: &NameIndex) -> Option<NodeRanks>
         ensures { IfSome result (λ r. (ms : Members) → AreRanksParts self.entry ms → AreRanksBy (noted nodes.now) (data_of (object ms)) (node_ranks_value r) × IsPlain (object ms)) }
     {
         let node = self.node?;
         let ranges = self.ranges?;
-        let place = nodes.place(node)?;
+        let index = nodes.index_of(node)?;
         if !ascends(ranges.as_slice()) {
             return None;
         }
         Some(NodeRanks {
-            node: place,
+            node: index,
             ranges,
         })
     }
@@ -197,10 +197,10 @@ impl<'t> Gather<'t> for RanksParts<'t> {
     }
 }
 
-/// Reads the ranks of nodes that have these places.
+/// Reads the ranks of nodes that this index finds.
 #[derive(Clone, Copy)]
 pub struct NextRanks<'p, 'n> {
-    pub nodes: &'p Places<'n>,
+    pub nodes: &'p NameIndex<'n>,
 }
 
 impl<'p, 'n, 't> NextItem<'t> for NextRanks<'p, 'n> {

@@ -145,7 +145,7 @@ impl<'t> NextItem<'t> for NextRow {
     }
 }
 
-/// The place of a port.
+/// The index of a port.
 fn next_port(reader: &mut Reader<'_>) -> Option<u8>
     ensures { IfSome result (λ n. IsNext reader.old reader.new (λ j. IsNumberWithin 0 31 (data_of j) n × IsPlain j)) }
 {

@@ -5,7 +5,7 @@ ghost use Rattle.json.specs.Json.{no_members};
 ghost use Rattle.json.specs.Value.{value_view, members_view};
 ghost use Rattle.net_plan.specs.Gathered.{IsMore, IsThere, IsPlainText, with_last};
 ghost use Rattle.net_plan.specs.NodeValues.{node_value, row_value};
-ghost use Rattle.net_plan.specs.Places.{find_in};
+ghost use Rattle.net_plan.specs.NameIndexes.{find_in};
 ghost use Rattle.net_plan.specs.PlanText.{IsPlanOf};
 ghost use Rattle.net_plan.specs.PlanValues.{plan_value};
 ghost use Rattle.net_plan.specs.RowParts.{named_row};
@@ -14,9 +14,9 @@ ghost use Rattle.net_plan.specs.Skeleton.{AreNodeParts, IsNodeSkeleton, ArePlanP
 use crate::gather::{Gather, NextItem, next_list, read_object, read_text};
 use crate::json_keys::has_single_keys;
 use crate::json_text::fits;
+use crate::name_index::NameIndex;
 use crate::naming::NodeName;
 use crate::nodes::{Node, Row};
-use crate::places::Places;
 use crate::plan::Plan;
 use crate::plan_text::read_plan_value;
 use crate::row_parts::{NamedRow, NextRow};
@@ -310,16 +310,16 @@ pub fn plain_plan(alloc: Global, text: &str) -> Option<Plan>
         return None;
     }
     let Plan { unit, buses, nodes } = plan;
-    let Ok(places) = Places::of(alloc, &NodeName, nodes.as_slice()) else {
+    let Ok(index) = NameIndex::of(alloc, &NodeName, nodes.as_slice()) else {
         return None;
     };
-    let parts = placed(alloc, &places, parts)?;
-    drop(places);
+    let parts = placed(alloc, &index, parts)?;
+    drop(index);
     Plan::of(unit, buses, with_parts(alloc, nodes, parts)?)
 }
 
-/// The rows and termini of nodes that have these places.
-fn placed(alloc: Global, nodes: &Places, parts: Vec<CutParts<'_>>) -> Option<Vec<PlacedParts>>
+/// The rows and termini of nodes that this index finds.
+fn placed(alloc: Global, nodes: &NameIndex, parts: Vec<CutParts<'_>>) -> Option<Vec<PlacedParts>>
     ensures { IfSome result (λ v. map placed_value v.items ≡ map (found_value (find_in nodes.now)) (map cut_value parts.entry.items)) }
 {
     let mut list = Vec::new(alloc);
@@ -334,9 +334,9 @@ fn placed(alloc: Global, nodes: &Places, parts: Vec<CutParts<'_>>) -> Option<Vec
     Some(list)
 }
 
-/// Rows that lead to nodes that have these places. Rows that follow one another often lead to the same node, which is then
+/// Rows that lead to nodes that this index finds. Rows that follow one another often lead to the same node, which is then
 /// looked up once.
-fn found_rows(alloc: Global, nodes: &Places, rows: Vec<NamedRow<'_>>) -> Option<Vec<Row>>
+fn found_rows(alloc: Global, nodes: &NameIndex, rows: Vec<NamedRow<'_>>) -> Option<Vec<Row>>
     ensures { IfSome result (λ v. map row_value v.items ≡ map (found_row (find_in nodes.now)) (map named_row rows.entry.items)) }
 {
     let mut list = Vec::new(alloc);
@@ -352,37 +352,37 @@ fn found_rows(alloc: Global, nodes: &Places, rows: Vec<NamedRow<'_>>) -> Option<
     Some(list)
 }
 
-/// A node's name that was looked up, and the node's place.
+/// A node's name that was looked up, and the node's index.
 #[derive(Clone, Copy)]
 struct FoundName<'t> {
     name: &'t str,
-    place: usize,
+    index: usize,
 }
 
 /// Finds a name, unless it is the one that was found last.
-fn find_after<'t>(nodes: &Places, last: Option<FoundName<'t>>, name: &'t str) -> FoundName<'t>
-    requires { IfSome last (λ f. f.place ≡ find_in nodes.now f.name.now) }
+fn find_after<'t>(nodes: &NameIndex, last: Option<FoundName<'t>>, name: &'t str) -> FoundName<'t>
+    requires { IfSome last (λ f. f.index ≡ find_in nodes.now f.name.now) }
     ensures name { result.name.now ≡ name.now }
-    ensures place { result.place ≡ find_in nodes.now name.now }
+    ensures index { result.index ≡ find_in nodes.now name.now }
 {
     match last {
         Some(found) if found.name == name => found,
         _ => FoundName {
             name,
-            place: nodes.find(name),
+            index: nodes.find(name),
         },
     }
 }
 
 /// A row whose next node was found.
 fn row_to(row: &NamedRow<'_>, next: FoundName<'_>) -> Row
-    ensures { row_value result ≡ found_row (λ _. next.entry.place) (named_row row.now) }
+    ensures { row_value result ≡ found_row (λ _. next.entry.index) (named_row row.now) }
 {
     Row {
         first: Eid::new(row.first),
         size: row.size,
         port: row.port,
-        next: next.place,
+        next: next.index,
     }
 }
 

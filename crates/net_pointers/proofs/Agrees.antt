@@ -7,7 +7,7 @@ use Rattle.serde_json.specs.Data.{Data, null, boolean, number, string, array, ob
 use Rattle.serde_json.specs.Find.{get}
 use Rattle.net_plan.specs.Json.{each, items_count, list_within, optional, demand, found, at_key, keyed, lacks_key, has_unknown_key, name_text, reference, hex_text, address_text, whole_number}
 use Rattle.net_plan.specs.Keys.{plan_keys}
-use Rattle.net_plan.specs.Names.{place_among, texts_at, names_differ}
+use Rattle.net_plan.specs.Names.{index_among, texts_at, names_differ}
 use Rattle.net_plan.specs.Placed.{are_placed}
 use Rattle.net_plan.specs.PlanReading.{byte, word, bus, port, row, pool, repository_record, terminus, kind_text, node, nodes_among, plan_format, unit_by, plan}
 use Rattle.net_plan.specs.PlanValues.{BusValue, PortValue, RowValue, PoolValue, RecordValue, TerminusValue, NodeValue, PlanValue, bus_names}
@@ -221,7 +221,7 @@ node_agrees find_bus find_node d = object_agrees {B = NodeValue} (fields_of a_no
 
 pub nodes_agrees : (buses : List (List ℕ)) → Agrees (nodes_among buses) (a_list 64 a_node)
 unfolding nodes_among
-nodes_agrees buses d = list_agrees 64 (node (place_among buses) (place_among (texts_at (codes "name") d))) a_node (node_agrees (place_among buses) (place_among (texts_at (codes "name") d))) d
+nodes_agrees buses d = list_agrees 64 (node (index_among buses) (index_among (texts_at (codes "name") d))) a_node (node_agrees (index_among buses) (index_among (texts_at (codes "name") d))) d
 
 -- ---- a whole plan
 

@@ -15,7 +15,7 @@ use Rattle.net_plan.proofs.Names.{one_new, names_take}
 use Rattle.net_plan.proofs.Telling.{both}
 use Rattle.net_pointers.specs.Doubles.{IsFirstDoubled, item_at, member_at, part_at, HasDoubledKey}
 use Rattle.net_pointers.specs.declared.doubled.DoubledKey.{DoubledKey}
-use Rattle.net_pointers.specs.declared.doubled.TwoPlaces.{TwoPlaces}
+use Rattle.net_pointers.specs.declared.doubled.TwoIndices.{TwoIndices}
 
 pub keys_of : (ms : List (Bor (List ℕ) × Tree)) → keys (members_view ms) ≡ map (λ m. m.0.now) ms
 keys_of [] = refl
@@ -105,7 +105,7 @@ found_once names j d within single none =
     ∙ differ_push (texts (take j names)) x.now single (list_any-map (λ other. bytes_eq x.now other) (λ (n : Bor (List ℕ)). n.now) (take j names) ∙ none)
 
 -- a list with such a name
-pub first_differs : (names : List (List ℕ)) (p : TwoPlaces) → IsFirstDoubled names p → names_differ names ≡ false
+pub first_differs : (names : List (List ℕ)) (p : TwoIndices) → IsFirstDoubled names p → names_differ names ≡ false
 first_differs names p h = not_differing names p.first p.second h.ascends h.within h.same
 
 -- ---- a key that stands twice

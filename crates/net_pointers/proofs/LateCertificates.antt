@@ -9,7 +9,7 @@ use Rattle.net_plan.specs.CertificateReading.{level, node_places, range, node_ra
 use Rattle.net_plan.specs.CertificateValues.{LevelValue, PlacesValue, RangeValue, NodeRanksValue, CertificateValue}
 use Rattle.net_plan.specs.Json.{each, all_of, demand, found, at_key, keyed, reference, whole_number}
 use Rattle.net_plan.specs.Keys.{certificate_keys}
-use Rattle.net_plan.specs.Names.{place_among, names_differ}
+use Rattle.net_plan.specs.Names.{index_among, names_differ}
 use Rattle.net_plan.specs.PlanReading.{byte}
 use Rattle.net_plan.specs.Reading.{then_with}
 use Rattle.net_plan.specs.Refusals.{IsWellButForNames}
@@ -126,21 +126,21 @@ are_places_known n p = nat_lt p.node n
 abbrev are_ranks_known : ℕ → NodeRanksValue → Bool
 are_ranks_known n r = nat_lt r.node n
 
-level_tells : (known : Known) → Tells (level (place_among known.nodes)) (is_level_known (length known.nodes)) (a_level (Some known))
-level_tells known d x e = object_tells {B = LevelValue} (fields_of (a_level (Some known))) d (then_with (at_key (codes "level") (whole_number 1 63) d) (λ l. then_with (at_key (codes "node") (reference (place_among known.nodes)) d) (λ n. Ok (record { level = l; node = n })))) x (unknown (is_level_known (length known.nodes) x)) e (λ e0.
-    at_tells {B = LevelValue} (codes "level") (whole_number 1 63) always (a_number 1 63) (λ l. then_with (at_key (codes "node") (reference (place_among known.nodes)) d) (λ n. Ok (record { level = l; node = n }))) (field (codes "node") (a_name_of known.nodes) no_fields) d x (λ o. o) (unknown (is_level_known (length known.nodes) x)) (plain_tells (whole_number 1 63) (a_number 1 63) (number_agrees 1 63)) e0 (λ l e1.
-    at_tells {B = LevelValue} (codes "node") (reference (place_among known.nodes)) (λ (p : ℕ). nat_lt p (length known.nodes)) (a_name_of known.nodes) (λ n. Ok (record { level = l; node = n })) no_fields d x (λ o. o) (unknown (is_level_known (length known.nodes) x)) (reference_tells known.nodes) e1 (λ n e2.
+level_tells : (known : Known) → Tells (level (index_among known.nodes)) (is_level_known (length known.nodes)) (a_level (Some known))
+level_tells known d x e = object_tells {B = LevelValue} (fields_of (a_level (Some known))) d (then_with (at_key (codes "level") (whole_number 1 63) d) (λ l. then_with (at_key (codes "node") (reference (index_among known.nodes)) d) (λ n. Ok (record { level = l; node = n })))) x (unknown (is_level_known (length known.nodes) x)) e (λ e0.
+    at_tells {B = LevelValue} (codes "level") (whole_number 1 63) always (a_number 1 63) (λ l. then_with (at_key (codes "node") (reference (index_among known.nodes)) d) (λ n. Ok (record { level = l; node = n }))) (field (codes "node") (a_name_of known.nodes) no_fields) d x (λ o. o) (unknown (is_level_known (length known.nodes) x)) (plain_tells (whole_number 1 63) (a_number 1 63) (number_agrees 1 63)) e0 (λ l e1.
+    at_tells {B = LevelValue} (codes "node") (reference (index_among known.nodes)) (λ (p : ℕ). nat_lt p (length known.nodes)) (a_name_of known.nodes) (λ n. Ok (record { level = l; node = n })) no_fields d x (λ o. o) (unknown (is_level_known (length known.nodes) x)) (reference_tells known.nodes) e1 (λ n e2.
     sym (or_none _) ∙ ap (λ (y : LevelValue). unknown (is_level_known (length known.nodes) y)) (same_Ok e2))))
 
-node_places_tells : (known : Known) → Tells (node_places (place_among known.nodes)) (are_places_known (length known.nodes)) (a_node_places (Some known))
-node_places_tells known d x e = object_tells {B = PlacesValue} (fields_of (a_node_places (Some known))) d (then_with (at_key (codes "node") (reference (place_among known.nodes)) d) (λ n. then_with (at_key (codes "places") (all_of (whole_number 0 4095)) d) (λ ps. Ok (record { node = n; places = ps })))) x (unknown (are_places_known (length known.nodes) x)) e (λ e0.
-    at_tells {B = PlacesValue} (codes "node") (reference (place_among known.nodes)) (λ (p : ℕ). nat_lt p (length known.nodes)) (a_name_of known.nodes) (λ n. then_with (at_key (codes "places") (all_of (whole_number 0 4095)) d) (λ ps. Ok (record { node = n; places = ps }))) (field (codes "places") (any_list (a_number 0 4095)) no_fields) d x (λ o. o) (unknown (are_places_known (length known.nodes) x)) (reference_tells known.nodes) e0 (λ n e1.
+node_places_tells : (known : Known) → Tells (node_places (index_among known.nodes)) (are_places_known (length known.nodes)) (a_node_places (Some known))
+node_places_tells known d x e = object_tells {B = PlacesValue} (fields_of (a_node_places (Some known))) d (then_with (at_key (codes "node") (reference (index_among known.nodes)) d) (λ n. then_with (at_key (codes "places") (all_of (whole_number 0 4095)) d) (λ ps. Ok (record { node = n; places = ps })))) x (unknown (are_places_known (length known.nodes) x)) e (λ e0.
+    at_tells {B = PlacesValue} (codes "node") (reference (index_among known.nodes)) (λ (p : ℕ). nat_lt p (length known.nodes)) (a_name_of known.nodes) (λ n. then_with (at_key (codes "places") (all_of (whole_number 0 4095)) d) (λ ps. Ok (record { node = n; places = ps }))) (field (codes "places") (any_list (a_number 0 4095)) no_fields) d x (λ o. o) (unknown (are_places_known (length known.nodes) x)) (reference_tells known.nodes) e0 (λ n e1.
     at_tells {B = PlacesValue} (codes "places") (all_of (whole_number 0 4095)) always (any_list (a_number 0 4095)) (λ ps. Ok (record { node = n; places = ps })) no_fields d x (λ o. option_or (unknown (nat_lt n (length known.nodes))) (o)) (unknown (are_places_known (length known.nodes) x)) (plain_tells (all_of (whole_number 0 4095)) (any_list (a_number 0 4095)) places_agrees) e1 (λ ps e2.
     sym (or_none _) ∙ ap (λ (y : PlacesValue). unknown (are_places_known (length known.nodes) y)) (same_Ok e2))))
 
-node_ranks_tells : (known : Known) → Tells (node_ranks (place_among known.nodes)) (are_ranks_known (length known.nodes)) (a_node_ranks (Some known))
-node_ranks_tells known d x e = object_tells {B = NodeRanksValue} (fields_of (a_node_ranks (Some known))) d (then_with (at_key (codes "node") (reference (place_among known.nodes)) d) (λ n. then_with (at_key (codes "ranges") (all_of range) d) (λ rs. Ok (record { node = n; ranges = rs })))) x (unknown (are_ranks_known (length known.nodes) x)) e (λ e0.
-    at_tells {B = NodeRanksValue} (codes "node") (reference (place_among known.nodes)) (λ (p : ℕ). nat_lt p (length known.nodes)) (a_name_of known.nodes) (λ n. then_with (at_key (codes "ranges") (all_of range) d) (λ rs. Ok (record { node = n; ranges = rs }))) (field (codes "ranges") (any_list a_range_of_ranks) no_fields) d x (λ o. o) (unknown (are_ranks_known (length known.nodes) x)) (reference_tells known.nodes) e0 (λ n e1.
+node_ranks_tells : (known : Known) → Tells (node_ranks (index_among known.nodes)) (are_ranks_known (length known.nodes)) (a_node_ranks (Some known))
+node_ranks_tells known d x e = object_tells {B = NodeRanksValue} (fields_of (a_node_ranks (Some known))) d (then_with (at_key (codes "node") (reference (index_among known.nodes)) d) (λ n. then_with (at_key (codes "ranges") (all_of range) d) (λ rs. Ok (record { node = n; ranges = rs })))) x (unknown (are_ranks_known (length known.nodes) x)) e (λ e0.
+    at_tells {B = NodeRanksValue} (codes "node") (reference (index_among known.nodes)) (λ (p : ℕ). nat_lt p (length known.nodes)) (a_name_of known.nodes) (λ n. then_with (at_key (codes "ranges") (all_of range) d) (λ rs. Ok (record { node = n; ranges = rs }))) (field (codes "ranges") (any_list a_range_of_ranks) no_fields) d x (λ o. o) (unknown (are_ranks_known (length known.nodes) x)) (reference_tells known.nodes) e0 (λ n e1.
     at_tells {B = NodeRanksValue} (codes "ranges") (all_of range) always (any_list a_range_of_ranks) (λ rs. Ok (record { node = n; ranges = rs })) no_fields d x (λ o. option_or (unknown (nat_lt n (length known.nodes))) (o)) (unknown (are_ranks_known (length known.nodes) x)) (plain_tells (all_of range) (any_list a_range_of_ranks) (all_agrees range a_range_of_ranks range_agrees)) e1 (λ rs e2.
     sym (or_none _) ∙ ap (λ (y : NodeRanksValue). unknown (are_ranks_known (length known.nodes) y)) (same_Ok e2))))
 
@@ -148,7 +148,7 @@ node_ranks_tells known d x e = object_tells {B = NodeRanksValue} (fields_of (a_n
 
 module _ (nodes : List (List ℕ)) where
   abbrev find : List ℕ → ℕ
-  find = place_among nodes
+  find = index_among nodes
 
   -- what is read before the tests of the whole
   abbrev front : Data → Result CertificateValue ValueFault
@@ -263,7 +263,7 @@ pub record LateOf (nodes : List (List ℕ)) (d : Data) : Type 0 where
 pub late_of : (nodes : List (List ℕ)) (d : Data) → first_fault (a_certificate None) d ≡ None → LateOf nodes d
 unfolding entries entries_differ
 late_of nodes d none =
-    let find = place_among nodes in
+    let find = index_among nodes in
     let known = known_nodes nodes in
     let whole = was_read (front nodes d) (front_agrees nodes d ∙ ap code none) in
     let keys = then_Ok (keyed certificate_keys d) (λ _. then_with (at_key (codes "format") (whole_number 1 1) d) (λ _. entries find d)) whole.0 whole.1 in

@@ -8,7 +8,7 @@ use Rattle.serde_json.specs.Data.{Data, null, boolean, number, string, array, ob
 use Rattle.serde_json.specs.Find.{get}
 use Rattle.net_plan.specs.Json.{each, items_count, list_within, demand, found, at_key, keyed, name_text, whole_number}
 use Rattle.net_plan.specs.NameText.{is_name}
-use Rattle.net_plan.specs.Names.{place_among, names_differ, text_of, text_found, text_at, each_text_at, texts_at}
+use Rattle.net_plan.specs.Names.{index_among, names_differ, text_of, text_found, text_at, each_text_at, texts_at}
 use Rattle.net_plan.specs.Placed.{is_node_placed, are_placed}
 use Rattle.net_plan.specs.PlanReading.{byte, bus, node, nodes_among, plan_format, unit_by, plan}
 use Rattle.net_plan.specs.PlanValues.{BusValue, NodeValue, PlanValue, bus_names}
@@ -133,20 +133,20 @@ module _ (d : Data) (u : ℕ) (bs : List BusValue) (ns : List NodeValue) (at_bus
   known = known_in d
 
   -- the nodes, read by the names that the plan has
-  ns_read : at_key (codes "nodes") (list_within 64 (node (place_among known.buses) (place_among known.nodes))) d ≡ Ok ns
+  ns_read : at_key (codes "nodes") (list_within 64 (node (index_among known.buses) (index_among known.nodes))) d ≡ Ok ns
   unfolding nodes_among
   ns_read =
       let p = at_stands (codes "nodes") (nodes_among (bus_names bs)) d ns at_nodes in
       let names : names_at (codes "nodes") d ≡ texts_at (codes "name") p.0 = ap names_in p.1 in
-      ap (λ o. then_with (found o) (list_within 64 (node (place_among known.buses) (place_among known.nodes)))) p.1
-      ∙ ap (λ buses. list_within 64 (node (place_among buses) (place_among known.nodes)) p.0) (sym bs_named)
-      ∙ ap (λ nodes. list_within 64 (node (place_among (bus_names bs)) (place_among nodes)) p.0) names ∙ p.2
+      ap (λ o. then_with (found o) (list_within 64 (node (index_among known.buses) (index_among known.nodes)))) p.1
+      ∙ ap (λ buses. list_within 64 (node (index_among buses) (index_among known.nodes)) p.0) (sym bs_named)
+      ∙ ap (λ nodes. list_within 64 (node (index_among (bus_names bs)) (index_among nodes)) p.0) names ∙ p.2
 
   ns_counted : length known.nodes ≡ length ns
   ns_counted =
-      let p = at_stands (codes "nodes") (list_within 64 (node (place_among known.buses) (place_among known.nodes))) d ns ns_read in
-      let q = listed 64 (node (place_among known.buses) (place_among known.nodes)) p.0 ns p.2 in
-      ap length (ap names_in (p.1 ∙ ap Some q.1)) ∙ each_counted (node (place_among known.buses) (place_among known.nodes)) q.0 ns q.2
+      let p = at_stands (codes "nodes") (list_within 64 (node (index_among known.buses) (index_among known.nodes))) d ns ns_read in
+      let q = listed 64 (node (index_among known.buses) (index_among known.nodes)) p.0 ns p.2 in
+      ap length (ap names_in (p.1 ∙ ap Some q.1)) ∙ each_counted (node (index_among known.buses) (index_among known.nodes)) q.0 ns q.2
 
   bs_counted : length known.buses ≡ length bs
   bs_counted = ap length (sym bs_named) ∙ length-map bs (λ (b : BusValue). b.name)
@@ -159,7 +159,7 @@ module _ (d : Data) (u : ℕ) (bs : List BusValue) (ns : List NodeValue) (at_bus
     named = bs_named;
     told =
         at_is (codes "buses") (list_within 64 bus) always (a_list 64 a_bus) (field (codes "nodes") (a_list 64 (a_node_among (Some known))) no_fields) d bs (plain_tells (list_within 64 bus) (a_list 64 a_bus) (list_agrees 64 bus a_bus bus_agrees)) at_buses
-        ∙ at_is (codes "nodes") (list_within 64 (node (place_among known.buses) (place_among known.nodes))) (list_all (is_node_placed (length known.buses) (length known.nodes))) (a_list 64 (a_node_among (Some known))) no_fields d ns (list_tells 64 (node (place_among known.buses) (place_among known.nodes)) (is_node_placed (length known.buses) (length known.nodes)) (a_node_among (Some known)) (node_tells known)) ns_read
+        ∙ at_is (codes "nodes") (list_within 64 (node (index_among known.buses) (index_among known.nodes))) (list_all (is_node_placed (length known.buses) (length known.nodes))) (a_list 64 (a_node_among (Some known))) no_fields d ns (list_tells 64 (node (index_among known.buses) (index_among known.nodes)) (is_node_placed (length known.buses) (length known.nodes)) (a_node_among (Some known)) (node_tells known)) ns_read
         ∙ sym (or_none _) ∙ ap (λ count. unknown (list_all (is_node_placed count (length known.nodes)) ns)) bs_counted ∙ ap (λ count. unknown (list_all (is_node_placed (length bs) count) ns)) ns_counted;
   }
 

@@ -7,7 +7,7 @@ use Rattle.std.specs.Str.{bytes_eq}
 use Rattle.serde_json.specs.Data.{Data, null, boolean, number, string, array, object, Items, no_items, item}
 use Rattle.serde_json.specs.Find.{get}
 use Rattle.net_plan.specs.Json.{each, items_count, all_of, list_within, optional, demand, found, at_key, keyed, is_among, name_text, reference, address_text, whole_number}
-use Rattle.net_plan.specs.Names.{place_among, text_at, texts_at}
+use Rattle.net_plan.specs.Names.{index_among, text_at, texts_at}
 use Rattle.net_plan.specs.Trees.{Tree, view, items_view}
 use Rattle.net_plan.proofs.BusNames.{texts_of, node_names_of}
 use Rattle.net_plan.specs.PlanValues.{name_bytes, node_value, node_names}
@@ -55,18 +55,18 @@ always a = true
 pub plain_tells : {A : Type 0} (f : Data → Result A ValueFault) (s : Shape) → Agrees f s → Tells f always s
 plain_tells f s h d a e = sym (h d) ∙ ap fault_of e
 
-among_place : (names : List (List ℕ)) (n : List ℕ) → is_among names n ≡ nat_lt (place_among names n) (length names)
+among_place : (names : List (List ℕ)) (n : List ℕ) → is_among names n ≡ nat_lt (index_among names n) (length names)
 among_place [] n = refl
 among_place (m ∷ ms) n = by (bytes_eq n m) (among_place ms n)
   where
-    by : (b : Bool) → is_among ms n ≡ nat_lt (place_among ms n) (length ms) → (b || is_among ms n) ≡ nat_lt (cond b 0 (suc (place_among ms n))) (suc (length ms))
+    by : (b : Bool) → is_among ms n ≡ nat_lt (index_among ms n) (length ms) → (b || is_among ms n) ≡ nat_lt (cond b 0 (suc (index_among ms n))) (suc (length ms))
     by true e = sym (leb-suc-suc 0 (length ms) ∙ leb-zero (length ms))
-    by false e = e ∙ sym (leb-suc-suc (suc (place_among ms n)) (length ms))
+    by false e = e ∙ sym (leb-suc-suc (suc (index_among ms n)) (length ms))
 
-pub reference_tells : (names : List (List ℕ)) → Tells (reference (place_among names)) (λ p. nat_lt p (length names)) (a_name_of names)
+pub reference_tells : (names : List (List ℕ)) → Tells (reference (index_among names)) (λ p. nat_lt p (length names)) (a_name_of names)
 reference_tells names d p e = code_whole (a_name_of names) d ∙ sym (or_none _) ∙ by (name_text d) e
   where
-    by : (r : Result (List ℕ) ValueFault) → then_with r (λ n. Ok (place_among names n)) ≡ Ok p → fault_of (then_with r (λ n. demand UnknownName (is_among names n))) ≡ unknown (nat_lt p (length names))
+    by : (r : Result (List ℕ) ValueFault) → then_with r (λ n. Ok (index_among names n)) ≡ Ok p → fault_of (then_with r (λ n. demand UnknownName (is_among names n))) ≡ unknown (nat_lt p (length names))
     by (Ok n) e = ap unknown (among_place names n ∙ ap (λ q. nat_lt q (length names)) (same_Ok e))
     by (Err f) e = absurd (no_value e)
 
@@ -136,29 +136,29 @@ object_tells fs d rest b c e more =
 
 -- ---- the parts of a plan
 
-port_tells : (known : Known) → Tells (port (place_among known.buses)) (is_port_placed (length known.buses)) (a_port_among (Some known))
-port_tells known d x e = object_tells {B = PortValue} (fields_of (a_port_among (Some known))) d (then_with (at_key (codes "bus") (reference (place_among known.buses)) d) (λ b. then_with (at_key (codes "address") address_text d) (λ a. Ok (record { bus = b; address = a })))) x (unknown (is_port_placed (length known.buses) x)) e (λ e0.
-    at_tells {B = PortValue} (codes "bus") (reference (place_among known.buses)) (λ (p : ℕ). nat_lt p (length known.buses)) (a_name_of known.buses) (λ b. then_with (at_key (codes "address") address_text d) (λ a. Ok (record { bus = b; address = a }))) (field (codes "address") an_address no_fields) d x (λ o. o) (unknown (is_port_placed (length known.buses) x)) (reference_tells known.buses) e0 (λ b e1.
+port_tells : (known : Known) → Tells (port (index_among known.buses)) (is_port_placed (length known.buses)) (a_port_among (Some known))
+port_tells known d x e = object_tells {B = PortValue} (fields_of (a_port_among (Some known))) d (then_with (at_key (codes "bus") (reference (index_among known.buses)) d) (λ b. then_with (at_key (codes "address") address_text d) (λ a. Ok (record { bus = b; address = a })))) x (unknown (is_port_placed (length known.buses) x)) e (λ e0.
+    at_tells {B = PortValue} (codes "bus") (reference (index_among known.buses)) (λ (p : ℕ). nat_lt p (length known.buses)) (a_name_of known.buses) (λ b. then_with (at_key (codes "address") address_text d) (λ a. Ok (record { bus = b; address = a }))) (field (codes "address") an_address no_fields) d x (λ o. o) (unknown (is_port_placed (length known.buses) x)) (reference_tells known.buses) e0 (λ b e1.
     at_tells {B = PortValue} (codes "address") address_text always an_address (λ a. Ok (record { bus = b; address = a })) no_fields d x (λ o. option_or (unknown (nat_lt b (length known.buses))) (o)) (unknown (is_port_placed (length known.buses) x)) (plain_tells address_text an_address address_agrees) e1 (λ a e2.
     sym (or_none _) ∙ ap (λ (y : PortValue). unknown (is_port_placed (length known.buses) y)) (same_Ok e2))))
 
-row_tells : (known : Known) → Tells (row (place_among known.nodes)) (is_row_placed (length known.nodes)) (a_row_among (Some known))
-row_tells known d x e = object_tells {B = RowValue} (fields_of (a_row_among (Some known))) d (then_with (at_key (codes "first") (whole_number 0 255) d) (λ f. then_with (at_key (codes "size") (whole_number 0 255) d) (λ s. then_with (at_key (codes "port") (whole_number 0 31) d) (λ p. then_with (at_key (codes "next") (reference (place_among known.nodes)) d) (λ n. Ok (record { first = f; size = s; port = p; next = n })))))) x (unknown (is_row_placed (length known.nodes) x)) e (λ e0.
-    at_tells {B = RowValue} (codes "first") (whole_number 0 255) always (a_number 0 255) (λ f. then_with (at_key (codes "size") (whole_number 0 255) d) (λ s. then_with (at_key (codes "port") (whole_number 0 31) d) (λ p. then_with (at_key (codes "next") (reference (place_among known.nodes)) d) (λ n. Ok (record { first = f; size = s; port = p; next = n }))))) (field (codes "size") (a_number 0 255) (field (codes "port") (a_number 0 31) (field (codes "next") (a_name_of known.nodes) no_fields))) d x (λ o. o) (unknown (is_row_placed (length known.nodes) x)) (plain_tells (whole_number 0 255) (a_number 0 255) (number_agrees 0 255)) e0 (λ f e1.
-    at_tells {B = RowValue} (codes "size") (whole_number 0 255) always (a_number 0 255) (λ s. then_with (at_key (codes "port") (whole_number 0 31) d) (λ p. then_with (at_key (codes "next") (reference (place_among known.nodes)) d) (λ n. Ok (record { first = f; size = s; port = p; next = n })))) (field (codes "port") (a_number 0 31) (field (codes "next") (a_name_of known.nodes) no_fields)) d x (λ o. o) (unknown (is_row_placed (length known.nodes) x)) (plain_tells (whole_number 0 255) (a_number 0 255) (number_agrees 0 255)) e1 (λ s e2.
-    at_tells {B = RowValue} (codes "port") (whole_number 0 31) always (a_number 0 31) (λ p. then_with (at_key (codes "next") (reference (place_among known.nodes)) d) (λ n. Ok (record { first = f; size = s; port = p; next = n }))) (field (codes "next") (a_name_of known.nodes) no_fields) d x (λ o. o) (unknown (is_row_placed (length known.nodes) x)) (plain_tells (whole_number 0 31) (a_number 0 31) (number_agrees 0 31)) e2 (λ p e3.
-    at_tells {B = RowValue} (codes "next") (reference (place_among known.nodes)) (λ (p : ℕ). nat_lt p (length known.nodes)) (a_name_of known.nodes) (λ n. Ok (record { first = f; size = s; port = p; next = n })) no_fields d x (λ o. o) (unknown (is_row_placed (length known.nodes) x)) (reference_tells known.nodes) e3 (λ n e4.
+row_tells : (known : Known) → Tells (row (index_among known.nodes)) (is_row_placed (length known.nodes)) (a_row_among (Some known))
+row_tells known d x e = object_tells {B = RowValue} (fields_of (a_row_among (Some known))) d (then_with (at_key (codes "first") (whole_number 0 255) d) (λ f. then_with (at_key (codes "size") (whole_number 0 255) d) (λ s. then_with (at_key (codes "port") (whole_number 0 31) d) (λ p. then_with (at_key (codes "next") (reference (index_among known.nodes)) d) (λ n. Ok (record { first = f; size = s; port = p; next = n })))))) x (unknown (is_row_placed (length known.nodes) x)) e (λ e0.
+    at_tells {B = RowValue} (codes "first") (whole_number 0 255) always (a_number 0 255) (λ f. then_with (at_key (codes "size") (whole_number 0 255) d) (λ s. then_with (at_key (codes "port") (whole_number 0 31) d) (λ p. then_with (at_key (codes "next") (reference (index_among known.nodes)) d) (λ n. Ok (record { first = f; size = s; port = p; next = n }))))) (field (codes "size") (a_number 0 255) (field (codes "port") (a_number 0 31) (field (codes "next") (a_name_of known.nodes) no_fields))) d x (λ o. o) (unknown (is_row_placed (length known.nodes) x)) (plain_tells (whole_number 0 255) (a_number 0 255) (number_agrees 0 255)) e0 (λ f e1.
+    at_tells {B = RowValue} (codes "size") (whole_number 0 255) always (a_number 0 255) (λ s. then_with (at_key (codes "port") (whole_number 0 31) d) (λ p. then_with (at_key (codes "next") (reference (index_among known.nodes)) d) (λ n. Ok (record { first = f; size = s; port = p; next = n })))) (field (codes "port") (a_number 0 31) (field (codes "next") (a_name_of known.nodes) no_fields)) d x (λ o. o) (unknown (is_row_placed (length known.nodes) x)) (plain_tells (whole_number 0 255) (a_number 0 255) (number_agrees 0 255)) e1 (λ s e2.
+    at_tells {B = RowValue} (codes "port") (whole_number 0 31) always (a_number 0 31) (λ p. then_with (at_key (codes "next") (reference (index_among known.nodes)) d) (λ n. Ok (record { first = f; size = s; port = p; next = n }))) (field (codes "next") (a_name_of known.nodes) no_fields) d x (λ o. o) (unknown (is_row_placed (length known.nodes) x)) (plain_tells (whole_number 0 31) (a_number 0 31) (number_agrees 0 31)) e2 (λ p e3.
+    at_tells {B = RowValue} (codes "next") (reference (index_among known.nodes)) (λ (p : ℕ). nat_lt p (length known.nodes)) (a_name_of known.nodes) (λ n. Ok (record { first = f; size = s; port = p; next = n })) no_fields d x (λ o. o) (unknown (is_row_placed (length known.nodes) x)) (reference_tells known.nodes) e3 (λ n e4.
     sym (or_none _) ∙ ap (λ (y : RowValue). unknown (is_row_placed (length known.nodes) y)) (same_Ok e4))))))
 
-pub node_tells : (known : Known) → Tells (node (place_among known.buses) (place_among known.nodes)) (is_node_placed (length known.buses) (length known.nodes)) (a_node_among (Some known))
-node_tells known d x e = object_tells {B = NodeValue} (fields_of (a_node_among (Some known))) d (then_with (at_key (codes "name") name_text d) (λ n. then_with (at_key (codes "kind") kind_text d) (λ k. then_with (at_key (codes "eid") (whole_number 0 255) d) (λ ei. then_with (at_key (codes "owner") (optional (reference (place_among known.nodes))) d) (λ ow. then_with (at_key (codes "pool") (optional pool) d) (λ q. then_with (at_key (codes "ports") (list_within 32 (port (place_among known.buses))) d) (λ ps. then_with (at_key (codes "rows") (list_within 256 (row (place_among known.nodes))) d) (λ rs. then_with (at_key (codes "terminus") (optional terminus) d) (λ t. Ok (record { name = n; kind = k; eid = ei; owner = ow; pool = q; ports = ps; rows = rs; terminus = t })))))))))) x (unknown (is_node_placed (length known.buses) (length known.nodes) x)) e (λ e0.
-    at_tells {B = NodeValue} (codes "name") name_text always a_name (λ n. then_with (at_key (codes "kind") kind_text d) (λ k. then_with (at_key (codes "eid") (whole_number 0 255) d) (λ ei. then_with (at_key (codes "owner") (optional (reference (place_among known.nodes))) d) (λ ow. then_with (at_key (codes "pool") (optional pool) d) (λ q. then_with (at_key (codes "ports") (list_within 32 (port (place_among known.buses))) d) (λ ps. then_with (at_key (codes "rows") (list_within 256 (row (place_among known.nodes))) d) (λ rs. then_with (at_key (codes "terminus") (optional terminus) d) (λ t. Ok (record { name = n; kind = k; eid = ei; owner = ow; pool = q; ports = ps; rows = rs; terminus = t }))))))))) (field (codes "kind") a_kind (field (codes "eid") (a_number 0 255) (field (codes "owner") (an_optional (a_name_of known.nodes)) (field (codes "pool") (an_optional a_pool) (field (codes "ports") (a_list 32 (a_port_among (Some known))) (field (codes "rows") (a_list 256 (a_row_among (Some known))) (field (codes "terminus") (an_optional a_terminus) no_fields))))))) d x (λ o. o) (unknown (is_node_placed (length known.buses) (length known.nodes) x)) (plain_tells name_text a_name name_agrees) e0 (λ n e1.
-    at_tells {B = NodeValue} (codes "kind") kind_text always a_kind (λ k. then_with (at_key (codes "eid") (whole_number 0 255) d) (λ ei. then_with (at_key (codes "owner") (optional (reference (place_among known.nodes))) d) (λ ow. then_with (at_key (codes "pool") (optional pool) d) (λ q. then_with (at_key (codes "ports") (list_within 32 (port (place_among known.buses))) d) (λ ps. then_with (at_key (codes "rows") (list_within 256 (row (place_among known.nodes))) d) (λ rs. then_with (at_key (codes "terminus") (optional terminus) d) (λ t. Ok (record { name = n; kind = k; eid = ei; owner = ow; pool = q; ports = ps; rows = rs; terminus = t })))))))) (field (codes "eid") (a_number 0 255) (field (codes "owner") (an_optional (a_name_of known.nodes)) (field (codes "pool") (an_optional a_pool) (field (codes "ports") (a_list 32 (a_port_among (Some known))) (field (codes "rows") (a_list 256 (a_row_among (Some known))) (field (codes "terminus") (an_optional a_terminus) no_fields)))))) d x (λ o. o) (unknown (is_node_placed (length known.buses) (length known.nodes) x)) (plain_tells kind_text a_kind kind_agrees) e1 (λ k e2.
-    at_tells {B = NodeValue} (codes "eid") (whole_number 0 255) always (a_number 0 255) (λ ei. then_with (at_key (codes "owner") (optional (reference (place_among known.nodes))) d) (λ ow. then_with (at_key (codes "pool") (optional pool) d) (λ q. then_with (at_key (codes "ports") (list_within 32 (port (place_among known.buses))) d) (λ ps. then_with (at_key (codes "rows") (list_within 256 (row (place_among known.nodes))) d) (λ rs. then_with (at_key (codes "terminus") (optional terminus) d) (λ t. Ok (record { name = n; kind = k; eid = ei; owner = ow; pool = q; ports = ps; rows = rs; terminus = t }))))))) (field (codes "owner") (an_optional (a_name_of known.nodes)) (field (codes "pool") (an_optional a_pool) (field (codes "ports") (a_list 32 (a_port_among (Some known))) (field (codes "rows") (a_list 256 (a_row_among (Some known))) (field (codes "terminus") (an_optional a_terminus) no_fields))))) d x (λ o. o) (unknown (is_node_placed (length known.buses) (length known.nodes) x)) (plain_tells (whole_number 0 255) (a_number 0 255) (number_agrees 0 255)) e2 (λ ei e3.
-    at_tells {B = NodeValue} (codes "owner") (optional (reference (place_among known.nodes))) (is_owner_placed (length known.nodes)) (an_optional (a_name_of known.nodes)) (λ ow. then_with (at_key (codes "pool") (optional pool) d) (λ q. then_with (at_key (codes "ports") (list_within 32 (port (place_among known.buses))) d) (λ ps. then_with (at_key (codes "rows") (list_within 256 (row (place_among known.nodes))) d) (λ rs. then_with (at_key (codes "terminus") (optional terminus) d) (λ t. Ok (record { name = n; kind = k; eid = ei; owner = ow; pool = q; ports = ps; rows = rs; terminus = t })))))) (field (codes "pool") (an_optional a_pool) (field (codes "ports") (a_list 32 (a_port_among (Some known))) (field (codes "rows") (a_list 256 (a_row_among (Some known))) (field (codes "terminus") (an_optional a_terminus) no_fields)))) d x (λ o. o) (unknown (is_node_placed (length known.buses) (length known.nodes) x)) (optional_tells (reference (place_among known.nodes)) (λ (p : ℕ). nat_lt p (length known.nodes)) (a_name_of known.nodes) (reference_tells known.nodes)) e3 (λ ow e4.
-    at_tells {B = NodeValue} (codes "pool") (optional pool) always (an_optional a_pool) (λ q. then_with (at_key (codes "ports") (list_within 32 (port (place_among known.buses))) d) (λ ps. then_with (at_key (codes "rows") (list_within 256 (row (place_among known.nodes))) d) (λ rs. then_with (at_key (codes "terminus") (optional terminus) d) (λ t. Ok (record { name = n; kind = k; eid = ei; owner = ow; pool = q; ports = ps; rows = rs; terminus = t }))))) (field (codes "ports") (a_list 32 (a_port_among (Some known))) (field (codes "rows") (a_list 256 (a_row_among (Some known))) (field (codes "terminus") (an_optional a_terminus) no_fields))) d x (λ o. option_or (unknown ((is_owner_placed (length known.nodes)) ow)) (o)) (unknown (is_node_placed (length known.buses) (length known.nodes) x)) (plain_tells (optional pool) (an_optional a_pool) (optional_agrees pool a_pool pool_agrees)) e4 (λ q e5.
-    at_tells {B = NodeValue} (codes "ports") (list_within 32 (port (place_among known.buses))) (list_all (is_port_placed (length known.buses))) (a_list 32 (a_port_among (Some known))) (λ ps. then_with (at_key (codes "rows") (list_within 256 (row (place_among known.nodes))) d) (λ rs. then_with (at_key (codes "terminus") (optional terminus) d) (λ t. Ok (record { name = n; kind = k; eid = ei; owner = ow; pool = q; ports = ps; rows = rs; terminus = t })))) (field (codes "rows") (a_list 256 (a_row_among (Some known))) (field (codes "terminus") (an_optional a_terminus) no_fields)) d x (λ o. option_or (unknown ((is_owner_placed (length known.nodes)) ow)) (o)) (unknown (is_node_placed (length known.buses) (length known.nodes) x)) (list_tells 32 (port (place_among known.buses)) (is_port_placed (length known.buses)) (a_port_among (Some known)) (port_tells known)) e5 (λ ps e6.
-    at_tells {B = NodeValue} (codes "rows") (list_within 256 (row (place_among known.nodes))) (list_all (is_row_placed (length known.nodes))) (a_list 256 (a_row_among (Some known))) (λ rs. then_with (at_key (codes "terminus") (optional terminus) d) (λ t. Ok (record { name = n; kind = k; eid = ei; owner = ow; pool = q; ports = ps; rows = rs; terminus = t }))) (field (codes "terminus") (an_optional a_terminus) no_fields) d x (λ o. option_or (unknown ((is_owner_placed (length known.nodes)) ow)) (option_or (unknown ((list_all (is_port_placed (length known.buses))) ps)) (o))) (unknown (is_node_placed (length known.buses) (length known.nodes) x)) (list_tells 256 (row (place_among known.nodes)) (is_row_placed (length known.nodes)) (a_row_among (Some known)) (row_tells known)) e6 (λ rs e7.
+pub node_tells : (known : Known) → Tells (node (index_among known.buses) (index_among known.nodes)) (is_node_placed (length known.buses) (length known.nodes)) (a_node_among (Some known))
+node_tells known d x e = object_tells {B = NodeValue} (fields_of (a_node_among (Some known))) d (then_with (at_key (codes "name") name_text d) (λ n. then_with (at_key (codes "kind") kind_text d) (λ k. then_with (at_key (codes "eid") (whole_number 0 255) d) (λ ei. then_with (at_key (codes "owner") (optional (reference (index_among known.nodes))) d) (λ ow. then_with (at_key (codes "pool") (optional pool) d) (λ q. then_with (at_key (codes "ports") (list_within 32 (port (index_among known.buses))) d) (λ ps. then_with (at_key (codes "rows") (list_within 256 (row (index_among known.nodes))) d) (λ rs. then_with (at_key (codes "terminus") (optional terminus) d) (λ t. Ok (record { name = n; kind = k; eid = ei; owner = ow; pool = q; ports = ps; rows = rs; terminus = t })))))))))) x (unknown (is_node_placed (length known.buses) (length known.nodes) x)) e (λ e0.
+    at_tells {B = NodeValue} (codes "name") name_text always a_name (λ n. then_with (at_key (codes "kind") kind_text d) (λ k. then_with (at_key (codes "eid") (whole_number 0 255) d) (λ ei. then_with (at_key (codes "owner") (optional (reference (index_among known.nodes))) d) (λ ow. then_with (at_key (codes "pool") (optional pool) d) (λ q. then_with (at_key (codes "ports") (list_within 32 (port (index_among known.buses))) d) (λ ps. then_with (at_key (codes "rows") (list_within 256 (row (index_among known.nodes))) d) (λ rs. then_with (at_key (codes "terminus") (optional terminus) d) (λ t. Ok (record { name = n; kind = k; eid = ei; owner = ow; pool = q; ports = ps; rows = rs; terminus = t }))))))))) (field (codes "kind") a_kind (field (codes "eid") (a_number 0 255) (field (codes "owner") (an_optional (a_name_of known.nodes)) (field (codes "pool") (an_optional a_pool) (field (codes "ports") (a_list 32 (a_port_among (Some known))) (field (codes "rows") (a_list 256 (a_row_among (Some known))) (field (codes "terminus") (an_optional a_terminus) no_fields))))))) d x (λ o. o) (unknown (is_node_placed (length known.buses) (length known.nodes) x)) (plain_tells name_text a_name name_agrees) e0 (λ n e1.
+    at_tells {B = NodeValue} (codes "kind") kind_text always a_kind (λ k. then_with (at_key (codes "eid") (whole_number 0 255) d) (λ ei. then_with (at_key (codes "owner") (optional (reference (index_among known.nodes))) d) (λ ow. then_with (at_key (codes "pool") (optional pool) d) (λ q. then_with (at_key (codes "ports") (list_within 32 (port (index_among known.buses))) d) (λ ps. then_with (at_key (codes "rows") (list_within 256 (row (index_among known.nodes))) d) (λ rs. then_with (at_key (codes "terminus") (optional terminus) d) (λ t. Ok (record { name = n; kind = k; eid = ei; owner = ow; pool = q; ports = ps; rows = rs; terminus = t })))))))) (field (codes "eid") (a_number 0 255) (field (codes "owner") (an_optional (a_name_of known.nodes)) (field (codes "pool") (an_optional a_pool) (field (codes "ports") (a_list 32 (a_port_among (Some known))) (field (codes "rows") (a_list 256 (a_row_among (Some known))) (field (codes "terminus") (an_optional a_terminus) no_fields)))))) d x (λ o. o) (unknown (is_node_placed (length known.buses) (length known.nodes) x)) (plain_tells kind_text a_kind kind_agrees) e1 (λ k e2.
+    at_tells {B = NodeValue} (codes "eid") (whole_number 0 255) always (a_number 0 255) (λ ei. then_with (at_key (codes "owner") (optional (reference (index_among known.nodes))) d) (λ ow. then_with (at_key (codes "pool") (optional pool) d) (λ q. then_with (at_key (codes "ports") (list_within 32 (port (index_among known.buses))) d) (λ ps. then_with (at_key (codes "rows") (list_within 256 (row (index_among known.nodes))) d) (λ rs. then_with (at_key (codes "terminus") (optional terminus) d) (λ t. Ok (record { name = n; kind = k; eid = ei; owner = ow; pool = q; ports = ps; rows = rs; terminus = t }))))))) (field (codes "owner") (an_optional (a_name_of known.nodes)) (field (codes "pool") (an_optional a_pool) (field (codes "ports") (a_list 32 (a_port_among (Some known))) (field (codes "rows") (a_list 256 (a_row_among (Some known))) (field (codes "terminus") (an_optional a_terminus) no_fields))))) d x (λ o. o) (unknown (is_node_placed (length known.buses) (length known.nodes) x)) (plain_tells (whole_number 0 255) (a_number 0 255) (number_agrees 0 255)) e2 (λ ei e3.
+    at_tells {B = NodeValue} (codes "owner") (optional (reference (index_among known.nodes))) (is_owner_placed (length known.nodes)) (an_optional (a_name_of known.nodes)) (λ ow. then_with (at_key (codes "pool") (optional pool) d) (λ q. then_with (at_key (codes "ports") (list_within 32 (port (index_among known.buses))) d) (λ ps. then_with (at_key (codes "rows") (list_within 256 (row (index_among known.nodes))) d) (λ rs. then_with (at_key (codes "terminus") (optional terminus) d) (λ t. Ok (record { name = n; kind = k; eid = ei; owner = ow; pool = q; ports = ps; rows = rs; terminus = t })))))) (field (codes "pool") (an_optional a_pool) (field (codes "ports") (a_list 32 (a_port_among (Some known))) (field (codes "rows") (a_list 256 (a_row_among (Some known))) (field (codes "terminus") (an_optional a_terminus) no_fields)))) d x (λ o. o) (unknown (is_node_placed (length known.buses) (length known.nodes) x)) (optional_tells (reference (index_among known.nodes)) (λ (p : ℕ). nat_lt p (length known.nodes)) (a_name_of known.nodes) (reference_tells known.nodes)) e3 (λ ow e4.
+    at_tells {B = NodeValue} (codes "pool") (optional pool) always (an_optional a_pool) (λ q. then_with (at_key (codes "ports") (list_within 32 (port (index_among known.buses))) d) (λ ps. then_with (at_key (codes "rows") (list_within 256 (row (index_among known.nodes))) d) (λ rs. then_with (at_key (codes "terminus") (optional terminus) d) (λ t. Ok (record { name = n; kind = k; eid = ei; owner = ow; pool = q; ports = ps; rows = rs; terminus = t }))))) (field (codes "ports") (a_list 32 (a_port_among (Some known))) (field (codes "rows") (a_list 256 (a_row_among (Some known))) (field (codes "terminus") (an_optional a_terminus) no_fields))) d x (λ o. option_or (unknown ((is_owner_placed (length known.nodes)) ow)) (o)) (unknown (is_node_placed (length known.buses) (length known.nodes) x)) (plain_tells (optional pool) (an_optional a_pool) (optional_agrees pool a_pool pool_agrees)) e4 (λ q e5.
+    at_tells {B = NodeValue} (codes "ports") (list_within 32 (port (index_among known.buses))) (list_all (is_port_placed (length known.buses))) (a_list 32 (a_port_among (Some known))) (λ ps. then_with (at_key (codes "rows") (list_within 256 (row (index_among known.nodes))) d) (λ rs. then_with (at_key (codes "terminus") (optional terminus) d) (λ t. Ok (record { name = n; kind = k; eid = ei; owner = ow; pool = q; ports = ps; rows = rs; terminus = t })))) (field (codes "rows") (a_list 256 (a_row_among (Some known))) (field (codes "terminus") (an_optional a_terminus) no_fields)) d x (λ o. option_or (unknown ((is_owner_placed (length known.nodes)) ow)) (o)) (unknown (is_node_placed (length known.buses) (length known.nodes) x)) (list_tells 32 (port (index_among known.buses)) (is_port_placed (length known.buses)) (a_port_among (Some known)) (port_tells known)) e5 (λ ps e6.
+    at_tells {B = NodeValue} (codes "rows") (list_within 256 (row (index_among known.nodes))) (list_all (is_row_placed (length known.nodes))) (a_list 256 (a_row_among (Some known))) (λ rs. then_with (at_key (codes "terminus") (optional terminus) d) (λ t. Ok (record { name = n; kind = k; eid = ei; owner = ow; pool = q; ports = ps; rows = rs; terminus = t }))) (field (codes "terminus") (an_optional a_terminus) no_fields) d x (λ o. option_or (unknown ((is_owner_placed (length known.nodes)) ow)) (option_or (unknown ((list_all (is_port_placed (length known.buses))) ps)) (o))) (unknown (is_node_placed (length known.buses) (length known.nodes) x)) (list_tells 256 (row (index_among known.nodes)) (is_row_placed (length known.nodes)) (a_row_among (Some known)) (row_tells known)) e6 (λ rs e7.
     at_tells {B = NodeValue} (codes "terminus") (optional terminus) always (an_optional a_terminus) (λ t. Ok (record { name = n; kind = k; eid = ei; owner = ow; pool = q; ports = ps; rows = rs; terminus = t })) no_fields d x (λ o. option_or (unknown ((is_owner_placed (length known.nodes)) ow)) (option_or (unknown ((list_all (is_port_placed (length known.buses))) ps)) (option_or (unknown ((list_all (is_row_placed (length known.nodes))) rs)) (o)))) (unknown (is_node_placed (length known.buses) (length known.nodes) x)) (plain_tells (optional terminus) (an_optional a_terminus) (optional_agrees terminus a_terminus terminus_agrees)) e7 (λ t e8.
     unknown_three (is_owner_placed (length known.nodes) ow) (list_all (is_port_placed (length known.buses)) ps) (list_all (is_row_placed (length known.nodes)) rs) ∙ ap (λ (y : NodeValue). unknown (is_node_placed (length known.buses) (length known.nodes) y)) (same_Ok e8))))))))))
 

@@ -5,10 +5,10 @@ use Rattle.json.specs.Json.{Json, null, boolean, number, string, array, object}
 use Rattle.json.specs.Json.{Items, no_items, item, Members, no_members, member}
 use Rattle.json.specs.Strict.{keys}
 use Rattle.net_pointers.specs.declared.doubled.DoubledKey.{DoubledKey}
-use Rattle.net_pointers.specs.declared.doubled.TwoPlaces.{TwoPlaces}
+use Rattle.net_pointers.specs.declared.doubled.TwoIndices.{TwoIndices}
 
 -- the first name that stands twice in a list, and where it does
-pub record IsFirstDoubled (names : List (List ℕ)) (p : TwoPlaces) : Type 0 where
+pub record IsFirstDoubled (names : List (List ℕ)) (p : TwoIndices) : Type 0 where
   pub ascends : p.first < p.second
   pub within : p.second < length names
   pub same : get_or names p.first [] ≡ get_or names p.second []

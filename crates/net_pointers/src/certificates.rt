@@ -9,7 +9,7 @@ ghost use Rattle.net_pointers.specs.CertificateTroubles.{IsToldOfCertificate, li
 ghost use Rattle.net_pointers.specs.Doubles.{IsFirstDoubled};
 ghost use Rattle.net_pointers.specs.Pointers.{first_fault};
 
-use crate::doubled::{DoubledKey, TwoPlaces, doubled_key, first_doubled};
+use crate::doubled::{DoubledKey, TwoIndices, doubled_key, first_doubled};
 use crate::faults::{first_fault, first_fault_among};
 use crate::found::Found;
 use crate::known::{names_of_nodes, texts_in};
@@ -33,7 +33,7 @@ pub enum CertificateTrouble {
     /// A value is wrong in itself.
     Value(Found),
     /// A list has two entries of one node.
-    DoubledNode(CertificateList, TwoPlaces),
+    DoubledNode(CertificateList, TwoIndices),
     /// Two ranges don't ascend apart.
     Overlap(Overlap),
     /// An object has a key twice.
@@ -86,7 +86,7 @@ fn trouble_of_entries(
 fn doubled_node(
     alloc: Global,
     certificate: &Value<'_>,
-) -> Result<Option<(CertificateList, TwoPlaces)>, AllocError>
+) -> Result<Option<(CertificateList, TwoIndices)>, AllocError>
     ensures { let d = view certificate.now in IfOk result (λ found. MatchOption found
         ((names_differ (nodes_at (codes "levels") d) ≡ true) × (names_differ (nodes_at (codes "places") d) ≡ true) × (names_differ (nodes_at (codes "ranks") d) ≡ true))
         (λ p. IsFirstDoubled (nodes_at (list_key p.0) d) p.1)) }
@@ -108,7 +108,7 @@ fn doubled_in(
     alloc: Global,
     certificate: &Value<'_>,
     list: CertificateList,
-) -> Result<Option<TwoPlaces>, AllocError>
+) -> Result<Option<TwoIndices>, AllocError>
     ensures { let nodes = nodes_at (list_key list) (view certificate.now) in
         IfOk result (λ found. MatchOption found (names_differ nodes ≡ true) (λ places. IsFirstDoubled nodes places)) }
 {

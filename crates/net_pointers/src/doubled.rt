@@ -14,7 +14,7 @@ use std::alloc::{AllocError, Global};
 
 /// Two places of a list, from 0.
 #[derive(Clone, Copy, Debug, PartialEq, Eq)]
-pub struct TwoPlaces {
+pub struct TwoIndices {
     pub first: usize,
     pub second: usize,
 }
@@ -24,28 +24,28 @@ pub struct TwoPlaces {
 pub struct DoubledKey {
     /// The index of an item or of a member at each step, from 0.
     pub path: Vec<usize>,
-    pub members: TwoPlaces,
+    pub members: TwoIndices,
 }
 
 /// The first name of a list that stands before it too.
-pub fn first_doubled(names: &[&str]) -> Option<TwoPlaces>
+pub fn first_doubled(names: &[&str]) -> Option<TwoIndices>
     ensures { MatchOption result (names_differ (map (λ name. name.now) names.now) ≡ true) (λ places. IsFirstDoubled (map (λ name. name.now) names.now) places) }
 {
     for (second, name) in names.iter().enumerate() {
-        if let Some(first) = place_of(&names[..second], name) {
-            return Some(TwoPlaces { first, second });
+        if let Some(first) = index_of(&names[..second], name) {
+            return Some(TwoIndices { first, second });
         }
     }
     None
 }
 
 /// Where a name stands in a list.
-fn place_of(names: &[&str], name: &str) -> Option<usize>
-    ensures { MatchOption result (list_any (λ other. bytes_eq name.now other.now) names.now ≡ false) (λ place. (place < length names.now) × (get_or (map (λ other. other.now) names.now) place [] ≡ name.now)) }
+fn index_of(names: &[&str], name: &str) -> Option<usize>
+    ensures { MatchOption result (list_any (λ other. bytes_eq name.now other.now) names.now ≡ false) (λ index. (index < length names.now) × (get_or (map (λ other. other.now) names.now) index [] ≡ name.now)) }
 {
-    for (place, other) in names.iter().enumerate() {
+    for (index, other) in names.iter().enumerate() {
         if name == *other {
-            return Some(place);
+            return Some(index);
         }
     }
     None
@@ -103,7 +103,7 @@ fn doubled_in_members(
 fn doubled_here(
     alloc: Global,
     members: &Vec<(&str, Value<'_>)>,
-) -> Result<Option<TwoPlaces>, AllocError>
+) -> Result<Option<TwoIndices>, AllocError>
     ensures { IfOk result (λ found. MatchOption found (names_differ (keys (members_view members.now.items)) ≡ true) (λ places. IsFirstDoubled (keys (members_view members.now.items)) places)) }
 {
     let keys = keys_of(alloc, members.as_slice())?;

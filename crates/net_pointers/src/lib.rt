@@ -17,7 +17,7 @@ mod syntax;
 mod texts;
 
 pub use certificates::{CertificateList, CertificateTrouble, certificate_trouble, list_key};
-pub use doubled::{DoubledKey, TwoPlaces, doubled_key, first_doubled};
+pub use doubled::{DoubledKey, TwoIndices, doubled_key, first_doubled};
 pub use faults::{first_fault, first_fault_among};
 pub use found::{Found, PointerStep};
 pub use known::{KnownNames, known_names, names_at, names_of_nodes};

@@ -5,7 +5,7 @@ ghost use Rattle.net_pointers.specs.Nearest.{edits, edits_to, IsNearest};
 use std::alloc::{AllocError, Global};
 use strsim::levenshtein;
 
-/// The place of the name that is nearest to this one, where one is close.
+/// The index of the name that is nearest to this one, where one is close.
 pub fn nearest_name(alloc: Global, name: &str, names: &[&str]) -> Result<Option<usize>, AllocError>
     ensures { IfOk result (λ found. IsNearest (map (λ other. other.now) names.now) name.now found) }
 {
@@ -30,10 +30,10 @@ fn edits_between(alloc: Global, name: &str, other: &str) -> Result<usize, AllocE
     levenshtein(alloc, name, other)
 }
 
-/// The place of the least count, where it is at most this.
+/// The index of the least count, where it is at most this.
 fn least_within(counts: &[usize], most: usize) -> Option<usize>
     ensures { MatchOption result (All (λ count. most < count) counts.now)
-        (λ place. (place < length counts.now) × (get_or counts.now place 0 ≤ most) × All (λ count. get_or counts.now place 0 ≤ count) counts.now) }
+        (λ index. (index < length counts.now) × (get_or counts.now index 0 ≤ most) × All (λ count. get_or counts.now index 0 ≤ count) counts.now) }
 {
     if counts.is_empty() {
         return None;
@@ -45,16 +45,16 @@ fn least_within(counts: &[usize], most: usize) -> Option<usize>
     None
 }
 
-/// The place of the least count.
+/// The index of the least count.
 fn least_of(counts: &[usize]) -> usize
     requires { 0 < length counts.now }
     ensures within { result < length counts.now }
     ensures least { All (λ count. get_or counts.now result 0 ≤ count) counts.now }
 {
     let mut least = 0;
-    for (place, count) in counts.iter().enumerate() {
+    for (index, count) in counts.iter().enumerate() {
         if *count < counts[least] {
-            least = place;
+            least = index;
         }
     }
     least

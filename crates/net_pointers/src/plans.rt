@@ -10,7 +10,7 @@ ghost use Rattle.net_pointers.specs.PlanTroubles.{IsToldOfPlan};
 ghost use Rattle.net_pointers.specs.Pointers.{first_fault};
 ghost use Rattle.net_pointers.specs.Views.{located};
 
-use crate::doubled::{DoubledKey, TwoPlaces, doubled_key, first_doubled};
+use crate::doubled::{DoubledKey, TwoIndices, doubled_key, first_doubled};
 use crate::faults::{first_fault, first_fault_among};
 use crate::found::Found;
 use crate::known::known_names;
@@ -49,7 +49,7 @@ pub enum PlanTrouble {
     /// A value is wrong in itself.
     Value(Found),
     /// Two buses have one name.
-    DoubledBus(TwoPlaces),
+    DoubledBus(TwoIndices),
     /// An object has a key twice.
     DoubledKey(DoubledKey),
     /// A name is that of no bus, or of no node.

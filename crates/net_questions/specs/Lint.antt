@@ -149,10 +149,10 @@ number_of (b ∷ bs) = b + 256 * number_of bs
 abbrev pub flipped : ℕ → ℕ → ℕ
 flipped sign k = if nat_lt k sign then k + sign else k - sign
 
--- The place of a number among those of its data size, in their order, from 0. Data sizes 1, 3 and 5 are the signed
+-- The position of a number among those of its data size, in their order, from 0. Data sizes 1, 3 and 5 are the signed
 -- ones, in two's complement of 8, 16 and 32 bits.
-abbrev pub place_of : ℕ → ℕ → ℕ
-place_of size k =
+abbrev pub position_of : ℕ → ℕ → ℕ
+position_of size k =
     if nat_eq size 1 then flipped (2 ^ 7) k
     else if nat_eq size 3 then flipped (2 ^ 15) k
     else if nat_eq size 5 then flipped (2 ^ 31) k
@@ -160,7 +160,7 @@ place_of size k =
 
 -- the bytes a are a number of the data size that is over the number that the bytes b are
 abbrev pub IsOver : ℕ → List ℕ → List ℕ → Type 0
-IsOver size a b = place_of size (number_of b) < place_of size (number_of a)
+IsOver size a b = position_of size (number_of b) < position_of size (number_of a)
 
 -- the bytes are those of a numeric sensor's record
 pub record IsNumericSensor (bytes : List ℕ) (sensor : NumericValue) : Type 0 where

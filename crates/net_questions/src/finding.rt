@@ -1,8 +1,8 @@
 //! What is lawful in a plan, and still looks wrong.
 use mctp_transport::Eid;
 
-/// What looks wrong, and whom it is about. A node is told by its place in the plan's list; a port, a row or a record by
-/// its place in its node's list.
+/// What looks wrong, and whom it is about. A node is told by its index in the plan's list; a port, a row or a record by
+/// its index in its node's list.
 #[derive(Clone, Copy, Debug, PartialEq, Eq)]
 pub enum Finding {
     /// H01: two ports on one bus have one address. The second port comes later in the plan.

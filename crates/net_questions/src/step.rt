@@ -4,7 +4,7 @@ use mctp_bridge::Hop;
 /// Where a node sends a packet.
 #[derive(Clone, Copy, Debug, PartialEq, Eq)]
 pub struct WayStep {
-    /// The place of the node in the plan's list.
+    /// The index of the node in the plan's list.
     pub node: usize,
     /// The port by which the packet leaves, and the next node.
     pub hop: Hop,

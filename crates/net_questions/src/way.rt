@@ -26,7 +26,7 @@ pub enum End {
 pub struct Way {
     /// Where the nodes send the packet, one after another.
     pub steps: Vec<WayStep>,
-    /// The place of the node where the way ends.
+    /// The index of the node where the way ends.
     pub last: usize,
     pub end: End,
 }

@@ -5,11 +5,11 @@ use Rattle.net_plan.specs.declared.certificate.Certificate.{Certificate}
 use Rattle.net_check.specs.Owners.{level}
 use Rattle.net_sim.specs.Assignments.{AssignmentValue, IsOwned, AsksInOrder}
 
--- n is owned, and of a lower level than this, or of this level and before the place
+-- n is owned, and of a lower level than this, or of this level and before the index
 unfoldable pub IsAskedUpTo : Plan → Certificate → ℕ → ℕ → ℕ → Type 0
-IsAskedUpTo plan cert reached place n =
-    IsOwned plan n × ((level plan cert n < reached) ⊎ ((level plan cert n ≡ reached) × (n < place)))
+IsAskedUpTo plan cert reached index n =
+    IsOwned plan n × ((level plan cert n < reached) ⊎ ((level plan cert n ≡ reached) × (n < index)))
 
 -- those are asked, and no others
 abbrev pub HasAskedUpTo : Plan → Certificate → ℕ → ℕ → List AssignmentValue → Type 0
-HasAskedUpTo plan cert reached place list = AsksInOrder plan cert (IsAskedUpTo plan cert reached place) list
+HasAskedUpTo plan cert reached index list = AsksInOrder plan cert (IsAskedUpTo plan cert reached index) list

@@ -47,7 +47,7 @@ abbrev pub pool_requests : ℕ → ℕ → Option Pool → List AssignmentValue
 pool_requests n bus None = []
 pool_requests n bus (Some pool) = record { bus = bus; node = n; body = allocates_pool pool } ∷ []
 
--- what the node at a place is asked over a bus: to take its EID, then its pool
+-- what the node at an index is asked over a bus: to take its EID, then its pool
 abbrev pub requests_over : ℕ → Node → ℕ → List AssignmentValue
 requests_over n node bus =
     record { bus = bus; node = n; body = sets_eid node.eid.value } ∷ pool_requests n bus node.pool

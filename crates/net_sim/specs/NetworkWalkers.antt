@@ -49,10 +49,10 @@ IsReady w = HasRoom w.walker
 abbrev pub Listens : ℕ → KeyValue → WalkerValue → Type 0
 Listens node key walker = (walker.node ≡ node) × (answering_key walker ≡ key)
 
--- such a walker stands at this place
+-- such a walker stands at this index
 abbrev pub ListensAt : ℕ → KeyValue → List NetworkWalker → ℕ → Type 0
-ListensAt node key walkers place =
-    (walker : NetworkWalker) × (slice_get walkers place ≡ Some walker) × Listens node key (walker_value walker)
+ListensAt node key walkers index =
+    (walker : NetworkWalker) × (slice_get walkers index ≡ Some walker) × Listens node key (walker_value walker)
 
 -- The walker's request is told: the outstanding one again under its instance ID, or a new one under the next ID.
 pub record TellsRequest (old : WalkerValue) (request : List ℕ) (new : WalkerValue) : Type 0 where

@@ -20,9 +20,9 @@ abbrev pub queue_state : {X : Type 0} {R : X → Type 0} → (TerminusQueue X R 
 queue_state tid records d = record { tid = tid d; records = records d; waiting = map waiting_value d.waiting.items }
 
 -- where there is a terminus, one message more can wait without growing
-abbrev pub HasPlace : {X : Type 0} {R : X → Type 0} → Option (TerminusQueue X R) → Type 0
-HasPlace None = Unit {0}
-HasPlace (Some d) = deque_len d.waiting < deque_capacity d.waiting
+abbrev pub HasRoomFor : {X : Type 0} {R : X → Type 0} → Option (TerminusQueue X R) → Type 0
+HasRoomFor None = Unit {0}
+HasRoomFor (Some d) = deque_len d.waiting < deque_capacity d.waiting
 
 -- a node's terminus once a message has come there: it waits if its source owns the tag
 abbrev pub with_message : WaitingMessage → Option TerminusState → Option TerminusState

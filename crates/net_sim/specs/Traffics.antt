@@ -7,7 +7,7 @@ use Rattle.net_sim.specs.declared.terminus_queue.TerminusQueue.{TerminusQueue}
 use Rattle.net_sim.specs.declared.traffic.Traffic.{Traffic}
 use Rattle.net_check.specs.Events.{most_flights}
 use Rattle.net_sim.specs.Flights.{slots_of, room_of}
-use Rattle.net_sim.specs.TerminusQueues.{queue_state, HasPlace}
+use Rattle.net_sim.specs.TerminusQueues.{queue_state, HasRoomFor}
 use Rattle.net_sim.specs.Standing.{TrafficValue}
 
 -- the tables of the network, of one plan or of two, and the certificate for them
@@ -25,9 +25,9 @@ traffic_value tid records network = record {
 }
 
 -- where the node has a terminus, one message more can wait there without growing
-abbrev pub HasPlaceAt : {X : Type 0} {R : X → Type 0} → Traffic X R → ℕ → Type 0
-HasPlaceAt {X} {R} network node =
-    (d : Option (TerminusQueue X R)) → slice_get network.queues.items node ≡ Some d → HasPlace d
+abbrev pub HasRoomAt : {X : Type 0} {R : X → Type 0} → Traffic X R → ℕ → Type 0
+HasRoomAt {X} {R} network node =
+    (d : Option (TerminusQueue X R)) → slice_get network.queues.items node ≡ Some d → HasRoomFor d
 
 -- a flight number is left, and one flight more can be made without growing
 abbrev pub HasNumberAndRoom : {X : Type 0} {R : X → Type 0} → Traffic X R → Type 0

@@ -50,50 +50,50 @@ fn ask_level(
     requires lower { HasAskedUpTo plan.now certificate.now level 0 (map assignment_value list.old.items) }
     ensures { OnOk result (HasAskedUpTo plan.now certificate.now level (length plan.now.nodes.items) (map assignment_value list.new.items)) }
 {
-    for place in 0..plan.nodes.len() {
-        if level_of(plan, certificate, place) == level {
-            ask(list, plan, place)?;
+    for index in 0..plan.nodes.len() {
+        if level_of(plan, certificate, index) == level {
+            ask(list, plan, index)?;
         }
     }
     Ok(())
 }
 
 /// The level of a node, 0 where it has no owner.
-fn level_of(plan: &Plan, certificate: &Certificate, place: usize) -> u8
-    ensures { result ≡ level plan.now certificate.now place }
+fn level_of(plan: &Plan, certificate: &Certificate, index: usize) -> u8
+    ensures { result ≡ level plan.now certificate.now index }
 {
-    match owner_of(plan, place) {
-        Some(_) => given_level(certificate, place),
+    match owner_of(plan, index) {
+        Some(_) => given_level(certificate, index),
         None => 0,
     }
 }
 
 /// The owner of a node.
-fn owner_of(plan: &Plan, place: usize) -> Option<usize>
-    ensures { result ≡ owner_of plan.now place }
+fn owner_of(plan: &Plan, index: usize) -> Option<usize>
+    ensures { result ≡ owner_of plan.now index }
 {
-    plan.nodes.get(place)?.owner
+    plan.nodes.get(index)?.owner
 }
 
 /// The level that the certificate gives a node, 0 where it gives none.
-fn given_level(certificate: &Certificate, place: usize) -> u8
-    ensures { result ≡ given_level certificate.now place }
+fn given_level(certificate: &Certificate, index: usize) -> u8
+    ensures { result ≡ given_level certificate.now index }
 {
     certificate
         .levels
         .iter()
-        .find(|given| given.node == place)
+        .find(|given| given.node == index)
         .map_or(0, |given| given.level)
 }
 
 /// Adds the requests to a node, over the bus that it shares with its owner.
-fn ask(list: &mut Vec<Assignment>, plan: &Plan, place: usize) -> Result<(), AllocError>
-    requires { place < length plan.now.nodes.items }
-    ensures { OnOk result (map assignment_value list.new.items ≡ map assignment_value list.old.items ++ requests_to plan.now place) }
+fn ask(list: &mut Vec<Assignment>, plan: &Plan, index: usize) -> Result<(), AllocError>
+    requires { index < length plan.now.nodes.items }
+    ensures { OnOk result (map assignment_value list.new.items ≡ map assignment_value list.old.items ++ requests_to plan.now index) }
 {
-    let node = &plan.nodes[place];
+    let node = &plan.nodes[index];
     match owner_bus(plan, node) {
-        Some(bus) => ask_over(list, place, node, bus),
+        Some(bus) => ask_over(list, index, node, bus),
         None => Ok(()),
     }
 }
@@ -136,21 +136,21 @@ fn ports_at(plan: &Plan, node: usize) -> &[Port]
 /// Adds the requests to a node that go over the bus.
 fn ask_over(
     list: &mut Vec<Assignment>,
-    place: usize,
+    index: usize,
     node: &Node,
     bus: usize,
 ) -> Result<(), AllocError>
-    ensures { OnOk result (map assignment_value list.new.items ≡ map assignment_value list.old.items ++ requests_over place node.now bus) }
+    ensures { OnOk result (map assignment_value list.new.items ≡ map assignment_value list.old.items ++ requests_over index node.now bus) }
 {
     list.push(Assignment {
         bus,
-        node: place,
+        node: index,
         body: set_eid(node.eid),
     })?;
     if let Some(pool) = node.pool {
         list.push(Assignment {
             bus,
-            node: place,
+            node: index,
             body: allocate_pool(pool),
         })?;
     }

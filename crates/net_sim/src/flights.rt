@@ -143,14 +143,14 @@ impl Flights {
         self.next
     }
 
-    /// The place of the slot of this number, by halving.
-    fn place_of(&self, number: u32) -> Option<usize>
-        ensures found { IfSome result (λ place. (place < length self.now.slots.items) × HoldsAt (λ slot. slot.number ≡ number) self.now.slots.items place) }
+    /// The index of the slot of this number, by halving.
+    fn index_of(&self, number: u32) -> Option<usize>
+        ensures found { IfSome result (λ index. (index < length self.now.slots.items) × HoldsAt (λ slot. slot.number ≡ number) self.now.slots.items index) }
         ensures none { IfNone result (All (λ slot. slot.number ≢ number) self.now.slots.items) }
     {
         let slots = self.slots.as_slice();
         match slots.binary_search_by_key(&number, |slot| slot.number) {
-            Ok(place) => Some(place),
+            Ok(index) => Some(index),
             Err(_) => None,
         }
     }
@@ -159,16 +159,16 @@ impl Flights {
     pub fn get(&self, number: u32) -> Option<&Flight>
         ensures { option_map (λ f. flight_value f.now) result ≡ flight_at (slots_of self.now) number }
     {
-        let place = self.place_of(number)?;
-        self.slots[place].flight.as_ref()
+        let index = self.index_of(number)?;
+        self.slots[index].flight.as_ref()
     }
 
     /// Whether there is a flight of this number.
     pub fn has(&self, number: u32) -> bool
         ensures { result ≡ is_some (flight_at (slots_of self.now) number) }
     {
-        match self.place_of(number) {
-            Some(place) => self.slots[place].flight.is_some(),
+        match self.index_of(number) {
+            Some(index) => self.slots[index].flight.is_some(),
             None => false,
         }
     }
@@ -224,9 +224,9 @@ impl Flights {
         ensures slots { slots_of self.new ≡ slice_set (slots_of self.old) number None }
         ensures room { room_of self.new ≡ room_of self.old }
     {
-        let place = self.place_of(number)?;
+        let index = self.index_of(number)?;
         self.empty += 1;
-        self.slots[place].flight.take()
+        self.slots[index].flight.take()
     }
 
     /// Moves the flight of this number one hop further, to a node.
@@ -236,8 +236,8 @@ impl Flights {
         ensures slots { slots_of self.new ≡ slice_set (slots_of self.old) number (option_map (gone_on node) (flight_at (slots_of self.old) number)) }
         ensures room { room_of self.new ≡ room_of self.old }
     {
-        if let Some(place) = self.place_of(number) {
-            self.slots[place].go_on(node);
+        if let Some(index) = self.index_of(number) {
+            self.slots[index].go_on(node);
         }
     }
 }

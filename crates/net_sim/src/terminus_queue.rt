@@ -3,7 +3,7 @@ ghost use Rattle.std.specs.Prelude.{◌≡◌, ◌≢◌, ◌↔◌, ◌<◌, �
 ghost use Rattle.mctp_transport.specs.Packets.{key_value};
 ghost use Rattle.net_check.specs.Termini.{with_waiting};
 ghost use Rattle.std.specs.VecDeque.{deque_len, deque_capacity};
-ghost use Rattle.net_sim.specs.TerminusQueues.{queue_state, with_message, HasPlace, AnswersOldest, IsIdle, IsIdleFor};
+ghost use Rattle.net_sim.specs.TerminusQueues.{queue_state, with_message, HasRoomFor, AnswersOldest, IsIdle, IsIdleFor};
 ghost use Rattle.net_sim.specs.Settling.{NoneWaits};
 ghost use Rattle.pdr_repository.specs.Answers.{Answers, answer_of};
 
@@ -83,7 +83,7 @@ impl TerminusQueue {
 
     /// Lets a message wait, which is copied into the room.
     pub fn wait(&mut self, key: Key, bytes: &[u8], mut room: Vec<u8>)
-        requires place { deque_len self.old.waiting < deque_capacity self.old.waiting }
+        requires room { deque_len self.old.waiting < deque_capacity self.old.waiting }
         requires empty { room.items ≡ [] }
         ensures { length bytes.now ≤ vec_capacity room → queue_state (λ d. tid d.terminus) (λ d. records d.terminus) self.new
             ≡ with_waiting (queue_state (λ d. tid d.terminus) (λ d. records d.terminus) self.old) (record { key = key_value key; bytes = bytes.now }) }
@@ -154,7 +154,7 @@ pub fn none_waits_at(queue: &Option<TerminusQueue>, key: Key) -> bool
 pub fn reserve_at(queue: &mut Option<TerminusQueue>) -> Result<(), AllocError>
     ensures state { option_map (queue_state (λ d. tid d.terminus) (λ d. records d.terminus)) queue.new
         ≡ option_map (queue_state (λ d. tid d.terminus) (λ d. records d.terminus)) queue.old }
-    ensures place { OnOk result (HasPlace queue.new) }
+    ensures room { OnOk result (HasRoomFor queue.new) }
 {
     match queue {
         Some(queue) => queue.reserve(),
@@ -164,7 +164,7 @@ pub fn reserve_at(queue: &mut Option<TerminusQueue>) -> Result<(), AllocError>
 
 /// Lets a message whose source owns the tag wait, where there is a terminus. It is copied into the room.
 pub fn wait_at(queue: &mut Option<TerminusQueue>, key: Key, bytes: &[u8], room: Vec<u8>)
-    requires place { HasPlace queue.old }
+    requires room { HasRoomFor queue.old }
     requires empty { room.items ≡ [] }
     ensures { length bytes.now ≤ vec_capacity room → option_map (queue_state (λ d. tid d.terminus) (λ d. records d.terminus)) queue.new
         ≡ with_message (record { key = key_value key; bytes = bytes.now })

@@ -10,7 +10,7 @@ use Rattle.net_plan.specs.declared.error.PlanError.{PlanError}
 use Rattle.net_plan.specs.declared.error.PlanError.TheVariants as error
 use Rattle.net_plan.specs.CertificateText.{IsCertificateOf}
 use Rattle.net_plan.specs.CertificateValues.{certificate_value}
-use Rattle.net_check.specs.Faults.{IsFirstFault, place_of}
+use Rattle.net_check.specs.Faults.{IsFirstFault, site_of}
 use Rattle.net_plan.specs.PlanText.{IsPlanOf}
 use Rattle.net_plan.specs.Stream.{AppendsBeginning}
 use Rattle.net_plan.specs.PlanValues.{plan_value}
@@ -84,13 +84,13 @@ TellsOf IsTold plans certificates output = (plan : Plan) × (certificate : Certi
 -- the output was given the line of the first fault of the plan and the certificate that were given
 abbrev pub TellsFault : Stream → Stream → Stream → Type 0
 TellsFault plans certificates output = (plan : Plan) × (certificate : Certificate) × (fault : Fault)
-    × AreGiven plans certificates plan certificate × IsFirstFault plan certificate (place_of fault)
+    × AreGiven plans certificates plan certificate × IsFirstFault plan certificate (site_of fault)
     × Appends output.before output.after (fault_text plan fault)
 
 -- the text is the line of the first fault of the plan and the certificate
 abbrev pub IsFaultText : Plan → Certificate → List ℕ → Type 0
 IsFaultText plan certificate text =
-    (fault : Fault) × IsFirstFault plan certificate (place_of fault) × (text ≡ fault_text plan fault)
+    (fault : Fault) × IsFirstFault plan certificate (site_of fault) × (text ≡ fault_text plan fault)
 
 -- The text answers for the plan and the certificate that were given: it is told of them where every rule holds of them,
 -- or it is the line of their first fault.

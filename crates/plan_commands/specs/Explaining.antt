@@ -2,7 +2,7 @@
 use Rattle.std.specs.Prelude.{◌≡◌, ◌≢◌, ◌⊎◌, ℕ, List, ◌++◌, codes, ⊤}
 use Rattle.std.specs.Prelude.{Option, Some, None}
 use Rattle.std.specs.Io.KnownBytes.{Appends}
-use Rattle.net_check.specs.Faults.{IsFirstFault, place_of}
+use Rattle.net_check.specs.Faults.{IsFirstFault, site_of}
 use Rattle.net_check.specs.Rules.{Accepts}
 use Rattle.net_check.specs.declared.certify_error.CertifyError.{CertifyError}
 use Rattle.net_check.specs.declared.fault.Fault.{Fault}
@@ -159,8 +159,8 @@ pub record IsFaultExplained (plan : Plan) (certificate : Certificate) (text : Li
   pub fault : Fault
   pub cause : Option Cause
   pub lines : List ℕ
-  pub first : IsFirstFault plan certificate (place_of fault)
-  pub at_place : IsCauseAt plan (place_of fault) cause
+  pub first : IsFirstFault plan certificate (site_of fault)
+  pub at_site : IsCauseAt plan (site_of fault) cause
   pub told : IsFaultTold plan fault cause lines
   pub written : text ≡ fault_text plan fault ++ lines
 

@@ -7,7 +7,7 @@ use Rattle.std.specs.List.{list_all}
 use Rattle.std.specs.Str.Parse.{digits_value}
 use Rattle.mctp_transport.specs.Frames.{IsAssignable}
 use Rattle.net_check.specs.declared.fault.Fault.{Fault}
-use Rattle.net_check.specs.Faults.{IsFirstFault, place_of}
+use Rattle.net_check.specs.Faults.{IsFirstFault, site_of}
 use Rattle.net_check.specs.Ranks.{rank}
 use Rattle.net_check.specs.Routing.{Holds}
 use Rattle.net_check.specs.Rules.{Accepts}
@@ -60,7 +60,7 @@ IsTraceText from to plan certificate text = (n e : ℕ) × IsFirstNamed plan fro
 abbrev pub TellsTraceFault : List ℕ → List ℕ → Stream → Stream → Stream → Type 0
 TellsTraceFault from to plans certificates output = (plan : Plan) × (certificate : Certificate) × (fault : Fault)
     × AreGiven plans certificates plan certificate × NameTheEnds from to plan
-    × IsFirstFault plan certificate (place_of fault) × Appends output.before output.after (fault_text plan fault)
+    × IsFirstFault plan certificate (site_of fault) × Appends output.before output.after (fault_text plan fault)
 
 -- The text answers so: it is that of the way, and every rule holds; or the words name a node and a destination, and it
 -- is the line of the first fault.

@@ -3,7 +3,7 @@ use Rattle.std.specs.Prelude.{◌≡◌, ◌≢◌, ◌<◌, ◌-◌, ℕ, List,
 use Rattle.std.specs.Io.KnownBytes.{Appends}
 use Rattle.std.specs.List.{flat_map}
 use Rattle.net_check.specs.declared.fault.Fault.{Fault}
-use Rattle.net_check.specs.Faults.{IsFirstFault, place_of}
+use Rattle.net_check.specs.Faults.{IsFirstFault, site_of}
 use Rattle.net_check.specs.Names.{name_of}
 use Rattle.net_check.specs.Repositories.{terminus_of, records_by_place}
 use Rattle.net_check.specs.Rules.{Accepts}
@@ -51,7 +51,7 @@ bytes_of records = sum_by length (bytes_by_place records)
 abbrev pub TellsWalkFault : List ℕ → Stream → Stream → Stream → Type 0
 TellsWalkFault name plans certificates output = (plan : Plan) × (certificate : Certificate) × (fault : Fault)
     × AreGiven plans certificates plan certificate × HasTerminusNamed plan name
-    × IsFirstFault plan certificate (place_of fault) × Appends output.before output.after (fault_text plan fault)
+    × IsFirstFault plan certificate (site_of fault) × Appends output.before output.after (fault_text plan fault)
 
 -- The text answers so: it is that of the records of the terminus of the name, and every rule holds; or there is such a
 -- terminus, and it is the line of the first fault.

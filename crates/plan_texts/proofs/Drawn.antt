@@ -12,7 +12,7 @@ use Rattle.net_plan.specs.declared.nodes.Bus.{Bus}
 use Rattle.net_plan.specs.declared.nodes.Node.{Node}
 use Rattle.net_plan.specs.declared.nodes.Port.{Port}
 use Rattle.net_plan.specs.declared.plan.Plan.{Plan}
-use Rattle.plan_texts.specs.DrawingLines.{first_line, last_line, bus_line, node_line, port_line, owner_lines, by_place, all_by_place, drawing_lines, port_count, owned_count, IsDrawing}
+use Rattle.plan_texts.specs.DrawingLines.{first_line, last_line, bus_line, node_line, port_line, owner_lines, by_place, all_by_index, drawing_lines, port_count, owned_count, IsDrawing}
 
 -- ---- items by their places
 
@@ -27,7 +27,7 @@ enumerate_more {A} k (y ∷ xs) x =
     let G : List (ℕ × A) → List (ℕ × A) = λ z. (k, y) ∷ z in
     ap G (enumerate_more (k + 1) xs x) ∙ ap F further
 
-all_more : {A B : Type 0} (say : ℕ → A → List B) (xs : List A) (x : A) → all_by_place say (xs ++ x ∷ []) ≡ all_by_place say xs ++ say (length xs) x
+all_more : {A B : Type 0} (say : ℕ → A → List B) (xs : List A) (x : A) → all_by_index say (xs ++ x ∷ []) ≡ all_by_index say xs ++ say (length xs) x
 all_more {A} say xs x =
     let f = λ (placed : ℕ × A). say placed.0 placed.1 in
     let same : 0 + length xs ≡ length xs = omega arith in
@@ -38,14 +38,14 @@ all_more {A} say xs x =
 
 -- what was said of so many items, and what is said of the next
 pub one_more : {A : Type 0} (say : ℕ → A → List ℕ) (xs : List A) (place : ℕ) (x : A) (lines line : List ℕ) → place < length xs → x ≡ get_or xs place x
-    → lines ≡ all_by_place say (take place xs) → line ≡ say place x → lines ++ line ≡ all_by_place say (take (place + 1) xs)
+    → lines ≡ all_by_index say (take place xs) → line ≡ say place x → lines ++ line ≡ all_by_index say (take (place + 1) xs)
 one_more say xs place x lines line within is before said =
     let earlier = take place xs in
     let many : length earlier ≡ place = length-take-le place xs (omega (arith, within)) in
     let more : take (place + 1) xs ≡ earlier ++ x ∷ [] = take_more xs place x within ∙ ap (λ y. earlier ++ y ∷ []) (sym is) in
     ap (λ z. z ++ line) before
-    ∙ (ap (λ z. all_by_place say earlier ++ z) (said ∙ ap (λ n. say n x) (sym many))
-    ∙ (sym (all_more say earlier x) ∙ ap (all_by_place say) (sym more)))
+    ∙ (ap (λ z. all_by_index say earlier ++ z) (said ∙ ap (λ n. say n x) (sym many))
+    ∙ (sym (all_more say earlier x) ∙ ap (all_by_index say) (sym more)))
 
 -- ---- lines joined
 
@@ -115,10 +115,10 @@ module _ (plan : Plan) (red red_owned : List ℕ) (cert : Option Certificate) wh
   node_parts = by_place (node_line red cert) plan.nodes.items
 
   abbrev port_parts : List (List ℕ)
-  port_parts = all_by_place (λ n (node : Node). by_place (port_line n) node.ports.items) plan.nodes.items
+  port_parts = all_by_index (λ n (node : Node). by_place (port_line n) node.ports.items) plan.nodes.items
 
   abbrev arrow_parts : List (List ℕ)
-  arrow_parts = all_by_place (λ n (node : Node). owner_lines red_owned n node.owner) plan.nodes.items
+  arrow_parts = all_by_index (λ n (node : Node). owner_lines red_owned n node.owner) plan.nodes.items
 
   -- how many lines there are
   counted : length (drawing_lines plan red red_owned cert) ≡ length plan.buses.items + (length plan.nodes.items + (port_count plan + owned_count plan)) + 2
@@ -133,15 +133,15 @@ module _ (plan : Plan) (red red_owned : List ℕ) (cert : Option Certificate) wh
       omega (arith, all, buses, nodes, ports, arrows)
 
   -- the parts, one after the other, are the drawing
-  pub drawn : (text buses nodes ports arrows : List ℕ) → buses ≡ all_by_place bus_line plan.buses.items → nodes ≡ all_by_place (node_line red cert) plan.nodes.items
-      → ports ≡ all_by_place (λ n (node : Node). all_by_place (port_line n) node.ports.items) plan.nodes.items
-      → arrows ≡ all_by_place (λ n (node : Node). concat (owner_lines red_owned n node.owner)) plan.nodes.items
+  pub drawn : (text buses nodes ports arrows : List ℕ) → buses ≡ all_by_index bus_line plan.buses.items → nodes ≡ all_by_index (node_line red cert) plan.nodes.items
+      → ports ≡ all_by_index (λ n (node : Node). all_by_index (port_line n) node.ports.items) plan.nodes.items
+      → arrows ≡ all_by_index (λ n (node : Node). concat (owner_lines red_owned n node.owner)) plan.nodes.items
       → text ≡ ((((first_line ++ buses) ++ nodes) ++ ports) ++ arrows) ++ last_line → IsDrawing plan red red_owned cert text
   drawn text buses nodes ports arrows has_buses has_nodes has_ports has_arrows is =
       let b = concat-map (λ (placed : ℕ × Bus). bus_line placed.0 placed.1) (enumerate_from 0 plan.buses.items) in
       let n = concat-map (λ (placed : ℕ × Node). node_line red cert placed.0 placed.1) (enumerate_from 0 plan.nodes.items) in
       let p = concat-flat_map (λ (placed : ℕ × Node). by_place (port_line placed.0) placed.1.ports.items)
-      (λ (placed : ℕ × Node). all_by_place (port_line placed.0) placed.1.ports.items)
+      (λ (placed : ℕ × Node). all_by_index (port_line placed.0) placed.1.ports.items)
       (λ placed. concat-map (λ (port : ℕ × Port). port_line placed.0 port.0 port.1) (enumerate_from 0 placed.1.ports.items))
       (enumerate_from 0 plan.nodes.items) in
       let a = concat-flat_map (λ (placed : ℕ × Node). owner_lines red_owned placed.0 placed.1.owner)

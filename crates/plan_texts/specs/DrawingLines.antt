@@ -78,7 +78,7 @@ abbrev pub bus_line : ℕ → Bus → List ℕ
 bus_line b bus = codes "    bus_" ++ (decimal b ++ (codes " [shape=box, height=0.1, style=filled, label=\""
     ++ (escaped (string_bytes bus.name.text) ++ codes "\"];\n")))
 
--- the line of a node, by its place, its shape, its color, its label and its tooltip
+-- the line of a node, by its index, its shape, its color, its label and its tooltip
 abbrev pub shape_line : ℕ → (shape color label tooltip : List ℕ) → List ℕ
 shape_line n shape color label tooltip = codes "    node_" ++ (decimal n ++ (codes " [shape=" ++ (shape
     ++ (codes ", color=" ++ (color ++ (codes ", label=\"" ++ (label ++ (codes "\"" ++ (tooltip ++ codes "];\n")))))))))
@@ -104,13 +104,13 @@ abbrev pub owner_lines : List ℕ → ℕ → Option ℕ → List (List ℕ)
 owner_lines red n (Some owner) = owner_line red n owner ∷ []
 owner_lines red n None = []
 
--- what is said of each item of a list by its place
+-- what is said of each item of a list by its index
 abbrev pub by_place : {A B : Type 0} → (ℕ → A → B) → List A → List B
 by_place say items = map (λ placed. say placed.0 placed.1) (enumerate_from 0 items)
 
 -- all that is said of the items of a list by their places, one after the other
-abbrev pub all_by_place : {A B : Type 0} → (ℕ → A → List B) → List A → List B
-all_by_place say items = flat_map (λ placed. say placed.0 placed.1) (enumerate_from 0 items)
+abbrev pub all_by_index : {A B : Type 0} → (ℕ → A → List B) → List A → List B
+all_by_index say items = flat_map (λ placed. say placed.0 placed.1) (enumerate_from 0 items)
 
 -- The lines of a drawing: one for each bus, one for each node, one for each port of each node, and one for each node
 -- that has an owner, in the order of the plan, between the first one and the last. Nodes of the one list are red, and
@@ -118,8 +118,8 @@ all_by_place say items = flat_map (λ placed. say placed.0 placed.1) (enumerate_
 abbrev pub drawing_lines : Plan → (red red_owned : List ℕ) → Option Certificate → List (List ℕ)
 drawing_lines plan red red_owned cert = first_line ∷ (by_place bus_line plan.buses.items
     ++ (by_place (node_line red cert) plan.nodes.items
-    ++ (all_by_place (λ n node. by_place (port_line n) node.ports.items) plan.nodes.items
-    ++ (all_by_place (λ n node. owner_lines red_owned n node.owner) plan.nodes.items ++ last_line ∷ []))))
+    ++ (all_by_index (λ n node. by_place (port_line n) node.ports.items) plan.nodes.items
+    ++ (all_by_index (λ n node. owner_lines red_owned n node.owner) plan.nodes.items ++ last_line ∷ []))))
 
 -- how many ports the nodes of a plan have, and how many of them have an owner
 abbrev pub port_count : Plan → ℕ

@@ -3,7 +3,7 @@ use Rattle.std.specs.Prelude.{◌≡◌, ℕ, ◌+◌, ◌-◌, ◌&&◌, nat_le
 use Rattle.std.specs.Prelude.{Option, Some, None, option_map, option_and_then, position}
 use Rattle.std.specs.Fmt.{decimal}
 use Rattle.std.specs.List.{flat_map}
-use Rattle.net_check.specs.Faults.{place_of}
+use Rattle.net_check.specs.Faults.{site_of}
 use Rattle.net_check.specs.Owners.{owner_of}
 use Rattle.net_check.specs.RecordChains.{chain_entry_of}
 use Rattle.net_check.specs.Routing.{rows_of}
@@ -35,7 +35,7 @@ told_cause plan fault None = []
 -- the text tells the cause for which the plan breaks the fault's rule at the fault's place
 abbrev pub IsCauseTold : Plan → Fault → List ℕ → Type 0
 IsCauseTold plan fault text =
-    (cause : Option Cause) × IsCauseAt plan (place_of fault) cause × (text ≡ told_cause plan fault cause)
+    (cause : Option Cause) × IsCauseAt plan (site_of fault) cause × (text ≡ told_cause plan fault cause)
 
 -- the row covers e
 abbrev pub covers_eid : ℕ → Row → Bool

@@ -15,7 +15,7 @@ move_fault_text plan whose fault =
     ++ (codes " entry " ++ (number_or_dash fault.entry
     ++ (codes " eid " ++ (number_or_dash (eid_number fault.eid) ++ codes "\n"))))))))
 
--- the name of the node at a place, or a dash where no place is given
+-- the name of the node at an index, or a dash where no index is given
 abbrev pub name_of_some : Plan → Option ℕ → List ℕ
 name_of_some plan (Some node) = name_or_dash plan node
 name_of_some plan None = codes "-"

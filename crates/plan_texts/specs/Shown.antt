@@ -18,8 +18,8 @@ address_words_of f =
     codes "reserved " ++ (decimal f.reserved ++ (codes " destination " ++ (decimal f.destination
     ++ (codes " source " ++ decimal f.source))))
 
-abbrev pub place_words_of : Frame → List ℕ
-place_words_of f =
+abbrev pub position_words_of : Frame → List ℕ
+position_words_of f =
     codes "som " ++ (decimal (bit f.som) ++ (codes " eom " ++ (decimal (bit f.eom)
     ++ (codes " number " ++ decimal f.number))))
 
@@ -29,7 +29,7 @@ tag_words_of f = codes "owner " ++ (decimal (bit f.owner) ++ (codes " tag " ++ d
 -- the fields of a packet's header, and its payload in hex
 abbrev pub packet_bytes : Frame → List ℕ
 packet_bytes f =
-    codes "packet " ++ (address_words_of f ++ (codes " " ++ (place_words_of f ++ (codes " " ++ (tag_words_of f
+    codes "packet " ++ (address_words_of f ++ (codes " " ++ (position_words_of f ++ (codes " " ++ (tag_words_of f
     ++ (codes " payload " ++ (encode_lower f.payload ++ codes "\n")))))))
 
 abbrev pub locator_words_of : TerminusValue → List ℕ

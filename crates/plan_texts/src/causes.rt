@@ -3,8 +3,8 @@ ghost use Rattle.std.specs.Prelude.{◌≡◌, IfOk, string_bytes};
 ghost use Rattle.plan_texts.specs.CauseLines.{cause_text};
 
 pub mod edit_lines;
+pub mod lookups;
 mod names;
-pub mod places;
 mod pools;
 mod records;
 mod rows;

@@ -3,7 +3,7 @@ ghost use Rattle.std.specs.Prelude.{◌≡◌, ◌==◌, ◌∷◌, [], List, �
 ghost use Rattle.std.specs.List.{concat, flat_map, list_any};
 ghost use Rattle.net_check.specs.Owners.{given_level};
 ghost use Rattle.net_check.specs.Stretches.{ranges_of};
-ghost use Rattle.plan_texts.specs.DrawingLines.{escaped_char, escaped, color_among, kind_word, kind_shape, pool_text, terminus_text, label_text, range_text, certified_text, tooltip_text, first_line, last_line, bus_line, shape_line, node_line, port_line, owner_line, owner_lines, all_by_place, IsDrawing};
+ghost use Rattle.plan_texts.specs.DrawingLines.{escaped_char, escaped, color_among, kind_word, kind_shape, pool_text, terminus_text, label_text, range_text, certified_text, tooltip_text, first_line, last_line, bus_line, shape_line, node_line, port_line, owner_line, owner_lines, all_by_index, IsDrawing};
 ghost use Rattle.plan_texts.specs.WayLines.{address_text};
 
 use super::ways::address_text;
@@ -40,20 +40,20 @@ pub fn drawing(
 
 /// The line of each bus.
 fn bus_lines(alloc: Global, buses: &[Bus]) -> Result<String, AllocError>
-    ensures { IfOk result (λ lines. string_bytes lines ≡ all_by_place bus_line buses.now) }
+    ensures { IfOk result (λ lines. string_bytes lines ≡ all_by_index bus_line buses.now) }
 {
     let mut lines = String::new(alloc);
-    for (place, bus) in buses.iter().enumerate() {
-        lines.push_str(&bus_line(alloc, place, bus)?)?;
+    for (index, bus) in buses.iter().enumerate() {
+        lines.push_str(&bus_line(alloc, index, bus)?)?;
     }
     Ok(lines)
 }
 
-fn bus_line(alloc: Global, place: usize, bus: &Bus) -> Result<String, AllocError>
-    ensures { IfOk result (λ line. string_bytes line ≡ bus_line place bus.now) }
+fn bus_line(alloc: Global, index: usize, bus: &Bus) -> Result<String, AllocError>
+    ensures { IfOk result (λ line. string_bytes line ≡ bus_line index bus.now) }
 {
     let name = name_text(alloc, &bus.name)?;
-    format!(in alloc; "    bus_{place} [shape=box, height=0.1, style=filled, label=\"{name}\"];\n")
+    format!(in alloc; "    bus_{index} [shape=box, height=0.1, style=filled, label=\"{name}\"];\n")
 }
 
 // ---- nodes
@@ -65,43 +65,43 @@ fn node_lines(
     red: &[usize],
     certificate: Option<&Certificate>,
 ) -> Result<String, AllocError>
-    ensures { IfOk result (λ lines. string_bytes lines ≡ all_by_place (node_line red.now (option_map (λ cert. cert.now) certificate.entry)) nodes.now) }
+    ensures { IfOk result (λ lines. string_bytes lines ≡ all_by_index (node_line red.now (option_map (λ cert. cert.now) certificate.entry)) nodes.now) }
 {
     let mut lines = String::new(alloc);
-    for (place, node) in nodes.iter().enumerate() {
-        lines.push_str(&node_line(alloc, place, node, red, certificate)?)?;
+    for (index, node) in nodes.iter().enumerate() {
+        lines.push_str(&node_line(alloc, index, node, red, certificate)?)?;
     }
     Ok(lines)
 }
 
 fn node_line(
     alloc: Global,
-    place: usize,
+    index: usize,
     node: &Node,
     red: &[usize],
     certificate: Option<&Certificate>,
 ) -> Result<String, AllocError>
-    ensures { IfOk result (λ line. string_bytes line ≡ node_line red.now (option_map (λ cert. cert.now) certificate.entry) place node.now) }
+    ensures { IfOk result (λ line. string_bytes line ≡ node_line red.now (option_map (λ cert. cert.now) certificate.entry) index node.now) }
 {
     let label = label_text(alloc, node)?;
-    let tooltip = tooltip_text(alloc, certificate, place)?;
-    let color = color_among(red, place);
-    shape_line(alloc, place, kind_shape(node.kind), color, &label, &tooltip)
+    let tooltip = tooltip_text(alloc, certificate, index)?;
+    let color = color_among(red, index);
+    shape_line(alloc, index, kind_shape(node.kind), color, &label, &tooltip)
 }
 
 /// The line of a node by its shape, its color, its label and its tooltip.
 fn shape_line(
     alloc: Global,
-    place: usize,
+    index: usize,
     shape: &str,
     color: &str,
     label: &str,
     tooltip: &str,
 ) -> Result<String, AllocError>
-    ensures { IfOk result (λ line. string_bytes line ≡ shape_line place shape.now color.now label.now tooltip.now) }
+    ensures { IfOk result (λ line. string_bytes line ≡ shape_line index shape.now color.now label.now tooltip.now) }
 {
     format!(in alloc;
-        "    node_{place} [shape={shape}, color={color}, label=\"{label}\"{tooltip}];\n"
+        "    node_{index} [shape={shape}, color={color}, label=\"{label}\"{tooltip}];\n"
     )
 }
 
@@ -234,32 +234,32 @@ fn range_text(alloc: Global, range: &RankRange) -> Result<String, AllocError>
 
 /// The line of each port of each node.
 fn port_lines(alloc: Global, nodes: &[Node]) -> Result<String, AllocError>
-    ensures { IfOk result (λ lines. string_bytes lines ≡ all_by_place (λ n node. all_by_place (port_line n) node.ports.items) nodes.now) }
+    ensures { IfOk result (λ lines. string_bytes lines ≡ all_by_index (λ n node. all_by_index (port_line n) node.ports.items) nodes.now) }
 {
     let mut lines = String::new(alloc);
-    for (place, node) in nodes.iter().enumerate() {
-        lines.push_str(&node_port_lines(alloc, place, &node.ports)?)?;
+    for (index, node) in nodes.iter().enumerate() {
+        lines.push_str(&node_port_lines(alloc, index, &node.ports)?)?;
     }
     Ok(lines)
 }
 
 /// The line of each of a node's ports.
 fn node_port_lines(alloc: Global, node: usize, ports: &[Port]) -> Result<String, AllocError>
-    ensures { IfOk result (λ lines. string_bytes lines ≡ all_by_place (port_line node) ports.now) }
+    ensures { IfOk result (λ lines. string_bytes lines ≡ all_by_index (port_line node) ports.now) }
 {
     let mut lines = String::new(alloc);
-    for (place, port) in ports.iter().enumerate() {
-        lines.push_str(&port_line(alloc, node, place, port)?)?;
+    for (index, port) in ports.iter().enumerate() {
+        lines.push_str(&port_line(alloc, node, index, port)?)?;
     }
     Ok(lines)
 }
 
-fn port_line(alloc: Global, node: usize, place: usize, port: &Port) -> Result<String, AllocError>
-    ensures { IfOk result (λ line. string_bytes line ≡ port_line node place port.now) }
+fn port_line(alloc: Global, node: usize, index: usize, port: &Port) -> Result<String, AllocError>
+    ensures { IfOk result (λ line. string_bytes line ≡ port_line node index port.now) }
 {
     let bus = port.bus;
     let address = port_address(alloc, port)?;
-    format!(in alloc; "    node_{node} -> bus_{bus} [dir=none, label=\"{place}: {address}\"];\n")
+    format!(in alloc; "    node_{node} -> bus_{bus} [dir=none, label=\"{index}: {address}\"];\n")
 }
 
 /// A port's address in hex, or a dash where it is empty.
@@ -273,11 +273,11 @@ fn port_address(alloc: Global, port: &Port) -> Result<String, AllocError>
 
 /// The arrow to each node that has an owner. Those to nodes among `red` are red.
 fn arrow_lines(alloc: Global, nodes: &[Node], red: &[usize]) -> Result<String, AllocError>
-    ensures { IfOk result (λ lines. string_bytes lines ≡ all_by_place (λ n node. concat (owner_lines red.now n node.owner)) nodes.now) }
+    ensures { IfOk result (λ lines. string_bytes lines ≡ all_by_index (λ n node. concat (owner_lines red.now n node.owner)) nodes.now) }
 {
     let mut lines = String::new(alloc);
-    for (place, node) in nodes.iter().enumerate() {
-        lines.push_str(&owner_lines(alloc, red, place, node.owner)?)?;
+    for (index, node) in nodes.iter().enumerate() {
+        lines.push_str(&owner_lines(alloc, red, index, node.owner)?)?;
     }
     Ok(lines)
 }

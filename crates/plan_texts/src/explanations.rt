@@ -8,7 +8,7 @@ ghost use Rattle.plan_texts.specs.WayLines.{address_text, bus_text};
 
 use super::causes::cause_text;
 use super::causes::edit_lines::edits_text;
-use super::causes::places::{next_at, next_of_row, number_text, port_of_row};
+use super::causes::lookups::{next_at, next_of_row, number_text, port_of_row};
 use super::name_or_dash;
 use super::ways::{address_on, address_text, bus_text, ports_at};
 use mctp_transport::Eid;

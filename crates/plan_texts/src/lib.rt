@@ -132,7 +132,7 @@ fn names_after_spaces(alloc: Global, plan: &Plan, nodes: &[usize]) -> Result<Str
     Ok(names)
 }
 
-/// The name of the node at a place, or a dash where there is none.
+/// The name of the node at an index, or a dash where there is none.
 fn name_or_dash(plan: &Plan, node: usize) -> &str
     ensures { result.now ≡ name_or_dash plan.now node }
 {
@@ -141,7 +141,7 @@ fn name_or_dash(plan: &Plan, node: usize) -> &str
         .map_or("-", |node| node.name.text.as_str())
 }
 
-/// The name of the bus at a place, or a dash where there is none.
+/// The name of the bus at an index, or a dash where there is none.
 fn bus_name_or_dash(plan: &Plan, bus: usize) -> &str
     ensures { result.now ≡ bus_name_or_dash plan.now bus }
 {

@@ -32,7 +32,7 @@ fn difference_line(alloc: Global, before: &Plan, node: Option<usize>) -> Result<
     format!(in alloc; "fault M01 node {name} entry - eid -\n")
 }
 
-/// The name of the node at a place, or a dash where no place is given.
+/// The name of the node at an index, or a dash where no index is given.
 fn name_of_some(plan: &Plan, node: Option<usize>) -> &str
     ensures { result.now ≡ name_of_some plan.now node }
 {

@@ -6,7 +6,7 @@ ghost use Rattle.pdr_record.specs.ListValues.{state_value, association_value};
 ghost use Rattle.pdr_record.specs.NumericValues.{numeric_value};
 ghost use Rattle.pdr_record.specs.RecordValues.{record_value};
 ghost use Rattle.pdr_record.specs.Values.{terminus_value, sensor_value, entity_value};
-ghost use Rattle.plan_texts.specs.Shown.{refused_bytes, packet_bytes, address_words_of, place_words_of, tag_words_of, record_text_bytes, body_bytes, terminus_bytes, locator_words_of, numeric_bytes, state_bytes, sensor_words_of, entity_words_of, association_bytes};
+ghost use Rattle.plan_texts.specs.Shown.{refused_bytes, packet_bytes, address_words_of, position_words_of, tag_words_of, record_text_bytes, body_bytes, terminus_bytes, locator_words_of, numeric_bytes, state_bytes, sensor_words_of, entity_words_of, association_bytes};
 
 use mctp_transport::PacketView;
 use pdr_record::{
@@ -26,10 +26,10 @@ pub fn packet_text(alloc: Global, packet: &PacketView) -> Result<String, AllocEr
     ensures { IfOk result (λ text. string_bytes text ≡ packet_bytes (frame_of packet.now)) }
 {
     let addresses = address_words(alloc, packet)?;
-    let place = place_words(alloc, packet)?;
+    let position = position_words(alloc, packet)?;
     let tag = tag_words(alloc, packet)?;
     let payload = hex::encode(alloc, packet.payload)?;
-    format!(in alloc; "packet {addresses} {place} {tag} payload {payload}\n")
+    format!(in alloc; "packet {addresses} {position} {tag} payload {payload}\n")
 }
 
 fn address_words(alloc: Global, packet: &PacketView) -> Result<String, AllocError>
@@ -41,9 +41,9 @@ fn address_words(alloc: Global, packet: &PacketView) -> Result<String, AllocErro
     format!(in alloc; "reserved {reserved} destination {destination} source {source}")
 }
 
-/// The packet's place in its message.
-fn place_words(alloc: Global, packet: &PacketView) -> Result<String, AllocError>
-    ensures { IfOk result (λ text. string_bytes text ≡ place_words_of (frame_of packet.now)) }
+/// The packet's position in its message.
+fn position_words(alloc: Global, packet: &PacketView) -> Result<String, AllocError>
+    ensures { IfOk result (λ text. string_bytes text ≡ position_words_of (frame_of packet.now)) }
 {
     let som = u8::from(packet.header.som);
     let eom = u8::from(packet.header.eom);

@@ -43,12 +43,12 @@ fn handle_of(bytes: &[u8]) -> u32
         + 256 * (byte_at(bytes, 1) + 256 * (byte_at(bytes, 2) + 256 * byte_at(bytes, 3)))
 }
 
-/// The byte at a place, 0 past the end.
-fn byte_at(bytes: &[u8], place: usize) -> u32
-    ensures byte { result ≡ slice_index bytes.now place }
+/// The byte at an index, 0 past the end.
+fn byte_at(bytes: &[u8], index: usize) -> u32
+    ensures byte { result ≡ slice_index bytes.now index }
     ensures small { result ≤ 255 }
 {
-    match bytes.get(place) {
+    match bytes.get(index) {
         Some(byte) => u32::from(*byte),
         None => 0,
     }

@@ -22,8 +22,8 @@ fn steps_lines(alloc: Global, plan: &Plan, steps: &[WayStep]) -> Result<String, 
     ensures { IfOk result (λ lines. string_bytes lines ≡ steps_from plan.now 1 steps.now) }
 {
     let mut lines = String::new(alloc);
-    for (place, step) in steps.iter().enumerate() {
-        lines.push_str(&step_line(alloc, plan, place + 1, step)?)?;
+    for (index, step) in steps.iter().enumerate() {
+        lines.push_str(&step_line(alloc, plan, index + 1, step)?)?;
     }
     Ok(lines)
 }

@@ -14,11 +14,11 @@ pub const CERTIFICATE: &str =
 pub const EVENTS: &str =
     r#"{"format":1,"events":[{"do":"put","node":"host","bytes":"011108cb01800002"},{"do":"move","flight":1,"keep":false},{"do":"move","flight":1,"keep":false},{"do":"move","flight":1,"keep":false},{"do":"answer","node":"nic"},{"do":"move","flight":2,"keep":false},{"do":"move","flight":2,"keep":false},{"do":"move","flight":2,"keep":false}]}"#;
 
-/// The place of host in the plan's list.
+/// The index of host in the plan's list.
 pub const HOST: usize = 0;
 
-/// The place of nic in the plan's list.
+/// The index of nic in the plan's list.
 pub const NIC: usize = 2;
 
-/// The place of ssd in the plan's list.
+/// The index of ssd in the plan's list.
 pub const SSD: usize = 3;

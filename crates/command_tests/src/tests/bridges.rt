@@ -1,4 +1,4 @@
-//! Lines of bridges. The one at place i has the endpoint ID 8 + i, shares a bus with each of its neighbors alone, and has
+//! Lines of bridges. The one at index i has the endpoint ID 8 + i, shares a bus with each of its neighbors alone, and has
 //! one row towards each neighbor, for all endpoint IDs on that side.
 
 use super::{expect_certify, expect_check};
@@ -10,34 +10,34 @@ use std::test::Fail;
 fn line_of(alloc: Global, count: u8) -> Result<String, AllocError> {
     let mut buses = Vec::new(alloc);
     let mut nodes = Vec::new(alloc);
-    for place in 0..count {
-        if place > 0 {
-            let bus = format!(in alloc; r#"{{"name":"b{place}","binding":1,"media":4}}"#)?;
+    for index in 0..count {
+        if index > 0 {
+            let bus = format!(in alloc; r#"{{"name":"b{index}","binding":1,"media":4}}"#)?;
             buses.push(bus)?;
         }
-        nodes.push(bridge_at(alloc, u16::from(place), u16::from(count))?)?;
+        nodes.push(bridge_at(alloc, u16::from(index), u16::from(count))?)?;
     }
     let buses = buses.as_slice().join(alloc, ",")?;
     let nodes = nodes.as_slice().join(alloc, ",")?;
     format!(in alloc; r#"{{"format":1,"buses":[{buses}],"nodes":[{nodes}]}}"#)
 }
 
-/// The bridge at a place. The bus before it is named for its own place, the one behind it for the next.
-fn bridge_at(alloc: Global, place: u16, count: u16) -> Result<String, AllocError> {
+/// The bridge at an index. The bus before it is named for its own index, the one behind it for the next.
+fn bridge_at(alloc: Global, index: u16, count: u16) -> Result<String, AllocError> {
     let mut ports = Vec::new(alloc);
     let mut rows = Vec::new(alloc);
-    let eid = place.saturating_add(8);
-    let after = place.saturating_add(1);
-    if place > 0 {
-        let before = place - 1;
-        ports.push(format!(in alloc; r#"{{"bus":"b{place}","address":"10"}}"#)?)?;
-        let row = format!(in alloc; r#"{{"first":8,"size":{place},"port":0,"next":"n{before}"}}"#)?;
+    let eid = index.saturating_add(8);
+    let after = index.saturating_add(1);
+    if index > 0 {
+        let before = index - 1;
+        ports.push(format!(in alloc; r#"{{"bus":"b{index}","address":"10"}}"#)?)?;
+        let row = format!(in alloc; r#"{{"first":8,"size":{index},"port":0,"next":"n{before}"}}"#)?;
         rows.push(row)?;
     }
     if after < count {
         let first = eid.saturating_add(1);
         let size = count - after;
-        let port = place.min(1);
+        let port = index.min(1);
         ports.push(format!(in alloc; r#"{{"bus":"b{after}","address":"12"}}"#)?)?;
         let row = format!(in alloc;
             r#"{{"first":{first},"size":{size},"port":{port},"next":"n{after}"}}"#
@@ -47,28 +47,28 @@ fn bridge_at(alloc: Global, place: u16, count: u16) -> Result<String, AllocError
     let ports = ports.as_slice().join(alloc, ",")?;
     let rows = rows.as_slice().join(alloc, ",")?;
     format!(in alloc;
-        r#"{{"name":"n{place}","kind":"bridge","eid":{eid},"owner":null,"pool":null,"ports":[{ports}],"rows":[{rows}],"terminus":null}}"#
+        r#"{{"name":"n{index}","kind":"bridge","eid":{eid},"owner":null,"pool":null,"ports":[{ports}],"rows":[{rows}],"terminus":null}}"#
     )
 }
 
-/// The certificate in which the rank of each place for the endpoint ID of another is their distance.
+/// The certificate in which the rank of each index for the endpoint ID of another is their distance.
 fn distances_of(alloc: Global, count: u8) -> Result<String, AllocError> {
     let mut nodes = Vec::new(alloc);
-    for place in 0..count {
-        let ranges = distances_from(alloc, place, count)?;
-        nodes.push(format!(in alloc; r#"{{"node":"n{place}","ranges":[{ranges}]}}"#)?)?;
+    for index in 0..count {
+        let ranges = distances_from(alloc, index, count)?;
+        nodes.push(format!(in alloc; r#"{{"node":"n{index}","ranges":[{ranges}]}}"#)?)?;
     }
     let nodes = nodes.as_slice().join(alloc, ",")?;
     format!(in alloc; "{{\"format\":1,\"levels\":[],\"places\":[],\"ranks\":[{nodes}]}}\n")
 }
 
-/// The ranks of one place. Those of two neighboring endpoint IDs differ.
-fn distances_from(alloc: Global, place: u8, count: u8) -> Result<String, AllocError> {
+/// The ranks of one index. Those of two neighboring endpoint IDs differ.
+fn distances_from(alloc: Global, index: u8, count: u8) -> Result<String, AllocError> {
     let mut ranges = Vec::new(alloc);
     for other in 0..count {
-        if other != place {
+        if other != index {
             let first = u16::from(other).saturating_add(8);
-            let rank = place.abs_diff(other);
+            let rank = index.abs_diff(other);
             ranges.push(format!(in alloc; r#"{{"first":{first},"rank":{rank},"size":1}}"#)?)?;
         }
     }

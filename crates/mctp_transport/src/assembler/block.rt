@@ -1,7 +1,7 @@
 //! The block of bytes behind all slots.
 ghost use Rattle.std.specs.Prelude.{◌≡◌, ◌≤◌, ◌+◌, ◌++◌, length, take, drop, vec_capacity};
 
-/// Writes bytes into the block from a place on.
+/// Writes bytes into the block from an index on.
 pub(super) fn write(block: &mut Vec<u8>, start: usize, bytes: &[u8])
     requires { start + length bytes.now ≤ length block.old.items }
     ensures items { block.new.items

@@ -27,12 +27,12 @@ pub(super) fn number_in(slot: Option<OpenMessage>) -> u16
     }
 }
 
-/// The first place of a number, or 64 where it has none.
+/// The first index of a number, or 64 where it has none.
 ///
 /// Most messages come one at a time, in the first slot. Otherwise all numbers are looked at, without a branch on what
-/// they are, so that the processor compares several at once. A place is as narrow as a number, so that no more rounds
-/// are needed for the least place than for the numbers.
-pub(super) fn first_place(numbers: &[u16], wanted: u16) -> usize
+/// they are, so that the processor compares several at once. An index is as narrow as a number, so that no more rounds
+/// are needed for the least index than for the numbers.
+pub(super) fn first_index(numbers: &[u16], wanted: u16) -> usize
     requires { length numbers.now ≡ MAX_SLOTS }
     ensures { result ≡ position_or_len (λ number. number == wanted) numbers.now }
 {
@@ -40,9 +40,9 @@ pub(super) fn first_place(numbers: &[u16], wanted: u16) -> usize
         return 0;
     }
     let mut first = MAX_SLOTS as u16;
-    for place in 0..MAX_SLOTS {
-        let found = if numbers[place] == wanted {
-            place as u16
+    for index in 0..MAX_SLOTS {
+        let found = if numbers[index] == wanted {
+            index as u16
         } else {
             MAX_SLOTS as u16
         };

@@ -10,33 +10,33 @@ pub(crate) fn damaged(alloc: Global, message: &[u8]) -> Result<Vec<Vec<u8>>, All
         bytes.extend_from_slice(&message[..length])?;
         all.push(bytes)?;
     }
-    for place in 0..message.len() {
+    for index in 0..message.len() {
         for value in [0x00, 0xff] {
             let mut bytes = Vec::new(alloc);
-            bytes.extend_from_slice(&message[..place])?;
+            bytes.extend_from_slice(&message[..index])?;
             bytes.push(value)?;
-            bytes.extend_from_slice(&message[place + 1..])?;
+            bytes.extend_from_slice(&message[index + 1..])?;
             all.push(bytes)?;
         }
     }
     Ok(all)
 }
 
-/// The byte at a place, 0 past the end.
-pub(crate) fn byte(bytes: &[u8], place: usize) -> u8 {
-    bytes.get(place).copied().unwrap_or(0)
+/// The byte at an index, 0 past the end.
+pub(crate) fn byte(bytes: &[u8], index: usize) -> u8 {
+    bytes.get(index).copied().unwrap_or(0)
 }
 
-/// The number in two bytes from a place on, its lowest byte first.
-pub(crate) fn number16(bytes: &[u8], place: usize) -> usize {
-    let high = usize::from(byte(bytes, place.saturating_add(1)));
-    usize::from(byte(bytes, place)).saturating_add(high.saturating_mul(256))
+/// The number in two bytes from an index on, its lowest byte first.
+pub(crate) fn number16(bytes: &[u8], index: usize) -> usize {
+    let high = usize::from(byte(bytes, index.saturating_add(1)));
+    usize::from(byte(bytes, index)).saturating_add(high.saturating_mul(256))
 }
 
-/// The number in four bytes from a place on, its lowest byte first.
-pub(crate) fn number32(bytes: &[u8], place: usize) -> usize {
-    let high = number16(bytes, place.saturating_add(2));
-    number16(bytes, place).saturating_add(high.saturating_mul(65536))
+/// The number in four bytes from an index on, its lowest byte first.
+pub(crate) fn number32(bytes: &[u8], index: usize) -> usize {
+    let high = number16(bytes, index.saturating_add(2));
+    number16(bytes, index).saturating_add(high.saturating_mul(65536))
 }
 
 /// The code of the first cause that applies, and "read" where none does.

@@ -85,8 +85,8 @@ fn record_cause(bytes: &[u8]) -> &'static str {
 fn with_said_length(alloc: Global, bytes: &[u8], length: usize) -> Result<Vec<u8>, AllocError> {
     let [low, high, ..] = length.to_le_bytes();
     let mut all = Vec::new(alloc);
-    for (place, value) in bytes.iter().enumerate() {
-        all.push(match place {
+    for (index, value) in bytes.iter().enumerate() {
+        all.push(match index {
             8 => low,
             9 => high,
             _ => *value,

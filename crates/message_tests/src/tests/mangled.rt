@@ -37,7 +37,7 @@ fn first_of(causes: &[(bool, &'static str)]) -> &'static str {
     "read"
 }
 
-/// The byte at a place; 0 behind the end.
+/// The byte at an index; 0 behind the end.
 fn byte_at(bytes: &[u8], at: usize) -> u8 {
     bytes.get(at).copied().unwrap_or(0)
 }
@@ -278,7 +278,7 @@ fn is_met(alloc: Global, peer: Peer, bytes: &[u8]) -> Result<bool, AllocError> {
     Ok(code(alloc, peer, bytes)? == cause(peer, bytes))
 }
 
-/// Whether a peer makes of bytes with the one at this place changed what they call for.
+/// Whether a peer makes of bytes with the one at this index changed what they call for.
 fn is_change_met(
     alloc: Global,
     peer: Peer,
@@ -293,7 +293,7 @@ fn is_change_met(
     is_met(alloc, peer, &changed)
 }
 
-/// The place of the first byte at which a peer makes of bytes, cut there or changed, what they don't call for.
+/// The index of the first byte at which a peer makes of bytes, cut there or changed, what they don't call for.
 fn first_unmet(alloc: Global, peer: Peer, bytes: &[u8]) -> Result<Option<usize>, AllocError> {
     for at in 0..bytes.len() {
         let is_met = is_met(alloc, peer, &bytes[..at])?
@@ -313,9 +313,9 @@ fn first_unmet_of(
     peer: Peer,
     messages: &[&[u8]],
 ) -> Result<Option<(usize, usize)>, AllocError> {
-    for (place, bytes) in messages.iter().enumerate() {
+    for (index, bytes) in messages.iter().enumerate() {
         if let Some(at) = first_unmet(alloc, peer, *bytes)? {
-            return Ok(Some((place, at)));
+            return Ok(Some((index, at)));
         }
     }
     Ok(None)

@@ -34,8 +34,8 @@ const RECORDS: u8 = 20;
 /// The records of handles 20 to 1, each one byte longer than the next.
 fn records(alloc: Global) -> Result<Vec<(u32, Vec<u8>)>, AllocError> {
     let mut records = Vec::new(alloc);
-    for place in 0..RECORDS {
-        let handle = RECORDS.saturating_sub(place);
+    for index in 0..RECORDS {
+        let handle = RECORDS.saturating_sub(index);
         let record = record_of(alloc, handle, u32::from(handle).saturating_add(20))?;
         records.push((u32::from(handle), record))?;
     }

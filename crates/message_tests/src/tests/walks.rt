@@ -31,9 +31,9 @@ fn walk(walker: &mut Walker, terminus: &mut Box<dyn Terminus>) -> Result<usize, 
 
 /// Whether the walker has collected the records of these handles and lengths, and no others.
 fn has_collected(alloc: Global, walker: &Walker, rows: &[(u8, u32)]) -> Result<bool, AllocError> {
-    for (place, (handle, length)) in rows.iter().enumerate() {
+    for (index, (handle, length)) in rows.iter().enumerate() {
         let wanted = record_of(alloc, *handle, *length)?;
-        if walker.records().get(place) != Some(&wanted) {
+        if walker.records().get(index) != Some(&wanted) {
             return Ok(false);
         }
     }

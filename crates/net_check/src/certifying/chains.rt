@@ -4,7 +4,7 @@ ghost use Rattle.net_check.specs.Routing.{OfItem};
 ghost use Rattle.net_check.specs.Search.{IsFirstItem};
 ghost use Rattle.net_check.specs.RecordChains.{HasNext, HasNewNext, HaveNewHandles, IsChainOf, IsIndexOf, AreLinked, AreFromTheEnd};
 
-use crate::certifying::handle_index::{index_of, place_of};
+use crate::certifying::handle_index::{first_at, index_of};
 use net_plan::{PlannedRecord, RecordPlace};
 use std::alloc::{AllocError, Global};
 use std::collections::BTreeMap;
@@ -113,7 +113,7 @@ fn has_next(records: &[PlannedRecord], handles: &BTreeMap<u32, usize>, j: usize)
     if next == 0 {
         return true;
     }
-    place_of(handles, next).is_some()
+    first_at(handles, next).is_some()
 }
 
 /// The first record whose next handle is an earlier record's.
@@ -135,7 +135,7 @@ fn has_new_next(records: &[PlannedRecord], nexts: &BTreeMap<u32, usize>, j: usiz
     requires nexts { IsIndexOf (map (λ r. r.next) records.now) nexts.now }
     ensures { IsTrue result ↔ OfItem records.now j (HasNewNext records.now j) }
 {
-    match place_of(nexts, records[j].next) {
+    match first_at(nexts, records[j].next) {
         Some(first) => first == j,
         None => false,
     }
@@ -155,7 +155,7 @@ fn places_from_the_end(
     let mut places = no_places(alloc, records.len())?;
     let mut next = 0;
     for place in (0..records.len()).rev() {
-        match place_of(nexts, next) {
+        match first_at(nexts, next) {
             Some(record) => {
                 places[record] = Some(place);
                 next = handle_at(records, record);

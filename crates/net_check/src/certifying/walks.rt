@@ -1,4 +1,4 @@
-//! Where moves from place to place lead, by a table of next places.
+//! Where moves from index to index lead, by a table of next places.
 ghost use Rattle.std.specs.Prelude.{◌≡◌, ◌↔◌, length, IsTrue, IfOk, IfSome, MatchOption, Some, None, replicate, slice_get};
 ghost use Rattle.net_check.specs.Circles.{next_in, MovesBy, IsOnCircle, IsLeastOnCircle, HasNoCircle, HasCircle, IsLoopFrom, EndsAfter, AreKnown, AreMovesToEnds, IsWalked};
 
@@ -7,20 +7,20 @@ use std::alloc::{AllocError, Global};
 /// Where the moves of a table lead.
 #[derive(Debug, Drop)]
 pub enum Walked {
-    /// To an end from each place, after so many moves.
+    /// To an end from each index, after so many moves.
     Ended(Vec<usize>),
     /// Round a circle: its places, from the least one that is on any circle back to itself.
     Circled(Vec<usize>),
 }
 
-/// The next place, if any.
-pub fn next_of(table: &[Option<usize>], place: usize) -> Option<usize>
-    ensures { result ≡ next_in table.now place }
+/// The next index, if any.
+pub fn next_of(table: &[Option<usize>], index: usize) -> Option<usize>
+    ensures { result ≡ next_in table.now index }
 {
-    *table.get(place)?
+    *table.get(index)?
 }
 
-/// Whether some moves lead back to the place.
+/// Whether some moves lead back to the index.
 fn is_on_circle(table: &[Option<usize>], start: usize) -> bool
     ensures { IsTrue result ↔ IsOnCircle (MovesBy table.now) start }
 {
@@ -37,19 +37,19 @@ fn is_on_circle(table: &[Option<usize>], start: usize) -> bool
     false
 }
 
-/// The first place on a circle.
+/// The first index on a circle.
 fn first_on_circle(table: &[Option<usize>]) -> Option<usize>
     ensures { MatchOption result (HasNoCircle (MovesBy table.now)) (IsLeastOnCircle (MovesBy table.now)) }
 {
-    for place in 0..table.len() {
-        if is_on_circle(table, place) {
-            return Some(place);
+    for index in 0..table.len() {
+        if is_on_circle(table, index) {
+            return Some(index);
         }
     }
     None
 }
 
-/// The places from a place on a circle up to its first return.
+/// The places from an index on a circle up to its first return.
 fn loop_from(alloc: Global, table: &[Option<usize>], start: usize) -> Result<Vec<usize>, AllocError>
     requires { IsOnCircle (MovesBy table.now) start }
     ensures { IfOk result (λ places. IsLoopFrom (MovesBy table.now) start places.items) }
@@ -67,14 +67,14 @@ fn loop_from(alloc: Global, table: &[Option<usize>], start: usize) -> Result<Vec
     Ok(places)
 }
 
-/// The number of moves from a place to its end, where it is known.
-fn known_at(known: &[Option<usize>], place: usize) -> Option<usize>
-    ensures { IfSome result (λ count. slice_get known.now place ≡ Some (Some count)) }
+/// The number of moves from an index to its end, where it is known.
+fn known_at(known: &[Option<usize>], index: usize) -> Option<usize>
+    ensures { IfSome result (λ count. slice_get known.now index ≡ Some (Some count)) }
 {
-    *known.get(place)?
+    *known.get(index)?
 }
 
-/// The number of moves from a place to its end: up to a place whose number is known, if it comes to one. None where the
+/// The number of moves from an index to its end: up to an index whose number is known, if it comes to one. None where the
 /// moves are more than the places, so that they go round a circle.
 fn moves_to_end(table: &[Option<usize>], known: &[Option<usize>], start: usize) -> Option<usize>
     requires { AreKnown (MovesBy table.now) known.now }
@@ -93,7 +93,7 @@ fn moves_to_end(table: &[Option<usize>], known: &[Option<usize>], start: usize) 
     None
 }
 
-/// Notes the number of moves from a place to its end, and those of the places on its way, up to one whose number is
+/// Notes the number of moves from an index to its end, and those of the places on its way, up to one whose number is
 /// known.
 #[tactic(auto, using(crate::proofs::KnownEnds::knows_more))]
 fn note_moves(table: &[Option<usize>], known: &mut [Option<usize>], start: usize, count: usize)
@@ -121,24 +121,24 @@ fn none_known(alloc: Global, count: usize) -> Result<Vec<Option<usize>>, AllocEr
     vec![in alloc; None; count]
 }
 
-/// The numbers of moves from each place to its end; none where some lead round a circle. Each move is followed twice at
+/// The numbers of moves from each index to its end; none where some lead round a circle. Each move is followed twice at
 /// most.
 fn moves_to_ends(alloc: Global, table: &[Option<usize>]) -> Result<Option<Vec<usize>>, AllocError>
     ensures { IfOk result (λ found. MatchOption found (HasCircle (MovesBy table.now)) (λ counts. AreMovesToEnds (MovesBy table.now) (length table.now) counts.items)) }
 {
     let mut known = none_known(alloc, table.len())?;
     let mut counts = Vec::new(alloc);
-    for place in 0..table.len() {
-        let Some(count) = moves_to_end(table, &known, place) else {
+    for index in 0..table.len() {
+        let Some(count) = moves_to_end(table, &known, index) else {
             return Ok(None);
         };
-        note_moves(table, &mut known, place, count);
+        note_moves(table, &mut known, index, count);
         counts.push(count)?;
     }
     Ok(Some(counts))
 }
 
-/// Where the moves lead: to ends, or round the circle of the least place on one.
+/// Where the moves lead: to ends, or round the circle of the least index on one.
 pub fn walk(alloc: Global, table: &[Option<usize>]) -> Result<Walked, AllocError>
     ensures { IfOk result (λ walked. IsWalked (MovesBy table.now) (length table.now) walked) }
 {

@@ -58,8 +58,8 @@ fn are_same_buses(buses: &[Bus], others: &[Bus]) -> bool
     if buses.len() != others.len() {
         return false;
     }
-    for place in 0..buses.len() {
-        if !is_same_bus(&buses[place], &others[place]) {
+    for index in 0..buses.len() {
+        if !is_same_bus(&buses[index], &others[index]) {
             return false;
         }
     }
@@ -79,8 +79,8 @@ fn are_same_ports(ports: &[Port], others: &[Port]) -> bool
     if ports.len() != others.len() {
         return false;
     }
-    for place in 0..ports.len() {
-        if !is_same_port(&ports[place], &others[place]) {
+    for index in 0..ports.len() {
+        if !is_same_port(&ports[index], &others[index]) {
             return false;
         }
     }
@@ -120,8 +120,8 @@ fn are_same_records(records: &[PlannedRecord], others: &[PlannedRecord]) -> bool
     if records.len() != others.len() {
         return false;
     }
-    for place in 0..records.len() {
-        if !is_same_record(&records[place], &others[place]) {
+    for index in 0..records.len() {
+        if !is_same_record(&records[index], &others[index]) {
             return false;
         }
     }

@@ -136,8 +136,8 @@ fn has_other_on(plan: &Plan, other: usize, bus: usize, node: usize, port: usize)
     ensures { IsTrue result ↔ HasOtherOn plan.now bus other node port }
 {
     let ports = ports_at(plan, other);
-    for (place, found) in ports.iter().enumerate() {
-        if is_other_on(found.bus, bus, (other, place), (node, port)) {
+    for (index, found) in ports.iter().enumerate() {
+        if is_other_on(found.bus, bus, (other, index), (node, port)) {
             return true;
         }
     }

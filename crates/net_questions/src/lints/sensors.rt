@@ -5,7 +5,7 @@ ghost use Rattle.pdr_record.specs.Layouts.{NumericValue, IsNumeric, width_of};
 ghost use Rattle.pdr_record.specs.Numbers.{size_code};
 ghost use Rattle.pdr_record.specs.NumericValues.{numeric_value};
 ghost use Rattle.net_questions.specs.Lint.{sensor_id_of, IsSensorRecord, HasEarlierSensor, RepeatsSensorId, SharesSensorId};
-ghost use Rattle.net_questions.specs.Lint.{number_of, flipped, place_of, IsOver, IsNumericSensor, HasEmptyRange, HasEmptyReadableRange};
+ghost use Rattle.net_questions.specs.Lint.{number_of, flipped, position_of, IsOver, IsNumericSensor, HasEmptyRange, HasEmptyReadableRange};
 
 use mctp_transport::Wire;
 use net_check::lookup::{record_at, records_at};
@@ -45,19 +45,19 @@ fn has_earlier_sensor(plan: &Plan, node: usize, index: usize, id: u16) -> bool
     ensures { IsTrue result ↔ HasEarlierSensor plan.now node index id }
 {
     let records = records_at(plan, node);
-    for (place, listed) in records.iter().enumerate() {
-        if is_earlier_sensor(place, listed, index, id) {
+    for (earlier, listed) in records.iter().enumerate() {
+        if is_earlier_sensor(earlier, listed, index, id) {
             return true;
         }
     }
     false
 }
 
-/// Whether a record at this place stands before `index`, and is a sensor's with the sensor ID.
-fn is_earlier_sensor(place: usize, listed: &PlannedRecord, index: usize, id: u16) -> bool
-    ensures { IsTrue result ↔ (place < index) × IsSensorRecord listed.now.bytes.items id }
+/// Whether a record at this index stands before `index`, and is a sensor's with the sensor ID.
+fn is_earlier_sensor(earlier: usize, listed: &PlannedRecord, index: usize, id: u16) -> bool
+    ensures { IsTrue result ↔ (earlier < index) × IsSensorRecord listed.now.bytes.items id }
 {
-    place < index && is_sensor_record(&listed.bytes, id)
+    earlier < index && is_sensor_record(&listed.bytes, id)
 }
 
 /// Whether the bytes are those of a sensor's record, with the sensor ID.
@@ -157,13 +157,13 @@ fn is_over(size: SensorDataSize, value: &[u8], other: &[u8]) -> bool
     requires other { length other.now ≡ width_of (size_code size) }
     ensures { IsTrue result ↔ IsOver (size_code size) value.now other.now }
 {
-    place(size, number(other)) < place(size, number(value))
+    position(size, number(other)) < position(size, number(value))
 }
 
-/// The place of a number among those of its data size, in their order.
-fn place(size: SensorDataSize, number: u64) -> u64
+/// The position of a number among those of its data size, in their order.
+fn position(size: SensorDataSize, number: u64) -> u64
     requires { number < 2 ^ 32 }
-    ensures { result ≡ place_of (size_code size) number }
+    ensures { result ≡ position_of (size_code size) number }
 {
     match size {
         SensorDataSize::S8 => flip(number, 1 << 7),

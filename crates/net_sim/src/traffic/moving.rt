@@ -26,7 +26,7 @@ impl<'a> Traffic<'a> {
     ghost use Rattle.net_check.specs.Events.{Move};
     ghost use Rattle.net_sim.specs.Effects.{effect_value};
     ghost use Rattle.net_sim.specs.Standing.{StandsFor, Plays, Wants, Receives};
-    ghost use Rattle.net_sim.specs.Traffics.{traffic_value, HasPlaceAt};
+    ghost use Rattle.net_sim.specs.Traffics.{traffic_value, HasRoomAt};
     ghost use Rattle.net_sim.specs.Arrivals.{Arrives};
     ghost use Rattle.mctp_transport.specs.Frames.{KeyValue};
     ghost use Rattle.net_check.specs.States.{NetworkState};
@@ -145,7 +145,7 @@ impl<'a> Traffic<'a> {
             ≡ (traffic_value (λ d. tid d.terminus) (λ d. records d.terminus) self.old).termini }
         ensures told { IfOk result (λ room. (room.told.items ≡ []) × HasRoomAfter header room.told) }
         ensures kept { IfOk result (λ room. (room.kept.items ≡ []) × HasRoomAfter header room.kept) }
-        ensures place { OnOk result (HasPlaceAt self.new node) }
+        ensures room { OnOk result (HasRoomAt self.new node) }
     {
         let told = room_for_message(self.alloc, header)?;
         let kept = room_for_message(self.alloc, header)?;
@@ -158,7 +158,7 @@ impl<'a> Traffic<'a> {
         requires node { flight.now.node < length self.old.router.tables.plan.nodes.items }
         requires told { (room.told.items ≡ []) × HasRoomAfter flight.now.packet.header room.told }
         requires kept { (room.kept.items ≡ []) × HasRoomAfter flight.now.packet.header room.kept }
-        requires place { HasPlaceAt self.old flight.now.node }
+        requires room { HasRoomAt self.old flight.now.node }
         ensures router { self.new.router ≡ self.old.router }
         ensures receives { Receives (traffic_value (λ d. tid d.terminus) (λ d. records d.terminus) self.old) number
             (flight_value flight.now) (effect_value result)

@@ -5,13 +5,13 @@ ghost use Rattle.plan_commands.specs.Walking.{IsFirstNamed};
 
 use net_plan::{Node, Plan};
 
-/// The place of the first node of the name.
+/// The index of the first node of the name.
 pub fn first_named(plan: &Plan, name: &str) -> Option<usize>
-    ensures { MatchOption result ((n : ℕ) → name_of plan.now n ≢ Some name.now) (λ place. IsFirstNamed plan.now name.now place) }
+    ensures { MatchOption result ((n : ℕ) → name_of plan.now n ≢ Some name.now) (λ index. IsFirstNamed plan.now name.now index) }
 {
-    for (place, node) in plan.nodes.iter().enumerate() {
+    for (index, node) in plan.nodes.iter().enumerate() {
         if is_named(node, name) {
-            return Some(place);
+            return Some(index);
         }
     }
     None

@@ -97,12 +97,12 @@ fn answer_walk<P: Source, C: Source>(
         IfErr result (λ why. IsUnwalkedFor why node.now plans certificates) }
 {
     let (plan, certificate) = read_inputs(alloc, plan, certificate)?;
-    let Some((place, terminus)) = named_terminus(&plan, node) else {
+    let Some((index, terminus)) = named_terminus(&plan, node) else {
         return Err(Refused::UnknownNode);
     };
     match check(alloc, &plan, &certificate) {
         Ok(_) => {
-            let text = walked_text(alloc, &plan, &certificate, place, terminus, part)?;
+            let text = walked_text(alloc, &plan, &certificate, index, terminus, part)?;
             Ok(Answer::found(text))
         }
         Err(error) => fault_answer(alloc, &plan, &error),

@@ -6,7 +6,7 @@ ghost use Rattle.plan_texts.specs.CauseLines.{row_at, next_text, handle_at};
 ghost use Rattle.plan_texts.specs.EditLines.{name_edit_text, eid_edit_text, range_edit_text, overlap_edit_text, neighbor_edit_text, several_edit_text, owner_edit_text, owned_eid_edit_text, peer_edit_text, no_pool_edit_text, pool_within_edit_text, pools_apart_edit_text, lead_edit_text, row_edit_text, no_terminus_edit_text, handle_edit_text, bytes_edit_text, header_edit_text, locator_edit_text, meant_edit_text, edits_text};
 ghost use Rattle.plan_texts.specs.Lines.{name_or_dash, number_or_dash};
 
-use super::places::{eid_of_fault, handle_at, next_of_row, number_text};
+use super::lookups::{eid_of_fault, handle_at, next_of_row, number_text};
 use crate::name_or_dash;
 use net_check::Fault;
 use net_explained::Cause;

@@ -3,7 +3,7 @@ ghost use Rattle.std.specs.Prelude.{◌≡◌, IfOk, string_bytes};
 ghost use Rattle.net_explained.specs.declared.cause.Cause.TheVariants.{SharedName, UnassignableEid, SharedEid};
 ghost use Rattle.plan_texts.specs.CauseLines.{cause_text};
 
-use super::places::{eid_of_fault, number_text};
+use super::lookups::{eid_of_fault, number_text};
 use crate::name_or_dash;
 use net_check::Fault;
 use net_plan::Plan;

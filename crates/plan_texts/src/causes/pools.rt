@@ -3,7 +3,7 @@ ghost use Rattle.std.specs.Prelude.{◌≡◌, IfOk, string_bytes};
 ghost use Rattle.net_explained.specs.declared.cause.Cause.TheVariants.{OwnerIsEndpoint, OwnerSharesNoBus, OutsideOwnersPool, InPeersPool, PoolOfEndpoint, PoolOutOfRange, PoolBeyondOwners, PoolsMeet};
 ghost use Rattle.plan_texts.specs.CauseLines.{cause_text};
 
-use super::places::{eid_of_fault, first_of_pool, number_text, pool_span, size_of_pool};
+use super::lookups::{eid_of_fault, first_of_pool, number_text, pool_span, size_of_pool};
 use crate::name_or_dash;
 use mctp_transport::Eid;
 use net_check::Fault;

@@ -5,7 +5,7 @@ ghost use Rattle.net_explained.specs.declared.cause.Cause.TheVariants.{NoRecords
 ghost use Rattle.plan_texts.specs.CauseLines.{cause_text, located_line, held_line, tid_of, meant_text};
 ghost use Rattle.plan_texts.specs.Lines.{name_or_dash, number_or_dash};
 
-use super::places::{eid_of_fault, handle_at, meant_text, number_text, tid_of};
+use super::lookups::{eid_of_fault, handle_at, meant_text, number_text, tid_of};
 use crate::name_or_dash;
 use net_check::Fault;
 use net_plan::Plan;

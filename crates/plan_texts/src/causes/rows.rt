@@ -4,7 +4,7 @@ ghost use Rattle.std.specs.Fmt.{decimal};
 ghost use Rattle.net_explained.specs.declared.cause.Cause.TheVariants.{RowOutOfRange, OverlappedRow, NextIsItself, NoSuchPort, NextNotOnBus, EndpointForSeveral, NextIsEndpoint, NextHasNoRow};
 ghost use Rattle.plan_texts.specs.CauseLines.{cause_text, both_cover_line, spans_line};
 
-use super::places::{
+use super::lookups::{
     eid_of_fault, first_of_row, next_of_row, number_text, port_of_row, row_span, size_of_row,
 };
 use crate::ways::ports_at;

@@ -23,11 +23,11 @@ pub fn found_with(
 /// Changes of the riser network's plan and of its certificate, and the fault of what they make.
 pub type Changed = (Changes, Changes, Option<FaultAt>);
 
-/// The place of the first row with another fault.
+/// The index of the first row with another fault.
 pub fn first_wrong_row(alloc: Global, rows: &[Changed]) -> Result<Option<usize>, Fail> {
-    for (place, (plan, certificate, wanted)) in rows.iter().enumerate() {
+    for (index, (plan, certificate, wanted)) in rows.iter().enumerate() {
         if !is_at(found_with(alloc, *plan, *certificate)?, wanted) {
-            return Ok(Some(place));
+            return Ok(Some(index));
         }
     }
     Ok(None)
@@ -36,11 +36,11 @@ pub fn first_wrong_row(alloc: Global, rows: &[Changed]) -> Result<Option<usize>,
 /// What rows show, and the rows.
 pub type Case = (&'static str, &'static [Changed]);
 
-/// The first case with a row that has another fault, and the place of the row.
+/// The first case with a row that has another fault, and the index of the row.
 pub fn first_wrong(alloc: Global, cases: &[Case]) -> Result<Option<(&'static str, usize)>, Fail> {
     for (what, rows) in cases {
-        if let Some(place) = first_wrong_row(alloc, *rows)? {
-            return Ok(Some((*what, place)));
+        if let Some(index) = first_wrong_row(alloc, *rows)? {
+            return Ok(Some((*what, index)));
         }
     }
     Ok(None)

@@ -68,12 +68,12 @@ fn tell(findings: &[Finding], wanted: &[Told]) -> bool {
             .all(|(finding, wanted)| told(*finding) == *wanted)
 }
 
-/// The place of the first row of which something else looks wrong.
+/// The index of the first row of which something else looks wrong.
 fn first_linted_otherwise(alloc: Global, rows: &[Linted]) -> Result<Option<usize>, Fail> {
-    for (place, (changes, wanted)) in rows.iter().enumerate() {
+    for (index, (changes, wanted)) in rows.iter().enumerate() {
         let plan = changed(alloc, *changes)?;
         if !tell(&lint(alloc, &plan)?, *wanted) {
-            return Ok(Some(place));
+            return Ok(Some(index));
         }
     }
     Ok(None)

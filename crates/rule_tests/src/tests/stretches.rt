@@ -52,7 +52,7 @@ fn is_found(
     Ok(is_at(found(alloc, plan, &certificate)?, wanted))
 }
 
-/// The place of the first range of which something else is found before 16 to 18 with rank 2.
+/// The index of the first range of which something else is found before 16 to 18 with rank 2.
 fn first_wrong_range(alloc: Global) -> Result<Option<RankRange>, Fail> {
     let plan = plan_of_text(alloc, LINE.as_bytes())?;
     let later = range(16, 3, 2);

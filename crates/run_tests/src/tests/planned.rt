@@ -54,11 +54,11 @@ fn run_alone(
 
 /// Whether no other node has a terminus.
 #[tactic(auto, using(crate::proofs::Alone::alone_among, crate::proofs::Alone::none_more))]
-fn is_alone(plan: &Plan, place: usize) -> bool
-    ensures { IsTrue result → IsAlone plan.now place }
+fn is_alone(plan: &Plan, index: usize) -> bool
+    ensures { IsTrue result → IsAlone plan.now index }
 {
     for other in 0..plan.nodes.len() {
-        if other != place && terminus_at(plan, other).is_some() {
+        if other != index && terminus_at(plan, other).is_some() {
             return false;
         }
     }
@@ -66,17 +66,17 @@ fn is_alone(plan: &Plan, place: usize) -> bool
 }
 
 /// The terminus of a node, as it is planned.
-fn terminus_at(plan: &Plan, place: usize) -> Option<&PlannedTerminus>
-    ensures { MatchOption result (terminus_of plan.now place ≡ None) (λ terminus. terminus_of plan.now place ≡ Some terminus.now) }
+fn terminus_at(plan: &Plan, index: usize) -> Option<&PlannedTerminus>
+    ensures { MatchOption result (terminus_of plan.now index ≡ None) (λ terminus. terminus_of plan.now index ≡ Some terminus.now) }
 {
-    plan.nodes.get(place)?.terminus.as_ref()
+    plan.nodes.get(index)?.terminus.as_ref()
 }
 
 /// The terminus of a node and its record, if it has one record.
-fn record_alone(plan: &Plan, place: usize) -> Option<(&PlannedTerminus, &PlannedRecord)>
-    ensures { IfSome result (λ found. (terminus_of plan.now place ≡ Some found.0.now) × (found.0.now.records.items ≡ found.1.now ∷ [])) }
+fn record_alone(plan: &Plan, index: usize) -> Option<(&PlannedTerminus, &PlannedRecord)>
+    ensures { IfSome result (λ found. (terminus_of plan.now index ≡ Some found.0.now) × (found.0.now.records.items ≡ found.1.now ∷ [])) }
 {
-    let terminus = terminus_at(plan, place)?;
+    let terminus = terminus_at(plan, index)?;
     match terminus.records.as_slice() {
         [record] => Some((terminus, record)),
         _ => None,
@@ -100,17 +100,17 @@ fn listed(alloc: Global, planned: &PlannedRecord) -> Result<Vec<(u32, Vec<u8>)>,
 fn run_of_one_record(
     alloc: Global,
     checked: Checked,
-    place: usize,
+    index: usize,
     events: &[Event],
 ) -> Result<Option<Played>, AllocError>
     ensures { IfOk result (λ found. IfSome found (λ played. IsRunFromStart checked.entry.0 checked.entry.1
         (take (length played.outcomes.items) (map event_value events.now)) (map outcome_value played.outcomes.items))) }
 {
     let plan = checked.plan();
-    let Some((terminus, record)) = record_alone(plan, place) else {
+    let Some((terminus, record)) = record_alone(plan, index) else {
         return Ok(None);
     };
-    if !is_alone(plan, place) {
+    if !is_alone(plan, index) {
         return Ok(None);
     }
     let tid = Tid::new(terminus.tid);

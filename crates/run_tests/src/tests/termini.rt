@@ -10,9 +10,9 @@ use std::test::Fail;
 pub fn repository_at(
     alloc: Global,
     plan: &Plan,
-    place: usize,
+    index: usize,
 ) -> Result<(Tid, Vec<(u32, Vec<u8>)>), Fail> {
-    let node = plan.nodes.get(place).ok_or("no such node")?;
+    let node = plan.nodes.get(index).ok_or("no such node")?;
     let terminus = node.terminus.as_ref().ok_or("no terminus")?;
     let mut records = Vec::new(alloc);
     for record in &terminus.records {
@@ -70,14 +70,14 @@ fn block_of(alloc: Global, tid: Tid, records: Vec<(u32, Vec<u8>)>) -> Result<Blo
 }
 
 /// The terminus of a node, over a list.
-fn list_at(alloc: Global, plan: &Plan, place: usize) -> Result<ListTerminus, Fail> {
-    let (tid, records) = repository_at(alloc, plan, place)?;
+fn list_at(alloc: Global, plan: &Plan, index: usize) -> Result<ListTerminus, Fail> {
+    let (tid, records) = repository_at(alloc, plan, index)?;
     list_of(alloc, tid, records)
 }
 
 /// The terminus of a node, over a block.
-fn block_at(alloc: Global, plan: &Plan, place: usize) -> Result<BlockTerminus, Fail> {
-    let (tid, records) = repository_at(alloc, plan, place)?;
+fn block_at(alloc: Global, plan: &Plan, index: usize) -> Result<BlockTerminus, Fail> {
+    let (tid, records) = repository_at(alloc, plan, index)?;
     block_of(alloc, tid, records)
 }
 
@@ -107,10 +107,10 @@ pub fn termini_of(
     places: &[(usize, Storage)],
 ) -> Result<Vec<Box<dyn Terminus>>, Fail> {
     let mut boxed: Vec<Box<dyn Terminus>> = Vec::new(alloc);
-    for (place, storage) in places {
+    for (index, storage) in places {
         match storage {
-            Storage::List => boxed.push(Box::new(alloc, list_at(alloc, plan, *place)?)?)?,
-            Storage::Block => boxed.push(Box::new(alloc, block_at(alloc, plan, *place)?)?)?,
+            Storage::List => boxed.push(Box::new(alloc, list_at(alloc, plan, *index)?)?)?,
+            Storage::Block => boxed.push(Box::new(alloc, block_at(alloc, plan, *index)?)?)?,
         }
     }
     Ok(boxed)

@@ -7,13 +7,13 @@ use Rattle.mctp_bridge.proofs.row_faults.first_overlap.Goals as goal
 
 pub returns-then-not-is_apart_from : goal.returns-then-not-is_apart_from
 returns-then-not-is_apart_from c =
-    let other = c.index-rows-place.result in
-    ((other, stands c.args.rows.now c.loop-place.place other c.loop-place-test.true c.index-rows-place.is, refuted c.if-not-is_apart_from.ensures), c.loop-place.invariant)
+    let other = c.index-rows-index.result in
+    ((other, stands c.args.rows.now c.loop-index.index other c.loop-index-test.true c.index-rows-index.is, refuted c.if-not-is_apart_from.ensures), c.loop-index.invariant)
 
-pub loop-place-preserved : goal.loop-place-preserved
-loop-place-preserved c =
+pub loop-index-preserved : goal.loop-index-preserved
+loop-index-preserved c =
     let apart = c.if-not-is_apart_from.ensures.0 refl in
-    All-more (AreApart c.args.row.now) _ _ c.index-rows-place.result c.loop-place-test.true c.loop-place.invariant (subst (AreApart c.args.row.now) c.index-rows-place.is apart)
+    All-more (AreApart c.args.row.now) _ _ c.index-rows-index.result c.loop-index-test.true c.loop-index.invariant (subst (AreApart c.args.row.now) c.index-rows-index.is apart)
 
 pub returns : goal.returns
-returns c = All-same (AreApart c.args.row.now) _ _ (sym (take_all c.loop-place.place c.args.rows.now c.loop-place-test.false)) c.loop-place.invariant
+returns c = All-same (AreApart c.args.row.now) _ _ (sym (take_all c.loop-index.index c.args.rows.now c.loop-index-test.false)) c.loop-index.invariant

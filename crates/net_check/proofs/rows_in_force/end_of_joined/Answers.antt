@@ -8,12 +8,12 @@ use Rattle.net_check.proofs.rows_in_force.end_of_joined.Goals as goal
 pub loop-next-init : goal.loop-next-init
 loop-next-init c =
     let rows = c.args.rows.now in
-    let row = c.index-rows-place.result in
-    let here : slice_get rows c.args.place ≡ Some row = slice_get_read rows (length rows) c.args.place row refl (omega arith) c.index-rows-place.is in
+    let row = c.index-rows-index.result in
+    let here : slice_get rows c.args.index ≡ Some row = slice_get_read rows (length rows) c.args.index row refl (omega arith) c.index-rows-index.is in
     let covers = c.requires.has row here in
     record {
       later = omega (arith, covers.1, c.row_end-end.ensures);
-      joined = λ d low high small. (c.args.place, row, here, (omega (arith, covers.0), omega (arith, high, c.row_end-end.ensures), small));
+      joined = λ d low high small. (c.args.index, row, here, (omega (arith, covers.0), omega (arith, high, c.row_end-end.ensures), small));
     }
 
 pub loop-next-preserved : goal.loop-next-preserved

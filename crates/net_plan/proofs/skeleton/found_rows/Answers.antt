@@ -1,6 +1,6 @@
 use Rattle.std.proofs.Common.{◌≡◌, ℕ, ◌+◌, ◌++◌, [], ◌∷◌, map, length, sym, ap, ◌∙◌, append-nil, arith, rules}
 use Rattle.std.specs.Vec.Iter.{into_iter_items, into_iter_len}
-use Rattle.net_plan.specs.Places.{find_in}
+use Rattle.net_plan.specs.NameIndexes.{find_in}
 use Rattle.net_plan.specs.NodeValues.{RowValue, row_value}
 use Rattle.net_plan.specs.RowParts.{named_row}
 use Rattle.net_plan.specs.Skeleton.{found_row}
@@ -21,7 +21,7 @@ rows-preserved c =
     let before = l.invariant.1 in
     let counted : into_iter_len c.next.new.self ≡ length left = omega arith in
     let pushed : c.push.new.self.items ≡ l.list.items ++ c.row_to.result ∷ [] = search rules in
-    (made_moved f row_value (map f all) l.list.items c.row_to.result row left (l.invariant.0 ∙ ap (λ xs. map row_value l.list.items ++ map f xs) step) (c.row_to.ensures ∙ ap (λ (place : ℕ). found_row (λ _. place) (named_row row)) c.find_after-next.ensures.place) ∙ ap (λ xs. map row_value xs ++ map f left) (sym pushed), counted, c.find_after-next.ensures.place ∙ ap (find_in c.args.nodes.now) (sym c.find_after-next.ensures.name))
+    (made_moved f row_value (map f all) l.list.items c.row_to.result row left (l.invariant.0 ∙ ap (λ xs. map row_value l.list.items ++ map f xs) step) (c.row_to.ensures ∙ ap (λ (index : ℕ). found_row (λ _. index) (named_row row)) c.find_after-next.ensures.index) ∙ ap (λ xs. map row_value xs ++ map f left) (sym pushed), counted, c.find_after-next.ensures.index ∙ ap (find_in c.args.nodes.now) (sym c.find_after-next.ensures.name))
 
 pub returns : goal.returns
 returns c =

@@ -1,6 +1,6 @@
 use Rattle.std.proofs.Common.{◌≡◌, ◌+◌, ◌++◌, [], ◌∷◌, List, map, length, option_map, sym, ap, ◌∙◌, append-nil, arith, rules}
 use Rattle.std.specs.Vec.Iter.{into_iter_items, into_iter_len}
-use Rattle.net_plan.specs.Places.{find_in}
+use Rattle.net_plan.specs.NameIndexes.{find_in}
 use Rattle.net_plan.specs.NodeValues.{RowValue, terminus_value}
 use Rattle.net_plan.specs.declared.skeleton.CutParts.{CutParts}
 use Rattle.net_plan.specs.declared.skeleton.PlacedParts.{PlacedParts}

@@ -1,9 +1,9 @@
 use Rattle.std.proofs.Common.{◌≡◌, ℕ, List, Ok, map, true, refl, sym, subst, ap, ◌∙◌, vec_len}
 use Rattle.json.specs.Json.{object}
-use Rattle.net_plan.specs.Names.{place_among}
+use Rattle.net_plan.specs.Names.{index_among}
 use Rattle.net_plan.specs.NodeValues.{bus_value, node_value, node_names, name_bytes}
 use Rattle.net_plan.specs.Placed.{are_placed}
-use Rattle.net_plan.specs.Places.{find_in}
+use Rattle.net_plan.specs.NameIndexes.{find_in}
 use Rattle.net_plan.specs.PlanReading.{plan}
 use Rattle.net_plan.specs.PlanText.{IsPlanOf}
 use Rattle.net_plan.specs.PlanValues.{plan_value}
@@ -29,9 +29,9 @@ returns c =
     let is = subst (λ j. IsPlanOf (data_of j) (plan_value lean)) shape.3 (plan_tells.sound (view s.value) (plan_value lean) read refl) in
     let once : single (object ls) ≡ true = ap single (sym shape.3) ∙ sym c.has_single_keys.ensures ∙ c.if-not-has_single_keys.false in
     let plain = plan_plain cs ms ls shape.4 (shape.5, once) in
-    let places = c.in-Ok-of.places in
-    let find : (q : List ℕ) → find_in places q ≡ place_among (node_names vs) q = λ q. c.in-Ok-of.ensures.found q ∙ ap (λ ns. place_among ns q) (ap (map (λ n. name_bytes n.name)) c.as_slice.ensures.value ∙ node_names_of lean.nodes.items) in
-    let same_find : find_in places ≡ place_among (node_names vs) = λ i q. find q i in
+    let index = c.in-Ok-of.index in
+    let find : (q : List ℕ) → find_in index q ≡ index_among (node_names vs) q = λ q. c.in-Ok-of.ensures.found q ∙ ap (λ ns. index_among ns q) (ap (map (λ n. name_bytes n.name)) c.as_slice.ensures.value ∙ node_names_of lean.nodes.items) in
+    let same_find : find_in index ≡ index_among (node_names vs) = λ i q. find q i in
     let filled : map node_value c.in_ok-with_parts.field-0.items ≡ all_filled vs cs = c.in_ok-with_parts.ensures ∙ ap (with_parts vs) (c.in_ok-parts.ensures ∙ ap (λ f. map (found_value f) cs) same_find) in
     if_some c.of-2.result (λ p same.
     let unit = sym same.0 in

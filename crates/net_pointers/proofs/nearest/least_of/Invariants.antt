@@ -3,5 +3,5 @@ use Rattle.std.proofs.Common.{◌<◌, length}
 use Rattle.net_pointers.proofs.Least.{IsLeast}
 use Rattle.net_pointers.proofs.nearest.least_of.Given as goal
 
-abbrev pub invariant-loop-place : goal.invariant-loop-place
-invariant-loop-place l = (l.least < length l.counts) × IsLeast l.counts l.least l.place
+abbrev pub invariant-loop-index : goal.invariant-loop-index
+invariant-loop-index l = (l.least < length l.counts) × IsLeast l.counts l.least l.index

@@ -37,7 +37,7 @@ impl<'a> Network<'a> {
         if self.traffic.left() < 1 {
             return Ok(Outcome::Refused(WalkRefusal::Shared(Refusal::NoNumbers)));
         }
-        let Some(index) = self.place_of(number) else {
+        let Some(index) = self.index_of(number) else {
             return Ok(Outcome::Refused(WalkRefusal::NoWalker));
         };
         if let Some(why) = why_not_ask(&self.traffic, &self.walkers[index]) {

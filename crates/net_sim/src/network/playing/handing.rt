@@ -48,9 +48,9 @@ impl<'a> Network<'a> {
         Ok(Outcome::Happened { effect, handed })
     }
 
-    /// The place of the first walker for which a message is that comes with the move, if it brings a packet in at a node.
+    /// The index of the first walker for which a message is that comes with the move, if it brings a packet in at a node.
     fn listener(&self, number: u32, keep: bool) -> Option<usize>
-        ensures place { (w : WalkedState) → StandsForWalked (network_value (λ d. tid d.terminus) (λ d. records d.terminus) self.now) w
+        ensures index { (w : WalkedState) → StandsForWalked (network_value (λ d. tid d.terminus) (λ d. records d.terminus) self.now) w
             → MatchOption result
             ((node : ℕ) (key : KeyValue) (k : ℕ) (walker : WalkerValue) → Arrives (checked_of self.now).0 w.network number keep node key
             → slice_get (network_value (λ d. tid d.terminus) (λ d. records d.terminus) self.now).walkers k ≡ Some walker → ¬ Listens node key walker)
@@ -62,7 +62,7 @@ impl<'a> Network<'a> {
         self.listener_at(node, key)
     }
 
-    /// The place of the first walker for which a message is that comes at a node under a key.
+    /// The index of the first walker for which a message is that comes at a node under a key.
     fn listener_at(&self, node: usize, key: Key) -> Option<usize>
         ensures { MatchOption result (All (λ walker. ¬ Listens node (key_value key) (walker_value walker)) self.now.walkers.items)
             (λ index. ListensAt node (key_value key) self.now.walkers.items index) }

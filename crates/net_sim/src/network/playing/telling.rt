@@ -17,7 +17,7 @@ impl<'a> Network<'a> {
             (network_value (λ d. tid d.terminus) (λ d. records d.terminus) self.now) (TellWalk number) (outcome_value result)
             (network_value (λ d. tid d.terminus) (λ d. records d.terminus) self.now) }
     {
-        let Some(index) = self.place_of(number) else {
+        let Some(index) = self.index_of(number) else {
             return Outcome::Refused(WalkRefusal::NoWalker);
         };
         let walker = &self.walkers[index];
@@ -28,8 +28,8 @@ impl<'a> Network<'a> {
         }
     }
 
-    /// The place of the walker of this number, if there is one.
-    pub(super) fn place_of(&self, number: u32) -> Option<usize>
+    /// The index of the walker of this number, if there is one.
+    pub(super) fn index_of(&self, number: u32) -> Option<usize>
         ensures { MatchOption result ((number ≡ 0) ⊎ (length self.now.walkers.items < number))
             (λ index. (index + 1 ≡ number) × (index < length self.now.walkers.items)) }
     {

@@ -2,7 +2,7 @@
 ghost use Rattle.std.specs.Prelude.{◌≡◌, ◌≢◌, ◌⊎◌, ◌++◌, ◌<◌, ◌^◌, ◌-◌, IfOk, IfErr, string_bytes};
 ghost use Rattle.std.specs.Cow.{cow_str_bytes};
 ghost use Rattle.net_check.specs.Errors.{NamesFirstFault};
-ghost use Rattle.net_check.specs.Faults.{IsFirstFault, place_of};
+ghost use Rattle.net_check.specs.Faults.{IsFirstFault, site_of};
 ghost use Rattle.plan_commands.specs.declared.refused.Refused.TheVariants as refused;
 ghost use Rattle.plan_commands.specs.declared.status.Status.TheVariants as status;
 ghost use Rattle.plan_commands.specs.Answers.{stream};
@@ -134,7 +134,7 @@ fn fault_text(
     certificate: &Certificate,
     fault: &Fault,
 ) -> Result<String, AllocError>
-    requires { IsFirstFault plan.now certificate.now (place_of fault.now) }
+    requires { IsFirstFault plan.now certificate.now (site_of fault.now) }
     ensures { IfOk result (λ text. IsFaultExplained plan.now certificate.now (string_bytes text)) }
 {
     let mut text = fault_line(alloc, plan, fault)?;

@@ -11,7 +11,7 @@ use crate::commands::naming::first_named;
 use mctp_transport::Eid;
 use net_plan::Plan;
 
-/// The place of the node that the one word names, and the endpoint ID that the other word names.
+/// The index of the node that the one word names, and the endpoint ID that the other word names.
 #[tactic(auto, using(crate::proofs::Ends::no_sender, crate::proofs::Ends::no_destination))]
 pub fn named_ends(plan: &Plan, from: &str, to: &str) -> Option<(usize, Eid)>
     ensures { MatchOption result (¬ NameTheEnds from.now to.now plan.now)
@@ -28,16 +28,16 @@ fn destination(plan: &Plan, word: &str) -> Option<Eid>
     ensures { MatchOption result ((e : ℕ) → ¬ IsDestination plan.now word.now e) (λ eid. IsDestination plan.now word.now eid.value) }
 {
     match first_named(plan, word) {
-        Some(place) => eid_at(plan, place),
+        Some(index) => eid_at(plan, index),
         None => eid_of_word(word),
     }
 }
 
-/// The endpoint ID of the node at a place.
-fn eid_at(plan: &Plan, place: usize) -> Option<Eid>
-    ensures { MatchOption result (eid_of plan.now place ≡ None) (λ eid. Holds plan.now place eid.value) }
+/// The endpoint ID of the node at an index.
+fn eid_at(plan: &Plan, index: usize) -> Option<Eid>
+    ensures { MatchOption result (eid_of plan.now index ≡ None) (λ eid. Holds plan.now index eid.value) }
 {
-    Some(plan.nodes.get(place)?.eid)
+    Some(plan.nodes.get(index)?.eid)
 }
 
 /// The endpoint ID whose number the word is in ASCII digits, if it can be assigned.

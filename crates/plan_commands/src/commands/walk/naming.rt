@@ -6,20 +6,20 @@ ghost use Rattle.plan_commands.specs.Walking.{IsTerminusNamed, HasTerminusNamed}
 use crate::commands::naming::first_named;
 use net_plan::{Plan, PlannedTerminus};
 
-/// The terminus of the first node of the name, if it has one, and the place of that node.
+/// The terminus of the first node of the name, if it has one, and the index of that node.
 #[tactic(auto, using(crate::proofs::Naming::no_terminus))]
 pub fn named_terminus<'a>(plan: &'a Plan, name: &str) -> Option<(usize, &'a PlannedTerminus)>
     ensures { MatchOption result (¬ HasTerminusNamed plan.now name.now)
         (λ found. IsTerminusNamed plan.now name.now found.0 × (terminus_of plan.now found.0 ≡ Some found.1.now)) }
 {
-    let place = first_named(plan, name)?;
-    let terminus = terminus_at(plan, place)?;
-    Some((place, terminus))
+    let index = first_named(plan, name)?;
+    let terminus = terminus_at(plan, index)?;
+    Some((index, terminus))
 }
 
-/// The terminus of the node at a place.
-fn terminus_at(plan: &Plan, place: usize) -> Option<&PlannedTerminus>
-    ensures { MatchOption result (terminus_of plan.now place ≡ None) (λ terminus. terminus_of plan.now place ≡ Some terminus.now) }
+/// The terminus of the node at an index.
+fn terminus_at(plan: &Plan, index: usize) -> Option<&PlannedTerminus>
+    ensures { MatchOption result (terminus_of plan.now index ≡ None) (λ terminus. terminus_of plan.now index ≡ Some terminus.now) }
 {
-    plan.nodes.get(place)?.terminus.as_ref()
+    plan.nodes.get(index)?.terminus.as_ref()
 }

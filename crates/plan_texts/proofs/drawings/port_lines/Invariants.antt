@@ -1,7 +1,7 @@
 use Rattle.std.proofs.Common.{◌≡◌, string_bytes, take}
 use Rattle.net_plan.specs.declared.nodes.Node.{Node}
-use Rattle.plan_texts.specs.DrawingLines.{all_by_place, port_line}
+use Rattle.plan_texts.specs.DrawingLines.{all_by_index, port_line}
 use Rattle.plan_texts.proofs.drawings.port_lines.Given as goal
 
-abbrev pub invariant-loop-place : goal.invariant-loop-place
-invariant-loop-place l = string_bytes l.lines ≡ all_by_place (λ n (node : Node). all_by_place (port_line n) node.ports.items) (take l.place l.nodes)
+abbrev pub invariant-loop-index : goal.invariant-loop-index
+invariant-loop-index l = string_bytes l.lines ≡ all_by_index (λ n (node : Node). all_by_index (port_line n) node.ports.items) (take l.index l.nodes)

@@ -12,50 +12,50 @@ use Rattle.mctp_transport.proofs.assembler.Assembler.go_on.Goals as goal
 -- a slot with nothing open isn't held
 pub returns-in_default-clause-table : goal.returns-in_default-clause-table
 returns-in_default-clause-table c = λ q e.
-    let nothing = ap (λ o. partial_of o (part c.args.self.now.limit c.args.self.now.block.items c.args.place)) c.in_default.is in
-    absurd (none-some q (sym nothing ∙ at_slot c.args.self.now c.args.place c.index.result.now q c.requires c.index.ensures e))
+    let nothing = ap (λ o. partial_of o (part c.args.self.now.limit c.args.self.now.block.items c.args.index)) c.in_default.is in
+    absurd (none-some q (sym nothing ∙ at_slot c.args.self.now c.args.index c.index.result.now q c.requires c.index.ensures e))
 
 pub returns-in_default-clause-answer : goal.returns-in_default-clause-answer
 returns-in_default-clause-answer c = λ q e.
-    let nothing = ap (λ o. partial_of o (part c.args.self.now.limit c.args.self.now.block.items c.args.place)) c.in_default.is in
-    absurd (none-some q (sym nothing ∙ at_slot c.args.self.now c.args.place c.index.result.now q c.requires c.index.ensures e))
+    let nothing = ap (λ o. partial_of o (part c.args.self.now.limit c.args.self.now.block.items c.args.index)) c.in_default.is in
+    absurd (none-some q (sym nothing ∙ at_slot c.args.self.now c.args.index c.index.result.now q c.requires c.index.ensures e))
 
 -- the packet doesn't go on
 pub returns-in-Err-clause-table : goal.returns-in-Err-clause-table
 returns-in-Err-clause-table c = λ q e.
-    let h = held_with c.args.self.now c.args.place c.index.result.now c.in-Some.open q (frame_of c.args.packet.now) (Some c.in-Err.why)
+    let h = held_with c.args.self.now c.args.index c.index.result.now c.in-Some.open q (frame_of c.args.packet.now) (Some c.in-Err.why)
     c.in-Some.is c.requires c.index.ensures c.in-Err.ensures.fault e in
     let l = leaves_nothing c.args.self.now.limit q (frame_of c.args.packet.now) c.in-Err.why h.fault_is in
-    c.close.ensures.table ∙ ap (λ (o : Option Partial). slice_set (table_of c.args.self.now) c.args.place o) (sym l.rest_is)
+    c.close.ensures.table ∙ ap (λ (o : Option Partial). slice_set (table_of c.args.self.now) c.args.index o) (sym l.rest_is)
 
 pub returns-in-Err-clause-answer : goal.returns-in-Err-clause-answer
 returns-in-Err-clause-answer c = λ q e.
-    let h = held_with c.args.self.now c.args.place c.index.result.now c.in-Some.open q (frame_of c.args.packet.now) (Some c.in-Err.why)
+    let h = held_with c.args.self.now c.args.index c.index.result.now c.in-Some.open q (frame_of c.args.packet.now) (Some c.in-Err.why)
     c.in-Some.is c.requires c.index.ensures c.in-Err.ensures.fault e in
     sym (leaves_nothing c.args.self.now.limit q (frame_of c.args.packet.now) c.in-Err.why h.fault_is).answer_is
 
 -- the packet ends the message
 pub returns-then-packet-clause-answer : goal.returns-then-packet-clause-answer
 returns-then-packet-clause-answer c = λ q e.
-    let h = held_with c.args.self.now c.args.place c.index.result.now c.in-Some.open q (frame_of c.args.packet.now) None
+    let h = held_with c.args.self.now c.args.index c.index.result.now c.in-Some.open q (frame_of c.args.packet.now) None
     c.in-Some.is c.requires c.index.ensures c.in-Ok.ensures.fault e in
     let l = leaves_whole c.args.self.now.limit q (frame_of c.args.packet.now) h.fault_is c.if-packet.true in
-    ap Whole (whole_is c.args.self.now c.args.place c.in-Some.open c.in-Ok.next q (frame_of c.args.packet.now) c.put.new.self.block.items c.put.new.self.limit h.held
+    ap Whole (whole_is c.args.self.now c.args.index c.in-Some.open c.in-Ok.next q (frame_of c.args.packet.now) c.put.new.self.block.items c.put.new.self.limit h.held
     c.put.ensures.limit c.in-Ok.ensures.fits c.in-Ok.ensures.len c.put.ensures.part)
     ∙ sym l.answer_is
 
 -- the packet goes on, and more has to come
 pub returns-else-packet-clause-table : goal.returns-else-packet-clause-table
 returns-else-packet-clause-table c = λ q e.
-    let h = held_with c.args.self.now c.args.place c.index.result.now c.in-Some.open q (frame_of c.args.packet.now) None
+    let h = held_with c.args.self.now c.args.index c.index.result.now c.in-Some.open q (frame_of c.args.packet.now) None
     c.in-Some.is c.requires c.index.ensures c.in-Ok.ensures.fault e in
     let l = leaves_more c.args.self.now.limit q (frame_of c.args.packet.now) h.fault_is c.if-packet.false in
-    let n = next_is c.args.self.now c.args.place c.in-Some.open c.in-Ok.next q (frame_of c.args.packet.now) c.put-else-packet.new.self.block.items h.held
+    let n = next_is c.args.self.now c.args.index c.in-Some.open c.in-Ok.next q (frame_of c.args.packet.now) c.put-else-packet.new.self.block.items h.held
     c.in-Ok.ensures.key (rw c.in-Ok.ensures.number refl) c.in-Ok.ensures.unit c.in-Ok.ensures.len c.put-else-packet.ensures.part in
-    c.put-else-packet.ensures.table ∙ ap (λ (o : Option Partial). slice_set (table_of c.args.self.now) c.args.place o) (n ∙ sym l.rest_is)
+    c.put-else-packet.ensures.table ∙ ap (λ (o : Option Partial). slice_set (table_of c.args.self.now) c.args.index o) (n ∙ sym l.rest_is)
 
 pub returns-else-packet-clause-answer : goal.returns-else-packet-clause-answer
 returns-else-packet-clause-answer c = λ q e.
-    let h = held_with c.args.self.now c.args.place c.index.result.now c.in-Some.open q (frame_of c.args.packet.now) None
+    let h = held_with c.args.self.now c.args.index c.index.result.now c.in-Some.open q (frame_of c.args.packet.now) None
     c.in-Some.is c.requires c.index.ensures c.in-Ok.ensures.fault e in
     sym (leaves_more c.args.self.now.limit q (frame_of c.args.packet.now) h.fault_is c.if-packet.false).answer_is

@@ -10,4 +10,4 @@ returns c =
     let r = get_or c.args.records.now c.args.j c.index-records-j.result in
     let P : Bool → Type 0 = λ b. IsTrue b ↔ OfItem c.args.records.now c.args.j (HasNext c.args.records.now) in
     subst P (sym c.is_some.ensures)
-    (has_next_tells c.args.records.now c.args.j r c.args.handles.now (slice_get-get_or c.args.records.now c.args.j c.index-records-j.result c.requires.within) c.requires.handles c.if-next-eq0.false c.place_of.result c.place_of.ensures)
+    (has_next_tells c.args.records.now c.args.j r c.args.handles.now (slice_get-get_or c.args.records.now c.args.j c.index-records-j.result c.requires.within) c.requires.handles c.if-next-eq0.false c.first_at.result c.first_at.ensures)

@@ -3,5 +3,5 @@ use Rattle.net_plan.specs.NodeValues.{port_value}
 use Rattle.net_check.proofs.SameItems.{IsSameAt}
 use Rattle.net_check.proofs.rules.frames.are_same_ports.Given as goal
 
-abbrev pub invariant-loop-place : goal.invariant-loop-place
-invariant-loop-place l = (k : ℕ) → k < l.place → IsSameAt port_value l.ports l.others k
+abbrev pub invariant-loop-index : goal.invariant-loop-index
+invariant-loop-index l = (k : ℕ) → k < l.index → IsSameAt port_value l.ports l.others k

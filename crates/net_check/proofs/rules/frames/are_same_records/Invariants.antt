@@ -3,5 +3,5 @@ use Rattle.net_plan.specs.NodeValues.{record_value}
 use Rattle.net_check.proofs.SameItems.{IsSameAt}
 use Rattle.net_check.proofs.rules.frames.are_same_records.Given as goal
 
-abbrev pub invariant-loop-place : goal.invariant-loop-place
-invariant-loop-place l = (k : ℕ) → k < l.place → IsSameAt record_value l.records l.others k
+abbrev pub invariant-loop-index : goal.invariant-loop-index
+invariant-loop-index l = (k : ℕ) → k < l.index → IsSameAt record_value l.records l.others k

@@ -1,6 +1,6 @@
 use Rattle.std.proofs.Common.{◌≡◌, Some, rules}
 use Rattle.net_plan.specs.EventParts.{keys_given}
-use Rattle.net_plan.specs.Places.{noted}
+use Rattle.net_plan.specs.NameIndexes.{noted}
 use Rattle.net_plan.proofs.EventParts.{answer_of}
 use Rattle.net_plan.proofs.event_parts.EventParts.answer.Goals as goal
 
@@ -9,5 +9,5 @@ returns c =
     let p = c.args.self.now in
     let count : keys_given p ≡ 1 = search rules in
     let is_node : p.node ≡ Some c.in_ok-node.node = search rules in
-    let is_place : noted c.args.nodes.now c.in_ok-node.node.now ≡ Some c.in_ok-place.place = search rules in
-    λ ms h does. answer_of p ms h (noted c.args.nodes.now) c.in_ok-node.node c.in_ok-place.place count is_node is_place does
+    let is_index : noted c.args.nodes.now c.in_ok-node.node.now ≡ Some c.in_ok-index.index = search rules in
+    λ ms h does. answer_of p ms h (noted c.args.nodes.now) c.in_ok-node.node c.in_ok-index.index count is_node is_index does

@@ -1,5 +1,5 @@
 use Rattle.std.proofs.Common.{◌≡◌, Some, codes, rules}
-use Rattle.net_plan.specs.Places.{noted}
+use Rattle.net_plan.specs.NameIndexes.{noted}
 use Rattle.net_plan.proofs.EventParts.{word_here}
 use Rattle.net_plan.proofs.Gathered.{if_some}
 use Rattle.net_plan.proofs.event_parts.EventParts.event.Goals as goal

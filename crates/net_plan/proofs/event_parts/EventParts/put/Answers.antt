@@ -1,6 +1,6 @@
 use Rattle.std.proofs.Common.{◌≡◌, Some, rules}
 use Rattle.net_plan.specs.EventParts.{keys_given}
-use Rattle.net_plan.specs.Places.{noted}
+use Rattle.net_plan.specs.NameIndexes.{noted}
 use Rattle.net_plan.proofs.EventParts.{put_of}
 use Rattle.net_plan.proofs.event_parts.EventParts.put.Goals as goal
 
@@ -10,5 +10,5 @@ returns c =
     let count : keys_given p ≡ 2 = search rules in
     let is_node : p.node ≡ Some c.in_ok-node.node = search rules in
     let is_bytes : p.bytes ≡ Some c.in_ok-bytes.bytes = search rules in
-    let is_place : noted c.args.nodes.now c.in_ok-node.node.now ≡ Some c.in_ok-place.place = search rules in
-    λ ms h does. put_of p ms h (noted c.args.nodes.now) c.in_ok-node.node c.in_ok-bytes.bytes c.in_ok-place.place count is_node is_bytes is_place does
+    let is_index : noted c.args.nodes.now c.in_ok-node.node.now ≡ Some c.in_ok-index.index = search rules in
+    λ ms h does. put_of p ms h (noted c.args.nodes.now) c.in_ok-node.node c.in_ok-bytes.bytes c.in_ok-index.index count is_node is_bytes is_index does

@@ -4,7 +4,7 @@ use Rattle.json.specs.Json.{object}
 use Rattle.net_plan.specs.EventValues.{walk}
 use Rattle.net_plan.specs.Gathered.{IsPlain}
 use Rattle.net_plan.specs.Trees.{data_of}
-use Rattle.net_plan.specs.Places.{noted}
+use Rattle.net_plan.specs.NameIndexes.{noted}
 use Rattle.net_plan.proofs.EventParts.{walk_of}
 use Rattle.net_plan.proofs.event_parts.EventParts.walk.Goals as goal
 
@@ -16,6 +16,6 @@ returns c =
     let is_eid : p.eid ≡ Some c.in_ok-eid.eid = search rules in
     let is_tag : p.tag ≡ Some c.in_ok-tag.tag = search rules in
     let is_count : p.count ≡ Some c.in_ok-count.count = search rules in
-    let is_place : noted c.args.nodes.now c.in_ok-node.node.now ≡ Some c.in_ok-place.place = search rules in
-    λ ms h does. subst (λ v. IsEventBy (noted c.args.nodes.now) (data_of (object ms)) (walk c.in_ok-place.place v c.in_ok-tag.tag.value c.in_ok-count.count) × IsPlain (object ms)) (sym c.new.ensures)
-    (walk_of p ms h (noted c.args.nodes.now) c.in_ok-node.node c.in_ok-eid.eid c.in_ok-tag.tag c.in_ok-count.count c.in_ok-place.place count is_node is_eid is_tag is_count is_place does)
+    let is_index : noted c.args.nodes.now c.in_ok-node.node.now ≡ Some c.in_ok-index.index = search rules in
+    λ ms h does. subst (λ v. IsEventBy (noted c.args.nodes.now) (data_of (object ms)) (walk c.in_ok-index.index v c.in_ok-tag.tag.value c.in_ok-count.count) × IsPlain (object ms)) (sym c.new.ensures)
+    (walk_of p ms h (noted c.args.nodes.now) c.in_ok-node.node c.in_ok-eid.eid c.in_ok-tag.tag c.in_ok-count.count c.in_ok-index.index count is_node is_eid is_tag is_count is_index does)

@@ -1,5 +1,5 @@
 use Rattle.std.proofs.Common.{◌≡◌, Some, rules}
-use Rattle.net_plan.specs.Places.{noted}
+use Rattle.net_plan.specs.NameIndexes.{noted}
 use Rattle.net_plan.proofs.LevelParts.{level_of}
 use Rattle.net_plan.proofs.level_parts.LevelParts.level.Goals as goal
 
@@ -8,5 +8,5 @@ returns c =
     let p = c.args.self.now in
     let is_level : p.level ≡ Some c.in_ok-level.level = search rules in
     let is_node : p.node ≡ Some c.in_ok-node.node = search rules in
-    let is_place : noted c.args.nodes.now c.in_ok-node.node.now ≡ Some c.in_ok-place.place = search rules in
-    level_of (noted c.args.nodes.now) p c.in_ok-level.level c.in_ok-node.node c.in_ok-place.place is_level is_node is_place
+    let is_index : noted c.args.nodes.now c.in_ok-node.node.now ≡ Some c.in_ok-index.index = search rules in
+    level_of (noted c.args.nodes.now) p c.in_ok-level.level c.in_ok-node.node c.in_ok-index.index is_level is_node is_index

@@ -1,5 +1,5 @@
 use Rattle.std.proofs.Common.{◌≡◌, Some, rules}
-use Rattle.net_plan.specs.Places.{noted}
+use Rattle.net_plan.specs.NameIndexes.{noted}
 use Rattle.net_plan.proofs.PlaceParts.{places_of}
 use Rattle.net_plan.proofs.place_parts.PlacesParts.places.Goals as goal
 

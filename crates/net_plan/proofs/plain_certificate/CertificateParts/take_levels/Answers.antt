@@ -1,7 +1,7 @@
 use Rattle.std.proofs.Common.{◌≡◌, ◌≤◌, length, false, is_some, rules}
 use Rattle.net_plan.specs.CertificateValues.{level_value}
 use Rattle.net_plan.specs.LevelParts.{IsLevelBy}
-use Rattle.net_plan.specs.Places.{noted}
+use Rattle.net_plan.specs.NameIndexes.{noted}
 use Rattle.net_plan.proofs.Gathered.{list_of}
 use Rattle.net_plan.proofs.PlainCertificate.{with_levels}
 use Rattle.net_plan.proofs.plain_certificate.CertificateParts.take_levels.Goals as goal

@@ -1,7 +1,7 @@
 use Rattle.std.proofs.Common.{◌≡◌, ◌≤◌, length, false, is_some, rules}
 use Rattle.net_plan.specs.CertificateValues.{node_ranks_value}
 use Rattle.net_plan.specs.RankParts.{AreRanksBy}
-use Rattle.net_plan.specs.Places.{noted}
+use Rattle.net_plan.specs.NameIndexes.{noted}
 use Rattle.net_plan.proofs.Gathered.{list_of}
 use Rattle.net_plan.proofs.PlainCertificate.{with_ranks}
 use Rattle.net_plan.proofs.plain_certificate.CertificateParts.take_ranks.Goals as goal

@@ -1,7 +1,7 @@
 use Rattle.std.proofs.Common.{◌≡◌, ◌≤◌, length, false, is_some, rules}
 use Rattle.net_plan.specs.EventParts.{IsEventBy}
 use Rattle.net_plan.specs.EventValues.{event_entry}
-use Rattle.net_plan.specs.Places.{noted}
+use Rattle.net_plan.specs.NameIndexes.{noted}
 use Rattle.net_plan.proofs.Gathered.{list_of}
 use Rattle.net_plan.proofs.PlainEvents.{with_events}
 use Rattle.net_plan.proofs.plain_events.EventsParts.take_events.Goals as goal

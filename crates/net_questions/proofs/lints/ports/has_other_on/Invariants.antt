@@ -3,5 +3,5 @@ use Rattle.net_check.specs.Routing.{OfItem}
 use Rattle.net_questions.specs.Lint.{IsOtherOn}
 use Rattle.net_questions.proofs.lints.ports.has_other_on.Given as goal
 
-abbrev pub invariant-loop-place : goal.invariant-loop-place
-invariant-loop-place l = (k : ℕ) → k < l.place → OfItem l.ports k (λ b. ¬ IsOtherOn l.bus l.other l.node l.port k b)
+abbrev pub invariant-loop-index : goal.invariant-loop-index
+invariant-loop-index l = (k : ℕ) → k < l.index → OfItem l.ports k (λ b. ¬ IsOtherOn l.bus l.other l.node l.port k b)

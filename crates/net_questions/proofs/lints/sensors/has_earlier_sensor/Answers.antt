@@ -5,15 +5,15 @@ use Rattle.net_questions.proofs.lints.sensors.has_earlier_sensor.Goals as goal
 
 pub returns-then-is_earlier_sensor : goal.returns-then-is_earlier_sensor
 returns-then-is_earlier_sensor c =
-    found_item c.records_at-records.result.now _ c.records_at-records.ensures (λ k r. (k < c.args.index) × IsSensorRecord r.bytes.items c.args.id) c.loop-place.place
-    c.index-records-place.result (omega arith) c.index-records-place.is (c.is_earlier_sensor.ensures.0 c.if-is_earlier_sensor.true)
+    found_item c.records_at-records.result.now _ c.records_at-records.ensures (λ k r. (k < c.args.index) × IsSensorRecord r.bytes.items c.args.id) c.loop-earlier.earlier
+    c.index-records-earlier.result (omega arith) c.index-records-earlier.is (c.is_earlier_sensor.ensures.0 c.if-is_earlier_sensor.true)
 
-pub loop-place-preserved : goal.loop-place-preserved
-loop-place-preserved c =
-    item_more c.records_at-records.result.now _ c.records_at-records.ensures (λ k r. (k < c.args.index) × IsSensorRecord r.bytes.items c.args.id) c.loop-place.place
-    c.index-records-place.result (omega arith) c.index-records-place.is (λ there. cc (c.is_earlier_sensor.ensures.1 there, c.if-is_earlier_sensor.false)) c.loop-place.invariant
+pub loop-earlier-preserved : goal.loop-earlier-preserved
+loop-earlier-preserved c =
+    item_more c.records_at-records.result.now _ c.records_at-records.ensures (λ k r. (k < c.args.index) × IsSensorRecord r.bytes.items c.args.id) c.loop-earlier.earlier
+    c.index-records-earlier.result (omega arith) c.index-records-earlier.is (λ there. cc (c.is_earlier_sensor.ensures.1 there, c.if-is_earlier_sensor.false)) c.loop-earlier.invariant
 
 pub returns : goal.returns
 returns c =
-    item_not_found c.records_at-records.result.now _ c.records_at-records.ensures (λ k r. (k < c.args.index) × IsSensorRecord r.bytes.items c.args.id) c.loop-place.place
-    (omega arith) c.loop-place.invariant
+    item_not_found c.records_at-records.result.now _ c.records_at-records.ensures (λ k r. (k < c.args.index) × IsSensorRecord r.bytes.items c.args.id) c.loop-earlier.earlier
+    (omega arith) c.loop-earlier.invariant

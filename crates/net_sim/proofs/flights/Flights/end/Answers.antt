@@ -8,15 +8,15 @@ use Rattle.net_sim.specs.Flights.{flight_value, slots_of}
 use Rattle.net_sim.proofs.Keeping.{none_at, slot_at, is_filled, set_ascend, set_given, set_counted, set_means}
 use Rattle.net_sim.proofs.flights.Flights.end.Goals as goal
 
-pub returns-in_err-place-clause-flight : goal.returns-in_err-place-clause-flight
-returns-in_err-place-clause-flight c =
+pub returns-in_err-index-clause-flight : goal.returns-in_err-index-clause-flight
+returns-in_err-index-clause-flight c =
     let now = c.args.self.now in
-    ap (option_map flight_value) c.from_residual.ensures ∙ sym (none_at now.slots.items now.next now.ascending now.given c.args.number c.in_err-place.ensures.none)
+    ap (option_map flight_value) c.from_residual.ensures ∙ sym (none_at now.slots.items now.next now.ascending now.given c.args.number c.in_err-index.ensures.none)
 
-pub returns-in_err-place-clause-slots : goal.returns-in_err-place-clause-slots
-returns-in_err-place-clause-slots c =
+pub returns-in_err-index-clause-slots : goal.returns-in_err-index-clause-slots
+returns-in_err-index-clause-slots c =
     let now = c.args.self.now in
-    let none = none_at now.slots.items now.next now.ascending now.given c.args.number c.in_err-place.ensures.none in
+    let none = none_at now.slots.items now.next now.ascending now.given c.args.number c.in_err-index.ensures.none in
     let e : false ≡ true = sym (ap is_some none) ∙ c.requires in
     absurd (cc e)
 
@@ -24,39 +24,39 @@ pub invariant_of-self : goal.invariant_of-self
 invariant_of-self c =
     let now = c.args.self.now in
     let slots = now.slots.items in
-    let place = c.in_ok-place.place in
+    let index = c.in_ok-index.index in
     let old = c.index_mut.result.now in
     let new : Slot = record { number = old.number; flight = c.take.new.self } in
-    let found = c.in_ok-place.ensures.found in
+    let found = c.in_ok-index.ensures.found in
     let is : old.number ≡ c.args.number = ap (λ (s : Slot). s.number) c.index_mut.ensures.value ∙ found.1 old in
-    let has : HoldsAt (λ (s : Slot). s.number ≡ old.number) slots place = λ d. found.1 d ∙ sym is in
-    let there = slot_at slots now.next now.ascending now.given c.args.number place (get_or slots place new) found.0 found.1 (sym (get_or_default slots place (get_or slots place new) new found.0)) in
-    let some = is_filled (get_or slots place new).flight (sym (ap is_some there) ∙ c.requires) in
+    let has : HoldsAt (λ (s : Slot). s.number ≡ old.number) slots index = λ d. found.1 d ∙ sym is in
+    let there = slot_at slots now.next now.ascending now.given c.args.number index (get_or slots index new) found.0 found.1 (sym (get_or_default slots index (get_or slots index new) new found.0)) in
+    let some = is_filled (get_or slots index new).flight (sym (ap is_some there) ∙ c.requires) in
     let one : ◌≡◌ {A = ℕ} (cond (is_none c.take.new.self) 1 0) 1 = ap (λ (o : Option Flight). cond (is_none o) 1 0) c.take.ensures.after in
     record {
       begun = now.begun;
-      ascending = set_ascend slots now.next now.ascending now.given new place found.0 has;
-      given = set_given slots now.next now.ascending now.given new place found.0 has;
-      counted = omega (arith, now.counted, one, set_counted slots now.next now.ascending now.given new place found.0 has some);
+      ascending = set_ascend slots now.next now.ascending now.given new index found.0 has;
+      given = set_given slots now.next now.ascending now.given new index found.0 has;
+      counted = omega (arith, now.counted, one, set_counted slots now.next now.ascending now.given new index found.0 has some);
     }
 
 pub returns-clause-flight : goal.returns-clause-flight
 returns-clause-flight c =
     let now = c.args.self.now in
-    let found = c.in_ok-place.ensures.found in
-    let there = slot_at now.slots.items now.next now.ascending now.given c.args.number c.in_ok-place.place c.index_mut.result.now found.0 found.1 c.index_mut.ensures.value in
+    let found = c.in_ok-index.ensures.found in
+    let there = slot_at now.slots.items now.next now.ascending now.given c.args.number c.in_ok-index.index c.index_mut.result.now found.0 found.1 c.index_mut.ensures.value in
     ap (option_map flight_value) c.take.ensures.value ∙ sym there
 
 pub returns-clause-slots : goal.returns-clause-slots
 returns-clause-slots c =
     let now = c.args.self.now in
     let slots = now.slots.items in
-    let place = c.in_ok-place.place in
+    let index = c.in_ok-index.index in
     let old = c.index_mut.result.now in
     let new : Slot = record { number = old.number; flight = c.take.new.self } in
-    let found = c.in_ok-place.ensures.found in
+    let found = c.in_ok-index.ensures.found in
     let is : old.number ≡ c.args.number = ap (λ (s : Slot). s.number) c.index_mut.ensures.value ∙ found.1 old in
-    let has : HoldsAt (λ (s : Slot). s.number ≡ old.number) slots place = λ d. found.1 d ∙ sym is in
-    set_means slots now.next now.ascending now.given new place found.0 has
+    let has : HoldsAt (λ (s : Slot). s.number ≡ old.number) slots index = λ d. found.1 d ∙ sym is in
+    set_means slots now.next now.ascending now.given new index found.0 has
     ∙ ap (λ (n : ℕ). slice_set (slots_of now) n (option_map flight_value c.take.new.self)) is
     ∙ ap (λ (o : Option Flight). slice_set (slots_of now) c.args.number (option_map flight_value o)) c.take.ensures.after

@@ -11,21 +11,21 @@ pub go_on-requires : goal.go_on-requires
 go_on-requires c =
     let now = c.args.self.now in
     let found = c.in-Some.ensures.found in
-    let there = slot_at now.slots.items now.next now.ascending now.given c.args.number c.in-Some.place c.index_mut.result.now found.0 found.1 c.index_mut.ensures.value in
+    let there = slot_at now.slots.items now.next now.ascending now.given c.args.number c.in-Some.index c.index_mut.result.now found.0 found.1 c.index_mut.ensures.value in
     few_hops c.index_mut.result.now.flight (subst (λ (o : Option state.Flight). IfSome o (λ f. f.hops < 255)) there c.requires.few)
 
 pub returns-in-Some-clause-slots : goal.returns-in-Some-clause-slots
 returns-in-Some-clause-slots c =
     let now = c.args.self.now in
     let slots = now.slots.items in
-    let place = c.in-Some.place in
+    let index = c.in-Some.index in
     let old = c.index_mut.result.now in
     let new : Slot = c.go_on.new.self in
     let found = c.in-Some.ensures.found in
     let is : new.number ≡ c.args.number = c.go_on.ensures.number ∙ ap (λ (s : Slot). s.number) c.index_mut.ensures.value ∙ found.1 old in
-    let has : HoldsAt (λ (s : Slot). s.number ≡ new.number) slots place = λ d. found.1 d ∙ sym is in
-    let there = slot_at slots now.next now.ascending now.given c.args.number place old found.0 found.1 c.index_mut.ensures.value in
-    set_means slots now.next now.ascending now.given new place found.0 has
+    let has : HoldsAt (λ (s : Slot). s.number ≡ new.number) slots index = λ d. found.1 d ∙ sym is in
+    let there = slot_at slots now.next now.ascending now.given c.args.number index old found.0 found.1 c.index_mut.ensures.value in
+    set_means slots now.next now.ascending now.given new index found.0 has
     ∙ ap (λ (n : ℕ). slice_set (slots_of now) n (option_map flight_value new.flight)) is
     ∙ ap (λ (o : Option state.Flight). slice_set (slots_of now) c.args.number o) (c.go_on.ensures.flight ∙ ap (option_map (gone_on c.args.node)) (sym there))
 

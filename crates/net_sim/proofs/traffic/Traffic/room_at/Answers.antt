@@ -1,6 +1,6 @@
 use Rattle.std.proofs.Common.{◌<◌, length, refl, sym, ◌∙◌, subst, arith}
 use Rattle.std.proofs.lemmas.Option.{slice_get_read, same_Some}
-use Rattle.net_sim.specs.TerminusQueues.{HasPlace}
+use Rattle.net_sim.specs.TerminusQueues.{HasRoomFor}
 use Rattle.net_check.proofs.Elements.{set_there}
 use Rattle.net_sim.proofs.Entering.{map_set_same}
 use Rattle.net_sim.proofs.traffic.Traffic.room_at.Goals as goal
@@ -17,8 +17,8 @@ returns-clause-termini g c =
     let short : c.args.node < length queues = omega (arith, c.requires, c.args.self.now.queued) in
     map_set_same _ queues c.args.node _ _ (slice_get_read queues _ _ c.index_mut.result.now refl short c.index_mut.ensures.value) c.reserve_at.ensures.state
 
-pub returns-clause-place : goal.returns-clause-place
-returns-clause-place g c =
+pub returns-clause-room : goal.returns-clause-room
+returns-clause-room g c =
     let queues = c.args.self.now.queues.items in
     let short : c.args.node < length queues = omega (arith, c.requires, c.args.self.now.queued) in
-    λ d is. subst (λ o. HasPlace o) (same_Some _ d (sym (set_there queues c.reserve_at.new.queue c.args.node short) ∙ is)) c.in_ok-reserve_at.ensures.place
+    λ d is. subst (λ o. HasRoomFor o) (same_Some _ d (sym (set_there queues c.reserve_at.new.queue c.args.node short) ∙ is)) c.in_ok-reserve_at.ensures.room

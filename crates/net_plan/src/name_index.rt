@@ -1,6 +1,6 @@
-//! Places of names in a list.
+//! NameIndex of names in a list.
 ghost use Rattle.std.specs.Prelude.{◌≡◌, ℕ, List, map, IfOk};
-ghost use Rattle.net_plan.specs.Names.{place_among, names_differ};
+ghost use Rattle.net_plan.specs.Names.{index_among, names_differ};
 
 use indexmap::IndexMap;
 use std::alloc::{AllocError, Global};
@@ -15,54 +15,54 @@ pub trait Naming {
         ensures { result.now ≡ name_of self.now item.now };
 }
 
-/// The places of the names of a list. Of two items of one name it is the first's.
+/// The indices of the names of a list. Of two items of one name it is the first's.
 #[derive(Drop)]
-pub struct Places<'a> {
+pub struct NameIndex<'a> {
     by_name: IndexMap<&'a str, usize>,
     /// How long the list is.
     count: usize,
 }
 
-impl<'a> Places<'a> {
+impl<'a> NameIndex<'a> {
     ghost use Rattle.std.specs.Prelude.{◌≡◌, ℕ, List, map, IfOk, OnOk, None, Some, is_some, not, if◌then◌else◌};
     ghost use Rattle.std.specs.Option.{option_or};
     ghost use Rattle.std.specs.Str.{bytes_eq};
-    ghost use Rattle.net_plan.specs.Names.{place_among, place_of};
-    ghost use Rattle.net_plan.specs.Places.{noted, find_in};
+    ghost use Rattle.net_plan.specs.Names.{index_among, index_of};
+    ghost use Rattle.net_plan.specs.NameIndexes.{noted, find_in};
 
     pub fn of<N: Naming>(
         alloc: Global,
         naming: &N,
         items: &'a [N::Item],
-    ) -> Result<Places<'a>, AllocError>
-        ensures found { IfOk result (λ p. (q : List ℕ) → find_in p q ≡ place_among (map (N.name_of naming.now) items.now) q) }
-        ensures placed { IfOk result (λ p. (q : List ℕ) → noted p q ≡ place_of (map (N.name_of naming.now) items.now) q) }
+    ) -> Result<NameIndex<'a>, AllocError>
+        ensures found { IfOk result (λ p. (q : List ℕ) → find_in p q ≡ index_among (map (N.name_of naming.now) items.now) q) }
+        ensures placed { IfOk result (λ p. (q : List ℕ) → noted p q ≡ index_of (map (N.name_of naming.now) items.now) q) }
     {
-        let mut places = Places::none(alloc, items.len());
-        for (place, item) in items.iter().enumerate() {
-            places.note(naming.name(item), place)?;
+        let mut known = NameIndex::none(alloc, items.len());
+        for (index, item) in items.iter().enumerate() {
+            known.note(naming.name(item), index)?;
         }
-        Ok(places)
+        Ok(known)
     }
 
-    /// No places yet, of a list that is so long.
-    fn none(alloc: Global, count: usize) -> Places<'a>
+    /// No indices yet, of a list that is so long.
+    fn none(alloc: Global, count: usize) -> NameIndex<'a>
         ensures none { (q : List ℕ) → noted result q ≡ None }
         ensures count { result.count ≡ count }
     {
-        Places {
+        NameIndex {
             by_name: IndexMap::new(alloc),
             count,
         }
     }
 
-    /// Gives a name a place, if it has none, and tells whether it had none. A name that has none is hashed once.
-    fn note(&mut self, name: &'a str, place: usize) -> Result<bool, AllocError>
+    /// Gives a name an index, if it has none, and tells whether it had none. A name that has none is hashed once.
+    fn note(&mut self, name: &'a str, index: usize) -> Result<bool, AllocError>
         ensures first { IfOk result (λ first. first ≡ not (is_some (noted self.old name.now))) }
-        ensures noted { OnOk result ((q : List ℕ) → noted self.new q ≡ option_or (noted self.old q) (if bytes_eq q name.now then Some place else None)) }
+        ensures noted { OnOk result ((q : List ℕ) → noted self.new q ≡ option_or (noted self.old q) (if bytes_eq q name.now then Some index else None)) }
         ensures count { OnOk result (self.new.count ≡ self.old.count) }
     {
-        match self.by_name.insert(name, place) {
+        match self.by_name.insert(name, index) {
             Ok(None) => Ok(true),
             Ok(Some(had)) => {
                 self.put_back(name, had)?;
@@ -72,33 +72,33 @@ impl<'a> Places<'a> {
         }
     }
 
-    /// Gives a name back the place that it had.
-    fn put_back(&mut self, name: &'a str, place: usize) -> Result<(), AllocError>
-        ensures noted { OnOk result ((q : List ℕ) → noted self.new q ≡ (if bytes_eq name.now q then Some place else noted self.old q)) }
+    /// Gives a name back the index that it had.
+    fn put_back(&mut self, name: &'a str, index: usize) -> Result<(), AllocError>
+        ensures noted { OnOk result ((q : List ℕ) → noted self.new q ≡ (if bytes_eq name.now q then Some index else noted self.old q)) }
         ensures count { OnOk result (self.new.count ≡ self.old.count) }
     {
-        match self.by_name.insert(name, place) {
+        match self.by_name.insert(name, index) {
             Ok(_) => Ok(()),
             Err(_) => Err(AllocError),
         }
     }
 
-    /// The place of a name, if it has one.
-    pub fn place(&self, name: &str) -> Option<usize>
+    /// The index of a name, if it has one.
+    pub fn index_of(&self, name: &str) -> Option<usize>
         ensures { result ≡ noted self.now name.now }
     {
         match self.by_name.get(name) {
-            Some(place) => Some(*place),
+            Some(index) => Some(*index),
             None => None,
         }
     }
 
-    /// The place of a name; the count of the list for one that has none.
+    /// The index of a name; the count of the list for one that has none.
     pub fn find(&self, name: &str) -> usize
         ensures { result ≡ find_in self.now name.now }
     {
         match self.by_name.get(name) {
-            Some(place) => *place,
+            Some(index) => *index,
             None => self.count,
         }
     }
@@ -112,9 +112,9 @@ pub fn names_differ<N: Naming>(
 ) -> Result<bool, AllocError>
     ensures { IfOk result (λ differ. differ ≡ names_differ (map (N.name_of naming.now) items.now)) }
 {
-    let mut places = Places::none(alloc, items.len());
-    for (place, item) in items.iter().enumerate() {
-        let is_new = places.note(naming.name(item), place)?;
+    let mut known = NameIndex::none(alloc, items.len());
+    for (index, item) in items.iter().enumerate() {
+        let is_new = known.note(naming.name(item), index)?;
         if !is_new {
             return Ok(false);
         }

@@ -4,10 +4,10 @@ use Rattle.mctp_transport.specs.Tables.{is_at}
 use Rattle.mctp_transport.specs.KeyNumbers.{key_number, slot_number}
 use Rattle.mctp_transport.proofs.AssemblyLaws.{position_rows}
 use Rattle.mctp_transport.proofs.KeyNumberLaws.{at_number}
-use Rattle.mctp_transport.proofs.assembler.Assembler.place_of.Goals as goal
+use Rattle.mctp_transport.proofs.assembler.Assembler.slot_of_key.Goals as goal
 
-pub returns-clause-place : goal.returns-clause-place
-returns-clause-place c =
-    c.slot_of.ensures.place
+pub returns-clause-index : goal.returns-clause-index
+returns-clause-index c =
+    c.slot_of.ensures.index
     ∙ ap (λ (n : ℕ). position (λ slot. slot_number slot == n) c.args.self.now.slots.items) c.number_of.ensures
     ∙ sym (position_rows (is_at (key_value c.args.key)) (λ o. slot_number o == key_number c.args.key) c.args.self.now.limit c.args.self.now.block.items c.args.self.now.slots.items (at_number c.args.key))
