@@ -1,5 +1,5 @@
 -- The first holders of endpoint IDs in their order: what is found among them, and one of them more.
-use Rattle.std.proofs.Common.{◌≡◌, ◌≢◌, ◌⊎◌, ℕ, ◌+◌, ◌-◌, ◌<◌, ◌≤◌, List, length, get_or, Some, None, sym, ◌∙◌, ap, subst, arith, inl, inr}
+use Rattle.std.proofs.Common.{◌≡◌, ◌≢◌, ◌⊎◌, ℕ, ◌+◌, ◌-◌, ◌<◌, ◌≤◌, List, length, get_or, option_map, Option, Some, None, refl, sym, ◌∙◌, ap, subst, arith, inl, inr}
 use Rattle.std.specs.Prelude.{slice_get}
 use Rattle.std.specs.List.{insert}
 use Rattle.std.proofs.lemmas.Bool.{cases_lt, cases_eq}
@@ -8,7 +8,6 @@ use Rattle.std.proofs.lemmas.Option.{same_Some, slice_get_within, slice_get-get_
 use Rattle.net_plan.specs.declared.plan.Plan.{Plan}
 use Rattle.net_check.specs.declared.holders.Holder.{Holder}
 use Rattle.net_check.specs.Routing.{Holds}
-use Rattle.net_check.specs.Stretches.{IsStretch}
 use Rattle.net_check.specs.Following.{EndedBy}
 use Rattle.net_check.specs.Holders.{IsFirstHolder, HoldersAscend, AreFirstHolders}
 use Rattle.net_check.proofs.Elements.{element}
@@ -55,6 +54,22 @@ module _ {X : Type 0} (xs : List X) (at : ℕ) (x : X) (within : at ≤ length x
       slice_get-get_or (insert xs at x) (i + 1) y (omega arith) ∙ ap Some (get_or-insert_above xs at x y i after within ∙ get_or_from_slice_get xs i y y is)
 
 -- ---- what is found among the holders
+
+-- a holder with the EID is there
+held_there : (o : Option Holder) (e : ℕ) → option_map (λ (h : Holder). h.eid.value) o ≡ Some e → (h : Holder) × (o ≡ Some h) × (h.eid.value ≡ e)
+held_there None e is = absurd (cc)
+held_there (Some h) e is = (h, refl, same_Some h.eid.value e is)
+
+abbrev pub StandsAt : List Holder → ℕ → ℕ → Type 0
+StandsAt holders at e = option_map (λ (h : Holder). h.eid.value) (slice_get holders at) ≡ Some e
+
+pub stands_within : (holders : List Holder) (at e : ℕ) → StandsAt holders at e → at < length holders
+stands_within holders at e stands = let there = held_there (slice_get holders at) e stands in slice_get_within holders at there.0 there.1
+
+-- and where none stands, whoever stands there has another
+no_other : (holders : List Holder) (at e : ℕ) → ¬ StandsAt holders at e → (h : Holder) → slice_get holders at ≡ Some h → h.eid.value ≢ e
+no_other holders at e not h is same = not (ap (option_map (λ (x : Holder). x.eid.value)) is ∙ ap Some same)
+
 module _ (holders : List Holder) (ascend : HoldersAscend holders) (e at : ℕ) (by : EndedBy (λ (h : Holder). h.eid.value + 1) holders e at) where
   index_of : (k : ℕ) (h : Holder) → slice_get holders k ≡ Some h → h.eid.value ≡ e → k ≡ at
   index_of k h is same = elim (cases_lt k at) [
@@ -73,48 +88,18 @@ module _ (holders : List Holder) (ascend : HoldersAscend holders) (e at : ℕ) (
   stands_there : (k : ℕ) (h : Holder) → slice_get holders k ≡ Some h → h.eid.value ≡ e → slice_get holders at ≡ Some h
   stands_there k h is same = ap (λ i. slice_get holders i) (sym (index_of k h is same)) ∙ is
 
-  -- no EID is held from e to before that of the holder there
-  none_before : (plan : Plan) → AreFirstHolders plan (length plan.nodes.items) holders → (end : ℕ) → ((h : Holder) → slice_get holders at ≡ Some h → end ≤ h.eid.value)
-      → (d : ℕ) → e ≤ d → d < end → (n : ℕ) → ¬ Holds plan n d
-  none_before plan are end high d from before n holds =
-      let (k, h, is, same) = are.all n d (held_within plan n d holds) holds in
-      elim (cases_lt k at) [
-        | inl less ↦ (let low = by.ended k less h is in omega arith)
-        | inr le ↦ elim (cases_lt at k) [
-          | inl after ↦ (
-              let inside = slice_get_within holders k h is in
-              let y = element holders at (omega arith) in
-              let apart = ascend at k y.0 h after y.1 is in
-              let top = high y.0 y.1 in
-              omega arith)
-          | inr last ↦ (
-              let one : k ≡ at = omega arith in
-              let top = high h (ap (λ i. slice_get holders i) (sym one) ∙ is) in
-              omega arith)
-        ]
-      ]
-
 module _ (plan : Plan) (holders : List Holder) (are : AreFirstHolders plan (length plan.nodes.items) holders) (e at : ℕ) (by : EndedBy (λ (h : Holder). h.eid.value + 1) holders e at) where
-  pub first_there : (h : Holder) → slice_get holders at ≡ Some h → h.eid.value ≡ e → IsFirstHolder plan e (Some h.node)
-  first_there h is same = let P : ℕ → Type 0 = λ d. IsFirstHolder plan d (Some h.node) in subst P same (are.first at h is)
+  pub first_there : StandsAt holders at e → (h : Holder) → slice_get holders at ≡ Some h → IsFirstHolder plan e (Some h.node)
+  first_there stands h is =
+      let there = held_there (slice_get holders at) e stands in
+      let one : there.0 ≡ h = same_Some there.0 h (sym there.1 ∙ is) in
+      let P : ℕ → Type 0 = λ d. IsFirstHolder plan d (Some h.node) in
+      subst P (ap (λ (x : Holder). x.eid.value) (sym one) ∙ there.2) (are.first at h is)
 
-  pub first_none : ((h : Holder) → slice_get holders at ≡ Some h → h.eid.value ≢ e) → IsFirstHolder plan e None
-  first_none other n holds =
+  pub first_none : ¬ StandsAt holders at e → IsFirstHolder plan e None
+  first_none not n holds =
       let (k, h, is, same) = are.all n e (held_within plan n e holds) holds in
-      other h (stands_there holders are.ascend e at by k h is same) same
-
-  -- where it stands, the stretch is one endpoint ID
-  pub alone_alike : (end : ℕ) → end ≡ e + 1 → (n : ℕ) → IsStretch (Holds plan n) e end
-  alone_alike end is n = (
-    omega arith,
-    λ d low high. (let same : e ≡ d = omega arith in (λ h. subst (λ k. Holds plan n k) (sym same) h, λ h. subst (λ k. Holds plan n k) same h)),
-  )
-
-  -- and else the next one ends it
-  pub none_alike : (end : ℕ) → e < end → ((h : Holder) → slice_get holders at ≡ Some h → end ≤ h.eid.value) → (n : ℕ) → IsStretch (Holds plan n) e end
-  none_alike end some high n =
-      let none = none_before holders are.ascend e at by plan are end high in
-      (some, λ d low less. (λ h. absurd (none d low less n h), λ h. absurd (none e (omega arith) some n h)))
+      no_other holders at e not h (stands_there holders are.ascend e at by k h is same) same
 
 -- ---- and with one node more
 module _ (plan : Plan) (n : ℕ) (holders : List Holder) (are : AreFirstHolders plan n holders) (e at : ℕ) (by : EndedBy (λ (h : Holder). h.eid.value + 1) holders e at)
@@ -122,17 +107,22 @@ module _ (plan : Plan) (n : ℕ) (holders : List Holder) (are : AreFirstHolders 
   its_eid : (m d : ℕ) → n ≤ m → m < n + 1 → Holds plan m d → e ≡ d
   its_eid m d after last holds = let one : m ≡ n = omega arith in same_Some e d (sym here ∙ subst (λ k. Holds plan k d) one holds)
 
-  pub had : (h : Holder) → slice_get holders at ≡ Some h → h.eid.value ≡ e → AreFirstHolders plan (n + 1) holders
-  had h is same = record {
-    ascend = are.ascend;
-    first = are.first;
-    all = λ m d lt holds. elim (cases_lt m n) [
-      | inl less ↦ are.all m d less holds
-      | inr last ↦ (at, h, is, same ∙ its_eid m d last lt holds)
-    ];
-  }
+  pub had : StandsAt holders at e → AreFirstHolders plan (n + 1) holders
+  had stands =
+      let there = held_there (slice_get holders at) e stands in
+      record {
+        ascend = are.ascend;
+        first = are.first;
+        all = λ m d lt holds. elim (cases_lt m n) [
+          | inl less ↦ are.all m d less holds
+          | inr last ↦ (at, there.0, there.1, there.2 ∙ its_eid m d last lt holds)
+        ];
+      }
 
-  module _ (other : (h : Holder) → slice_get holders at ≡ Some h → h.eid.value ≢ e) (one : Holder) (eid : one.eid.value ≡ e) (node : one.node ≡ n) where
+  module _ (not : ¬ StandsAt holders at e) (one : Holder) (eid : one.eid.value ≡ e) (node : one.node ≡ n) where
+    other : (h : Holder) → slice_get holders at ≡ Some h → h.eid.value ≢ e
+    other = no_other holders at e not
+
     is_first : IsFirstHolder plan one.eid.value (Some one.node)
     is_first =
         let none : (m : ℕ) → m < n → ¬ Holds plan m e = λ m less holds.

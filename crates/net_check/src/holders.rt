@@ -51,10 +51,12 @@ impl<'a> Holders<'a> {
     pub fn first(&self, eid: Eid) -> Option<usize>
         ensures { IsFirstHolder self.now eid.value result }
     {
-        let index = index_from(self.by_eid.as_slice(), eid);
-        match self.by_eid.get(index) {
-            Some(holder) if holder.eid == eid => Some(holder.node),
-            _ => None,
+        let holders = self.by_eid.as_slice();
+        let index = index_from(holders, eid);
+        if stands_at(holders, index, eid) {
+            Some(holders[index].node)
+        } else {
+            None
         }
     }
 
