@@ -6,7 +6,7 @@ use Rattle.json.specs.Strict.{keys, HasUniqueKeys, ItemsHaveUniqueKeys, MembersH
 use Rattle.json.specs.Token.{Token}
 use Rattle.json.specs.Tree.{json_tokens}
 use Rattle.json.specs.Value.{members_view}
-use Rattle.json.proofs.Unique.NameIndex.{DistinctEverywhere, DistinctEverywhere-from_unique, HasUniqueKeys-from_places}
+use Rattle.json.proofs.Unique.Places.{DistinctEverywhere, DistinctEverywhere-from_unique, HasUniqueKeys-from_places}
 use Rattle.json.proofs.Unique.Spelling.{value-json_tokens_back}
 use Rattle.serde_json.specs.Data.{Data}
 use Rattle.serde_json.specs.Read.{of_json, max_depth, read}

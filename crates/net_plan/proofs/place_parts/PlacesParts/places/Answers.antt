@@ -8,5 +8,5 @@ returns c =
     let p = c.args.self in
     let is_node : p.node ≡ Some c.in_ok-node.node = search rules in
     let is_places : p.places ≡ Some c.in_ok-places.places = search rules in
-    let is_place : noted c.args.nodes.now c.in_ok-node.node.now ≡ Some c.in_ok-place.place = search rules in
-    places_of (noted c.args.nodes.now) p c.in_ok-node.node c.in_ok-places.places c.in_ok-place.place is_node is_places is_place
+    let is_place : noted c.args.nodes.now c.in_ok-node.node.now ≡ Some c.in_ok-index.index = search rules in
+    places_of (noted c.args.nodes.now) p c.in_ok-node.node c.in_ok-places.places c.in_ok-index.index is_node is_places is_place
