@@ -1,5 +1,5 @@
 -- Rows and rank ranges that follow one another along the endpoint IDs.
-use Rattle.std.specs.Prelude.{◌≡◌, ℕ, ◌+◌, ◌<◌, ◌≤◌, List, length, slice_get, slice_index_or}
+use Rattle.std.specs.Prelude.{◌≡◌, ℕ, ◌+◌, ◌<◌, ◌≤◌, List, length, slice_get}
 use Rattle.std.specs.Prelude.{Some, option_map}
 use Rattle.net_plan.specs.declared.plan.Plan.{Plan}
 use Rattle.net_plan.specs.declared.nodes.Row.{Row}
@@ -9,7 +9,7 @@ use Rattle.net_check.specs.declared.plans.Plans.{Plans}
 use Rattle.net_check.specs.declared.rows_in_force.RowOrder.{RowOrder}
 use Rattle.net_check.specs.declared.rows_in_force.RowOrder.TheVariants.{Following}
 use Rattle.net_check.specs.Routing.{OfItem, Covers, rows_of}
-use Rattle.net_check.specs.Ranks.{rank}
+use Rattle.net_check.specs.Stretches.{ranges_of}
 
 -- each item ends before any later one begins
 abbrev pub Follow : {A : Type 0} → (A → ℕ) → (A → ℕ) → List A → Type 0
@@ -43,7 +43,6 @@ abbrev pub DoNewRowsFollow : Plans → ℕ → RowOrder → Type 0
 DoNewRowsFollow plans n order =
     (after : Plan) → option_map (λ a. a.now) plans.after ≡ Some after → DoRowsFollow after n order
 
--- tables of ranks by EID, each as the certificate gives them to the node of its index
-abbrev pub AreRankTables : Certificate → List (List ℕ) → Type 0
-AreRankTables cert tables =
-    (n : ℕ) → OfItem tables n (λ table. (e : ℕ) → e < 256 → slice_index_or table e 0 ≡ rank cert n e)
+-- lists of ranges by the index of a node, each as the certificate gives it to that node
+abbrev pub AreRangesByNode : Certificate → List (List RankRange) → Type 0
+AreRangesByNode cert lists = (n : ℕ) → OfItem lists n (λ ranges. ranges ≡ ranges_of cert n)

@@ -51,7 +51,7 @@ pub fn certify(alloc: Global, plan: &Plan) -> Result<Certificate, CertifyError>
         places: Vec::new(alloc),
         ranks: Vec::new(alloc),
     };
-    let holders = Holders::of(plan);
+    let holders = Holders::of(alloc, plan)?;
     for rule in RULES {
         meet_rule(alloc, plan, &holders, rule, &mut made)?;
     }

@@ -53,7 +53,7 @@ impl<'a> Checked<'a> {
 }
 
 /// Whether each rule holds of the plan and the certificate. Otherwise the error is the first fault, or out of memory:
-/// it takes sets of the handles and places of one terminus after the other.
+/// it takes lists with an entry for each node, and sets of the handles and places of one terminus after the other.
 #[tactic(auto, using(crate::proofs::Ends::ends_within_rank, crate::proofs::Whole::whole_headline, crate::proofs::Whole::accepted_delivers, crate::proofs::Exact::runs_as_sent))]
 pub fn check<'a>(
     alloc: Global,

@@ -22,7 +22,7 @@ pub fn first_of_all(
 ) -> Result<Option<Fault>, AllocError>
     ensures { IfOk result (IsFirstOfAll plan.now certificate.now) }
 {
-    let holders = Holders::of(plan);
+    let holders = Holders::of(alloc, plan)?;
     for rule in RULES {
         if let Some(fault) = first_of_rule(alloc, plan, &holders, certificate, rule)? {
             return Ok(Some(fault));
@@ -56,7 +56,7 @@ pub fn first_of_rule(
     Ok(None)
 }
 
-/// The certified ranks, with a table for each node where the rule looks them up.
+/// The certified ranks, with the ranges of each node at hand where the rule looks them up.
 fn ranks_for<'a>(
     alloc: Global,
     plan: &Plan,

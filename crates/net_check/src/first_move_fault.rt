@@ -37,8 +37,8 @@ pub fn meet_rules_of_move(
     if let Some(node) = first_unlike_node(before, after) {
         return Err(MoveError::Differ(Some(node)));
     }
-    let holders = Holders::of(before);
-    let new_holders = Holders::of(after);
+    let holders = Holders::of(alloc, before)?;
+    let new_holders = Holders::of(alloc, after)?;
     if let Some(fault) = first_of_old(alloc, before, &holders, certificate)? {
         return Err(MoveError::Old(fault_of_plan(fault)));
     }
