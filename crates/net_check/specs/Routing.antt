@@ -1,4 +1,4 @@
--- What a plan says of its nodes and their rows, as the rules and the network read it. A node is named by its place.
+-- What a plan says of its nodes and their rows, as the rules and the network read it. A node is named by its index.
 use Rattle.std.specs.Prelude.{◌≡◌, ℕ, ◌+◌, ◌<◌, ◌≤◌, List, [], Option, Some, option_map, unwrap_or, slice_get}
 use Rattle.net_plan.specs.declared.plan.Plan.{Plan}
 use Rattle.net_plan.specs.declared.nodes.Node.{Node}
