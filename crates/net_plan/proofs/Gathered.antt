@@ -190,6 +190,10 @@ number_next old new s (Some n) is e =
     let h = whole_number_plain (number_of s) n (sym e) in
     next_is (Json.number s) (λ j. IsNumber (data_of j) n × IsPlain j) (Token.number s) old new is (λ depth. value_is depth (Token.number s ∷ new)) (ap number h.0, (h.1, refl))
 
+pub short_next : (old new : List Token) (s : List ℕ) (o : Option ℕ) → old ≡ Token.number s ∷ new → IfSome o (λ n. as_u64 (num_of s) ≡ Some n) → IfSome o (λ n. IsNext old new (λ j. IsNumber (data_of j) n × IsPlain j))
+short_next old new s None is e = tt
+short_next old new s (Some n) is e = number_next old new s (Some n) is (sym e)
+
 pub hex_next : (old new : List Token) (s bytes : List ℕ) → old ≡ Token.string s ∷ new → decode_of s ≡ Ok bytes → IsNext old new (λ j. IsHex (data_of j) bytes × IsPlain j)
 hex_next old new s bytes is e = next_is (Json.string s) (λ j. IsHex (data_of j) bytes × IsPlain j) (Token.string s) old new is (λ depth. value_is depth (Token.string s ∷ new)) ((s, refl, e), (refl, refl))
 

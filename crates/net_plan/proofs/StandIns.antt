@@ -35,6 +35,8 @@ use Rattle.net_plan.specs.declared.skeleton.CutParts.{CutParts}
 use Rattle.net_plan.specs.declared.skeleton.NodeSkeleton.{NodeSkeleton}
 use Rattle.net_plan.specs.declared.skeleton.PlacedParts.{PlacedParts}
 use Rattle.net_plan.specs.declared.terminus.PlannedTerminus.{PlannedTerminus}
+use Rattle.net_plan.specs.NameText.{is_name}
+use Rattle.net_plan.proofs.Placed.{passes}
 use Rattle.net_plan.proofs.PlanLaw.{first_within}
 use Rattle.net_plan.proofs.Gathered.{is_some_map, no_Some, same_Some, shown}
 use Rattle.net_plan.proofs.Telling.{both}
@@ -157,33 +159,35 @@ module _ (cut : List ℕ) where
 -- ---- nodes
 
 module _ (nodes : List (List ℕ)) where
-  row_full : (d : Data) (r : NamedRowValue) → IsNamedRowOf d r → is_row_placed (length nodes) (found_row (index_among nodes) r) ≡ true → IsRowOf nodes d (found_row (index_among nodes) r)
-  row_full d r is pass = record {
-    keys = is.keys;
-    first = is.first;
-    size = is.size;
-    port = is.port;
-    next = (is.next.0, is.next.1, (r.next, is.next.2, first_within nodes r.next (ltb-true (index_among nodes r.next) (length nodes) pass)));
-  }
+  row_full : list_all is_name nodes ≡ true → (d : Data) (r : NamedRowValue) → IsNamedRowOf d r → is_row_placed (length nodes) (found_row (index_among nodes) r) ≡ true → IsRowOf nodes d (found_row (index_among nodes) r)
+  row_full spelled d r is pass =
+      let here = first_within nodes r.next (ltb-true (index_among nodes r.next) (length nodes) pass) in
+      record {
+        keys = is.keys;
+        first = is.first;
+        size = is.size;
+        port = is.port;
+        next = (is.next.0, is.next.1, (r.next, (is.next.2, passes is_name nodes (index_among nodes r.next) r.next spelled here.stands), here));
+      }
 
-  rows_full : (ds : whole.Items) (rs : List NamedRowValue) → AreItems IsNamedRowOf ds rs → list_all (is_row_placed (length nodes)) (map (found_row (index_among nodes)) rs) ≡ true
+  rows_full : list_all is_name nodes ≡ true → (ds : whole.Items) (rs : List NamedRowValue) → AreItems IsNamedRowOf ds rs → list_all (is_row_placed (length nodes)) (map (found_row (index_among nodes)) rs) ≡ true
       → AreItems (IsRowOf nodes) ds (map (found_row (index_among nodes)) rs)
-  rows_full whole.no_items [] h pass = tt
-  rows_full whole.no_items (r ∷ rs) h pass = absurd h
-  rows_full (whole.item d ds) [] h pass = absurd h
-  rows_full (whole.item d ds) (r ∷ rs) h pass =
+  rows_full spelled whole.no_items [] h pass = tt
+  rows_full spelled whole.no_items (r ∷ rs) h pass = absurd h
+  rows_full spelled (whole.item d ds) [] h pass = absurd h
+  rows_full spelled (whole.item d ds) (r ∷ rs) h pass =
       let p = both (is_row_placed (length nodes) (found_row (index_among nodes) r)) (list_all (is_row_placed (length nodes)) (map (found_row (index_among nodes)) rs)) pass in
-      (row_full d r h.0 p.0, rows_full ds rs h.1 p.1)
+      (row_full spelled d r h.0 p.0, rows_full spelled ds rs h.1 p.1)
 
-  short_rows_full : (d : Data) (rs : List NamedRowValue) → IsShortListOf 256 IsNamedRowOf d rs → list_all (is_row_placed (length nodes)) (map (found_row (index_among nodes)) rs) ≡ true
+  short_rows_full : list_all is_name nodes ≡ true → (d : Data) (rs : List NamedRowValue) → IsShortListOf 256 IsNamedRowOf d rs → list_all (is_row_placed (length nodes)) (map (found_row (index_among nodes)) rs) ≡ true
       → IsShortListOf 256 (IsRowOf nodes) d (map (found_row (index_among nodes)) rs)
-  short_rows_full d rs h pass = ((h.0.0, h.0.1, rows_full h.0.0 rs h.0.2 pass), subst (λ n. n ≤ 256) (sym (length-map rs (found_row (index_among nodes)))) h.1)
+  short_rows_full spelled d rs h pass = ((h.0.0, h.0.1, rows_full spelled h.0.0 rs h.0.2 pass), subst (λ n. n ≤ 256) (sym (length-map rs (found_row (index_among nodes)))) h.1)
 
 module _ (buses nodes : List (List ℕ)) where
-  node_full : (v : NodeValue) (c : CutValue) (ms mid ls : Members) → AreStandIns (codes "terminus") (IsCutTerminus (Some c.terminus)) ms mid → AreStandIns (codes "rows") (IsCutRows (Some c.rows)) mid ls
+  node_full : list_all is_name nodes ≡ true → (v : NodeValue) (c : CutValue) (ms mid ls : Members) → AreStandIns (codes "terminus") (IsCutTerminus (Some c.terminus)) ms mid → AreStandIns (codes "rows") (IsCutRows (Some c.rows)) mid ls
       → list_all (is_row_placed (length nodes)) (map (found_row (index_among nodes)) c.rows) ≡ true → IsNodeOf buses nodes (data_of (object ls)) v
       → IsNodeOf buses nodes (data_of (object ms)) (with_part v (found_value (index_among nodes) c))
-  node_full v c ms mid ls h i pass is =
+  node_full spelled v c ms mid ls h i pass is =
       let cut = codes "terminus" in
       let R = IsCutTerminus (Some c.terminus) in
       let rows = codes "rows" in
@@ -198,17 +202,17 @@ module _ (buses nodes : List (List ℕ)) where
         pool = at_same cut R ms mid h (codes "pool") (IsOptional IsPoolOf) v.pool refl (at_same rows S mid ls i (codes "pool") (IsOptional IsPoolOf) v.pool refl is.pool);
         ports = at_same cut R ms mid h (codes "ports") (IsShortListOf 32 (IsPortOf buses)) v.ports refl (at_same rows S mid ls i (codes "ports") (IsShortListOf 32 (IsPortOf buses)) v.ports refl is.ports);
         rows = at_same cut R ms mid h rows (IsShortListOf 256 (IsRowOf nodes)) found refl
-            (at_cut rows S mid ls i (IsShortListOf 256 (IsRowOf nodes)) (IsShortListOf 256 (IsRowOf nodes)) v.rows found (λ j l r p. short_rows_full nodes (data_of j) c.rows r.0 pass) is.rows);
+            (at_cut rows S mid ls i (IsShortListOf 256 (IsRowOf nodes)) (IsShortListOf 256 (IsRowOf nodes)) v.rows found (λ j l r p. short_rows_full nodes spelled (data_of j) c.rows r.0 pass) is.rows);
         terminus = at_cut cut R ms mid h (IsOptional IsTerminusOf) (IsOptional IsTerminusOf) v.terminus c.terminus (λ j l r p. r.0)
             (at_same rows S mid ls i (codes "terminus") (IsOptional IsTerminusOf) v.terminus refl is.terminus);
       }
 
-  item_full : (v : NodeValue) (j : Json) (s : NodeSkeleton) → IsNodeSkeleton j s → IsNodeOf buses nodes (view s.value) v
+  item_full : list_all is_name nodes ≡ true → (v : NodeValue) (j : Json) (s : NodeSkeleton) → IsNodeSkeleton j s → IsNodeOf buses nodes (view s.value) v
       → list_all (is_row_placed (length nodes)) (map (found_row (index_among nodes)) (cut_value s.parts).rows) ≡ true
       → IsNodeOf buses nodes (data_of j) (with_part v (found_value (index_among nodes) (cut_value s.parts)))
-  item_full v j s h is pass =
+  item_full spelled v j s h is pass =
       subst (λ i. IsNodeOf buses nodes (data_of i) (with_part v (found_value (index_among nodes) (cut_value s.parts)))) (sym h.3)
-      (node_full v (cut_value s.parts) h.0 h.1 h.2 h.5 h.6 pass (subst (λ i. IsNodeOf buses nodes (data_of i) v) h.4 is))
+      (node_full spelled v (cut_value s.parts) h.0 h.1 h.2 h.5 h.6 pass (subst (λ i. IsNodeOf buses nodes (data_of i) v) h.4 is))
 
   rows_placed : (b : ℕ) (n : NodeValue) → is_node_placed b (length nodes) n ≡ true → list_all (is_row_placed (length nodes)) n.rows ≡ true
   rows_placed b n pass =
@@ -218,17 +222,17 @@ module _ (buses nodes : List (List ℕ)) where
   abbrev filled : List NodeValue → List NodeSkeleton → List NodeValue
   filled vs ss = with_parts vs (map (found_value (index_among nodes)) (map (λ s. cut_value s.parts) ss))
 
-  items_full : (b : ℕ) (js : Items) (ss : List NodeSkeleton) (vs : List NodeValue) → EachIs IsNodeSkeleton js ss → AreItems (IsNodeOf buses nodes) (items_view (map (λ s. s.value) ss)) vs
+  items_full : list_all is_name nodes ≡ true → (b : ℕ) (js : Items) (ss : List NodeSkeleton) (vs : List NodeValue) → EachIs IsNodeSkeleton js ss → AreItems (IsNodeOf buses nodes) (items_view (map (λ s. s.value) ss)) vs
       → list_all (is_node_placed b (length nodes)) (filled vs ss) ≡ true → AreItems (IsNodeOf buses nodes) (items_of js) (filled vs ss)
-  items_full b no_items [] [] h is pass = tt
-  items_full b no_items [] (v ∷ vs) h is pass = absurd is
-  items_full b no_items (s ∷ ss) vs h is pass = absurd h
-  items_full b (item j js) [] vs h is pass = absurd h
-  items_full b (item j js) (s ∷ ss) [] h is pass = absurd is
-  items_full b (item j js) (s ∷ ss) (v ∷ vs) h is pass =
+  items_full spelled b no_items [] [] h is pass = tt
+  items_full spelled b no_items [] (v ∷ vs) h is pass = absurd is
+  items_full spelled b no_items (s ∷ ss) vs h is pass = absurd h
+  items_full spelled b (item j js) [] vs h is pass = absurd h
+  items_full spelled b (item j js) (s ∷ ss) [] h is pass = absurd is
+  items_full spelled b (item j js) (s ∷ ss) (v ∷ vs) h is pass =
       let here = with_part v (found_value (index_among nodes) (cut_value s.parts)) in
       let p = both (is_node_placed b (length nodes) here) (list_all (is_node_placed b (length nodes)) (filled vs ss)) pass in
-      (item_full v j s h.0 is.0 (rows_placed b here p.0), items_full b js ss vs h.1 is.1 p.1)
+      (item_full spelled v j s h.0 is.0 (rows_placed b here p.0), items_full spelled b js ss vs h.1 is.1 p.1)
 
   names_filled : (js : Items) (ss : List NodeSkeleton) (vs : List NodeValue) → EachIs IsNodeSkeleton js ss → AreItems (IsNodeOf buses nodes) (items_view (map (λ s. s.value) ss)) vs → node_names (filled vs ss) ≡ node_names vs
   names_filled no_items [] [] h is = refl
@@ -237,6 +241,13 @@ module _ (buses nodes : List (List ℕ)) where
   names_filled (item j js) [] vs h is = absurd h
   names_filled (item j js) (s ∷ ss) [] h is = absurd is
   names_filled (item j js) (s ∷ ss) (v ∷ vs) h is = ap (λ ns. v.name ∷ ns) (names_filled js ss vs h.1 is.1)
+
+-- the nodes that were read have names
+names_spelled : (buses nodes : List (List ℕ)) (ds : whole.Items) (vs : List NodeValue) → AreItems (IsNodeOf buses nodes) ds vs → list_all is_name (node_names vs) ≡ true
+names_spelled buses nodes whole.no_items [] h = refl
+names_spelled buses nodes whole.no_items (v ∷ vs) h = absurd h
+names_spelled buses nodes (whole.item d ds) [] h = absurd h
+names_spelled buses nodes (whole.item d ds) (v ∷ vs) h = shown (is_name v.name) (list_all is_name (node_names vs)) h.0.name.2.1 (names_spelled buses nodes ds vs h.1)
 
 same_items : {ds es : whole.Items} → whole.array ds ≡ whole.array es → ds ≡ es
 same_items e = cc
@@ -261,7 +272,8 @@ list_full buses b cs vs j l h pass is =
     let count : length all ≡ length vs = sym (length-map all (λ n. n.name)) ∙ ap length named ∙ length-map vs (λ n. n.name) in
     let passed : are_placed b all ≡ true = subst (λ us. are_placed b (all_filled vs us) ≡ true) h.3 pass in
     let here : list_all (is_node_placed b (length names)) all ≡ true = ap (λ n. list_all (is_node_placed b n) all) (length-map vs (λ n. n.name) ∙ sym count) ∙ passed in
-    let read = items_full buses names b js ss vs h.1.2 lean here in
+    let spelled = names_spelled buses names (items_view (map (λ s. s.value) ss)) vs lean in
+    let read = items_full buses names spelled b js ss vs h.1.2 lean here in
     let renamed = subst (λ ns. AreItems (IsNodeOf buses ns) (items_of js) all) (sym named) read in
     subst (λ us. AreNodes buses (data_of j) (all_filled vs us)) (sym h.3) ((items_of js, ap data_of h.1.1, renamed), subst (λ n. n ≤ 64) (sym count) is.1)
 

@@ -49,6 +49,10 @@ IsTruth d b = d ≡ boolean b
 abbrev pub IsName : Data → List ℕ → Type 0
 IsName d s = (d ≡ string s) × IsTrue (is_name s)
 
+-- a text
+abbrev pub IsString : Data → List ℕ → Type 0
+IsString d s = d ≡ string s
+
 -- this text
 abbrev pub IsText : List ℕ → Data → Type 0
 IsText s d = d ≡ string s

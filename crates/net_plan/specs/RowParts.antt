@@ -3,7 +3,7 @@ use Rattle.std.specs.Prelude.{ℕ, codes, List, option_map}
 use Rattle.json.specs.Json.{Members}
 use Rattle.serde_json.specs.Data.{Data}
 use Rattle.net_plan.specs.Gathered.{ArePlain, IsGathered}
-use Rattle.net_plan.specs.JsonWords.{HasKeys, At, IsName, IsNumberWithin}
+use Rattle.net_plan.specs.JsonWords.{HasKeys, At, IsString, IsNumberWithin}
 use Rattle.net_plan.specs.Keys.{row_keys}
 use Rattle.net_plan.specs.PlanText.{IsByte}
 use Rattle.net_plan.specs.declared.row_parts.NamedRow.{NamedRow}
@@ -14,9 +14,9 @@ pub record AreRowParts (p : RowParts) (ms : Members) : Type 0 where
   pub first : IsGathered (codes "first") IsByte p.first ms
   pub size : IsGathered (codes "size") IsByte p.size ms
   pub port : IsGathered (codes "port") (IsNumberWithin 0 31) p.port ms
-  pub next : IsGathered (codes "next") IsName (option_map (λ name. name.now) p.next) ms
+  pub next : IsGathered (codes "next") IsString (option_map (λ name. name.now) p.next) ms
 
--- a row whose next node is still a name
+-- a row whose next node is still a text, which may be no name
 pub record NamedRowValue : Type 0 where
   pub first : ℕ
   pub size : ℕ
@@ -31,4 +31,4 @@ pub record IsNamedRowOf (d : Data) (r : NamedRowValue) : Type 0 where
   pub first : At (codes "first") IsByte d r.first
   pub size : At (codes "size") IsByte d r.size
   pub port : At (codes "port") (IsNumberWithin 0 31) d r.port
-  pub next : At (codes "next") IsName d r.next
+  pub next : At (codes "next") IsString d r.next

@@ -5,7 +5,7 @@ ghost use Rattle.net_plan.specs.JsonWords.{IsName, IsNumber, IsNumberWithin, IsH
 ghost use Rattle.net_plan.specs.PlanText.{IsByte, IsWord};
 ghost use Rattle.net_plan.specs.Trees.{data_of};
 
-use crate::json_number::whole;
+use crate::json_number::{short_whole, whole};
 use crate::words::is_name;
 use json::{Reader, Token};
 use std::alloc::Global;
@@ -32,11 +32,36 @@ pub fn next_number_within(reader: &mut Reader<'_>, least: u64, most: u64) -> Opt
     Some(number)
 }
 
+/// A whole number of at most three digits.
+#[inline(always)]
+fn next_short(reader: &mut Reader<'_>) -> Option<u64>
+    ensures { IfSome result (λ n. IsNext reader.old reader.new (λ j. IsNumber (data_of j) n × IsPlain j)) }
+{
+    let Some(Token::Number(text)) = reader.next() else {
+        return None;
+    };
+    short_whole(text)
+}
+
+/// A whole number of at most three digits between two bounds.
+#[inline(always)]
+pub fn next_short_within(reader: &mut Reader<'_>, least: u64, most: u64) -> Option<u64>
+    ensures read { IfSome result (λ n. IsNext reader.old reader.new (λ j. IsNumberWithin least most (data_of j) n × IsPlain j)) }
+    ensures bound { IfSome result (λ n. (least ≤ n) × (n ≤ most)) }
+{
+    let number = next_short(reader)?;
+    if most < number || number < least {
+        return None;
+    }
+    Some(number)
+}
+
 /// A byte.
+#[inline(always)]
 pub fn next_byte(reader: &mut Reader<'_>) -> Option<u8>
     ensures { IfSome result (λ n. IsNext reader.old reader.new (λ j. IsByte (data_of j) n × IsPlain j)) }
 {
-    Some(next_number_within(reader, 0, 255)? as u8)
+    Some(next_short_within(reader, 0, 255)? as u8)
 }
 
 /// A number of 32 bits.
@@ -57,6 +82,7 @@ pub fn next_truth(reader: &mut Reader<'_>) -> Option<bool>
 }
 
 /// A text.
+#[inline(always)]
 pub fn next_text<'t>(reader: &mut Reader<'t>) -> Option<&'t str>
     ensures { IfSome result (λ text. IsNext reader.old reader.new (λ j. IsText text.now (data_of j) × IsPlain j)) }
 {

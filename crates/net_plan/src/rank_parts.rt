@@ -12,7 +12,7 @@ use crate::certificate::{NodeRanks, RankRange};
 use crate::certificate_text::ascends;
 use crate::gather::{Gather, NextItem, next_list, read_object};
 use crate::name_index::NameIndex;
-use crate::next_value::{next_byte, next_name, next_number_within};
+use crate::next_value::{next_byte, next_name, next_short_within};
 use json::Reader;
 use mctp_transport::Eid;
 use std::alloc::Global;
@@ -52,7 +52,7 @@ impl RangeParts {
         if self.rank.is_some() {
             return None;
         }
-        self.rank = Some(next_number_within(reader, 1, 255)? as u8);
+        self.rank = Some(next_short_within(reader, 1, 255)? as u8);
         Some(())
     }
 
@@ -62,7 +62,7 @@ impl RangeParts {
         if self.size.is_some() {
             return None;
         }
-        self.size = Some(next_number_within(reader, 1, 255)? as u8);
+        self.size = Some(next_short_within(reader, 1, 255)? as u8);
         Some(())
     }
 
@@ -90,6 +90,7 @@ impl<'t> Gather<'t> for RangeParts {
 
     ghost given = { λ _. tt };
 
+    #[inline(always)]
     fn take(
         &mut self,
         _alloc: Global,

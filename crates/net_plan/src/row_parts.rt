@@ -7,17 +7,17 @@ ghost use Rattle.net_plan.specs.RowParts.{AreRowParts, IsNamedRowOf, named_row};
 ghost use Rattle.net_plan.specs.Trees.{data_of};
 
 use crate::gather::{Gather, NextItem, read_object};
-use crate::next_value::{next_byte, next_name, next_number_within};
+use crate::next_value::{next_byte, next_short_within, next_text};
 use json::Reader;
 use std::alloc::Global;
 
-/// A row whose next node is still a name.
+/// A row whose next node is still a text. Whether that is a node's name shows once all nodes are read.
 #[derive(Clone, Copy)]
 pub struct NamedRow<'t> {
+    pub next: &'t str,
     pub first: u8,
     pub size: u8,
     pub port: u8,
-    pub next: &'t str,
 }
 
 /// What is known so far of a row.
@@ -77,7 +77,7 @@ impl<'t> RowParts<'t> {
         if self.next.is_some() {
             return None;
         }
-        self.next = Some(next_name(reader)?);
+        self.next = Some(next_text(reader)?);
         Some(())
     }
 
@@ -100,6 +100,7 @@ impl<'t> Gather<'t> for RowParts<'t> {
 
     ghost given = { λ _. tt };
 
+    #[inline(always)]
     fn take(
         &mut self,
         _alloc: Global,
@@ -149,5 +150,5 @@ impl<'t> NextItem<'t> for NextRow {
 fn next_port(reader: &mut Reader<'_>) -> Option<u8>
     ensures { IfSome result (λ n. IsNext reader.old reader.new (λ j. IsNumberWithin 0 31 (data_of j) n × IsPlain j)) }
 {
-    Some(next_number_within(reader, 0, 31)? as u8)
+    Some(next_short_within(reader, 0, 31)? as u8)
 }

@@ -339,7 +339,9 @@ fn placed(alloc: Global, nodes: &NameIndex, parts: Vec<CutParts<'_>>) -> Option<
 fn found_rows(alloc: Global, nodes: &NameIndex, rows: Vec<NamedRow<'_>>) -> Option<Vec<Row>>
     ensures { IfSome result (λ v. map row_value v.items ≡ map (found_row (find_in nodes.now)) (map named_row rows.entry.items)) }
 {
-    let mut list = Vec::new(alloc);
+    let Ok(mut list) = Vec::with_capacity(alloc, rows.len()) else {
+        return None;
+    };
     let mut last = None;
     let mut rest = rows.into_iter();
     'rows: while let Some(row) = rest.next() {

@@ -27,7 +27,7 @@ pub returns : goal.returns
 returns c =
     let l = c.rows in
     let f : NamedRow → RowValue = (λ r. found_row (find_in c.args.nodes.now) (named_row r)) in
-    let over : into_iter_len l.rest ≡ 0 = c.in_default.ensures.cases.0 in
+    let over : into_iter_len l.rest ≡ 0 = c.in_default-next.ensures.cases.0 in
     let none : into_iter_items l.rest ≡ [] = none_left (into_iter_items l.rest) (sym l.invariant.1 ∙ over) in
     let first : into_iter_items c.into_iter-rest.result ≡ c.args.rows.items = search rules in
     sym (append-nil (map row_value l.list.items)) ∙ ap (λ xs. map row_value l.list.items ++ map f xs) (sym none) ∙ sym l.invariant.0 ∙ ap (map f) first ∙ sym (map_twice (found_row (find_in c.args.nodes.now)) named_row c.args.rows.items)
