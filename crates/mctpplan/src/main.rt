@@ -155,24 +155,13 @@ fn run(rt: &HostRuntime) -> Status {
                 plan,
                 certificate: Some(certificate),
             },
-        ) => run_explain_certified(
-            alloc,
-            &mut Counted::new(FileAtPath::new(rt, plan)),
-            &mut Counted::new(FileAtPath::new(rt, certificate)),
-            &mut output,
-            &mut errors,
-        ),
+        ) => explain_certified(rt, plan, certificate),
         Ok(
             Subcommand::Explain {
                 plan,
                 certificate: None,
             },
-        ) => run_explain(
-            alloc,
-            &mut Counted::new(FileAtPath::new(rt, plan)),
-            &mut output,
-            &mut errors,
-        ),
+        ) => explain(rt, plan),
         Ok(Subcommand::Code { text }) => run_known(alloc, text, &mut output, &mut errors),
         Ok(Subcommand::Guide) => run_known(alloc, GUIDE, &mut output, &mut errors),
         Ok(Subcommand::Lint { plan }) => run_lint(
@@ -184,6 +173,40 @@ fn run(rt: &HostRuntime) -> Status {
         Ok(Subcommand::Show { kind, hex }) => run_show(alloc, kind, hex, &mut output, &mut errors),
         Err(refused) => refuse(alloc, refused, &mut errors),
     }
+}
+
+/// Explains a plan. Where its file can't be opened or read, standard error tells the path and the system's reason.
+fn explain(rt: &HostRuntime, plan: &str) -> Status {
+    let alloc = rt.alloc();
+    let mut plan = Counted::new(FileAtPath::new(rt, plan));
+    let mut output = Counted::new(rt.stdout());
+    let mut errors = Counted::new(rt.stderr());
+    let status = run_explain(alloc, &mut plan, &mut output, &mut errors);
+    plan.inner()
+        .tell_failure(alloc, &mut Counted::new(rt.stderr()));
+    status
+}
+
+/// The same of a plan with its certificate.
+fn explain_certified(rt: &HostRuntime, plan: &str, certificate: &str) -> Status {
+    let alloc = rt.alloc();
+    let mut plan = Counted::new(FileAtPath::new(rt, plan));
+    let mut certificate = Counted::new(FileAtPath::new(rt, certificate));
+    let mut output = Counted::new(rt.stdout());
+    let mut errors = Counted::new(rt.stderr());
+    let status = run_explain_certified(
+        alloc,
+        &mut plan,
+        &mut certificate,
+        &mut output,
+        &mut errors,
+    );
+    plan.inner()
+        .tell_failure(alloc, &mut Counted::new(rt.stderr()));
+    certificate
+        .inner()
+        .tell_failure(alloc, &mut Counted::new(rt.stderr()));
+    status
 }
 
 /// The words that the process was started with. A word that is not UTF-8 fits no command.

@@ -64,6 +64,9 @@ fn syntax_fault(alloc: Global, text: &str) -> Result<JsonFault, AllocError>
 /// Goes through the tokens up to the first that may not stand where it does.
 fn break_of(alloc: Global, text: &str) -> Result<(usize, Wanted), AllocError> {
     let bytes = text.as_bytes();
+    if bytes.is_empty() {
+        return Ok((0, Wanted::Value));
+    }
     let mut scratch = Scratch::new(alloc);
     let mut reader = Reader::new(text, &mut scratch)?;
     let mut open: Vec<Open> = Vec::new(alloc);

@@ -1,37 +1,25 @@
 -- What the end of `explain` tells of an answer.
-use Rattle.std.proofs.Common.{◌≡◌, ◌≢◌, ◌⊎◌, ◌+◌, ◌≤◌, ◌++◌, List, length, ℕ, Result, Ok, Err, Some, inl, inr, refl, sym, ◌∙◌, subst}
-use Rattle.std.specs.Prelude.{IfOk, IfErr, Vec}
-use Rattle.std.specs.declared.alloc.Global.{Global}
+use Rattle.std.proofs.Common.{◌≡◌, ◌≢◌, ◌⊎◌, List, ℕ, Result, Ok, Err, Some, inl, inr, refl, sym, ◌∙◌, subst}
+use Rattle.std.specs.Prelude.{IfOk, IfErr}
 use Rattle.std.specs.Cow.{cow_str_bytes}
-use Rattle.std.specs.Io.KnownBytes.{Appends, Consumes, IsAtEnd}
+use Rattle.std.specs.Io.KnownBytes.{Appends}
 use Rattle.net_check.specs.declared.certify_error.CertifyError.{CertifyError}
 use Rattle.net_check.specs.declared.certify_error.CertifyError.TheVariants as error
 use Rattle.net_check.specs.Rules.{Accepts}
 use Rattle.net_plan.specs.declared.certificate.Certificate.{Certificate}
-use Rattle.net_plan.specs.declared.error.PlanError.{PlanError}
-use Rattle.net_plan.specs.declared.error.PlanError.TheVariants as cause_of
 use Rattle.net_plan.specs.declared.plan.Plan.{Plan}
-use Rattle.net_plan.specs.PlanReading.{plan as plan_reading}
-use Rattle.net_plan.specs.PlanText.{IsPlanOf}
-use Rattle.net_plan.specs.PlanValues.{plan_value}
-use Rattle.net_plan.specs.Refusals.{IsRefused, GaveNone}
-use Rattle.net_plan.specs.TextFaults.{error_count}
-use Rattle.net_plan.specs.Unread.{GaveNoPlan, GaveNoCertificate}
-use Rattle.net_plan.proofs.Refusing.{answer_given}
 use Rattle.plan_commands.specs.declared.commands.answer.Answer.{Answer}
 use Rattle.plan_commands.specs.declared.commands.inputs.Unread.{Unread}
-use Rattle.plan_commands.specs.declared.commands.inputs.Unread.TheVariants.{NoMemory, NoText, Text}
-use Rattle.plan_commands.specs.declared.refused.Input.TheVariants as input
 use Rattle.plan_commands.specs.declared.refused.Refused.{Refused}
 use Rattle.plan_commands.specs.declared.refused.Refused.TheVariants as refused
 use Rattle.plan_commands.specs.declared.status.Status.{Status}
 use Rattle.plan_commands.specs.declared.status.Status.TheVariants as status
-use Rattle.plan_commands.specs.Answers.{Stream, AreGiven, GavePlan, GaveCertificate, GaveNothing}
-use Rattle.plan_commands.specs.Explaining.{HasNoText, IsUnreadAs, IsUnreadBy, IsUnreadText, IsUnreadCertificateText, IsExplained, ExplainsSo, IsExplainAnswer, Explains}
+use Rattle.plan_commands.specs.Answers.{Stream, AreGiven, GavePlan, GaveCertificate}
+use Rattle.plan_commands.specs.Explaining.{IsExplained, ExplainsSo, IsExplainAnswer, Explains}
 use Rattle.plan_commands.specs.Explaining.{IsBothExplained, IsExplainedWith, ExplainsWithSo, IsCertifiedAnswer, ExplainsWith, IsFaultExplained, IsCertificateTold, remedy_text}
+use Rattle.plan_commands.specs.UnreadTexts.{IsNoPlanBy, IsNoCertificateBy, IsUnreadText, IsUnreadCertificateText}
 use Rattle.plan_texts.specs.Lines.{obstacle_text}
-use Rattle.plan_texts.specs.ReadingLines.{unread_line, unread_words, IsReadingTold}
-use Rattle.plan_commands.specs.Statuses.{status_of, role_of}
+use Rattle.plan_commands.specs.Statuses.{status_of}
 use Rattle.plan_commands.specs.Told.{IsTold}
 
 -- want of memory has no text
@@ -39,78 +27,6 @@ pub not_memory : (plan : Plan) (obstacle : CertifyError) (text : List ℕ) → o
 not_memory plan obstacle text told is =
     let untold : obstacle_text plan error.OutOfMemory ≡ Some text = subst (λ o. obstacle_text plan o ≡ Some text) is told in
     cc
-
--- ---- texts that don't read
-
--- why a source gave no plan, by why its text is none
-pub unread_by : {T : Type 0} (plans : Stream) (bytes : List ℕ) (r : Result T Unread) → Consumes plans.before plans.after bytes → IsAtEnd plans.after → length bytes ≤ 16777216
-    → IfErr r (IsUnreadAs bytes) → IfErr r (IsUnreadBy plans)
-unread_by plans bytes (Ok x) took end few h = tt
-unread_by plans bytes (Err NoMemory) took end few h = tt
-unread_by plans bytes (Err (NoText cause)) took end few h = absurd h
-unread_by plans bytes (Err (Text text cause)) took end few h = (bytes, took, end, few, h)
-
--- no text, as a cause
-nothing_given : (plans : Stream) (cause : PlanError) → HasNoText plans cause → GaveNothing GaveNoPlan plans cause
-nothing_given plans cause_of.NotJson h = absurd h
-nothing_given plans cause_of.WrongKind h = absurd h
-nothing_given plans cause_of.MissingKey h = absurd h
-nothing_given plans cause_of.UnknownKey h = absurd h
-nothing_given plans cause_of.OutOfRange h = absurd h
-nothing_given plans cause_of.UnknownName h = absurd h
-nothing_given plans cause_of.BadHex h = absurd h
-nothing_given plans cause_of.OverLimit h = inl h
-nothing_given plans cause_of.Doubled h = absurd h
-nothing_given plans cause_of.Device h = h
-nothing_given plans cause_of.OutOfMemory h = absurd h
-
--- a text that is no plan, as a cause
-text_given : (plans : Stream) (bytes : List ℕ) (cause : PlanError) → GaveNone plan_reading IsPlanOf plans.before plans.after cause → IsRefused plan_reading IsPlanOf bytes cause
-    → cause ≢ cause_of.OutOfMemory → GaveNothing GaveNoPlan plans cause
-text_given plans bytes cause_of.NotJson none refused known = none
-text_given plans bytes cause_of.WrongKind none refused known = none
-text_given plans bytes cause_of.MissingKey none refused known = none
-text_given plans bytes cause_of.UnknownKey none refused known = none
-text_given plans bytes cause_of.OutOfRange none refused known = none
-text_given plans bytes cause_of.UnknownName none refused known = none
-text_given plans bytes cause_of.BadHex none refused known = none
-text_given plans bytes cause_of.OverLimit none refused known = none
-text_given plans bytes cause_of.Doubled none refused known = none
-text_given plans bytes cause_of.Device none refused known = absurd refused
-text_given plans bytes cause_of.OutOfMemory none refused known = absurd (known refl)
-
--- the text of a source that gave no text
-pub no_text_told : {A E : Type 0} (bytes : A → List ℕ) (u : Unread) (cause : PlanError) (words : List ℕ) (r : Result A E) → u ≡ NoText cause → words ≡ unread_words cause
-    → IfOk r (λ t. bytes t ≡ unread_line (role_of input.Plan) cause ++ words) → IfOk r (λ t. (plans : Stream) → IsUnreadBy plans u → IsUnreadText plans (bytes t))
-no_text_told bytes u cause words (Ok t) is same written = λ plans by.
-    let none : HasNoText plans cause = subst (IsUnreadBy plans) is by in
-    record { cause = cause; lines = words; given = nothing_given plans cause none; told = inl (none, same); written = written }
-no_text_told bytes u cause words (Err e) is same written = tt
-
--- the text of a source whose text is no plan
-told_of_text : (plans : Stream) (text : List ℕ) (cause : PlanError) (lines told : List ℕ) (b : List ℕ) → Consumes plans.before plans.after b → IsAtEnd plans.after → length b ≤ 16777216
-    → text ≡ b → IsRefused plan_reading IsPlanOf b cause → cause ≢ cause_of.OutOfMemory → IsReadingTold text cause lines
-    → told ≡ unread_line (role_of input.Plan) cause ++ lines → IsUnreadText plans told
-told_of_text plans text cause lines told b took end few same refused known reading written =
-    let unread : Result (List ℕ) PlanError = Err cause in
-    let none : GaveNone plan_reading IsPlanOf plans.before plans.after cause =
-    answer_given plan_reading IsPlanOf plans.before plans.after b b unread took end few refl refused in
-    record {
-      cause = cause;
-      lines = lines;
-      given = text_given plans b cause none refused known;
-      told = inr (b, took, end, few, subst (λ (x : List ℕ). IsReadingTold x cause lines) same reading);
-      written = written;
-    }
-
-pub text_told : {A E : Type 0} (bytes : A → List ℕ) (u : Unread) (text : Vec ℕ Global) (cause : PlanError) (read lines : List ℕ) (r : Result A E) → u ≡ Text text cause
-    → read ≡ text.items → IsReadingTold read cause lines
-    → IfOk r (λ t. bytes t ≡ unread_line (role_of input.Plan) cause ++ lines) → IfOk r (λ t. (plans : Stream) → IsUnreadBy plans u → IsUnreadText plans (bytes t))
-text_told bytes u text cause read lines (Ok t) is same reading written = λ plans by.
-    let given : IsUnreadBy plans (Text text cause) = subst (IsUnreadBy plans) is by in
-    let known = given.4 in
-    told_of_text plans text.items cause lines (bytes t) given.0 given.1 given.2 given.3 known.0 known.1 known.2 (subst (λ (x : List ℕ). IsReadingTold x cause lines) same reading) written
-text_told bytes u text cause read lines (Err e) is same reading written = tt
 
 -- ---- of a plan
 
@@ -147,37 +63,21 @@ of_given plans plan (Ok a) given h = inl (plan, given, h)
 of_given plans plan (Err why) given h = tt
 
 -- the answer where none was given
-pub of_nothing : (plans : Stream) (u : Unread) (result : Result Answer Refused) → IsUnreadBy plans u
-    → IfOk result (λ (a : Answer). (a.status ≡ status.Unreadable) × ((plans : Stream) → IsUnreadBy plans u → IsUnreadText plans (cow_str_bytes a.text)))
+pub of_nothing : (plans : Stream) (u : Unread) (result : Result Answer Refused) → IsNoPlanBy plans u
+    → IfOk result (λ (a : Answer). (a.status ≡ status.Unreadable) × ((plans : Stream) → IsNoPlanBy plans u → IsUnreadText plans (cow_str_bytes a.text)))
     → IfOk result (λ (a : Answer). ExplainsSo plans a.status (cow_str_bytes a.text))
 of_nothing plans u (Ok a) by h = inr (h.0, h.1 plans by)
 of_nothing plans u (Err why) by h = tt
 
 -- ---- of a plan and its certificate
 
--- why no certificate was given, as a cause
-certificate_given : (plan : Plan) (certificates : Stream) (cause : PlanError) → GaveNoCertificate (plan_value plan) certificates.before certificates.after cause
-    → certificates.failures_after ≡ certificates.failures_before + error_count cause → cause ≢ cause_of.OutOfMemory → GaveNothing (GaveNoCertificate (plan_value plan)) certificates cause
-certificate_given plan certificates cause_of.NotJson none counted known = none
-certificate_given plan certificates cause_of.WrongKind none counted known = none
-certificate_given plan certificates cause_of.MissingKey none counted known = none
-certificate_given plan certificates cause_of.UnknownKey none counted known = none
-certificate_given plan certificates cause_of.OutOfRange none counted known = none
-certificate_given plan certificates cause_of.UnknownName none counted known = none
-certificate_given plan certificates cause_of.BadHex none counted known = none
-certificate_given plan certificates cause_of.OverLimit none counted known = none
-certificate_given plan certificates cause_of.Doubled none counted known = none
-certificate_given plan certificates cause_of.Device none counted known = counted
-certificate_given plan certificates cause_of.OutOfMemory none counted known = absurd (known refl)
-
 -- the answer where no certificate was given
-pub of_unread : (plan : Plan) (certificates : Stream) (cause : PlanError) (result : Result Answer Refused) → GaveNoCertificate (plan_value plan) certificates.before certificates.after cause
-    → certificates.failures_after ≡ certificates.failures_before + error_count cause
-    → IfOk result (λ (a : Answer). (cause ≢ cause_of.OutOfMemory) × (a.status ≡ status.Unreadable) × (cow_str_bytes a.text ≡ unread_line (role_of input.Certificate) cause ++ unread_words cause))
+pub of_unread : (plan : Plan) (certificates : Stream) (u : Unread) (result : Result Answer Refused) → IsNoCertificateBy plan certificates u
+    → IfOk result (λ (a : Answer). (a.status ≡ status.Unreadable)
+    × ((certificates : Stream) → IsNoCertificateBy plan certificates u → IsUnreadCertificateText plan certificates (cow_str_bytes a.text)))
     → IfOk result (λ (a : Answer). IsExplainedWith plan certificates a.status (cow_str_bytes a.text))
-of_unread plan certificates cause (Ok a) none counted (known, is, written) =
-    inr (is, record { cause = cause; given = certificate_given plan certificates cause none counted known; written = written })
-of_unread plan certificates cause (Err why) none counted h = tt
+of_unread plan certificates u (Ok a) by h = inr (h.0, h.1 certificates by)
+of_unread plan certificates u (Err why) by h = tt
 
 -- the answer on a certificate that was given
 pub of_certificate : (plan : Plan) (certificates : Stream) (cert : Certificate) (result : Result Answer Refused) → GaveCertificate plan certificates cert
@@ -224,8 +124,8 @@ of_both plans certificates plan (Ok a) given h = inl (plan, given, h)
 of_both plans certificates plan (Err why) given h = tt
 
 -- the answer where the plan was not given
-pub of_neither : (plans certificates : Stream) (u : Unread) (result : Result Answer Refused) → IsUnreadBy plans u
-    → IfOk result (λ (a : Answer). (a.status ≡ status.Unreadable) × ((plans : Stream) → IsUnreadBy plans u → IsUnreadText plans (cow_str_bytes a.text)))
+pub of_neither : (plans certificates : Stream) (u : Unread) (result : Result Answer Refused) → IsNoPlanBy plans u
+    → IfOk result (λ (a : Answer). (a.status ≡ status.Unreadable) × ((plans : Stream) → IsNoPlanBy plans u → IsUnreadText plans (cow_str_bytes a.text)))
     → IfOk result (λ (a : Answer). ExplainsWithSo plans certificates a.status (cow_str_bytes a.text))
 of_neither plans certificates u (Ok a) by h = inr (h.0, h.1 plans by)
 of_neither plans certificates u (Err why) by h = tt

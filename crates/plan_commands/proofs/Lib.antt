@@ -13,4 +13,5 @@ pub mod Traced
 pub mod Ends
 pub mod Linted
 pub mod Drawn
+pub mod UnreadTexts
 pub mod Explained

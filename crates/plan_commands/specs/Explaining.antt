@@ -1,5 +1,5 @@
 -- What `explain` prints, and what the end of it says.
-use Rattle.std.specs.Prelude.{◌≡◌, ◌≢◌, ◌⊎◌, ℕ, List, ◌++◌, codes, ⊤}
+use Rattle.std.specs.Prelude.{◌≡◌, ◌⊎◌, ℕ, List, ◌++◌, codes, ⊤}
 use Rattle.std.specs.Prelude.{Option, Some, None}
 use Rattle.std.specs.Io.KnownBytes.{Appends}
 use Rattle.net_check.specs.Faults.{IsFirstFault, site_of}
@@ -9,30 +9,16 @@ use Rattle.net_check.specs.declared.fault.Fault.{Fault}
 use Rattle.net_explained.specs.declared.cause.Cause.{Cause}
 use Rattle.net_explained.specs.Causes.{IsCauseAt}
 use Rattle.net_plan.specs.declared.certificate.Certificate.{Certificate}
-use Rattle.net_plan.specs.declared.error.PlanError.{PlanError}
-use Rattle.net_plan.specs.declared.error.PlanError.TheVariants as error_of
 use Rattle.net_plan.specs.declared.plan.Plan.{Plan}
-use Rattle.net_plan.specs.declared.stream.TextFault.{TextFault}
-use Rattle.net_plan.specs.declared.stream.TextFault.TheVariants as text_fault
-use Rattle.net_plan.specs.PlanReading.{plan}
-use Rattle.net_plan.specs.PlanText.{IsPlanOf}
-use Rattle.net_plan.specs.PlanValues.{plan_value}
-use Rattle.net_plan.specs.Refusals.{IsRefused}
-use Rattle.net_plan.specs.Stream.{TakesMoreThan}
-use Rattle.net_plan.specs.Texts.{Gave}
-use Rattle.net_plan.specs.Unread.{GaveNoPlan, GaveNoCertificate}
-use Rattle.plan_commands.specs.declared.commands.inputs.Unread.{Unread}
-use Rattle.plan_commands.specs.declared.commands.inputs.Unread.TheVariants.{NoMemory, NoText, Text}
-use Rattle.plan_commands.specs.declared.refused.Input.TheVariants as input
 use Rattle.plan_commands.specs.declared.status.Status.{Status}
 use Rattle.plan_commands.specs.declared.status.Status.TheVariants as status
-use Rattle.plan_commands.specs.Answers.{Stream, Fails, BreaksOff, GavePlan, GaveCertificate, GaveNothing, AreGiven}
+use Rattle.plan_commands.specs.Answers.{Stream, BreaksOff, GavePlan, GaveCertificate, AreGiven}
 use Rattle.plan_commands.specs.Certifying.{IsRuledOutBy}
 use Rattle.plan_texts.specs.Lines.{fault_text}
 use Rattle.plan_commands.specs.Linting.{TellsOfPlan}
-use Rattle.plan_commands.specs.Statuses.{role_of, yes_line}
+use Rattle.plan_commands.specs.Statuses.{yes_line}
+use Rattle.plan_commands.specs.UnreadTexts.{IsUnreadText, IsUnreadCertificateText}
 use Rattle.plan_texts.specs.ExplanationLines.{summary_text, told_cause, IsObstacleTold}
-use Rattle.plan_texts.specs.ReadingLines.{unread_line, unread_words, IsReadingTold}
 
 -- the certificate is at fault, and not the plan
 abbrev pub remedy_text : List ℕ
@@ -59,55 +45,6 @@ pub record IsSoundText (plan : Plan) (text : List ℕ) : Type 0 where
   pub certificate : Certificate
   pub accepted : Accepts plan certificate
   pub written : text ≡ yes_line ++ summary_text plan
-
--- ---- texts that don't read
-
--- the source gave no text to its end: it failed, or gave too many bytes
-abbrev pub HasNoText : Stream → PlanError → Type 0
-HasNoText plans error_of.Device = Fails plans
-HasNoText plans error_of.OverLimit = TakesMoreThan 16777216 plans.before plans.after
-HasNoText plans _ = ⊥
-
--- the lines tell of a source that gave no plan for this cause: of the text that it gave, or that it gave none
-abbrev pub IsUnreadTold : Stream → PlanError → List ℕ → Type 0
-IsUnreadTold plans cause lines = (HasNoText plans cause × (lines ≡ unread_words cause))
-    ⊎ Gave 16777216 plans.before plans.after (λ bytes. IsReadingTold bytes cause lines)
-
--- The text is the line by which `certify` and `check` tell why the plan can't be read, and then the lines that tell
--- where its text has its first fault.
-pub record IsUnreadText (plans : Stream) (text : List ℕ) : Type 0 where
-  pub cause : PlanError
-  pub lines : List ℕ
-  pub given : GaveNothing GaveNoPlan plans cause
-  pub told : IsUnreadTold plans cause lines
-  pub written : text ≡ unread_line (role_of input.Plan) cause ++ lines
-
--- The text is the line by which `check` tells why the certificate of a plan can't be read, and a sentence that says the
--- same.
-pub record IsUnreadCertificateText (plan : Plan) (certificates : Stream) (text : List ℕ) : Type 0 where
-  pub cause : PlanError
-  pub given : GaveNothing (GaveNoCertificate (plan_value plan)) certificates cause
-  pub written : text ≡ unread_line (role_of input.Certificate) cause ++ unread_words cause
-
--- what is known of a text that is no plan
-abbrev pub IsUnreadAs : List ℕ → Unread → Type 0
-IsUnreadAs bytes NoMemory = ⊤
-IsUnreadAs bytes (NoText cause) = ⊥
-IsUnreadAs bytes (Text text cause) =
-    (text.items ≡ bytes) × IsRefused plan IsPlanOf bytes cause × (cause ≢ error_of.OutOfMemory)
-
--- what is known of a source that gave no plan
-abbrev pub IsUnreadBy : Stream → Unread → Type 0
-IsUnreadBy plans NoMemory = ⊤
-IsUnreadBy plans (NoText cause) = HasNoText plans cause
-IsUnreadBy plans (Text text cause) =
-    Gave 16777216 plans.before plans.after (λ bytes. IsUnreadAs bytes (Text text cause))
-
--- why there is no plan where there is no text
-abbrev pub unread_of : TextFault → Unread
-unread_of text_fault.TooLong = NoText error_of.OverLimit
-unread_of text_fault.Device = NoText error_of.Device
-unread_of text_fault.OutOfMemory = NoMemory
 
 -- ---- a plan alone
 

@@ -11,6 +11,7 @@ pub mod Gathering
 pub mod Reaching
 pub mod Tracing
 pub mod Linting
+pub mod UnreadTexts
 pub mod Explaining
 pub mod Drawing
 pub mod Simulating

@@ -1,4 +1,8 @@
 //! Files that are opened only once they are read.
+ghost use Rattle.std.specs.Prelude.{◌<◌, ◌^◌, ◌-◌};
+
+use net_plan::{Sink, write_whole};
+use std::alloc::Global;
 use std::fs::File;
 use std::io::{self, Read};
 use std::rt::Files;
@@ -9,6 +13,7 @@ pub struct FileAtPath<'a, R: Files> {
     rt: &'a R,
     path: &'a str,
     opened: Option<R::File>,
+    failure: Option<io::Error>,
 }
 
 impl<'a, R: Files> FileAtPath<'a, R> {
@@ -18,20 +23,46 @@ impl<'a, R: Files> FileAtPath<'a, R> {
             rt,
             path,
             opened: None,
+            failure: None,
+        }
+    }
+
+    /// Tells the file's path and the system's reason, where it could not be opened or a read failed. Want of memory for that
+    /// line and a sink that fails are passed over.
+    pub fn tell_failure<E: Sink>(&self, alloc: Global, errors: &mut E)
+        requires { E.failures errors.old < 2 ^ 64 - 1 }
+    {
+        let Some(failure) = self.failure else {
+            return;
+        };
+        let path = self.path;
+        if let Ok(line) = format!(in alloc; "{path}: {failure}\n") {
+            let _ = write_whole(errors, line.as_bytes());
         }
     }
 }
 
 impl<R: Files> Read for FileAtPath<'_, R> {
     fn read(&mut self, buf: &mut [u8]) -> io::Result<usize> {
-        match &mut self.opened {
-            Some(file) => file.read(buf),
-            None => {
-                let mut file = File::open(self.rt, self.path)?;
-                let count = file.read(buf)?;
-                self.opened = Some(file);
-                Ok(count)
+        match read_opened(self, buf) {
+            Ok(count) => Ok(count),
+            Err(error) => {
+                self.failure = Some(error);
+                Err(error)
             }
+        }
+    }
+}
+
+/// Reads from a file, which is opened first where it isn't open yet.
+fn read_opened<R: Files>(file: &mut FileAtPath<'_, R>, buf: &mut [u8]) -> io::Result<usize> {
+    match &mut file.opened {
+        Some(opened) => opened.read(buf),
+        None => {
+            let mut opened = File::open(file.rt, file.path)?;
+            let count = opened.read(buf)?;
+            file.opened = Some(opened);
+            Ok(count)
         }
     }
 }

@@ -1,3 +1,3 @@
 pub mod Drawn
 pub mod Traced
-pub mod ToldAt
+pub mod ToldTexts

@@ -11,4 +11,6 @@ pub mod OutcomeLines
 pub mod DrawingLines
 pub mod WalkLines
 pub mod ReadingLines
+pub mod Standing
+pub mod TroubleLines
 pub mod Shown

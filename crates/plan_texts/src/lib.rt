@@ -29,7 +29,7 @@ use net_check::{CertifyError, ChainFault, Fault};
 use net_plan::Plan;
 pub use outcomes::outcome_line;
 pub use pairs::reach_lines;
-pub use readings::{plan_reading_lines, unread_line, unread_words};
+pub use readings::{certificate_reading_lines, plan_reading_lines, unread_line};
 pub use shown::{packet_text, record_text, refused_text};
 use std::alloc::{AllocError, Global};
 use std::fmt;

@@ -2,26 +2,25 @@
 ghost use Rattle.std.specs.Prelude.{◌≡◌, ◌⊎◌, ◌<◌, ◌^◌, ◌-◌, ◌++◌, IfOk, IfErr, string_bytes};
 ghost use Rattle.std.specs.Cow.{cow_str_bytes};
 ghost use Rattle.net_check.specs.Certificates.{NamesObstacle, RulesOutCertificates};
-ghost use Rattle.plan_commands.specs.declared.status.Status.TheVariants.{Yes, Fault, Unreadable, NoMemory};
+ghost use Rattle.plan_commands.specs.declared.status.Status.TheVariants.{Yes, Fault, NoMemory};
 ghost use Rattle.plan_commands.specs.declared.refused.Refused.{Refused};
-ghost use Rattle.plan_commands.specs.Answers.{Stream, stream};
+ghost use Rattle.plan_commands.specs.Answers.{stream};
 ghost use Rattle.plan_texts.specs.ExplanationLines.{summary_text};
-ghost use Rattle.plan_commands.specs.Explaining.{IsObstacleText, IsExplained, ExplainsSo, Explains, IsUnreadBy, IsUnreadText};
-ghost use Rattle.plan_commands.specs.Statuses.{role_of, yes_line};
-ghost use Rattle.plan_texts.specs.ReadingLines.{unread_line};
+ghost use Rattle.plan_commands.specs.Explaining.{IsObstacleText, IsExplained, ExplainsSo, Explains};
+ghost use Rattle.plan_commands.specs.Statuses.{yes_line};
 
 pub mod certified;
+mod unread;
 
 use crate::commands::answer::{Answer, YES, tell};
-use crate::commands::inputs::{Unread, plan_or_text};
-use crate::refused::{Input, Refused};
+use crate::commands::inputs::plan_or_text;
+use crate::refused::Refused;
 use crate::status::Status;
 use net_check::{CertifyError, certify};
-use net_plan::{Plan, PlanError, Sink, Source};
-use plan_texts::{
-    obstacle_line, obstacle_lines, plan_reading_lines, summary_line, unread_line, unread_words,
-};
+use net_plan::{Plan, Sink, Source};
+use plan_texts::{obstacle_line, obstacle_lines, summary_line};
 use std::alloc::{AllocError, Global};
+use unread::unread_plan;
 
 /// Says on `output` what `certify` says of a plan, `yes` in place of the certificate, and explains it. Where the plan can't
 /// be read, it says so there too, and where the text's first fault is.
@@ -65,43 +64,6 @@ fn explained_plan(alloc: Global, plan: &Plan) -> Result<Answer, Refused>
         Ok(_certificate) => Ok(Answer::found(sound_text(alloc, plan)?)),
         Err(obstacle) => Ok(Answer::fault(obstacle_text(alloc, plan, &obstacle)?)),
     }
-}
-
-/// The answer where a source gave no plan.
-fn unread_plan(alloc: Global, unread: &Unread) -> Result<Answer, Refused>
-    ensures answers { IfOk result (λ answer. (answer.status ≡ Unreadable)
-        × ((plans : Stream) → IsUnreadBy plans unread.now → IsUnreadText plans (cow_str_bytes answer.text))) }
-    ensures refused { IfErr result (λ why. why ≡ Refused.NoMemory) }
-{
-    Ok(Answer::unread(unread_text(alloc, unread)?))
-}
-
-/// Says why a source gave no plan, and where its text has its first fault.
-fn unread_text(alloc: Global, unread: &Unread) -> Result<String, AllocError>
-    ensures { IfOk result (λ text. (plans : Stream) → IsUnreadBy plans unread.now → IsUnreadText plans (string_bytes text)) }
-{
-    match unread {
-        Unread::NoMemory => Err(AllocError),
-        Unread::NoText(cause) => unread_lines(alloc, Input::Plan, *cause, unread_words(*cause)),
-        Unread::Text { text, cause } => {
-            let lines = plan_reading_lines(alloc, text, *cause)?;
-            unread_lines(alloc, Input::Plan, *cause, &lines)
-        }
-    }
-}
-
-/// The line that tells that an input can't be read, and lines that explain it.
-fn unread_lines(
-    alloc: Global,
-    input: Input,
-    cause: PlanError,
-    lines: &str,
-) -> Result<String, AllocError>
-    ensures { IfOk result (λ text. string_bytes text ≡ unread_line (role_of input) cause ++ lines.now) }
-{
-    let mut text = unread_line(alloc, input.role(), cause)?;
-    text.push_str(lines)?;
-    Ok(text)
 }
 
 /// Says yes, and sums a plan up.

@@ -1,17 +1,19 @@
 //! The files that commands read.
-ghost use Rattle.std.specs.Prelude.{◌≡◌, ◌<◌, ◌^◌, ◌-◌, IfOk, IfErr};
+ghost use Rattle.std.specs.Prelude.{◌≡◌, ◌<◌, ◌≤◌, ◌^◌, ◌-◌, length, IfOk, IfErr};
 ghost use Rattle.plan_commands.specs.Answers.{stream, GavePlan, GaveCertificate, IsPlanUnread, IsCertificateUnread, AreGiven, AreUnread};
+ghost use Rattle.net_plan.specs.CertificateText.{IsCertificateOf};
+ghost use Rattle.net_plan.specs.CertificateValues.{certificate_value};
 ghost use Rattle.net_plan.specs.PlanText.{IsPlanOf};
 ghost use Rattle.net_plan.specs.PlanValues.{plan_value};
 ghost use Rattle.net_plan.specs.Texts.{StandsFor};
-ghost use Rattle.plan_commands.specs.Explaining.{IsUnreadBy, IsUnreadAs, unread_of};
+ghost use Rattle.plan_commands.specs.UnreadTexts.{IsNoPlanIn, IsNoPlanBy, IsNoCertificateIn, IsNoCertificateBy, StandsForNothing, unread_of};
 ghost use Rattle.plan_commands.specs.Moving.{IsMoveGiven, IsMoveUnread};
 ghost use Rattle.plan_commands.specs.Simulating.{GaveEvents, AreEventsUnread};
 
 use crate::refused::{Input, Refused};
 use net_plan::{
-    Certificate, Event, Plan, PlanError, Source, TEXT_LIMIT, TextFault, plan_of_text,
-    read_certificate, read_events, read_plan, read_within,
+    Certificate, Event, Plan, PlanError, Source, TEXT_LIMIT, TextFault, certificate_of_text,
+    plan_of_text, read_certificate, read_events, read_plan, read_within,
 };
 use std::alloc::Global;
 
@@ -29,13 +31,15 @@ pub fn given_plan<P: Source>(alloc: Global, plan: &mut P) -> Result<Plan, Refuse
     }
 }
 
-/// Why a source gave no plan.
+/// Why a source gave no plan, or no certificate.
 #[derive(Debug, Drop)]
 pub enum Unread {
     /// There was too little memory.
     NoMemory,
-    /// It failed, or gave too many bytes.
-    NoText(PlanError),
+    /// It failed.
+    Failed,
+    /// It gave too many bytes.
+    TooLong,
     /// It gave this text to its end.
     Text { text: Vec<u8>, cause: PlanError },
 }
@@ -46,7 +50,8 @@ pub fn plan_or_text<P: Source>(alloc: Global, plan: &mut P) -> Result<Plan, Unre
     ensures given { let plans = stream (P.remaining plan.old) (P.failures plan.old) (P.remaining plan.new) (P.failures plan.new) in
         IfOk result (λ read. GavePlan plans read) }
     ensures unread { let plans = stream (P.remaining plan.old) (P.failures plan.old) (P.remaining plan.new) (P.failures plan.new) in
-        IfErr result (IsUnreadBy plans) }
+        IfErr result (IsNoPlanBy plans) }
+    ensures none { IfErr result (StandsForNothing IsPlanOf) }
 {
     match read_within(alloc, plan, TEXT_LIMIT) {
         Ok(text) => plan_in(alloc, text),
@@ -56,8 +61,10 @@ pub fn plan_or_text<P: Source>(alloc: Global, plan: &mut P) -> Result<Plan, Unre
 
 /// The plan that a text is, or why it is none.
 fn plan_in(alloc: Global, text: Vec<u8>) -> Result<Plan, Unread>
+    requires { length text.items ≤ 16777216 }
     ensures given { IfOk result (λ plan. StandsFor IsPlanOf text.items (plan_value plan)) }
-    ensures unread { IfErr result (IsUnreadAs text.items) }
+    ensures unread { IfErr result (IsNoPlanIn text.items) }
+    ensures none { IfErr result (StandsForNothing IsPlanOf) }
 {
     match plan_of_text(alloc, &text) {
         Ok(plan) => Ok(plan),
@@ -66,13 +73,48 @@ fn plan_in(alloc: Global, text: Vec<u8>) -> Result<Plan, Unread>
     }
 }
 
-/// Why there is no plan where there is no text.
+/// The certificate that a source gives for a plan, or why it gives none, with the text that it gave.
+pub fn certificate_or_text<C: Source>(
+    alloc: Global,
+    plan: &Plan,
+    certificate: &mut C,
+) -> Result<Certificate, Unread>
+    requires { C.failures certificate.old < 2 ^ 64 - 1 }
+    ensures given { let certificates = stream (C.remaining certificate.old) (C.failures certificate.old)
+        (C.remaining certificate.new) (C.failures certificate.new) in
+        IfOk result (λ read. GaveCertificate plan.now certificates read) }
+    ensures unread { let certificates = stream (C.remaining certificate.old) (C.failures certificate.old)
+        (C.remaining certificate.new) (C.failures certificate.new) in
+        IfErr result (IsNoCertificateBy plan.now certificates) }
+    ensures none { IfErr result (StandsForNothing (IsCertificateOf (plan_value plan.now))) }
+{
+    match read_within(alloc, certificate, TEXT_LIMIT) {
+        Ok(text) => certificate_in(alloc, plan, text),
+        Err(fault) => Err(without_text(fault)),
+    }
+}
+
+/// The certificate of a plan that a text is, or why it is none.
+fn certificate_in(alloc: Global, plan: &Plan, text: Vec<u8>) -> Result<Certificate, Unread>
+    requires { length text.items ≤ 16777216 }
+    ensures given { IfOk result (λ c. StandsFor (IsCertificateOf (plan_value plan.now)) text.items (certificate_value c)) }
+    ensures unread { IfErr result (IsNoCertificateIn plan.now text.items) }
+    ensures none { IfErr result (StandsForNothing (IsCertificateOf (plan_value plan.now))) }
+{
+    match certificate_of_text(alloc, plan, &text) {
+        Ok(certificate) => Ok(certificate),
+        Err(PlanError::OutOfMemory) => Err(Unread::NoMemory),
+        Err(cause) => Err(Unread::Text { text, cause }),
+    }
+}
+
+/// Why there is nothing where there is no text.
 fn without_text(fault: TextFault) -> Unread
     ensures { result ≡ unread_of fault }
 {
     match fault {
-        TextFault::TooLong => Unread::NoText(PlanError::OverLimit),
-        TextFault::Device => Unread::NoText(PlanError::Device),
+        TextFault::TooLong => Unread::TooLong,
+        TextFault::Device => Unread::Failed,
         TextFault::OutOfMemory => Unread::NoMemory,
     }
 }

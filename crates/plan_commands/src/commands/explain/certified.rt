@@ -1,24 +1,23 @@
 //! The command `explain` of a plan with its certificate: what `check` answers, and why.
-ghost use Rattle.std.specs.Prelude.{◌≡◌, ◌≢◌, ◌⊎◌, ◌++◌, ◌<◌, ◌^◌, ◌-◌, IfOk, IfErr, string_bytes};
+ghost use Rattle.std.specs.Prelude.{◌≡◌, ◌⊎◌, ◌<◌, ◌^◌, ◌-◌, IfOk, IfErr, string_bytes};
 ghost use Rattle.std.specs.Cow.{cow_str_bytes};
 ghost use Rattle.net_check.specs.Errors.{NamesFirstFault};
 ghost use Rattle.net_check.specs.Faults.{IsFirstFault, site_of};
 ghost use Rattle.plan_commands.specs.declared.refused.Refused.TheVariants as refused;
 ghost use Rattle.plan_commands.specs.declared.status.Status.TheVariants as status;
 ghost use Rattle.plan_commands.specs.Answers.{stream};
-ghost use Rattle.plan_commands.specs.Statuses.{role_of};
-ghost use Rattle.plan_texts.specs.ReadingLines.{unread_line, unread_words};
 ghost use Rattle.plan_commands.specs.Explaining.{IsFaultExplained, IsFaultTold, IsCertificateTold, IsBothExplained, IsExplainedWith, ExplainsWithSo, ExplainsWith};
 
-use super::{obstacle_text, sound_text, unread_lines, unread_plan};
+use super::unread::{unread_certificate, unread_plan};
+use super::{obstacle_text, sound_text};
 use crate::commands::answer::{Answer, tell};
-use crate::commands::inputs::plan_or_text;
-use crate::refused::{Input, Refused};
+use crate::commands::inputs::{certificate_or_text, plan_or_text};
+use crate::refused::Refused;
 use crate::status::Status;
 use net_check::{CheckError, Fault, certify, check};
 use net_explained::{Cause, find_cause};
-use net_plan::{Certificate, Plan, PlanError, Sink, Source, read_certificate};
-use plan_texts::{NO_CERTIFICATE, REMEDY, cause_lines, fault_line, unread_words};
+use net_plan::{Certificate, Plan, Sink, Source};
+use plan_texts::{NO_CERTIFICATE, REMEDY, cause_lines, fault_line};
 use std::alloc::{AllocError, Global};
 
 /// Says on `output` what `check` says of a plan and its certificate, and explains it. Where a file can't be read, it says
@@ -77,23 +76,10 @@ fn answer_of_certificate<C: Source>(
         IfOk result (λ answer. IsExplainedWith plan.now certificates answer.status (cow_str_bytes answer.text)) }
     ensures refused { IfErr result (λ why. why ≡ refused.NoMemory) }
 {
-    match read_certificate(alloc, plan, certificate) {
+    match certificate_or_text(alloc, plan, certificate) {
         Ok(certificate) => answer_of_both(alloc, plan, &certificate),
-        Err(cause) => unread_certificate(alloc, cause),
+        Err(unread) => unread_certificate(alloc, plan, &unread),
     }
-}
-
-/// The answer where a certificate can't be read.
-fn unread_certificate(alloc: Global, cause: PlanError) -> Result<Answer, Refused>
-    ensures answers { IfOk result (λ answer. (cause ≢ PlanError.OutOfMemory) × (answer.status ≡ status.Unreadable)
-        × (cow_str_bytes answer.text ≡ unread_line (role_of Input.Certificate) cause ++ unread_words cause)) }
-    ensures refused { IfErr result (λ why. why ≡ refused.NoMemory) }
-{
-    if cause == PlanError::OutOfMemory {
-        return Err(Refused::NoMemory);
-    }
-    let text = unread_lines(alloc, Input::Certificate, cause, unread_words(cause))?;
-    Ok(Answer::unread(text))
 }
 
 /// The answer on a plan and a certificate.

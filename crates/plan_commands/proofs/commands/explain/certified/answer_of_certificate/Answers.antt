@@ -5,4 +5,4 @@ pub returns-in-Ok-clause-answers : goal.returns-in-Ok-clause-answers
 returns-in-Ok-clause-answers g c = of_certificate c.args.plan.now _ c.in-Ok.certificate c.answer_of_both.result c.in-Ok.ensures.ok c.answer_of_both.ensures.answers
 
 pub returns-in-Err-clause-answers : goal.returns-in-Err-clause-answers
-returns-in-Err-clause-answers g c = of_unread c.args.plan.now _ c.in-Err.cause c.unread_certificate.result c.in-Err.ensures.refused c.in-Err.ensures.counts c.unread_certificate.ensures.answers
+returns-in-Err-clause-answers g c = of_unread c.args.plan.now _ c.in-Err.unread c.unread_certificate.result c.in-Err.ensures.unread c.unread_certificate.ensures.answers

@@ -1,0 +1,117 @@
+-- What `explain` tells of a source that gave no plan, or no certificate.
+use Rattle.std.proofs.Common.{◌≡◌, ◌≢◌, ◌⊎◌, ◌≤◌, ◌<◌, ◌++◌, List, length, ℕ, Result, Ok, Err, Some, inl, inr, refl, sym, ◌∙◌, subst, arith}
+use Rattle.std.specs.Prelude.{IfOk, IfErr, Vec, Option}
+use Rattle.std.specs.declared.alloc.Global.{Global}
+use Rattle.std.specs.Io.KnownBytes.{Consumes, IsAtEnd}
+use Rattle.serde_json.specs.Data.{Data}
+use Rattle.net_plan.specs.declared.error.PlanError.{PlanError}
+use Rattle.net_plan.specs.declared.error.PlanError.TheVariants as cause_of
+use Rattle.net_plan.specs.declared.error.ValueFault.{ValueFault}
+use Rattle.net_plan.specs.Refusals.{IsRefused, IsFaulty, GaveNone}
+use Rattle.net_plan.specs.Texts.{IsJson, StandsFor}
+use Rattle.net_plan.proofs.Refusing.{answer_given}
+use Rattle.net_plan.proofs.SingleKeys.{not_doubled}
+use Rattle.plan_commands.specs.declared.commands.inputs.Unread.{Unread}
+use Rattle.plan_commands.specs.declared.commands.inputs.Unread.TheVariants.{NoMemory, Failed, TooLong, Text}
+use Rattle.plan_commands.specs.declared.refused.Input.{Input}
+use Rattle.plan_commands.specs.Answers.{Stream, Fails, GaveNothing}
+use Rattle.plan_commands.specs.UnreadTexts.{IsUnreadAs, IsUnreadBy, StandsForNothing, IsTextOfUnread, failed_line, long_line}
+use Rattle.plan_texts.specs.ReadingLines.{unread_line}
+use Rattle.plan_commands.specs.Statuses.{role_of}
+
+-- ---- a text that is refused stands for nothing
+
+same_data : (text : List ℕ) (d e : Data) → IsJson text d → IsJson text e → d ≡ e
+same_data text d e one other = cc (one.1, other.1)
+
+module _ {A : Type 0} (said : Data → Result A ValueFault) (R : Data → A → Type 0) (text : List ℕ) where
+  faulty_nothing : (f : ValueFault) → IsFaulty said R f text → (x : A) → ¬ StandsFor R text x
+  faulty_nothing f h = λ x s. h.2.1 x (subst (λ (d : Data). R d x) (same_data text s.0 h.0 s.1 h.1) s.3)
+
+  pub stands_for_nothing : (cause : PlanError) → length text ≤ 16777216 → cause ≢ cause_of.OutOfMemory → IsRefused said R text cause → (x : A) → ¬ StandsFor R text x
+  stands_for_nothing cause_of.NotJson few known h = λ x s. let none = h s.1.0 in let some = s.1.1 in cc (none, some)
+  stands_for_nothing cause_of.WrongKind few known h = faulty_nothing _ h
+  stands_for_nothing cause_of.MissingKey few known h = faulty_nothing _ h
+  stands_for_nothing cause_of.UnknownKey few known h = faulty_nothing _ h
+  stands_for_nothing cause_of.OutOfRange few known h = faulty_nothing _ h
+  stands_for_nothing cause_of.UnknownName few known h = faulty_nothing _ h.0
+  stands_for_nothing cause_of.BadHex few known h = faulty_nothing _ h
+  stands_for_nothing cause_of.OverLimit few known (inl long) = absurd (omega (arith, long, few))
+  stands_for_nothing cause_of.OverLimit few known (inr h) = faulty_nothing _ h
+  stands_for_nothing cause_of.Doubled few known (inl h) = faulty_nothing _ h
+  stands_for_nothing cause_of.Doubled few known (inr h) = λ x s. not_doubled text s.2 h.2
+  stands_for_nothing cause_of.Device few known h = absurd h
+  stands_for_nothing cause_of.OutOfMemory few known h = absurd (known refl)
+
+  pub none_stands : {T : Type 0} (r : Result T Unread) → length text ≤ 16777216 → IfErr r (IsUnreadAs said R text) → IfErr r (StandsForNothing R)
+  none_stands (Ok x) few h = tt
+  none_stands (Err NoMemory) few h = tt
+  none_stands (Err Failed) few h = tt
+  none_stands (Err TooLong) few h = tt
+  none_stands (Err (Text given cause)) few h = λ x s. stands_for_nothing cause few h.2 h.1 x (subst (λ (t : List ℕ). StandsFor R t x) h.0 s)
+
+-- ---- why a source gave nothing
+
+-- by why its text is none
+pub unread_by : {A T : Type 0} (said : Data → Result A ValueFault) (R : Data → A → Type 0) (source : Stream) (bytes : List ℕ) (r : Result T Unread)
+    → Consumes source.before source.after bytes → IsAtEnd source.after → length bytes ≤ 16777216 → IfErr r (IsUnreadAs said R bytes) → IfErr r (IsUnreadBy said R source)
+unread_by said R source bytes (Ok x) took end few h = tt
+unread_by said R source bytes (Err NoMemory) took end few h = tt
+unread_by said R source bytes (Err Failed) took end few h = absurd h
+unread_by said R source bytes (Err TooLong) took end few h = absurd h
+unread_by said R source bytes (Err (Text text cause)) took end few h = (bytes, took, end, few, h)
+
+module _ {A : Type 0} (said : Data → Result A ValueFault) (R : Data → A → Type 0) (role : Input) (IsTold : List ℕ → List ℕ → Type 0) where
+  abbrev told_of : Stream → List ℕ → Type 0
+  told_of source text = IsTextOfUnread role (λ old new e. GaveNone said R old new e) IsTold source text
+
+  -- a text that is refused, as a cause
+  text_given : (source : Stream) (bytes : List ℕ) (cause : PlanError) → GaveNone said R source.before source.after cause → IsRefused said R bytes cause
+      → cause ≢ cause_of.OutOfMemory → GaveNothing (λ old new e. GaveNone said R old new e) source cause
+  text_given source bytes cause_of.NotJson none refused known = none
+  text_given source bytes cause_of.WrongKind none refused known = none
+  text_given source bytes cause_of.MissingKey none refused known = none
+  text_given source bytes cause_of.UnknownKey none refused known = none
+  text_given source bytes cause_of.OutOfRange none refused known = none
+  text_given source bytes cause_of.UnknownName none refused known = none
+  text_given source bytes cause_of.BadHex none refused known = none
+  text_given source bytes cause_of.OverLimit none refused known = none
+  text_given source bytes cause_of.Doubled none refused known = none
+  text_given source bytes cause_of.Device none refused known = absurd refused
+  text_given source bytes cause_of.OutOfMemory none refused known = absurd (known refl)
+
+  pub failed_told : {B E : Type 0} (bytes : B → List ℕ) (u : Unread) (words : List ℕ) (r : Result B E) → u ≡ Failed → words ≡ failed_line
+      → IfOk r (λ t. bytes t ≡ unread_line (role_of role) cause_of.Device ++ words) → IfOk r (λ t. (source : Stream) → IsUnreadBy said R source u → told_of source (bytes t))
+  failed_told bytes u words (Ok t) is same written = λ source by.
+      let fails : Fails source = subst (IsUnreadBy said R source) is by in
+      record { cause = cause_of.Device; lines = words; given = fails; told = inl (fails, same); written = written }
+  failed_told bytes u words (Err e) is same written = tt
+
+  pub long_told : {B E : Type 0} (bytes : B → List ℕ) (u : Unread) (words : List ℕ) (r : Result B E) → u ≡ TooLong → words ≡ long_line
+      → IfOk r (λ t. bytes t ≡ unread_line (role_of role) cause_of.OverLimit ++ words) → IfOk r (λ t. (source : Stream) → IsUnreadBy said R source u → told_of source (bytes t))
+  long_told bytes u words (Ok t) is same written = λ source by.
+      let more = subst (IsUnreadBy said R source) is by in
+      record { cause = cause_of.OverLimit; lines = words; given = inl more; told = inl (more, same); written = written }
+  long_told bytes u words (Err e) is same written = tt
+
+  of_text : (source : Stream) (cause : PlanError) (lines told b : List ℕ) → Consumes source.before source.after b → IsAtEnd source.after → length b ≤ 16777216
+      → IsRefused said R b cause → cause ≢ cause_of.OutOfMemory → IsTold b lines → told ≡ unread_line (role_of role) cause ++ lines → told_of source told
+  of_text source cause lines told b took end few refused known reading written =
+      let unread : Result (List ℕ) PlanError = Err cause in
+      let none : GaveNone said R source.before source.after cause = answer_given said R source.before source.after b b unread took end few refl refused in
+      record {
+        cause = cause;
+        lines = lines;
+        given = text_given source b cause none refused known;
+        told = inr (b, took, end, few, reading);
+        written = written;
+      }
+
+  pub text_told : {B E : Type 0} (bytes : B → List ℕ) (u : Unread) (text : Vec ℕ Global) (cause : PlanError) (read lines : List ℕ) (r : Result B E) → u ≡ Text text cause
+      → read ≡ text.items → IsTold read lines
+      → IfOk r (λ t. bytes t ≡ unread_line (role_of role) cause ++ lines) → IfOk r (λ t. (source : Stream) → IsUnreadBy said R source u → told_of source (bytes t))
+  text_told bytes u text cause read lines (Ok t) is same reading written = λ source by.
+      let given : IsUnreadBy said R source (Text text cause) = subst (IsUnreadBy said R source) is by in
+      let known = given.4 in
+      of_text source cause lines (bytes t) given.0 given.1 given.2 given.3 known.1 known.2 (subst (λ (x : List ℕ). IsTold x lines) (same ∙ known.0) reading) written
+  text_told bytes u text cause read lines (Err e) is same reading written = tt

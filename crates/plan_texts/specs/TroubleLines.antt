@@ -1,0 +1,337 @@
+-- The lines that tell what is wrong with a text, and where.
+use Rattle.std.specs.Prelude.{◌≡◌, ◌<◌, ◌≤◌, ◌+◌, ◌⊎◌, ⊤, ℕ, zero, suc, true, false, not, codes, is_some, get_or}
+use Rattle.std.specs.Prelude.{List, [], ◌∷◌, ◌++◌, length, drop, Option, Some, None, option_map}
+use Rattle.std.specs.Fmt.{decimal}
+use Rattle.std.specs.List.{find}
+use Rattle.json.specs.Json.{Json, null, boolean, number, string, array, object, Members, no_members, member}
+use Rattle.json.specs.Lex.{tokens}
+use Rattle.json.specs.Strict.{keys}
+use Rattle.json.specs.Token.{Token}
+use Rattle.json.specs.Token as token
+use Rattle.serde_json.specs.Data.{Data}
+use Rattle.serde_json.specs.Data as tree
+use Rattle.serde_json.specs.Find.{get, get_member}
+use Rattle.net_plan.specs.Json.{is_among, items_count, has_unknown_key}
+use Rattle.net_plan.specs.Names.{text_found}
+use Rattle.net_plan.specs.Trees.{data_of}
+use Rattle.net_plan.specs.declared.error.ValueFault.{ValueFault}
+use Rattle.net_plan.specs.declared.error.ValueFault.TheVariants as fault
+use Rattle.net_pointers.specs.CertificateTroubles.{list_key, nodes_at, known_nodes}
+use Rattle.net_pointers.specs.Doubles.{part_at, part_after}
+use Rattle.net_pointers.specs.KnownNames.{Known, known_in, names_at}
+use Rattle.net_pointers.specs.Nearest.{IsNearest}
+use Rattle.net_pointers.specs.Offsets.{BeginsThere}
+use Rattle.net_pointers.specs.Pointers.{Located, value_at, key, index, Step}
+use Rattle.net_pointers.specs.Shapes.{Fields, fields_of, keys_of}
+use Rattle.net_pointers.specs.TextTroubles.{IsJsonOf, IsToldOfPlanText, IsToldOfCertificateText}
+use Rattle.net_pointers.specs.Views.{located, located_among}
+use Rattle.net_pointers.specs.declared.certificates.CertificateList.{CertificateList}
+use Rattle.net_pointers.specs.declared.certificates.CertificateTrouble.{CertificateTrouble}
+use Rattle.net_pointers.specs.declared.certificates.CertificateTrouble.TheVariants as of_certificate
+use Rattle.net_pointers.specs.declared.doubled.DoubledKey.{DoubledKey}
+use Rattle.net_pointers.specs.declared.doubled.TwoIndices.{TwoIndices}
+use Rattle.net_pointers.specs.declared.part.Part.{Part}
+use Rattle.net_pointers.specs.declared.part.Part.TheVariants as part
+use Rattle.net_pointers.specs.declared.plans.PlanTrouble.{PlanTrouble}
+use Rattle.net_pointers.specs.declared.plans.PlanTrouble.TheVariants as of_plan
+use Rattle.net_pointers.specs.declared.ranges.Overlap.{Overlap}
+use Rattle.net_pointers.specs.declared.syntax.JsonFault.{JsonFault}
+use Rattle.net_pointers.specs.declared.syntax.JsonFault.TheVariants.{NotUtf8, Unreadable}
+use Rattle.net_pointers.specs.declared.syntax.Wanted.{Wanted}
+use Rattle.net_pointers.specs.declared.syntax.Wanted.TheVariants as wanted
+use Rattle.net_pointers.specs.declared.texts.TextTrouble.{TextTrouble}
+use Rattle.net_pointers.specs.declared.texts.TextTrouble.TheVariants.{TooLong, NotJson, Plan, Certificate}
+use Rattle.plan_texts.specs.ReadingLines.{position_text, pointer_text, fault_words, number_noun, shape_words}
+use Rattle.plan_texts.specs.Standing.{IsShown, shown_key}
+
+-- ---- no JSON
+
+-- the text is too long
+abbrev pub long_line : ℕ → List ℕ
+long_line count = codes "The text has " ++ (decimal count ++ codes " bytes; it may have 16777216.\n")
+
+-- what may stand where a text stops being JSON
+abbrev pub wanted_words : Wanted → List ℕ
+wanted_words wanted.Value = codes "a value"
+wanted_words wanted.ValueOrEnd = codes "a value or ']'"
+wanted_words wanted.Key = codes "a key in quotes"
+wanted_words wanted.KeyOrEnd = codes "a key in quotes or '}'"
+wanted_words wanted.Colon = codes "':'"
+wanted_words wanted.CommaOrEndOfList = codes "',' or ']'"
+wanted_words wanted.CommaOrEndOfObject = codes "',' or '}'"
+wanted_words wanted.End = codes "the end of the text"
+wanted_words wanted.LessDepth = codes "a list or an object that 126 others or fewer surround"
+
+-- where the text stops being JSON, and what may stand there
+abbrev pub json_line : List ℕ → JsonFault → List ℕ
+json_line text (NotUtf8 offset) = position_text text (Some offset) ++ codes "there the text is no UTF-8.\n"
+json_line text (Unreadable offset w) =
+    position_text text (Some offset) ++ (codes "there may stand " ++ (wanted_words w ++ codes ", and nothing else.\n"))
+
+-- ---- a value that is wrong in itself
+
+-- a value with this fault begins at the offset, where that is known
+abbrev pub StandsAt : List ℕ → Option ℕ → Located → Type 0
+StandsAt text None l = ⊤
+StandsAt text (Some offset) l = BeginsThere text offset l.shape l.fault
+
+-- the text from an offset on, where that is known
+abbrev pub rest_of : List ℕ → Option ℕ → Option (List ℕ)
+rest_of text offset = option_map (λ o. drop o text) offset
+
+-- what stands there, as it is shown, or what is wrong with it, where it isn't known where it stands
+abbrev pub IsStandingTold : ValueFault → Option (List ℕ) → List ℕ → Type 0
+IsStandingTold f None words = words ≡ fault_words f
+IsStandingTold f (Some rest) words = (shown : List ℕ) × IsShown rest shown × (words ≡ codes "is " ++ shown)
+
+-- the first of the keys that the object lacks
+abbrev pub lacked_key : Fields → Data → Option (List ℕ)
+lacked_key fs d = find (λ k. not (is_some (get k d))) (keys_of fs)
+
+abbrev pub lack_words : Option (List ℕ) → List ℕ
+lack_words (Some k) = codes "lacks the key " ++ k
+lack_words None = fault_words fault.MissingKey
+
+abbrev pub unknown_words : Option (List ℕ) → List ℕ
+unknown_words (Some k) = codes "has the key " ++ shown_key k
+unknown_words None = fault_words fault.UnknownKey
+
+-- a key of the object that is none of those that may stand there, where it has such a key
+abbrev pub IsUnknownKey : Fields → tree.Members → Option (List ℕ) → Type 0
+IsUnknownKey fs ms (Some k) = (is_some (get_member k ms) ≡ true) × (is_among (keys_of fs) k ≡ false)
+IsUnknownKey fs ms None = has_unknown_key (keys_of fs) ms ≡ false
+
+abbrev pub IsUnknownKeyTold : Fields → Data → List ℕ → Type 0
+IsUnknownKeyTold fs (tree.object ms) words =
+    (k : Option (List ℕ)) × IsUnknownKey fs ms k × (words ≡ unknown_words k)
+IsUnknownKeyTold fs _ words = words ≡ fault_words fault.UnknownKey
+
+-- how long a list is; of anything else what stands there
+abbrev pub IsLengthTold : Data → Option (List ℕ) → List ℕ → Type 0
+IsLengthTold (tree.array ds) rest words = words ≡ codes "is a list of " ++ (decimal (items_count ds) ++ codes " items")
+IsLengthTold _ rest words = IsStandingTold fault.OverLimit rest words
+
+-- what is wrong with a value: the key that it lacks or that doesn't belong there, its length, or what stands there
+abbrev pub IsWrongTold : Fields → ValueFault → Data → Option (List ℕ) → List ℕ → Type 0
+IsWrongTold fs fault.MissingKey d rest words = words ≡ lack_words (lacked_key fs d)
+IsWrongTold fs fault.UnknownKey d rest words = IsUnknownKeyTold fs d words
+IsWrongTold fs fault.OverLimit d rest words = IsLengthTold d rest words
+IsWrongTold fs f d rest words = IsStandingTold f rest words
+
+-- where the value is, what is wrong with it, and what may stand there
+abbrev pub value_line : List ℕ → Option ℕ → Located → List ℕ → List ℕ
+value_line text offset l words = position_text text offset ++ (pointer_text l.pointer ++ (codes " " ++ (words
+    ++ (codes "; " ++ (shape_words (number_noun l.pointer) l.shape ++ codes ".\n")))))
+
+-- the line of a value, with what is wrong with it
+abbrev pub IsLineOf : List ℕ → Located → Data → Option ℕ → Option (List ℕ) → List ℕ → Type 0
+IsLineOf text l d offset rest line = (words : List ℕ) × IsWrongTold (fields_of l.shape) l.fault d rest words
+    × (line ≡ value_line text offset l words)
+
+-- The line tells of a value of the data that has a fault: where it is, what is wrong with it, and what may stand there.
+pub record IsValueTold (text : List ℕ) (d : Data) (l : Located) (line : List ℕ) : Type 0 where
+  pub offset : Option ℕ
+  pub stands : Data
+  pub at : StandsAt text offset l
+  pub leads : value_at l.pointer d ≡ Some stands
+  pub written : IsLineOf text l stands offset (rest_of text offset) line
+
+-- ---- a name that nothing has
+
+-- the names among which one is looked for
+abbrev pub names_for : Known → Part → List (List ℕ)
+names_for known part.NamedBus = known.buses
+names_for known _ = known.nodes
+
+-- what would have the name
+abbrev pub named_noun : Part → List ℕ
+named_noun part.NamedBus = codes "bus"
+named_noun _ = codes "node"
+
+-- the name that is nearest, where one is close
+abbrev pub nearest_line : List (List ℕ) → Option ℕ → List ℕ
+nearest_line names (Some i) = codes "The nearest name is " ++ (get_or names i [] ++ codes ".\n")
+nearest_line names None = codes "No name is close to it.\n"
+
+abbrev pub unknown_line : List ℕ → Option ℕ → List Step → List ℕ → List ℕ → List ℕ
+unknown_line text offset pointer name noun = position_text text offset ++ (pointer_text pointer ++ (codes " is "
+    ++ (name ++ (codes ", and no " ++ (noun ++ codes " has that name.\n")))))
+
+-- The lines tell of a name in the data that is none of these: where it stands, and the nearest of them, where one is
+-- close.
+pub record IsUnknownNameTold (text : List ℕ) (d : Data) (names : List (List ℕ)) (noun : List ℕ) (l : Located)
+    (lines : List ℕ) : Type 0 where
+  pub offset : Option ℕ
+  pub nearest : Option ℕ
+  pub at : StandsAt text offset l
+  pub is_nearest : IsNearest names (text_found (value_at l.pointer d)) nearest
+  pub written : lines ≡ unknown_line text offset l.pointer (text_found (value_at l.pointer d)) noun
+      ++ nearest_line names nearest
+
+-- ---- what stands twice
+
+-- the text begins with this text in quotes, as a value or as a key
+abbrev pub BeginsQuoted : List ℕ → List ℕ → Type 0
+BeginsQuoted text s =
+    (rest : List Token) × ((tokens text ≡ token.string s ∷ rest) ⊎ (tokens text ≡ token.key s ∷ rest))
+
+-- Two offsets, one behind the other, at which this text stands in quotes.
+pub record StandsTwice (text s : List ℕ) (first second : ℕ) : Type 0 where
+  pub ascends : first < second
+  pub within : second ≤ length text
+  pub one : BeginsQuoted (drop first text) s
+  pub other : BeginsQuoted (drop second text) s
+
+-- the two offsets, where they are known
+abbrev pub AreOffsets : List ℕ → List ℕ → Option (ℕ × ℕ) → Type 0
+AreOffsets text s None = ⊤
+AreOffsets text s (Some o) = StandsTwice text s o.0 o.1
+
+abbrev pub first_offset : Option (ℕ × ℕ) → Option ℕ
+first_offset o = option_map (λ p. p.0) o
+
+abbrev pub second_offset : Option (ℕ × ℕ) → Option ℕ
+second_offset o = option_map (λ p. p.1) o
+
+-- two lines, each with its line and column, where they are known
+abbrev pub two_lines : List ℕ → Option (ℕ × ℕ) → List ℕ → List ℕ → List ℕ
+two_lines text offsets one other =
+    position_text text (first_offset offsets) ++ (one ++ (position_text text (second_offset offsets) ++ other))
+
+-- the lines tell of what stands twice, where each stands
+abbrev pub AreTwoTold : List ℕ → List ℕ → List ℕ → List ℕ → List ℕ → Type 0
+AreTwoTold text s one other lines =
+    (offsets : Option (ℕ × ℕ)) × AreOffsets text s offsets × (lines ≡ two_lines text offsets one other)
+
+-- to a value at a key of an item of the list at a key
+abbrev pub entry_pointer : List ℕ → ℕ → List ℕ → List Step
+entry_pointer list i k = key list ∷ (index i ∷ (key k ∷ []))
+
+-- the name that stands at the first of two items of a list
+abbrev pub doubled_name : Data → List ℕ → List ℕ → TwoIndices → List ℕ
+doubled_name d list k indices = text_found (value_at (entry_pointer list indices.first k) d)
+
+abbrev pub name_line : List Step → List ℕ → List ℕ
+name_line pointer name = pointer_text pointer ++ (codes " is " ++ (name ++ codes ".\n"))
+
+abbrev pub again_line : List Step → List ℕ → List ℕ → List ℕ
+again_line pointer name why = pointer_text pointer ++ (codes " is " ++ (name ++ (codes " too, and " ++ (why ++ codes ".\n"))))
+
+-- the lines tell of a name that stands at two items of a list, each with its pointer
+abbrev pub IsDoubledNameTold : List ℕ → Data → List ℕ → List ℕ → List ℕ → TwoIndices → List ℕ → Type 0
+IsDoubledNameTold text d list k why indices lines = let name = doubled_name d list k indices in
+    AreTwoTold text name (name_line (entry_pointer list indices.first k) name)
+    (again_line (entry_pointer list indices.second k) name why) lines
+
+abbrev pub one_bus : List ℕ
+one_bus = codes "no two buses have one name"
+
+abbrev pub one_entry : List ℕ
+one_entry = codes "a list names a node once"
+
+-- the key of the member at an index
+abbrev pub key_at : ℕ → Members → List ℕ
+key_at i no_members = []
+key_at zero (member k j ms) = k
+key_at (suc i) (member k j ms) = key_at i ms
+
+-- the step to a part of a tree by its index: the key of a member, or the index of an item
+abbrev pub part_step : ℕ → Json → List ℕ
+part_step i (object ms) = codes "/" ++ key_at i ms
+part_step i _ = codes "/" ++ decimal i
+
+-- the steps of a path of such indices, as those of a JSON pointer
+abbrev pub path_text : List ℕ → Option Json → List ℕ
+path_text [] j = []
+path_text (i ∷ is) None = []
+path_text (i ∷ is) (Some j) = part_step i j ++ path_text is (part_after i j)
+
+-- the object to which a path leads; the whole text is said in words
+abbrev pub object_text : List ℕ → Json → List ℕ
+object_text [] j = codes "the whole text"
+object_text (i ∷ is) j = path_text (i ∷ is) (Some j)
+
+abbrev pub keys_in : Option Json → List (List ℕ)
+keys_in (Some (object ms)) = keys ms
+keys_in _ = []
+
+-- the key that an object has twice
+abbrev pub key_of : Json → DoubledKey → List ℕ
+key_of j k = get_or (keys_in (part_at k.path.items j)) k.members.first []
+
+abbrev pub key_line : List ℕ → List ℕ → List ℕ
+key_line whole k = whole ++ (codes " has the key " ++ (k ++ codes ".\n"))
+
+abbrev pub key_again_line : List ℕ → List ℕ → List ℕ
+key_again_line whole k = whole ++ (codes " has the key " ++ (k ++ codes " again, and an object has a key once.\n"))
+
+-- the lines tell of a key that an object has twice
+abbrev pub IsDoubledKeyTold : List ℕ → Json → DoubledKey → List ℕ → Type 0
+IsDoubledKeyTold text j k lines =
+    AreTwoTold text (key_of j k) (key_line (object_text k.path.items j) (key_of j k))
+    (key_again_line (object_text k.path.items j) (key_of j k)) lines
+
+-- to a range of ranks
+abbrev pub range_pointer : ℕ → ℕ → List Step
+range_pointer entry range =
+    key (codes "ranks") ∷ (index entry ∷ (key (codes "ranges") ∷ (index range ∷ [])))
+
+-- two offsets of the text, one behind the other, where they are known
+abbrev pub AreApart : List ℕ → Option (ℕ × ℕ) → Type 0
+AreApart text None = ⊤
+AreApart text (Some o) = (o.0 < o.1) × (o.1 ≤ length text)
+
+abbrev pub range_line : List Step → List ℕ
+range_line pointer = pointer_text pointer ++ codes " is one range.\n"
+
+abbrev pub next_range_line : List Step → List ℕ
+next_range_line pointer =
+    pointer_text pointer ++ codes " is the next one, and begins before that one has ended.\n"
+
+-- the lines tell of two ranges of a node, of which the second begins before the first has ended
+abbrev pub IsOverlapTold : List ℕ → Overlap → List ℕ → Type 0
+IsOverlapTold text o lines = (offsets : Option (ℕ × ℕ)) × AreApart text offsets
+    × (lines ≡ two_lines text offsets (range_line (range_pointer o.entry o.range))
+    (next_range_line (range_pointer o.entry (o.range + 1))))
+
+-- ---- a text
+
+-- the lines tell of what is wrong with the plan that a tree is
+abbrev pub ArePlanLines : List ℕ → Json → PlanTrouble → List ℕ → Type 0
+ArePlanLines text j (of_plan.Value found) lines = IsValueTold text (data_of j) (located found) lines
+ArePlanLines text j (of_plan.DoubledBus indices) lines =
+    IsDoubledNameTold text (data_of j) (codes "buses") (codes "name") one_bus indices lines
+ArePlanLines text j (of_plan.DoubledKey doubled) lines = IsDoubledKeyTold text j doubled lines
+ArePlanLines text j (of_plan.UnknownName found) lines = let known = known_in (data_of j) in
+    IsUnknownNameTold text (data_of j) (names_for known found.part) (named_noun found.part)
+    (located_among (Some known) found) lines
+
+-- the lines tell of what is wrong with the certificate that a tree is, among nodes of these names
+abbrev pub AreCertificateLines : List (List ℕ) → List ℕ → Json → CertificateTrouble → List ℕ → Type 0
+AreCertificateLines nodes text j (of_certificate.Value found) lines =
+    IsValueTold text (data_of j) (located found) lines
+AreCertificateLines nodes text j (of_certificate.DoubledNode list indices) lines =
+    IsDoubledNameTold text (data_of j) (list_key list) (codes "node") one_entry indices lines
+AreCertificateLines nodes text j (of_certificate.Overlap overlap) lines = IsOverlapTold text overlap lines
+AreCertificateLines nodes text j (of_certificate.DoubledKey doubled) lines = IsDoubledKeyTold text j doubled lines
+AreCertificateLines nodes text j (of_certificate.UnknownName found) lines = let known = known_nodes nodes in
+    IsUnknownNameTold text (data_of j) (names_for known found.part) (named_noun found.part)
+    (located_among (Some known) found) lines
+
+-- the lines tell of what is wrong with a text
+abbrev pub AreTroubleLines : List (List ℕ) → List ℕ → TextTrouble → List ℕ → Type 0
+AreTroubleLines nodes text (TooLong count) lines = lines ≡ long_line count
+AreTroubleLines nodes text (NotJson fault) lines = lines ≡ json_line text fault
+AreTroubleLines nodes text (Plan trouble) lines = IsJsonOf text (λ j. ArePlanLines text j trouble lines)
+AreTroubleLines nodes text (Certificate trouble) lines =
+    IsJsonOf text (λ j. AreCertificateLines nodes text j trouble lines)
+
+-- the lines tell of what is wrong with the text of a plan
+abbrev pub IsPlanTextTold : List ℕ → List ℕ → Type 0
+IsPlanTextTold text lines = (trouble : TextTrouble) × IsToldOfPlanText text (Some trouble)
+    × AreTroubleLines [] text trouble lines
+
+-- the lines tell of what is wrong with the text of a certificate among nodes of these names
+abbrev pub IsCertificateTextTold : List (List ℕ) → List ℕ → List ℕ → Type 0
+IsCertificateTextTold nodes text lines = (trouble : TextTrouble) × IsToldOfCertificateText nodes text (Some trouble)
+    × AreTroubleLines nodes text trouble lines

@@ -1,0 +1,128 @@
+//! What stands at an offset of a text, as far as it is shown.
+ghost use Rattle.std.specs.Prelude.{◌≡◌, ◌≤◌, length, drop, get_or, IfOk, IfSome, string_bytes, encode_utf8_all};
+ghost use Rattle.plan_texts.specs.Standing.{first_characters, ends_word, ends_quoted, ends_bracketed, ends_at, IsShownLength, IsShownOf, IsShown, dots_after, printable, shown_key};
+
+use std::alloc::{AllocError, Global};
+
+/// How many characters are shown.
+const MOST_SHOWN: usize = 40;
+
+/// The text from an offset on, where the offset is in it and UTF-8 follows.
+pub fn rest_at(text: &[u8], offset: usize) -> Option<&str>
+    ensures { IfSome result (λ rest. (offset ≤ length text.now) × (rest.now ≡ drop offset text.now)) }
+{
+    if offset > text.len() {
+        return None;
+    }
+    simdutf8::compat::from_utf8(&text[offset..]).ok()
+}
+
+/// What a text begins with, as far as it is shown.
+pub fn shown_text(alloc: Global, text: &str) -> Result<String, AllocError>
+    ensures { IfOk result (λ shown. IsShown text.now (string_bytes shown)) }
+{
+    let characters = first_characters(alloc, text)?;
+    shown_of(alloc, characters.as_slice())
+}
+
+fn first_characters(alloc: Global, text: &str) -> Result<Vec<char>, AllocError>
+    ensures { IfOk result (λ characters. characters.items ≡ first_characters text.now) }
+{
+    text.chars().take(41).collect(alloc)
+}
+
+fn shown_of(alloc: Global, characters: &[char]) -> Result<String, AllocError>
+    requires { length characters.now ≤ 41 }
+    ensures { IfOk result (λ shown. IsShownOf characters.now (string_bytes shown)) }
+{
+    let length = shown_length(characters);
+    let shown = written(alloc, &characters[..length])?;
+    let dots = dots_after(characters, length);
+    format!(in alloc; "{shown}{dots}")
+}
+
+/// How many of these characters are shown.
+fn shown_length(characters: &[char]) -> usize
+    requires { length characters.now ≤ 41 }
+    ensures { IsShownLength characters.now result }
+{
+    for count in 1..characters.len() {
+        if count == MOST_SHOWN || ends_at(characters, count) {
+            return count;
+        }
+    }
+    characters.len()
+}
+
+/// Whether what begins with these characters may end behind so many of them.
+fn ends_at(characters: &[char], count: usize) -> bool
+    ensures { result ≡ ends_at characters.now count }
+{
+    match characters.first() {
+        Some('"') => ends_quoted(characters, count),
+        Some('[' | '{') => ends_bracketed(characters, count),
+        _ => ends_word(character_at(characters, count)),
+    }
+}
+
+/// Whether so many characters end with a quote that is not the first of them.
+fn ends_quoted(characters: &[char], count: usize) -> bool
+    ensures { result ≡ ends_quoted characters.now count }
+{
+    1 < count
+        && character_at(characters, count - 1) == '"'
+        && character_at(characters, count - 2) != '\\'
+}
+
+/// Whether so many characters end with a closing bracket, or a line ends behind them.
+fn ends_bracketed(characters: &[char], count: usize) -> bool
+    ensures { result ≡ ends_bracketed characters.now count }
+{
+    let last = character_at(characters, count.saturating_sub(1));
+    last == ']' || last == '}' || character_at(characters, count) == '\n'
+}
+
+fn character_at(characters: &[char], index: usize) -> char
+    ensures { result ≡ get_or characters.now index 0 }
+{
+    characters.get(index).copied().unwrap_or('\0')
+}
+
+/// Whether a number or a word of JSON ends before this character.
+fn ends_word(character: char) -> bool
+    ensures { result ≡ ends_word character }
+{
+    matches!(character, ',' | ']' | '}' | ' ' | '\t' | '\n' | '\r')
+}
+
+/// Three dots where more follows.
+fn dots_after(characters: &[char], count: usize) -> &'static str
+    ensures { result.now ≡ dots_after characters.now count }
+{
+    if count == characters.len() || ends_at(characters, count) {
+        return "";
+    }
+    "..."
+}
+
+fn written(alloc: Global, characters: &[char]) -> Result<String, AllocError>
+    ensures { IfOk result (λ text. string_bytes text ≡ encode_utf8_all characters.now) }
+{
+    characters.iter().copied().collect(alloc)
+}
+
+/// A key as it is shown: its beginning, with a question mark for each control character.
+pub fn shown_key(alloc: Global, key: &str) -> Result<String, AllocError>
+    ensures { IfOk result (λ shown. string_bytes shown ≡ shown_key key.now) }
+{
+    key.chars().take(40).map(|c| printable(c)).collect(alloc)
+}
+
+fn printable(character: char) -> char
+    ensures { result ≡ printable character }
+{
+    if character < ' ' || character == '\u{7f}' {
+        return '?';
+    }
+    character
+}

@@ -1,0 +1,257 @@
+//! A value that is wrong in itself: where it stands, what is wrong with it, and what may stand there.
+ghost use Rattle.std.specs.Prelude.{◌≡◌, ◌≤◌, ◌++◌, ℕ, List, length, map, codes, true, is_some, Some, IfOk, IfSome, option_map, drop, string_bytes};
+ghost use Rattle.std.specs.List.{list_any};
+ghost use Rattle.std.specs.Str.{bytes_eq};
+ghost use Rattle.serde_json.specs.Find.{at, get_item};
+ghost use Rattle.net_plan.specs.Json.{is_among};
+ghost use Rattle.net_plan.specs.Names.{text_found};
+ghost use Rattle.net_plan.specs.Trees.{view, items_view, members_view};
+ghost use Rattle.net_pointers.specs.PlanShapes.{shape, fields_view};
+ghost use Rattle.net_pointers.specs.Pointers.{value_at, value_after};
+ghost use Rattle.net_pointers.specs.Shapes.{fields_of, keys_of};
+ghost use Rattle.net_pointers.specs.Views.{located, step_value};
+ghost use Rattle.plan_texts.specs.Standing.{IsShown};
+ghost use Rattle.plan_texts.specs.TroubleLines.{StandsAt, IsStandingTold, IsUnknownKey, IsUnknownKeyTold, IsLengthTold, IsWrongTold, IsLineOf, IsValueTold, lacked_key, lack_words, unknown_words, value_line};
+
+use super::positions::{pointer_text, position_text};
+use super::shapes::{fault_words, number_noun, shape_words};
+use super::shown::{rest_at, shown_key, shown_text};
+use json::Value;
+use net_plan::{ValueFault, at};
+use net_pointers::{Field, Found, PointerStep, fields_of, offset_of};
+use std::alloc::{AllocError, Global};
+
+/// The line of a value that has a fault in itself: where it stands, what is wrong with it, and what may stand there.
+pub fn value_line(
+    alloc: Global,
+    text: &[u8],
+    value: &Value<'_>,
+    found: &Found,
+) -> Result<String, AllocError>
+    requires { is_some (value_at (located found.now).pointer (view value.now)) ≡ true }
+    ensures { IfOk result (λ line. IsValueTold text.now (view value.now) (located found.now) (string_bytes line)) }
+{
+    let Some(stands) = value_at(value, found.pointer.as_slice()) else {
+        unreachable!();
+    };
+    match standing(alloc, text, found) {
+        Some((offset, rest)) => line_of(alloc, text, found, stands, Some(offset), Some(rest)),
+        None => line_of(alloc, text, found, stands, None, None),
+    }
+}
+
+/// The offset at which a value with the fault begins, and the text from there on, where they are known.
+fn standing<'t>(alloc: Global, text: &'t [u8], found: &Found) -> Option<(usize, &'t str)>
+    ensures at { IfSome result (λ s. StandsAt text.now (Some s.0) (located found.now)) }
+    ensures rest { IfSome result (λ s. s.1.now ≡ drop s.0 text.now) }
+{
+    let offset = offset_of(alloc, text, found)?;
+    let rest = rest_at(text, offset)?;
+    Some((offset, rest))
+}
+
+fn line_of(
+    alloc: Global,
+    text: &[u8],
+    found: &Found,
+    stands: &Value<'_>,
+    offset: Option<usize>,
+    rest: Option<&str>,
+) -> Result<String, AllocError>
+    requires { IfSome offset (λ at. at ≤ length text.now) }
+    ensures { IfOk result (λ line. IsLineOf text.now (located found.now) (view stands.now) offset (option_map (λ r. r.now) rest.entry) (string_bytes line)) }
+{
+    let words = wrong_words(alloc, found, stands, rest)?;
+    value_text(alloc, text, found, offset, &words)
+}
+
+fn value_text(
+    alloc: Global,
+    text: &[u8],
+    found: &Found,
+    offset: Option<usize>,
+    words: &str,
+) -> Result<String, AllocError>
+    requires { IfSome offset (λ at. at ≤ length text.now) }
+    ensures { IfOk result (λ line. string_bytes line ≡ value_line text.now offset (located found.now) words.now) }
+{
+    let position = position_text(alloc, text, offset)?;
+    let pointer = pointer_text(alloc, found.pointer.as_slice())?;
+    let noun = number_noun(found.pointer.as_slice());
+    let shape = shape_words(alloc, noun, found.part)?;
+    format!(in alloc; "{position}{pointer} {words}; {shape}.\n")
+}
+
+/// What is wrong with a value: the key that it lacks or that doesn't belong there, its length, or what stands there.
+fn wrong_words(
+    alloc: Global,
+    found: &Found,
+    stands: &Value<'_>,
+    rest: Option<&str>,
+) -> Result<String, AllocError>
+    ensures { IfOk result (λ words. IsWrongTold (fields_of (shape found.now.part)) found.now.fault (view stands.now)
+        (option_map (λ r. r.now) rest.entry) (string_bytes words)) }
+{
+    match found.fault {
+        ValueFault::MissingKey => lack_words(alloc, lacked_key(fields_of(found.part), stands)),
+        ValueFault::UnknownKey => unknown_key_words(alloc, fields_of(found.part), stands),
+        ValueFault::OverLimit => length_words(alloc, stands, rest),
+        fault => standing_words(alloc, fault, rest),
+    }
+}
+
+/// What stands there, as it is shown, or what is wrong with it, where it isn't known where it stands.
+fn standing_words(
+    alloc: Global,
+    fault: ValueFault,
+    rest: Option<&str>,
+) -> Result<String, AllocError>
+    ensures { IfOk result (λ words. IsStandingTold fault (option_map (λ r. r.now) rest.entry) (string_bytes words)) }
+{
+    match rest {
+        Some(rest) => shown_words(alloc, rest),
+        None => fault_words(fault).to_string(alloc),
+    }
+}
+
+fn shown_words(alloc: Global, rest: &str) -> Result<String, AllocError>
+    ensures { IfOk result (λ words. (shown : List ℕ) × IsShown rest.now shown × (string_bytes words ≡ codes "is " ++ shown)) }
+{
+    let shown = shown_text(alloc, rest)?;
+    format!(in alloc; "is {shown}")
+}
+
+/// How long a list is; of anything else what stands there.
+fn length_words(alloc: Global, stands: &Value<'_>, rest: Option<&str>) -> Result<String, AllocError>
+    ensures { IfOk result (λ words. IsLengthTold (view stands.now) (option_map (λ r. r.now) rest.entry) (string_bytes words)) }
+{
+    match stands {
+        Value::Array(items) => {
+            let count = items.len();
+            format!(in alloc; "is a list of {count} items")
+        }
+        _ => standing_words(alloc, ValueFault::OverLimit, rest),
+    }
+}
+
+/// The first key of a table that an object lacks.
+fn lacked_key(fields: &[Field], stands: &Value<'_>) -> Option<&'static str>
+    ensures { option_map (λ k. k.now) result ≡ lacked_key (fields_view fields.now) (view stands.now) }
+{
+    for field in fields {
+        if at(stands, field.key).is_none() {
+            return Some(field.key);
+        }
+    }
+    None
+}
+
+fn lack_words(alloc: Global, key: Option<&str>) -> Result<String, AllocError>
+    ensures { IfOk result (λ words. string_bytes words ≡ lack_words (option_map (λ k. k.now) key.entry)) }
+{
+    match key {
+        Some(key) => format!(in alloc; "lacks the key {key}"),
+        None => fault_words(ValueFault::MissingKey).to_string(alloc),
+    }
+}
+
+/// A key of an object that doesn't belong there.
+fn unknown_key_words(
+    alloc: Global,
+    fields: &[Field],
+    stands: &Value<'_>,
+) -> Result<String, AllocError>
+    ensures { IfOk result (λ words. IsUnknownKeyTold (fields_view fields.now) (view stands.now) (string_bytes words)) }
+{
+    match stands {
+        Value::Object(members) => key_words_of(alloc, unknown_key(fields, members)),
+        _ => fault_words(ValueFault::UnknownKey).to_string(alloc),
+    }
+}
+
+fn key_words_of(alloc: Global, key: Option<&str>) -> Result<String, AllocError>
+    ensures { IfOk result (λ words. string_bytes words ≡ unknown_words (option_map (λ k. k.now) key.entry)) }
+{
+    match key {
+        Some(key) => {
+            let key = shown_key(alloc, key)?;
+            format!(in alloc; "has the key {key}")
+        }
+        None => fault_words(ValueFault::UnknownKey).to_string(alloc),
+    }
+}
+
+/// The first key of an object that is none of a table.
+fn unknown_key<'t>(fields: &[Field], members: &Vec<(&'t str, Value<'t>)>) -> Option<&'t str>
+    ensures { IsUnknownKey (fields_view fields.now) (members_view members.now.items) (option_map (λ k. k.now) result) }
+{
+    for member in members {
+        if !is_among(fields, member.0) {
+            return Some(member.0);
+        }
+    }
+    None
+}
+
+/// Whether a key is one of a table.
+#[tactic(auto, using(crate::proofs::ToldTexts::among_fields))]
+fn is_among(fields: &[Field], key: &str) -> bool
+    ensures { result ≡ is_among (keys_of (fields_view fields.now)) key.now }
+{
+    is_one_of(fields, key)
+}
+
+fn is_one_of(fields: &[Field], key: &str) -> bool
+    ensures { result ≡ list_any (λ f. bytes_eq key.now f.key.now) fields.now }
+{
+    fields.iter().any(|field| key == field.key)
+}
+
+/// The value that a pointer leads to.
+pub fn value_at<'v, 't>(value: &'v Value<'t>, pointer: &[PointerStep]) -> Option<&'v Value<'t>>
+    ensures { option_map (λ v. view v.now) result ≡ value_at (map step_value pointer.now) (view value.now) }
+{
+    let mut part = Some(value);
+    for step in pointer {
+        let Some(whole) = part else {
+            return None;
+        };
+        part = value_after(whole, *step);
+    }
+    part
+}
+
+fn value_after<'v, 't>(value: &'v Value<'t>, step: PointerStep) -> Option<&'v Value<'t>>
+    ensures { option_map (λ v. view v.now) result ≡ value_after (step_value step) (view value.now) }
+{
+    match step {
+        PointerStep::Key(key) => at(value, key),
+        PointerStep::Index(index) => item_at(value, index),
+    }
+}
+
+fn item_at<'v, 't>(value: &'v Value<'t>, index: usize) -> Option<&'v Value<'t>>
+    ensures { option_map (λ v. view v.now) result ≡ at index (view value.now) }
+{
+    match value {
+        Value::Array(items) => item_of(items.as_slice(), index),
+        _ => None,
+    }
+}
+
+#[tactic(auto, using(crate::proofs::ToldTexts::item_of_view))]
+fn item_of<'v, 't>(items: &'v [Value<'t>], index: usize) -> Option<&'v Value<'t>>
+    ensures { option_map (λ v. view v.now) result ≡ get_item index (items_view items.now) }
+{
+    items.get(index)
+}
+
+/// The text that a value is; an empty one where it is none.
+pub fn text_of<'v>(value: Option<&'v Value<'_>>) -> &'v str
+    ensures { result.now ≡ text_found (option_map (λ v. view v.now) value.entry) }
+{
+    match value {
+        Some(Value::String(text)) => text,
+        _ => "",
+    }
+}
