@@ -1,3 +1,4 @@
 pub mod Items
 pub mod Found
 pub mod PoolFaults
+pub mod MostOf

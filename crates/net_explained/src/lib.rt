@@ -1,11 +1,14 @@
-//! Why a plan breaks a rule: what is wrong at the spot, and who else is involved.
+//! Why a plan breaks a rule: what is wrong at the spot, and who else is involved; and the most hops that a
+//! certificate allows.
 #![tactic(auto)]
 
 mod cause;
 mod causes;
 mod finding;
 mod holders;
+mod hops;
 
 pub use cause::Cause;
 pub use finding::find_cause;
+pub use hops::{MostHops, most_hops};
 pub use net_check::lookup::{owner_at, pool_at, record_at, row_at, rows_at, terminus_at};

@@ -2,12 +2,15 @@
 use Rattle.std.specs.Prelude.{◌≡◌, ◌≢◌, ◌⊎◌, ℕ, List, ◌++◌, codes, ⊤}
 use Rattle.std.specs.Prelude.{Option, Some, None}
 use Rattle.std.specs.Io.KnownBytes.{Appends}
+use Rattle.net_check.specs.Certificates.{IsExact}
 use Rattle.net_check.specs.Faults.{IsFirstFault, site_of}
 use Rattle.net_check.specs.Rules.{Accepts}
 use Rattle.net_check.specs.declared.certify_error.CertifyError.{CertifyError}
 use Rattle.net_check.specs.declared.fault.Fault.{Fault}
 use Rattle.net_explained.specs.declared.cause.Cause.{Cause}
+use Rattle.net_explained.specs.declared.hops.MostHops.{MostHops}
 use Rattle.net_explained.specs.Causes.{IsCauseAt}
+use Rattle.net_explained.specs.Hops.{IsMostHops}
 use Rattle.net_plan.specs.declared.certificate.Certificate.{Certificate}
 use Rattle.net_plan.specs.declared.error.PlanError.{PlanError}
 use Rattle.net_plan.specs.declared.error.PlanError.TheVariants as error_of
@@ -31,7 +34,8 @@ use Rattle.plan_commands.specs.Certifying.{IsRuledOutBy}
 use Rattle.plan_texts.specs.Lines.{fault_text}
 use Rattle.plan_commands.specs.Linting.{TellsOfPlan}
 use Rattle.plan_commands.specs.Statuses.{role_of, yes_line}
-use Rattle.plan_texts.specs.ExplanationLines.{summary_text, told_cause, IsObstacleTold}
+use Rattle.plan_texts.specs.ExplanationLines.{told_cause, IsObstacleTold}
+use Rattle.plan_texts.specs.SummaryLines.{summary_text}
 use Rattle.plan_texts.specs.ReadingLines.{unread_line, unread_words, IsReadingTold}
 
 -- the certificate is at fault, and not the plan
@@ -54,11 +58,17 @@ pub record IsObstacleText (plan : Plan) (text : List ℕ) : Type 0 where
   pub told : IsObstacleTold plan obstacle lines
   pub written : text ≡ line ++ lines
 
--- A certificate fits the plan, and the text says yes and sums the plan up.
+-- the text says yes and sums the plan up, with the most hops that the certificate allows between two nodes
+abbrev pub IsSummedUp : Plan → Certificate → List ℕ → Type 0
+IsSummedUp plan certificate text =
+    (most : Option MostHops) × IsMostHops plan certificate most × (text ≡ yes_line ++ summary_text plan most)
+
+-- The exact certificate of the plan fits it, and the text says yes and sums the plan up.
 pub record IsSoundText (plan : Plan) (text : List ℕ) : Type 0 where
   pub certificate : Certificate
   pub accepted : Accepts plan certificate
-  pub written : text ≡ yes_line ++ summary_text plan
+  pub exact : IsExact plan certificate
+  pub written : IsSummedUp plan certificate text
 
 -- ---- texts that don't read
 
@@ -166,7 +176,7 @@ pub record IsFaultExplained (plan : Plan) (certificate : Certificate) (text : Li
 
 -- every rule holds of the plan and the certificate, and the text says yes and sums the plan up
 abbrev pub IsYesExplained : Plan → Certificate → List ℕ → Type 0
-IsYesExplained plan certificate text = Accepts plan certificate × (text ≡ yes_line ++ summary_text plan)
+IsYesExplained plan certificate text = Accepts plan certificate × IsSummedUp plan certificate text
 
 -- a run that says so of the plan and the certificate ends so: as `check` ends of them
 abbrev pub IsBothExplained : Plan → Certificate → Status → List ℕ → Type 0

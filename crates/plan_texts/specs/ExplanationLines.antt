@@ -22,11 +22,6 @@ use Rattle.plan_texts.specs.EditLines.{edits_text}
 use Rattle.plan_texts.specs.Lines.{name_or_dash, number_or_dash}
 use Rattle.plan_texts.specs.WayLines.{bus_text, address_on, address_text}
 
--- how many nodes and buses there are
-abbrev pub summary_text : Plan → List ℕ
-summary_text plan = codes "nodes " ++ (decimal (length plan.nodes.items)
-    ++ (codes " buses " ++ (decimal (length plan.buses.items) ++ codes "\n")))
-
 -- what is told of a cause, where there is one
 abbrev pub told_cause : Plan → Fault → Option Cause → List ℕ
 told_cause plan fault (Some cause) = cause_text plan fault cause ++ edits_text plan fault cause

@@ -3,7 +3,7 @@ ghost use Rattle.std.specs.Prelude.{◌≡◌, IfOk, Some, string_bytes};
 ghost use Rattle.std.specs.List.{flat_map};
 ghost use Rattle.net_check.specs.Owners.{owner_of};
 ghost use Rattle.plan_texts.specs.CauseLines.{row_at};
-ghost use Rattle.plan_texts.specs.ExplanationLines.{summary_text, IsCauseTold, IsObstacleTold, covers_eid, row_for, bus_of_row, address_to, row_way, way_by, way_to, way_line, around, loop_lines, owner_name, owner_line, owner_loop_lines, next_handle, next_handle_text, chain_rest, chain_lines, told_cause};
+ghost use Rattle.plan_texts.specs.ExplanationLines.{IsCauseTold, IsObstacleTold, covers_eid, row_for, bus_of_row, address_to, row_way, way_by, way_to, way_line, around, loop_lines, owner_name, owner_line, owner_loop_lines, next_handle, next_handle_text, chain_rest, chain_lines, told_cause};
 ghost use Rattle.plan_texts.specs.WayLines.{address_text, bus_text};
 
 use super::causes::cause_text;
@@ -16,15 +16,6 @@ use net_check::{CertifyError, ChainFault, Fault};
 use net_explained::{Cause, find_cause, owner_at, record_at, rows_at};
 use net_plan::{Plan, Row};
 use std::alloc::{AllocError, Global};
-
-/// How many nodes and buses a plan has.
-pub fn summary_line(alloc: Global, plan: &Plan) -> Result<String, AllocError>
-    ensures { IfOk result (λ line. string_bytes line ≡ summary_text plan.now) }
-{
-    let nodes = plan.nodes.len();
-    let buses = plan.buses.len();
-    format!(in alloc; "nodes {nodes} buses {buses}\n")
-}
 
 /// Explains what rules certificates of a plan out.
 pub fn obstacle_lines(

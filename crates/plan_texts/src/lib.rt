@@ -15,13 +15,14 @@ mod outcomes;
 mod pairs;
 mod readings;
 mod shown;
+mod summaries;
 mod walks;
 mod ways;
 
 pub use assignments::assignment_lines;
 pub use codes::text_of;
 pub use drawings::drawing;
-pub use explanations::{cause_lines, obstacle_lines, summary_line};
+pub use explanations::{cause_lines, obstacle_lines};
 pub use findings::lint_lines;
 use mctp_transport::Eid;
 pub use moves::move_error_line;
@@ -33,6 +34,7 @@ pub use readings::{plan_reading_lines, unread_line, unread_words};
 pub use shown::{packet_text, record_text, refused_text};
 use std::alloc::{AllocError, Global};
 use std::fmt;
+pub use summaries::summary_lines;
 pub use walks::walk_text;
 pub use ways::trace_lines;
 

@@ -5,9 +5,8 @@ ghost use Rattle.net_check.specs.Certificates.{NamesObstacle, RulesOutCertificat
 ghost use Rattle.plan_commands.specs.declared.status.Status.TheVariants.{Yes, Fault, Unreadable, NoMemory};
 ghost use Rattle.plan_commands.specs.declared.refused.Refused.{Refused};
 ghost use Rattle.plan_commands.specs.Answers.{Stream, stream};
-ghost use Rattle.plan_texts.specs.ExplanationLines.{summary_text};
-ghost use Rattle.plan_commands.specs.Explaining.{IsObstacleText, IsExplained, ExplainsSo, Explains, IsUnreadBy, IsUnreadText};
-ghost use Rattle.plan_commands.specs.Statuses.{role_of, yes_line};
+ghost use Rattle.plan_commands.specs.Explaining.{IsObstacleText, IsSummedUp, IsExplained, ExplainsSo, Explains, IsUnreadBy, IsUnreadText};
+ghost use Rattle.plan_commands.specs.Statuses.{role_of};
 ghost use Rattle.plan_texts.specs.ReadingLines.{unread_line};
 
 pub mod certified;
@@ -17,9 +16,10 @@ use crate::commands::inputs::{Unread, plan_or_text};
 use crate::refused::{Input, Refused};
 use crate::status::Status;
 use net_check::{CertifyError, certify};
-use net_plan::{Plan, PlanError, Sink, Source};
+use net_explained::most_hops;
+use net_plan::{Certificate, Plan, PlanError, Sink, Source};
 use plan_texts::{
-    obstacle_line, obstacle_lines, plan_reading_lines, summary_line, unread_line, unread_words,
+    obstacle_line, obstacle_lines, plan_reading_lines, summary_lines, unread_line, unread_words,
 };
 use std::alloc::{AllocError, Global};
 
@@ -62,7 +62,7 @@ fn explained_plan(alloc: Global, plan: &Plan) -> Result<Answer, Refused>
     ensures refused { IfErr result (λ why. why ≡ Refused.NoMemory) }
 {
     match certify(alloc, plan) {
-        Ok(_certificate) => Ok(Answer::found(sound_text(alloc, plan)?)),
+        Ok(certificate) => Ok(Answer::found(sound_text(alloc, plan, &certificate)?)),
         Err(obstacle) => Ok(Answer::fault(obstacle_text(alloc, plan, &obstacle)?)),
     }
 }
@@ -104,12 +104,12 @@ fn unread_lines(
     Ok(text)
 }
 
-/// Says yes, and sums a plan up.
-fn sound_text(alloc: Global, plan: &Plan) -> Result<String, AllocError>
-    ensures { IfOk result (λ text. string_bytes text ≡ yes_line ++ summary_text plan.now) }
+/// Says yes, and sums a plan up that the certificate fits.
+fn sound_text(alloc: Global, plan: &Plan, certificate: &Certificate) -> Result<String, AllocError>
+    ensures { IfOk result (λ text. IsSummedUp plan.now certificate.now (string_bytes text)) }
 {
     let mut text = YES.to_string(alloc)?;
-    text.push_str(&summary_line(alloc, plan)?)?;
+    text.push_str(&summary_lines(alloc, plan, most_hops(plan, certificate))?)?;
     Ok(text)
 }
 

@@ -102,7 +102,7 @@ fn answer_of_both(alloc: Global, plan: &Plan, certificate: &Certificate) -> Resu
     ensures refused { IfErr result (λ why. why ≡ refused.NoMemory) }
 {
     match check(alloc, plan, certificate) {
-        Ok(_checked) => Ok(Answer::found(sound_text(alloc, plan)?)),
+        Ok(_checked) => Ok(Answer::found(sound_text(alloc, plan, certificate)?)),
         Err(error) => explained(alloc, plan, certificate, &error),
     }
 }
