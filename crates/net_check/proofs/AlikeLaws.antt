@@ -8,7 +8,7 @@ use Rattle.mctp_bridge.specs.declared.row.TableRow as bridge
 use Rattle.mctp_bridge.specs.declared.pieces.Piece.{Piece}
 use Rattle.mctp_bridge.specs.Rows as rule
 use Rattle.mctp_bridge.specs.Pieces as cut
-use Rattle.mctp_bridge.proofs.PieceLoops.{at_site, looked_before, inside_interval}
+use Rattle.mctp_bridge.proofs.PieceLoops.{at_place, looked_before, inside_interval}
 use Rattle.net_plan.specs.declared.plan.Plan.{Plan}
 use Rattle.net_check.specs.Routing.{rows_of}
 use Rattle.net_check.specs.RoutingLoops.{RowsAreApart, NamesFor}
@@ -34,7 +34,7 @@ module _ (rows : List bridge.TableRow) (first last : ℕ) (piece : Piece) (later
 
   pub piece_hop : first ≤ last → HaveOneHop rows first piece.last.value
   piece_hop ordered =
-      let routed = at_site (λ p. (e : ℕ) → cut.LiesIn e p → rule.IsNext rows e p.hop) (cut.piece_value piece ∷ later) 0 (cut.piece_value piece) are.routed (omega arith) refl in
+      let routed = at_place (λ p. (e : ℕ) → cut.LiesIn e p → rule.IsNext rows e p.hop) (cut.piece_value piece ∷ later) 0 (cut.piece_value piece) are.routed (omega arith) refl in
       (piece.hop, λ e low high. routed e (omega (arith, low, piece_begins ordered), high))
 
   -- it ends with the interval, or at an edge
@@ -73,7 +73,7 @@ module _ (rows : List bridge.TableRow) (first last : ℕ) (piece : Piece) (later
   ]
 
   pub piece_ends : last ≤ 255 → (piece.last.value ≡ last) ⊎ HaveEdge rows piece.last.value
-  piece_ends small = ends_whole small piece.hop (at_site (cut.IsWhole rows first last) (cut.piece_value piece ∷ later) 0 (cut.piece_value piece) are.whole (omega arith) refl)
+  piece_ends small = ends_whole small piece.hop (at_place (cut.IsWhole rows first last) (cut.piece_value piece ∷ later) 0 (cut.piece_value piece) are.whole (omega arith) refl)
 
 -- an interval has a piece
 pub some_piece : (rows : List bridge.TableRow) (first last : ℕ) → first ≤ last → ¬ cut.ArePieces rows first last []

@@ -9,7 +9,7 @@ use Rattle.mctp_transport.specs.Hearing.{Whole, Held, Hears}
 use Rattle.mctp_transport.proofs.Heard.{some_answer}
 use Rattle.mctp_transport.proofs.Joining.{front_begins, begins_last, joined_last, joined_alone, payloads_length, payloads_snoc}
 use Rattle.mctp_transport.proofs.Openness.{open_start_from, Continues, open_more_from, open_other, has_started, are_alone, are_more, comes_start_from, comes_more_from, one_payload}
-use Rattle.mctp_transport.proofs.Places.{key_cases}
+use Rattle.mctp_transport.proofs.FirstIndexes.{key_cases}
 use Rattle.net_check.specs.States.{slots, limit}
 
 -- no key is open
