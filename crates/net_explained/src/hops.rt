@@ -83,7 +83,7 @@ fn certified_hops(plan: &Plan, certificate: &Certificate, from: usize, to: usize
 }
 
 /// The rank that the certificate gives a node and an endpoint ID.
-fn rank_of(certificate: &Certificate, node: usize, eid: Eid) -> u8
+pub fn rank_of(certificate: &Certificate, node: usize, eid: Eid) -> u8
     ensures { result ≡ rank certificate.now node eid.value }
 {
     match certificate.ranks.iter().find(|given| given.node == node) {

@@ -28,7 +28,7 @@ use Rattle.plan_commands.specs.declared.status.Status.{Status}
 use Rattle.plan_commands.specs.declared.status.Status.TheVariants as status
 use Rattle.plan_commands.specs.Answers.{Stream, AreGiven, GavePlan, GaveCertificate, GaveNothing}
 use Rattle.plan_commands.specs.Explaining.{HasNoText, IsUnreadAs, IsUnreadBy, IsUnreadText, IsUnreadCertificateText, IsExplained, ExplainsSo, IsExplainAnswer, Explains}
-use Rattle.plan_commands.specs.Explaining.{IsBothExplained, IsExplainedWith, ExplainsWithSo, IsCertifiedAnswer, ExplainsWith, IsFaultExplained, IsCertificateTold, remedy_text}
+use Rattle.plan_commands.specs.Explaining.{IsBothExplained, IsExplainedWith, ExplainsWithSo, IsCertifiedAnswer, ExplainsWith, IsFaultExplained, IsRemedyTold, remedy_text}
 use Rattle.plan_texts.specs.Lines.{obstacle_text}
 use Rattle.plan_texts.specs.ReadingLines.{unread_line, unread_words, IsReadingTold}
 use Rattle.plan_commands.specs.Statuses.{status_of, role_of}
@@ -240,6 +240,6 @@ explained_so plan cert (Err why) told = tt
 
 -- the certificate alone is at fault
 pub remedied : {A E : Type 0} (text : A → List ℕ) (plan : Plan) (cert : Certificate) (result : Result A E) → Accepts plan cert
-    → IfOk result (λ t. text t ≡ remedy_text) → IfOk result (λ t. IsCertificateTold plan (text t))
+    → IfOk result (λ t. text t ≡ remedy_text) → IfOk result (λ t. IsRemedyTold plan (text t))
 remedied text plan cert (Err e) accepted written = tt
 remedied text plan cert (Ok t) accepted written = inl (cert, accepted, written)

@@ -34,13 +34,14 @@ use Rattle.plan_commands.specs.Certifying.{IsRuledOutBy}
 use Rattle.plan_texts.specs.Lines.{fault_text}
 use Rattle.plan_commands.specs.Linting.{TellsOfPlan}
 use Rattle.plan_commands.specs.Statuses.{role_of, yes_line}
+use Rattle.plan_texts.specs.CertificateLines.{certificate_fault_text}
 use Rattle.plan_texts.specs.ExplanationLines.{told_cause, IsObstacleTold}
 use Rattle.plan_texts.specs.SummaryLines.{summary_text}
 use Rattle.plan_texts.specs.ReadingLines.{unread_line, unread_words, IsReadingTold}
 
 -- the certificate is at fault, and not the plan
 abbrev pub remedy_text : List ℕ
-remedy_text = codes "This plan has a certificate: mctpplan certify makes it.\n"
+remedy_text = codes "This plan has a certificate.\nEdit: take the one that mctpplan certify makes.\n"
 
 -- no certificate fits the plan
 abbrev pub no_certificate_text : List ℕ
@@ -153,16 +154,21 @@ Explains status.NoMemory plans output = ⊤
 
 -- ---- a plan with a certificate
 
--- what is told where the certificate is at fault and the plan meets the rule: that another certificate fits the plan,
--- or what rules all of them out
-abbrev pub IsCertificateTold : Plan → List ℕ → Type 0
-IsCertificateTold plan text = ((certificate : Certificate) × Accepts plan certificate × (text ≡ remedy_text))
+-- that another certificate fits the plan, or what rules all of them out
+abbrev pub IsRemedyTold : Plan → List ℕ → Type 0
+IsRemedyTold plan text = ((certificate : Certificate) × Accepts plan certificate × (text ≡ remedy_text))
     ⊎ ((lines : List ℕ) × IsObstacleText plan lines × (text ≡ no_certificate_text ++ lines))
 
+-- what is told where the certificate is at fault and the plan meets the rule: what the certificate gives by which it
+-- breaks the rule, and what helps
+abbrev pub IsCertificateTold : Plan → Certificate → Fault → List ℕ → Type 0
+IsCertificateTold plan certificate fault text = (remedy : List ℕ) × IsRemedyTold plan remedy
+    × (text ≡ certificate_fault_text plan certificate fault ++ remedy)
+
 -- the text explains a fault of the plan, by its cause, or of the certificate, where it has none in the plan
-abbrev pub IsFaultTold : Plan → Fault → Option Cause → List ℕ → Type 0
-IsFaultTold plan fault (Some cause) text = text ≡ told_cause plan fault (Some cause)
-IsFaultTold plan fault None text = IsCertificateTold plan text
+abbrev pub IsFaultTold : Plan → Certificate → Fault → Option Cause → List ℕ → Type 0
+IsFaultTold plan certificate fault (Some cause) text = text ≡ told_cause plan fault (Some cause)
+IsFaultTold plan certificate fault None text = IsCertificateTold plan certificate fault text
 
 -- The text is the line of the first fault of the plan and the certificate, and then the lines that explain it.
 pub record IsFaultExplained (plan : Plan) (certificate : Certificate) (text : List ℕ) : Type 0 where
@@ -171,7 +177,7 @@ pub record IsFaultExplained (plan : Plan) (certificate : Certificate) (text : Li
   pub lines : List ℕ
   pub first : IsFirstFault plan certificate (site_of fault)
   pub at_site : IsCauseAt plan (site_of fault) cause
-  pub told : IsFaultTold plan fault cause lines
+  pub told : IsFaultTold plan certificate fault cause lines
   pub written : text ≡ fault_text plan fault ++ lines
 
 -- every rule holds of the plan and the certificate, and the text says yes and sums the plan up

@@ -3,6 +3,7 @@ pub mod CauseLines
 pub mod EditLines
 pub mod WayLines
 pub mod ExplanationLines
+pub mod CertificateLines
 pub mod SummaryLines
 pub mod MoveLines
 pub mod FindingLines
