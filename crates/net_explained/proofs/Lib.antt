@@ -1,3 +1,6 @@
 pub mod Items
 pub mod Found
 pub mod PoolFaults
+pub mod MostOf
+pub mod FollowersOf
+pub mod RowsOf

@@ -19,6 +19,8 @@ use Rattle.net_check.specs.Repositories.{terminus_of, records_of}
 use Rattle.net_check.specs.Locators.{IsEidLocator, IsHeldByTerminus}
 use Rattle.net_check.specs.Faults.{FaultSite}
 use Rattle.net_check.specs.PlanFaults.{IsMetByPlan}
+use Rattle.net_explained.specs.Rests.{IsRest}
+use Rattle.net_explained.specs.Rows.{HasRowThat, CoversAt, IsFittingPort}
 use Rattle.net_explained.specs.declared.cause.Cause.{Cause}
 use Rattle.net_explained.specs.declared.cause.Cause.TheVariants.{SharedName, UnassignableEid, SharedEid}
 use Rattle.net_explained.specs.declared.cause.Cause.TheVariants.{RowOutOfRange, OverlappedRow}
@@ -49,21 +51,18 @@ SharesEid plan n m e = (m < n) × Holds plan m e × Holds plan n e
 
 -- ---- rows
 
--- n's row r, if n has it, is such a row
-abbrev pub HasRowThat : Plan → ℕ → ℕ → (Row → Type 0) → Type 0
-HasRowThat plan n r P = (row : Row) × (slice_get (rows_of plan n) r ≡ Some row) × P row
-
--- n's row r covers e
-abbrev pub CoversAt : Plan → ℕ → ℕ → ℕ → Type 0
-CoversAt plan n r e = HasRowThat plan n r (λ row. Covers row e)
-
 -- row i of n comes before row r, and both cover e
 abbrev pub Overlaps : Plan → ℕ → ℕ → ℕ → ℕ → Type 0
 Overlaps plan n i e r = (i < r) × CoversAt plan n i e × CoversAt plan n r e
 
--- the row's port is on the bus, and its next node has no port there
-abbrev pub LeadsOffBus : Plan → ℕ → ℕ → Row → Type 0
-LeadsOffBus plan n bus row = (bus_of plan n row.port ≡ Some bus) × ¬ IsOnBus plan row.next bus
+-- n has no such port as the row's; this is the first by which the row would name a neighbor
+abbrev pub LeadsNowhere : Plan → ℕ → Option ℕ → Row → Type 0
+LeadsNowhere plan n fitting row = (bus_of plan n row.port ≡ None) × IsFittingPort plan n row fitting
+
+-- the row's port is on the bus, and its next node has no port there; this is the first port that would fit
+abbrev pub LeadsOffBus : Plan → ℕ → ℕ → Option ℕ → Row → Type 0
+LeadsOffBus plan n bus fitting row =
+    (bus_of plan n row.port ≡ Some bus) × (¬ IsOnBus plan row.next bus) × IsFittingPort plan n row fitting
 
 -- n's row r covers e, which the holder, another node than n, holds, and which the row's next node doesn't hold
 abbrev pub LeadsPast : Plan → ℕ → ℕ → ℕ → ℕ → (ℕ → Type 0) → Type 0
@@ -112,10 +111,10 @@ SharesHandle plan n i j =
 abbrev pub AreNoRecord : List ℕ → Type 0
 AreNoRecord bytes = (whole : RecordValue) → ¬ Spelled whole bytes
 
--- n's record j is a terminus locator whose value is not one byte long
-abbrev pub LocatesNoEid : Plan → ℕ → ℕ → Type 0
-LocatesNoEid plan n j = HasRecordThat plan n j (λ r.
-    (tid : ℕ) × (value : List ℕ) × IsEidLocator r.bytes.items tid value × (length value ≢ 1))
+-- n's record j is a terminus locator of the TID whose value is not one byte long
+abbrev pub LocatesNoEid : Plan → ℕ → ℕ → ℕ → Type 0
+LocatesNoEid plan n tid j = HasRecordThat plan n j (λ r.
+    (value : List ℕ) × IsEidLocator r.bytes.items tid value × (length value ≢ 1))
 
 -- n's record j is a terminus locator of the TID and e
 abbrev pub Locates : Plan → ℕ → ℕ → ℕ → ℕ → Type 0
@@ -142,13 +141,14 @@ IsCause plan p UnassignableEid = (p.rule ≡ C02) × IsSomeAnd p.eid (HoldsUnass
 IsCause plan p (SharedEid m) = (p.rule ≡ C03) × IsSomeAnd p.eid (SharesEid plan p.node m)
 IsCause plan p RowOutOfRange =
     (p.rule ≡ C04) × IsSomeAnd p.entry (λ r. HasRowThat plan p.node r (λ row. ¬ IsInRange row))
-IsCause plan p (OverlappedRow i eid) = (p.rule ≡ C05) × IsSomeAnd p.entry (Overlaps plan p.node i eid.value)
+IsCause plan p (OverlappedRow i eid rest) =
+    (p.rule ≡ C05) × IsSomeAnd p.entry (λ r. Overlaps plan p.node i eid.value r × IsRest plan p.node r rest)
 IsCause plan p NextIsItself =
     (p.rule ≡ C06) × IsSomeAnd p.entry (λ r. HasRowThat plan p.node r (λ row. row.next ≡ p.node))
-IsCause plan p NoSuchPort =
-    (p.rule ≡ C06) × IsSomeAnd p.entry (λ r. HasRowThat plan p.node r (λ row. bus_of plan p.node row.port ≡ None))
-IsCause plan p (NextNotOnBus bus) =
-    (p.rule ≡ C06) × IsSomeAnd p.entry (λ r. HasRowThat plan p.node r (LeadsOffBus plan p.node bus))
+IsCause plan p (NoSuchPort fitting) =
+    (p.rule ≡ C06) × IsSomeAnd p.entry (λ r. HasRowThat plan p.node r (LeadsNowhere plan p.node fitting))
+IsCause plan p (NextNotOnBus bus fitting) =
+    (p.rule ≡ C06) × IsSomeAnd p.entry (λ r. HasRowThat plan p.node r (LeadsOffBus plan p.node bus fitting))
 IsCause plan p EndpointForSeveral =
     (p.rule ≡ C06)
     × IsSomeAnd p.entry (λ r. HasRowThat plan p.node r (λ row. (2 ≤ row.size) × ¬ IsBridge plan row.next))
@@ -173,7 +173,7 @@ IsCause plan p UnreadableRecord =
     (p.rule ≡ C13) × IsSomeAnd p.entry (λ j. HasRecordThat plan p.node j (λ r. AreNoRecord r.bytes.items))
 IsCause plan p (OtherHandle handle) = (p.rule ≡ C13)
     × IsSomeAnd p.entry (λ j. HasRecordThat plan p.node j (λ r. (r.handle ≢ handle) × IsRecordOf handle r.bytes.items))
-IsCause plan p LongLocator = (p.rule ≡ C15) × IsSomeAnd p.entry (LocatesNoEid plan p.node)
+IsCause plan p (LongLocator tid) = (p.rule ≡ C15) × IsSomeAnd p.entry (LocatesNoEid plan p.node tid)
 IsCause plan p (NobodyHolds tid) = (p.rule ≡ C15) × AtEntryAndEid p (LocatesNobody plan p.node tid)
 IsCause plan p (OtherTerminus holder tid) = (p.rule ≡ C15) × AtEntryAndEid p (LocatesOther plan p.node holder tid)
 

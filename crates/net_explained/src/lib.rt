@@ -1,11 +1,20 @@
-//! Why a plan breaks a rule: what is wrong at the spot, and who else is involved.
+//! Why a plan breaks a rule: what is wrong at the spot, and who else is involved; and the most hops that a
+//! certificate allows.
 #![tactic(auto)]
 
 mod cause;
 mod causes;
+mod circle;
 mod finding;
 mod holders;
+mod hops;
+mod rest;
 
 pub use cause::Cause;
+pub use circle::circle_from;
 pub use finding::find_cause;
-pub use net_check::lookup::{owner_at, pool_at, record_at, row_at, rows_at, terminus_at};
+pub use hops::{MostHops, most_hops, rank_of};
+pub use net_check::lookup::{
+    owner_at, pool_at, record_at, records_at, row_at, rows_at, terminus_at,
+};
+pub use rest::Stretch;

@@ -16,7 +16,7 @@ use Rattle.plan_commands.specs.declared.status.Status.{Status}
 use Rattle.plan_commands.specs.declared.status.Status.TheVariants as status
 use Rattle.plan_commands.specs.Answers.{Stream, AreGiven, GavePlan, GaveCertificate}
 use Rattle.plan_commands.specs.Explaining.{IsExplained, ExplainsSo, IsExplainAnswer, Explains}
-use Rattle.plan_commands.specs.Explaining.{IsBothExplained, IsExplainedWith, ExplainsWithSo, IsCertifiedAnswer, ExplainsWith, IsFaultExplained, IsCertificateTold, remedy_text}
+use Rattle.plan_commands.specs.Explaining.{IsBothExplained, IsExplainedWith, ExplainsWithSo, IsCertifiedAnswer, ExplainsWith, IsFaultExplained, IsRemedyTold, remedy_text}
 use Rattle.plan_commands.specs.UnreadTexts.{IsNoPlanBy, IsNoCertificateBy, IsUnreadText, IsUnreadCertificateText}
 use Rattle.plan_texts.specs.Lines.{obstacle_text}
 use Rattle.plan_commands.specs.Statuses.{status_of}
@@ -140,6 +140,6 @@ explained_so plan cert (Err why) told = tt
 
 -- the certificate alone is at fault
 pub remedied : {A E : Type 0} (text : A → List ℕ) (plan : Plan) (cert : Certificate) (result : Result A E) → Accepts plan cert
-    → IfOk result (λ t. text t ≡ remedy_text) → IfOk result (λ t. IsCertificateTold plan (text t))
+    → IfOk result (λ t. text t ≡ remedy_text) → IfOk result (λ t. IsRemedyTold plan (text t))
 remedied text plan cert (Err e) accepted written = tt
 remedied text plan cert (Ok t) accepted written = inl (cert, accepted, written)

@@ -2,12 +2,15 @@
 use Rattle.std.specs.Prelude.{◌≡◌, ◌⊎◌, ℕ, List, ◌++◌, codes, ⊤}
 use Rattle.std.specs.Prelude.{Option, Some, None}
 use Rattle.std.specs.Io.KnownBytes.{Appends}
+use Rattle.net_check.specs.Certificates.{IsExact}
 use Rattle.net_check.specs.Faults.{IsFirstFault, site_of}
 use Rattle.net_check.specs.Rules.{Accepts}
 use Rattle.net_check.specs.declared.certify_error.CertifyError.{CertifyError}
 use Rattle.net_check.specs.declared.fault.Fault.{Fault}
 use Rattle.net_explained.specs.declared.cause.Cause.{Cause}
+use Rattle.net_explained.specs.declared.hops.MostHops.{MostHops}
 use Rattle.net_explained.specs.Causes.{IsCauseAt}
+use Rattle.net_explained.specs.Hops.{IsMostHops}
 use Rattle.net_plan.specs.declared.certificate.Certificate.{Certificate}
 use Rattle.net_plan.specs.declared.plan.Plan.{Plan}
 use Rattle.plan_commands.specs.declared.status.Status.{Status}
@@ -18,11 +21,13 @@ use Rattle.plan_texts.specs.Lines.{fault_text}
 use Rattle.plan_commands.specs.Linting.{TellsOfPlan}
 use Rattle.plan_commands.specs.Statuses.{yes_line}
 use Rattle.plan_commands.specs.UnreadTexts.{IsUnreadText, IsUnreadCertificateText}
-use Rattle.plan_texts.specs.ExplanationLines.{summary_text, told_cause, IsObstacleTold}
+use Rattle.plan_texts.specs.CertificateLines.{certificate_fault_text}
+use Rattle.plan_texts.specs.ExplanationLines.{told_cause, IsObstacleTold}
+use Rattle.plan_texts.specs.SummaryLines.{summary_text}
 
 -- the certificate is at fault, and not the plan
 abbrev pub remedy_text : List ℕ
-remedy_text = codes "This plan has a certificate: mctpplan certify makes it.\n"
+remedy_text = codes "This plan has a certificate.\nEdit: take the one that mctpplan certify makes.\n"
 
 -- no certificate fits the plan
 abbrev pub no_certificate_text : List ℕ
@@ -40,11 +45,17 @@ pub record IsObstacleText (plan : Plan) (text : List ℕ) : Type 0 where
   pub told : IsObstacleTold plan obstacle lines
   pub written : text ≡ line ++ lines
 
--- A certificate fits the plan, and the text says yes and sums the plan up.
+-- the text says yes and sums the plan up, with the most hops that the certificate allows between two nodes
+abbrev pub IsSummedUp : Plan → Certificate → List ℕ → Type 0
+IsSummedUp plan certificate text =
+    (most : Option MostHops) × IsMostHops plan certificate most × (text ≡ yes_line ++ summary_text plan most)
+
+-- The exact certificate of the plan fits it, and the text says yes and sums the plan up.
 pub record IsSoundText (plan : Plan) (text : List ℕ) : Type 0 where
   pub certificate : Certificate
   pub accepted : Accepts plan certificate
-  pub written : text ≡ yes_line ++ summary_text plan
+  pub exact : IsExact plan certificate
+  pub written : IsSummedUp plan certificate text
 
 -- ---- a plan alone
 
@@ -80,16 +91,21 @@ Explains status.NoMemory plans output = ⊤
 
 -- ---- a plan with a certificate
 
--- what is told where the certificate is at fault and the plan meets the rule: that another certificate fits the plan,
--- or what rules all of them out
-abbrev pub IsCertificateTold : Plan → List ℕ → Type 0
-IsCertificateTold plan text = ((certificate : Certificate) × Accepts plan certificate × (text ≡ remedy_text))
+-- that another certificate fits the plan, or what rules all of them out
+abbrev pub IsRemedyTold : Plan → List ℕ → Type 0
+IsRemedyTold plan text = ((certificate : Certificate) × Accepts plan certificate × (text ≡ remedy_text))
     ⊎ ((lines : List ℕ) × IsObstacleText plan lines × (text ≡ no_certificate_text ++ lines))
 
+-- what is told where the certificate is at fault and the plan meets the rule: what the certificate gives by which it
+-- breaks the rule, and what helps
+abbrev pub IsCertificateTold : Plan → Certificate → Fault → List ℕ → Type 0
+IsCertificateTold plan certificate fault text = (remedy : List ℕ) × IsRemedyTold plan remedy
+    × (text ≡ certificate_fault_text plan certificate fault ++ remedy)
+
 -- the text explains a fault of the plan, by its cause, or of the certificate, where it has none in the plan
-abbrev pub IsFaultTold : Plan → Fault → Option Cause → List ℕ → Type 0
-IsFaultTold plan fault (Some cause) text = text ≡ told_cause plan fault (Some cause)
-IsFaultTold plan fault None text = IsCertificateTold plan text
+abbrev pub IsFaultTold : Plan → Certificate → Fault → Option Cause → List ℕ → Type 0
+IsFaultTold plan certificate fault (Some cause) text = text ≡ told_cause plan fault (Some cause)
+IsFaultTold plan certificate fault None text = IsCertificateTold plan certificate fault text
 
 -- The text is the line of the first fault of the plan and the certificate, and then the lines that explain it.
 pub record IsFaultExplained (plan : Plan) (certificate : Certificate) (text : List ℕ) : Type 0 where
@@ -98,12 +114,12 @@ pub record IsFaultExplained (plan : Plan) (certificate : Certificate) (text : Li
   pub lines : List ℕ
   pub first : IsFirstFault plan certificate (site_of fault)
   pub at_site : IsCauseAt plan (site_of fault) cause
-  pub told : IsFaultTold plan fault cause lines
+  pub told : IsFaultTold plan certificate fault cause lines
   pub written : text ≡ fault_text plan fault ++ lines
 
 -- every rule holds of the plan and the certificate, and the text says yes and sums the plan up
 abbrev pub IsYesExplained : Plan → Certificate → List ℕ → Type 0
-IsYesExplained plan certificate text = Accepts plan certificate × (text ≡ yes_line ++ summary_text plan)
+IsYesExplained plan certificate text = Accepts plan certificate × IsSummedUp plan certificate text
 
 -- a run that says so of the plan and the certificate ends so: as `check` ends of them
 abbrev pub IsBothExplained : Plan → Certificate → Status → List ℕ → Type 0

@@ -1,3 +1,4 @@
 pub mod Drawn
 pub mod Traced
 pub mod ToldTexts
+pub mod Chains

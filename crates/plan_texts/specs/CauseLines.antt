@@ -2,6 +2,7 @@
 use Rattle.std.specs.Prelude.{ℕ, ◌+◌, ◌-◌, ◌==◌, List, ◌++◌, codes, length, if◌then◌else◌}
 use Rattle.std.specs.Prelude.{Bool, false, Option, Some, None, option_map, position, slice_get}
 use Rattle.std.specs.Fmt.{decimal}
+use Rattle.mctp_transport.specs.declared.address.Eid.{Eid}
 use Rattle.net_check.specs.declared.fault.Fault.{Fault}
 use Rattle.net_check.specs.Faults.{eid_number}
 use Rattle.net_check.specs.Pools.{pool_of}
@@ -117,8 +118,8 @@ unassignable_text name eid =
 -- an earlier node holds the endpoint ID
 abbrev pub shared_eid_text : (name earlier eid : List ℕ) → List ℕ
 shared_eid_text name earlier eid =
-    name ++ (codes " and the earlier node " ++ (earlier ++ (codes " both hold endpoint ID " ++ (eid
-    ++ codes ".\n"))))
+    name ++ (codes " holds endpoint ID " ++ (eid ++ (codes ".\nThe earlier node " ++ (earlier
+    ++ codes " holds it too.\n"))))
 
 -- ---- rows
 
@@ -126,7 +127,7 @@ shared_eid_text name earlier eid =
 abbrev pub row_out_of_range_text : (row name first size : List ℕ) → List ℕ
 row_out_of_range_text row name first size =
     codes "Row " ++ (row ++ (codes " of " ++ (name ++ (codes " has first " ++ (first ++ (codes " and size "
-    ++ (size ++ codes ". A row covers one or more of 8 to 254, and no other.\n")))))))
+    ++ (size ++ codes ".\nA row covers one or more of 8 to 254, and no other.\n")))))))
 
 -- an earlier row covers one of the endpoint IDs
 abbrev pub both_cover_line : (earlier row name eid : List ℕ) → List ℕ
@@ -134,12 +135,14 @@ both_cover_line earlier row name eid =
     codes "Rows " ++ (earlier ++ (codes " and " ++ (row ++ (codes " of " ++ (name
     ++ (codes " both cover endpoint ID " ++ (eid ++ codes ".\n")))))))
 
-abbrev pub spans_line : (earlier_span span : List ℕ) → List ℕ
-spans_line earlier_span span = codes "They cover " ++ (earlier_span ++ (codes " and " ++ (span ++ codes ".\n")))
+abbrev pub spans_line : (earlier earlier_span row span : List ℕ) → List ℕ
+spans_line earlier earlier_span row span =
+    codes "Row " ++ (earlier ++ (codes " covers " ++ (earlier_span ++ (codes ", and row " ++ (row
+    ++ (codes " covers " ++ (span ++ codes ".\n")))))))
 
 abbrev pub overlapped_text : (earlier row name eid earlier_span span : List ℕ) → List ℕ
 overlapped_text earlier row name eid earlier_span span =
-    both_cover_line earlier row name eid ++ spans_line earlier_span span
+    both_cover_line earlier row name eid ++ spans_line earlier earlier_span row span
 
 -- the row leads back to its node
 abbrev pub next_is_itself_text : (row name : List ℕ) → List ℕ
@@ -150,31 +153,33 @@ next_is_itself_text row name =
 abbrev pub no_such_port_text : (row name port count : List ℕ) → List ℕ
 no_such_port_text row name port count =
     codes "Row " ++ (row ++ (codes " of " ++ (name ++ (codes " leaves by port " ++ (port
-    ++ (codes ". The ports of " ++ (name ++ (codes " are counted from 0; it has " ++ (count ++ codes ".\n")))))))))
+    ++ (codes ".\nThe ports of " ++ (name ++ (codes " are counted from 0; it has " ++ (count ++ codes ".\n")))))))))
 
 -- the next node is not on the bus
 abbrev pub next_not_on_bus_text : (row name port bus next : List ℕ) → List ℕ
 next_not_on_bus_text row name port bus next =
-    codes "Row " ++ (row ++ (codes " of " ++ (name ++ (codes " leaves by port " ++ (port ++ (codes " on bus "
-    ++ (bus ++ (codes ", where " ++ (next ++ codes " has no port.\n")))))))))
+    codes "Row " ++ (row ++ (codes " of " ++ (name ++ (codes " leads by port " ++ (port ++ (codes " to " ++ (next
+    ++ (codes ".\nThat port is on bus " ++ (bus ++ (codes ", and " ++ (next ++ codes " is not.\n")))))))))))
 
 -- an endpoint is to lead several on
 abbrev pub endpoint_for_several_text : (row name span next : List ℕ) → List ℕ
 endpoint_for_several_text row name span next =
-    codes "Row " ++ (row ++ (codes " of " ++ (name ++ (codes " covers " ++ (span ++ (codes " and leads to "
+    codes "Row " ++ (row ++ (codes " of " ++ (name ++ (codes " covers " ++ (span ++ (codes ".\nIt leads to "
     ++ (next ++ codes ", an endpoint. Only a bridge leads several on.\n")))))))
 
 -- the next node is an endpoint that does not hold the endpoint ID
 abbrev pub next_is_endpoint_text : (row name eid next holder : List ℕ) → List ℕ
 next_is_endpoint_text row name eid next holder =
-    codes "Row " ++ (row ++ (codes " of " ++ (name ++ (codes " leads endpoint ID " ++ (eid ++ (codes " to "
-    ++ (next ++ (codes ", an endpoint. " ++ (holder ++ codes " holds it.\n")))))))))
+    codes "Row " ++ (row ++ (codes " of " ++ (name ++ (codes " leads " ++ (eid ++ (codes " to " ++ (next ++ (codes ".\n"
+    ++ (next ++ (codes " is an endpoint.\n" ++ (holder ++ (codes " holds endpoint ID " ++ (eid
+    ++ codes ".\n")))))))))))))
 
 -- the next node has no row for the endpoint ID
 abbrev pub next_has_no_row_text : (row name eid next holder : List ℕ) → List ℕ
 next_has_no_row_text row name eid next holder =
-    codes "Row " ++ (row ++ (codes " of " ++ (name ++ (codes " leads endpoint ID " ++ (eid ++ (codes " to "
-    ++ (next ++ (codes ", which has no row for it. " ++ (holder ++ codes " holds it.\n")))))))))
+    codes "Row " ++ (row ++ (codes " of " ++ (name ++ (codes " leads " ++ (eid ++ (codes " to " ++ (next ++ (codes ".\n"
+    ++ (next ++ (codes " has no row for it.\n" ++ (holder ++ (codes " holds endpoint ID " ++ (eid
+    ++ codes ".\n")))))))))))))
 
 -- ---- owners and pools
 
@@ -182,47 +187,47 @@ next_has_no_row_text row name eid next holder =
 abbrev pub owner_is_endpoint_text : (name owner : List ℕ) → List ℕ
 owner_is_endpoint_text name owner =
     codes "The owner of " ++ (name ++ (codes " is " ++ (owner
-    ++ codes ", an endpoint. Only a bridge can be an owner.\n")))
+    ++ codes ", an endpoint.\nOnly a bridge can be an owner.\n")))
 
 -- the owner is on no bus of the node
 abbrev pub owner_shares_no_bus_text : (name owner : List ℕ) → List ℕ
 owner_shares_no_bus_text name owner =
-    codes "The owner of " ++ (name ++ (codes " is " ++ (owner ++ codes ", and no bus has a port of both.\n")))
+    codes "The owner of " ++ (name ++ (codes " is " ++ (owner ++ codes ".\nNo bus has a port of both.\n")))
 
 -- the owner's pool lacks the endpoint ID
 abbrev pub outside_owners_pool_text : (name eid span owner : List ℕ) → List ℕ
 outside_owners_pool_text name eid span owner =
-    name ++ (codes " holds endpoint ID " ++ (eid ++ (codes ". The pool of its owner, " ++ (owner ++ (codes ", is "
+    name ++ (codes " holds endpoint ID " ++ (eid ++ (codes ".\nThe pool of its owner, " ++ (owner ++ (codes ", is "
     ++ (span ++ codes ".\n"))))))
 
 -- the pool of a bridge with the same owner has the endpoint ID
 abbrev pub in_peers_pool_text : (name eid span peer : List ℕ) → List ℕ
 in_peers_pool_text name eid span peer =
-    name ++ (codes " holds endpoint ID " ++ (eid ++ (codes ", which is in the pool of " ++ (peer ++ (codes ": "
-    ++ (span ++ codes ". Both have the same owner, or none.\n"))))))
+    name ++ (codes " holds endpoint ID " ++ (eid ++ (codes ".\nIt is in the pool of " ++ (peer ++ (codes ": "
+    ++ (span ++ codes ".\nBoth have the same owner, or none.\n"))))))
 
 -- an endpoint has a pool
 abbrev pub pool_of_endpoint_text : (name span : List ℕ) → List ℕ
 pool_of_endpoint_text name span =
-    name ++ (codes " is an endpoint and has a pool: " ++ (span ++ codes ". Only a bridge has one.\n"))
+    name ++ (codes " is an endpoint and has a pool: " ++ (span ++ codes ".\nOnly a bridge has one.\n"))
 
 -- the pool has nothing, or what no node can hold
 abbrev pub pool_out_of_range_text : (name first size : List ℕ) → List ℕ
 pool_out_of_range_text name first size =
     codes "The pool of " ++ (name ++ (codes " has first " ++ (first ++ (codes " and size " ++ (size
-    ++ codes ". A pool has one or more of 8 to 254, and no other.\n")))))
+    ++ codes ".\nA pool has one or more of 8 to 254, and no other.\n")))))
 
 -- the owner's pool lacks one of the pool
 abbrev pub pool_beyond_owners_text : (name span eid around owner : List ℕ) → List ℕ
 pool_beyond_owners_text name span eid around owner =
     codes "The pool of " ++ (name ++ (codes ", " ++ (span ++ (codes ", has endpoint ID " ++ (eid
-    ++ (codes ". The pool of its owner, " ++ (owner ++ (codes ", is " ++ (around ++ codes ".\n")))))))))
+    ++ (codes ".\nThe pool of its owner, " ++ (owner ++ (codes ", is " ++ (around ++ codes ".\n")))))))))
 
 -- the pool of an earlier node has one of the pool
 abbrev pub pools_meet_text : (name eid earlier_span span earlier : List ℕ) → List ℕ
 pools_meet_text name eid earlier_span span earlier =
-    codes "The pools of " ++ (earlier ++ (codes " and " ++ (name ++ (codes " both have endpoint ID " ++ (eid
-    ++ (codes ": they are " ++ (earlier_span ++ (codes " and " ++ (span ++ codes ".\n")))))))))
+    codes "The pool of " ++ (earlier ++ (codes ", " ++ (earlier_span ++ (codes ", has endpoint ID " ++ (eid
+    ++ (codes ".\nThe pool of " ++ (name ++ (codes ", " ++ (span ++ codes ", has it too.\n")))))))))
 
 -- ---- records
 
@@ -252,19 +257,19 @@ unreadable_text entry name =
 abbrev pub other_handle_text : (entry name own handle : List ℕ) → List ℕ
 other_handle_text entry name own handle =
     codes "Record " ++ (entry ++ (codes " of " ++ (name ++ (codes " has handle " ++ (own
-    ++ (codes ", and the header of its bytes has " ++ (handle ++ codes ".\n")))))))
+    ++ (codes ".\nThe header of its bytes has " ++ (handle ++ codes ".\n")))))))
 
 -- the locator has no endpoint ID
-abbrev pub long_locator_text : (entry name : List ℕ) → List ℕ
-long_locator_text entry name =
-    codes "Record " ++ (entry ++ (codes " of " ++ (name
-    ++ codes " locates a terminus by MCTP, and its value is not one byte long.\n")))
+abbrev pub long_locator_text : (entry name tid meant : List ℕ) → List ℕ
+long_locator_text entry name tid meant =
+    codes "Record " ++ (entry ++ (codes " of " ++ (name ++ (codes " locates terminus " ++ (tid
+    ++ (codes " by MCTP.\nIts value is not one byte long.\n" ++ meant))))))
 
 -- no node holds the endpoint ID
 abbrev pub nobody_holds_text : (entry name tid eid meant : List ℕ) → List ℕ
 nobody_holds_text entry name tid eid meant =
     codes "Record " ++ (entry ++ (codes " of " ++ (name ++ (codes " locates terminus " ++ (tid
-    ++ (codes " at endpoint ID " ++ (eid ++ (codes ", which no node holds.\n" ++ meant))))))))
+    ++ (codes " at endpoint ID " ++ (eid ++ (codes ".\nNo node holds that.\n" ++ meant))))))))
 
 -- the holder of the endpoint ID has another terminus
 abbrev pub located_line : (entry name tid eid : List ℕ) → List ℕ
@@ -281,6 +286,25 @@ other_terminus_text entry name tid eid held holder meant =
 
 -- ---- causes
 
+-- an earlier row that covers an endpoint ID of the fault's row
+abbrev pub overlapped_at : Plan → Fault → ℕ → Eid → List ℕ
+overlapped_at plan fault earlier eid =
+    overlapped_text (decimal earlier) (number_or_dash fault.entry) (name_or_dash plan fault.node)
+    (decimal eid.value) (row_text (row_at plan fault.node (Some earlier)))
+    (row_text (row_at plan fault.node fault.entry))
+
+-- what is wrong with the port of the fault's row
+abbrev pub no_such_port_at : Plan → Fault → List ℕ
+no_such_port_at plan fault =
+    no_such_port_text (number_or_dash fault.entry) (name_or_dash plan fault.node)
+    (number_or_dash (port_of_row plan fault.node fault.entry)) (decimal (length (ports_of plan fault.node)))
+
+abbrev pub next_not_on_bus_at : Plan → Fault → ℕ → List ℕ
+next_not_on_bus_at plan fault bus =
+    next_not_on_bus_text (number_or_dash fault.entry) (name_or_dash plan fault.node)
+    (number_or_dash (port_of_row plan fault.node fault.entry)) (bus_name_or_dash plan bus)
+    (next_text plan (row_at plan fault.node fault.entry))
+
 -- the sentences that tell a cause at a fault
 abbrev pub cause_text : Plan → Fault → Cause → List ℕ
 cause_text plan fault (cause.SharedName earlier) =
@@ -294,19 +318,11 @@ cause_text plan fault cause.RowOutOfRange =
     row_out_of_range_text (number_or_dash fault.entry) (name_or_dash plan fault.node)
     (number_or_dash (first_of_row plan fault.node fault.entry))
     (number_or_dash (size_of_row plan fault.node fault.entry))
-cause_text plan fault (cause.OverlappedRow earlier eid) =
-    overlapped_text (decimal earlier) (number_or_dash fault.entry) (name_or_dash plan fault.node)
-    (decimal eid.value) (row_text (row_at plan fault.node (Some earlier)))
-    (row_text (row_at plan fault.node fault.entry))
+cause_text plan fault (cause.OverlappedRow earlier eid rest) = overlapped_at plan fault earlier eid
 cause_text plan fault cause.NextIsItself =
     next_is_itself_text (number_or_dash fault.entry) (name_or_dash plan fault.node)
-cause_text plan fault cause.NoSuchPort =
-    no_such_port_text (number_or_dash fault.entry) (name_or_dash plan fault.node)
-    (number_or_dash (port_of_row plan fault.node fault.entry)) (decimal (length (ports_of plan fault.node)))
-cause_text plan fault (cause.NextNotOnBus bus) =
-    next_not_on_bus_text (number_or_dash fault.entry) (name_or_dash plan fault.node)
-    (number_or_dash (port_of_row plan fault.node fault.entry)) (bus_name_or_dash plan bus)
-    (next_text plan (row_at plan fault.node fault.entry))
+cause_text plan fault (cause.NoSuchPort fitting) = no_such_port_at plan fault
+cause_text plan fault (cause.NextNotOnBus bus fitting) = next_not_on_bus_at plan fault bus
 cause_text plan fault cause.EndpointForSeveral =
     endpoint_for_several_text (number_or_dash fault.entry) (name_or_dash plan fault.node)
     (row_text (row_at plan fault.node fault.entry)) (next_text plan (row_at plan fault.node fault.entry))
@@ -350,8 +366,8 @@ cause_text plan fault cause.UnreadableRecord =
 cause_text plan fault (cause.OtherHandle handle) =
     other_handle_text (number_or_dash fault.entry) (name_or_dash plan fault.node)
     (number_or_dash (handle_at plan fault.node fault.entry)) (decimal handle)
-cause_text plan fault cause.LongLocator =
-    long_locator_text (number_or_dash fault.entry) (name_or_dash plan fault.node)
+cause_text plan fault (cause.LongLocator tid) =
+    long_locator_text (number_or_dash fault.entry) (name_or_dash plan fault.node) (decimal tid) (meant_text plan tid)
 cause_text plan fault (cause.NobodyHolds tid) =
     nobody_holds_text (number_or_dash fault.entry) (name_or_dash plan fault.node) (decimal tid)
     (number_or_dash (eid_number fault.eid)) (meant_text plan tid)

@@ -1,12 +1,17 @@
 -- One or two edits of a plan, each of which takes a fault away.
-use Rattle.std.specs.Prelude.{ℕ, List, ◌++◌, codes}
+use Rattle.std.specs.Prelude.{ℕ, ◌==◌, List, ◌++◌, codes, if◌then◌else◌, Option, Some, None, option_and_then}
 use Rattle.std.specs.Fmt.{decimal}
 use Rattle.net_check.specs.declared.fault.Fault.{Fault}
 use Rattle.net_check.specs.Faults.{eid_number}
+use Rattle.net_check.specs.Owners.{owner_of}
+use Rattle.net_check.specs.Pools.{pool_of}
+use Rattle.net_check.specs.Routing.{eid_of}
 use Rattle.net_explained.specs.declared.cause.Cause.{Cause}
 use Rattle.net_explained.specs.declared.cause.Cause.TheVariants as cause
+use Rattle.net_explained.specs.declared.rest.Stretch.{Stretch}
+use Rattle.net_plan.specs.declared.nodes.Pool.{Pool}
 use Rattle.net_plan.specs.declared.plan.Plan.{Plan}
-use Rattle.plan_texts.specs.CauseLines.{row_at, next_text, handle_at}
+use Rattle.plan_texts.specs.CauseLines.{span_text, row_at, next_text, handle_at, tid_of, node_with_tid}
 use Rattle.plan_texts.specs.Lines.{name_or_dash, number_or_dash}
 
 -- ---- edits
@@ -23,15 +28,28 @@ abbrev pub range_edit_text : List ℕ
 range_edit_text =
     codes "Edit: let first be at least 8, size at least 1, and first + size at most 255.\n"
 
-abbrev pub overlap_edit_text : (row name : List ℕ) → List ℕ
-overlap_edit_text row name =
-    codes "Edit: let row " ++ (row ++ (codes " cover no endpoint ID that an earlier row of " ++ (name
-    ++ codes " covers.\n")))
+-- the endpoint IDs of a stretch: the first and the last, or the one
+abbrev pub stretch_text : Stretch → List ℕ
+stretch_text rest = if rest.first.value == rest.last.value then decimal rest.first.value
+    else decimal rest.first.value ++ (codes " to " ++ decimal rest.last.value)
 
+-- the row is to cover what it covers alone, or is to go where it covers nothing alone
+abbrev pub overlap_edit_text : (row name : List ℕ) → Option Stretch → List ℕ
+overlap_edit_text row name None =
+    codes "Edit: take row " ++ (row ++ (codes " of " ++ (name ++ codes " out: other rows cover all of it.\n")))
+overlap_edit_text row name (Some rest) = codes "Edit: let row " ++ (row ++ (codes " of " ++ (name
+    ++ (codes " cover " ++ (stretch_text rest ++ codes " and no more.\n")))))
+
+-- what the port of a row is to be, and its next node
 abbrev pub neighbor_edit_text : (name : List ℕ) → List ℕ
-neighbor_edit_text name =
-    codes "Edit: let port be one of " ++ (name
-    ++ codes ", and next another node on its bus, a bridge if size is over 1.\n")
+neighbor_edit_text name = codes "Edit: let port be a port of " ++ (name
+    ++ codes ", and next another node on its bus,\nwhich is a bridge if size is over 1.\n")
+
+-- the first port that fits, or where none does, what it is to be
+abbrev pub port_edit_text : (name next : List ℕ) → Option ℕ → List ℕ
+port_edit_text name next None = neighbor_edit_text name
+port_edit_text name next (Some port) =
+    codes "Edit: let port be " ++ (decimal port ++ (codes "; " ++ (next ++ codes " is on its bus.\n")))
 
 abbrev pub several_edit_text : List ℕ
 several_edit_text =
@@ -41,28 +59,42 @@ abbrev pub owner_edit_text : (name : List ℕ) → List ℕ
 owner_edit_text name =
     codes "Edit: let the owner of " ++ (name ++ codes " be a bridge on one of its buses, or null.\n")
 
-abbrev pub owned_eid_edit_text : (name owner eid : List ℕ) → List ℕ
-owned_eid_edit_text name owner eid =
-    codes "Edit: give " ++ (name ++ (codes " an eid of the pool of " ++ (owner
-    ++ (codes " that is in no pool handed on from it.\nEdit: or let the pool of " ++ (owner ++ (codes " have "
-    ++ (eid ++ codes ", and no pool handed on from it.\n")))))))
+-- the owner's pool is to have the endpoint ID
+abbrev pub owners_pool_text : (owner eid : List ℕ) → List ℕ
+owners_pool_text owner eid = codes "let the pool of " ++ (owner ++ (codes " have " ++ (eid
+    ++ codes ", and no pool handed on from it.\n")))
+
+-- or the node one of those in the owner's pool, if there is one
+abbrev pub owned_eid_edit_text : (name owner eid : List ℕ) → Option Pool → List ℕ
+owned_eid_edit_text name owner eid None = codes "Edit: " ++ owners_pool_text owner eid
+owned_eid_edit_text name owner eid (Some pool) = codes "Edit: give " ++ (name ++ (codes " a free eid of "
+    ++ (span_text pool.first.value pool.size
+    ++ (codes ", and of no pool within that.\nEdit: or " ++ owners_pool_text owner eid))))
 
 abbrev pub peer_edit_text : (peer eid : List ℕ) → List ℕ
 peer_edit_text peer eid =
-    codes "Edit: let the pool of " ++ (peer ++ (codes " leave " ++ (eid ++ codes " out.\n")))
+    codes "Edit: let the pools of " ++ (peer ++ (codes " and of any such node leave " ++ (eid ++ codes " out.\n")))
 
 abbrev pub no_pool_edit_text : (name : List ℕ) → List ℕ
 no_pool_edit_text name =
     codes "Edit: let the pool of " ++ (name ++ codes " be null.\n")
 
-abbrev pub pool_within_edit_text : (name owner : List ℕ) → List ℕ
-pool_within_edit_text name owner =
-    codes "Edit: let the pool of " ++ (name ++ (codes " lie in that of " ++ (owner
-    ++ codes ", and meet no other that lies there.\n")))
+-- or the others are to lie apart from it
+abbrev pub earlier_pools_text : List ℕ
+earlier_pools_text = codes "Edit: or let no earlier pool with the same owner have any of it.\n"
 
-abbrev pub pools_apart_edit_text : (name : List ℕ) → List ℕ
-pools_apart_edit_text name =
-    codes "Edit: let the pool of " ++ (name ++ codes " meet no pool of a node that has the same owner.\n")
+-- the pool of a node's owner, if it has one that has
+abbrev pub pool_around : Plan → ℕ → Option Pool
+pool_around plan n = option_and_then (pool_of plan) (owner_of plan n)
+
+-- A pool is to lie in that of the owner, apart from those that lie there too. Without an owner it is to lie apart from
+-- others without one.
+abbrev pub pool_edit_text : (name : List ℕ) → Option ℕ → Option Pool → List ℕ
+pool_edit_text name None around =
+    codes "Edit: let the pool of " ++ (name ++ codes " meet that of no other node without an owner.\n")
+pool_edit_text name (Some owner) None = no_pool_edit_text name
+pool_edit_text name (Some owner) (Some pool) = codes "Edit: let the pool of " ++ (name ++ (codes " lie in "
+    ++ (span_text pool.first.value pool.size ++ codes ", and meet no other there.\n")))
 
 abbrev pub lead_edit_text : (eid holder row name : List ℕ) → List ℕ
 lead_edit_text eid holder row name =
@@ -81,8 +113,8 @@ no_terminus_edit_text name =
 
 abbrev pub handle_edit_text : (entry name : List ℕ) → List ℕ
 handle_edit_text entry name =
-    codes "Edit: give record " ++ (entry ++ (codes " a handle of at least 1 that no other record of " ++ (name
-    ++ codes " has.\n")))
+    codes "Edit: give record " ++ (entry ++ (codes " a handle that no other of " ++ (name
+    ++ codes " has, and not 0.\n")))
 
 abbrev pub bytes_edit_text : List ℕ
 bytes_edit_text =
@@ -93,13 +125,37 @@ header_edit_text handle own =
     codes "Edit: let handle be " ++ (handle ++ (codes ".\nEdit: or let bytes 0 to 3 give " ++ (own
     ++ codes ", the lowest byte first.\n")))
 
-abbrev pub locator_edit_text : List ℕ
-locator_edit_text =
-    codes "Edit: let the value be one byte, and let value size and data length fit it.\n"
-
+-- no node has the terminus ID of the locator
 abbrev pub meant_edit_text : List ℕ
 meant_edit_text =
-    codes "Edit: let the record have the tid and the eid of one node that has a terminus.\n"
+    codes "Edit: let the record have the tid and, in one byte, the eid of one node that has a terminus.\n"
+
+-- the value is to be the endpoint ID of the node that has it, if one does
+abbrev pub long_value_text : (eid : List ℕ) → List ℕ
+long_value_text eid =
+    codes "Edit: let the value be the one byte " ++ (eid ++ codes ", and value size and data length fit it.\n")
+
+abbrev pub long_edit_text : Plan → Option ℕ → List ℕ
+long_edit_text plan None = meant_edit_text
+long_edit_text plan (Some m) = long_value_text (number_or_dash (eid_of plan m))
+
+abbrev pub value_edit_text : Plan → ℕ → List ℕ
+value_edit_text plan m = codes "Edit: let the value be " ++ (number_or_dash (eid_of plan m)
+    ++ (codes ", the endpoint ID of " ++ (name_or_dash plan m ++ codes ".\n")))
+
+abbrev pub nobody_edit_text : Plan → Option ℕ → List ℕ
+nobody_edit_text plan None = meant_edit_text
+nobody_edit_text plan (Some m) = value_edit_text plan m
+
+-- or the terminus ID that of the holder, if it has one
+abbrev pub tid_text : (holder : List ℕ) → ℕ → List ℕ
+tid_text holder tid = codes "let the tid be " ++ (decimal tid ++ (codes ", that of " ++ (holder ++ codes ".\n")))
+
+abbrev pub other_edit_text : Plan → (holder : List ℕ) → Option ℕ → Option ℕ → List ℕ
+other_edit_text plan holder None None = meant_edit_text
+other_edit_text plan holder None (Some tid) = codes "Edit: " ++ tid_text holder tid
+other_edit_text plan holder (Some m) None = value_edit_text plan m
+other_edit_text plan holder (Some m) (Some tid) = value_edit_text plan m ++ (codes "Edit: or " ++ tid_text holder tid)
 
 -- ---- causes
 
@@ -109,24 +165,28 @@ edits_text plan fault (cause.SharedName earlier) = name_edit_text (decimal fault
 edits_text plan fault cause.UnassignableEid = eid_edit_text (name_or_dash plan fault.node)
 edits_text plan fault (cause.SharedEid earlier) = eid_edit_text (name_or_dash plan fault.node)
 edits_text plan fault cause.RowOutOfRange = range_edit_text
-edits_text plan fault (cause.OverlappedRow earlier eid) =
-    overlap_edit_text (number_or_dash fault.entry) (name_or_dash plan fault.node)
+edits_text plan fault (cause.OverlappedRow earlier eid rest) =
+    overlap_edit_text (number_or_dash fault.entry) (name_or_dash plan fault.node) rest
 edits_text plan fault cause.NextIsItself = neighbor_edit_text (name_or_dash plan fault.node)
-edits_text plan fault cause.NoSuchPort = neighbor_edit_text (name_or_dash plan fault.node)
-edits_text plan fault (cause.NextNotOnBus bus) = neighbor_edit_text (name_or_dash plan fault.node)
+edits_text plan fault (cause.NoSuchPort fitting) =
+    port_edit_text (name_or_dash plan fault.node) (next_text plan (row_at plan fault.node fault.entry)) fitting
+edits_text plan fault (cause.NextNotOnBus bus fitting) =
+    port_edit_text (name_or_dash plan fault.node) (next_text plan (row_at plan fault.node fault.entry)) fitting
 edits_text plan fault cause.EndpointForSeveral = several_edit_text
 edits_text plan fault (cause.OwnerIsEndpoint owner) = owner_edit_text (name_or_dash plan fault.node)
 edits_text plan fault (cause.OwnerSharesNoBus owner) = owner_edit_text (name_or_dash plan fault.node)
 edits_text plan fault (cause.OutsideOwnersPool owner) =
     owned_eid_edit_text (name_or_dash plan fault.node) (name_or_dash plan owner)
-    (number_or_dash (eid_number fault.eid))
+    (number_or_dash (eid_number fault.eid)) (pool_of plan owner)
 edits_text plan fault (cause.InPeersPool peer) =
     peer_edit_text (name_or_dash plan peer) (number_or_dash (eid_number fault.eid))
 edits_text plan fault cause.PoolOfEndpoint = no_pool_edit_text (name_or_dash plan fault.node)
 edits_text plan fault cause.PoolOutOfRange = range_edit_text
 edits_text plan fault (cause.PoolBeyondOwners owner eid) =
-    pool_within_edit_text (name_or_dash plan fault.node) (name_or_dash plan owner)
-edits_text plan fault (cause.PoolsMeet earlier eid) = pools_apart_edit_text (name_or_dash plan fault.node)
+    pool_edit_text (name_or_dash plan fault.node) (owner_of plan fault.node) (pool_around plan fault.node)
+edits_text plan fault (cause.PoolsMeet earlier eid) =
+    pool_edit_text (name_or_dash plan fault.node) (owner_of plan fault.node) (pool_around plan fault.node)
+    ++ earlier_pools_text
 edits_text plan fault (cause.NextIsEndpoint holder) =
     lead_edit_text (number_or_dash (eid_number fault.eid)) (name_or_dash plan holder) (number_or_dash fault.entry)
     (name_or_dash plan fault.node)
@@ -141,6 +201,7 @@ edits_text plan fault (cause.SharedHandle earlier) =
 edits_text plan fault cause.UnreadableRecord = bytes_edit_text
 edits_text plan fault (cause.OtherHandle handle) =
     header_edit_text (decimal handle) (number_or_dash (handle_at plan fault.node fault.entry))
-edits_text plan fault cause.LongLocator = locator_edit_text
-edits_text plan fault (cause.NobodyHolds tid) = meant_edit_text
-edits_text plan fault (cause.OtherTerminus holder tid) = meant_edit_text
+edits_text plan fault (cause.LongLocator tid) = long_edit_text plan (node_with_tid plan tid)
+edits_text plan fault (cause.NobodyHolds tid) = nobody_edit_text plan (node_with_tid plan tid)
+edits_text plan fault (cause.OtherTerminus holder tid) =
+    other_edit_text plan (name_or_dash plan holder) (node_with_tid plan tid) (tid_of plan holder)

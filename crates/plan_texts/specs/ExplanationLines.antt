@@ -1,11 +1,13 @@
 -- The lines that explain a fault, a loop or a bad chain.
-use Rattle.std.specs.Prelude.{◌≡◌, ℕ, ◌+◌, ◌-◌, ◌&&◌, nat_le, nat_lt, Bool, List, [], ◌++◌, length, take, codes}
+use Rattle.std.specs.Prelude.{◌≡◌, ℕ, ◌+◌, ◌-◌, ◌&&◌, ◌==◌, nat_le, nat_lt, Bool, List, [], ◌++◌, length, take, codes}
 use Rattle.std.specs.Prelude.{Option, Some, None, option_map, option_and_then, position}
 use Rattle.std.specs.Fmt.{decimal}
 use Rattle.std.specs.List.{flat_map}
 use Rattle.net_check.specs.Faults.{site_of}
 use Rattle.net_check.specs.Owners.{owner_of}
-use Rattle.net_check.specs.RecordChains.{chain_entry_of}
+use Rattle.net_check.specs.Circles.{IsLoopFrom}
+use Rattle.net_check.specs.RecordChains.{IsFollowedBy}
+use Rattle.net_check.specs.Repositories.{records_of}
 use Rattle.net_check.specs.Routing.{rows_of}
 use Rattle.net_check.specs.Rows.{bus_of}
 use Rattle.net_check.specs.declared.certify_error.CertifyError.{CertifyError}
@@ -17,15 +19,10 @@ use Rattle.net_explained.specs.declared.cause.Cause.{Cause}
 use Rattle.net_explained.specs.Causes.{IsCauseAt}
 use Rattle.net_plan.specs.declared.nodes.Row.{Row}
 use Rattle.net_plan.specs.declared.plan.Plan.{Plan}
-use Rattle.plan_texts.specs.CauseLines.{cause_text, record_at, row_at, port_of_row, next_text}
+use Rattle.plan_texts.specs.CauseLines.{cause_text, record_at, row_at, port_of_row, next_text, handle_at}
 use Rattle.plan_texts.specs.EditLines.{edits_text}
 use Rattle.plan_texts.specs.Lines.{name_or_dash, number_or_dash}
 use Rattle.plan_texts.specs.WayLines.{bus_text, address_on, address_text}
-
--- how many nodes and buses there are
-abbrev pub summary_text : Plan → List ℕ
-summary_text plan = codes "nodes " ++ (decimal (length plan.nodes.items)
-    ++ (codes " buses " ++ (decimal (length plan.buses.items) ++ codes "\n")))
 
 -- what is told of a cause, where there is one
 abbrev pub told_cause : Plan → Fault → Option Cause → List ℕ
@@ -106,27 +103,61 @@ abbrev pub next_handle : Plan → ℕ → ℕ → Option ℕ
 next_handle plan n j = option_map (λ r. r.next) (record_at plan n (Some j))
 
 -- a record of a node, and its next handle
-abbrev pub next_handle_text : Plan → ℕ → ℕ → List ℕ
-next_handle_text plan n j = codes "Record " ++ (decimal j ++ (codes " of " ++ (name_or_dash plan n
-    ++ (codes " has next handle " ++ number_or_dash (next_handle plan n j)))))
+abbrev pub next_handle_line : Plan → ℕ → ℕ → List ℕ
+next_handle_line plan n j = codes "Record " ++ (decimal j ++ (codes " of " ++ (name_or_dash plan n
+    ++ (codes " has next handle " ++ (number_or_dash (next_handle plan n j) ++ codes ".\n")))))
 
--- what is wrong with it, and an edit
-abbrev pub chain_rest : ChainFault → List ℕ
-chain_rest (Missing j) =
-    codes ", and no record has that handle.\nEdit: let next be the handle of the record that follows, or 0.\n"
-chain_rest (Doubled j) =
-    codes ", and so has an earlier one.\nEdit: let next be the handle of the record that follows, or 0.\n"
-chain_rest (Circle j) =
-    codes ", from which the next handles lead back to it.\nEdit: let next be 0 at one record of this circle.\n"
+-- no record has that handle
+abbrev pub missing_lines : Plan → ℕ → ℕ → List ℕ
+missing_lines plan n j = next_handle_line plan n j ++ codes
+    "No record has that handle.\nEdit: let next be the handle of the record that is to follow, or 0 at the last one.\n"
 
--- where a bad chain goes
-abbrev pub chain_lines : Plan → ℕ → ChainFault → List ℕ
-chain_lines plan n fault = next_handle_text plan n (chain_entry_of fault) ++ chain_rest fault
+-- the first record of a node with this next handle, if one has it
+abbrev pub record_before : Plan → ℕ → Option ℕ → Option ℕ
+record_before plan n next = option_and_then (λ next. position (λ r. r.next == next) (records_of plan n)) next
+
+-- an earlier record has that next handle too
+abbrev pub so_has_lines : (earlier : List ℕ) → List ℕ
+so_has_lines earlier = codes "So has record " ++ (earlier
+    ++ codes ".\nEdit: let next be the handle of the record that is to follow, or 0 at the last one.\n")
+
+abbrev pub doubled_lines : Plan → ℕ → ℕ → List ℕ
+doubled_lines plan n j =
+    next_handle_line plan n j ++ so_has_lines (number_or_dash (record_before plan n (next_handle plan n j)))
+
+-- a record of a node on its circle: its handle and its next handle
+abbrev pub record_line : Plan → ℕ → ℕ → List ℕ
+record_line plan n j = codes "Record " ++ (decimal j ++ (codes " of " ++ (name_or_dash plan n
+    ++ (codes ": handle " ++ (number_or_dash (handle_at plan n (Some j))
+    ++ (codes " next " ++ (number_or_dash (next_handle plan n j) ++ codes "\n")))))))
+
+-- The circle is opened at the record: its next handle is to be 0. Where a record has that, this one is to lead on where
+-- the circle led.
+abbrev pub circle_edit : (entry next : List ℕ) → Option ℕ → List ℕ
+circle_edit entry next None = codes "Edit: let next be 0 at record " ++ (entry ++ codes ".\n")
+circle_edit entry next (Some last) = codes "Edit: let next be " ++ (next ++ (codes " at record " ++ (decimal last
+    ++ (codes ", and 0 at record " ++ (entry ++ codes ".\n")))))
+
+-- the way round, a line a record
+abbrev pub circle_lines : Plan → ℕ → ℕ → List ℕ → List ℕ
+circle_lines plan n j circle = flat_map (record_line plan n) (around circle)
+    ++ circle_edit (decimal j) (number_or_dash (next_handle plan n j)) (record_before plan n (Some 0))
+
+-- the text tells the circle of the record: the records round which the next handles lead from it back to it
+abbrev pub IsCircleTold : Plan → ℕ → ℕ → List ℕ → Type 0
+IsCircleTold plan n j text = (circle : List ℕ)
+    × IsLoopFrom (IsFollowedBy (records_of plan n)) j circle × (text ≡ circle_lines plan n j circle)
+
+-- the text tells where a bad chain goes
+abbrev pub IsChainTold : Plan → ℕ → ChainFault → List ℕ → Type 0
+IsChainTold plan n (Missing j) text = text ≡ missing_lines plan n j
+IsChainTold plan n (Doubled j) text = text ≡ doubled_lines plan n j
+IsChainTold plan n (Circle j) text = IsCircleTold plan n j text
 
 -- the text explains what rules certificates of the plan out
 abbrev pub IsObstacleTold : Plan → CertifyError → List ℕ → Type 0
 IsObstacleTold plan (error.Fault fault) text = IsCauseTold plan fault text
 IsObstacleTold plan (error.OwnerLoop nodes) text = text ≡ owner_loop_lines plan nodes.items
 IsObstacleTold plan (error.Loop eid nodes) text = text ≡ loop_lines plan eid.value nodes.items
-IsObstacleTold plan (error.BadChain node fault) text = text ≡ chain_lines plan node fault
+IsObstacleTold plan (error.BadChain node fault) text = IsChainTold plan node fault text
 IsObstacleTold plan error.OutOfMemory text = ⊥

@@ -3,6 +3,8 @@ pub mod CauseLines
 pub mod EditLines
 pub mod WayLines
 pub mod ExplanationLines
+pub mod CertificateLines
+pub mod SummaryLines
 pub mod MoveLines
 pub mod FindingLines
 pub mod PairLines

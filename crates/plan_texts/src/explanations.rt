@@ -1,31 +1,32 @@
 //! What the command `explain` prints below its first line.
 ghost use Rattle.std.specs.Prelude.{◌≡◌, IfOk, Some, string_bytes};
+ghost use Rattle.std.specs.Fmt.{decimal};
 ghost use Rattle.std.specs.List.{flat_map};
+ghost use Rattle.net_check.specs.Certificates.{NamesObstacle};
+ghost use Rattle.net_check.specs.Circles.{IsOnCircle};
 ghost use Rattle.net_check.specs.Owners.{owner_of};
+ghost use Rattle.net_check.specs.RecordChains.{HaveNewHandles, IsBadChain, IsFollowedBy};
+ghost use Rattle.net_check.specs.Repositories.{records_of};
+ghost use Rattle.plan_texts.specs.Lines.{number_or_dash};
 ghost use Rattle.plan_texts.specs.CauseLines.{row_at};
-ghost use Rattle.plan_texts.specs.ExplanationLines.{summary_text, IsCauseTold, IsObstacleTold, covers_eid, row_for, bus_of_row, address_to, row_way, way_by, way_to, way_line, around, loop_lines, owner_name, owner_line, owner_loop_lines, next_handle, next_handle_text, chain_rest, chain_lines, told_cause};
+ghost use Rattle.plan_texts.specs.ExplanationLines.{IsCauseTold, IsChainTold, IsCircleTold, IsObstacleTold, covers_eid, row_for, bus_of_row, address_to, row_way, way_by, way_to, way_line, around, loop_lines, owner_name, owner_line, owner_loop_lines, next_handle, next_handle_line, missing_lines, record_before, so_has_lines, doubled_lines, record_line, circle_edit, told_cause};
 ghost use Rattle.plan_texts.specs.WayLines.{address_text, bus_text};
 
 use super::causes::cause_text;
 use super::causes::edit_lines::edits_text;
-use super::causes::lookups::{next_at, next_of_row, number_text, port_of_row};
+use super::causes::lookups::{handle_at, next_at, next_of_row, number_text, port_of_row};
 use super::name_or_dash;
 use super::ways::{address_on, address_text, bus_text};
 use mctp_transport::Eid;
 use net_check::lookup::ports_at;
 use net_check::{CertifyError, ChainFault, Fault};
-use net_explained::{Cause, find_cause, owner_at, record_at, rows_at};
+use net_explained::{Cause, circle_from, find_cause, owner_at, record_at, records_at, rows_at};
 use net_plan::{Plan, Row};
 use std::alloc::{AllocError, Global};
 
-/// How many nodes and buses a plan has.
-pub fn summary_line(alloc: Global, plan: &Plan) -> Result<String, AllocError>
-    ensures { IfOk result (λ line. string_bytes line ≡ summary_text plan.now) }
-{
-    let nodes = plan.nodes.len();
-    let buses = plan.buses.len();
-    format!(in alloc; "nodes {nodes} buses {buses}\n")
-}
+/// What is told of a next handle that no record has.
+const NO_SUCH_HANDLE: &str =
+    "No record has that handle.\nEdit: let next be the handle of the record that is to follow, or 0 at the last one.\n";
 
 /// Explains what rules certificates of a plan out.
 pub fn obstacle_lines(
@@ -33,6 +34,7 @@ pub fn obstacle_lines(
     plan: &Plan,
     obstacle: &CertifyError,
 ) -> Result<String, AllocError>
+    requires { NamesObstacle plan.now obstacle.now }
     ensures { IfOk result (λ text. IsObstacleTold plan.now obstacle.now (string_bytes text)) }
 {
     match obstacle {
@@ -210,7 +212,7 @@ fn owner_line(alloc: Global, plan: &Plan, node: usize) -> Result<String, AllocEr
 }
 
 /// The name of a node's owner, null where it has none.
-fn owner_name(plan: &Plan, node: usize) -> &str
+pub fn owner_name(plan: &Plan, node: usize) -> &str
     ensures { result.now ≡ owner_name plan.now (owner_of plan.now node) }
 {
     match owner_at(plan, node) {
@@ -228,42 +230,137 @@ fn chain_lines(
     node: usize,
     fault: ChainFault,
 ) -> Result<String, AllocError>
-    ensures { IfOk result (λ text. string_bytes text ≡ chain_lines plan.now node fault) }
-{
-    let mut lines = next_handle_text(alloc, plan, node, fault.entry())?;
-    lines.push_str(chain_rest(fault))?;
-    Ok(lines)
-}
-
-/// What is wrong with a next handle, and an edit.
-fn chain_rest(fault: ChainFault) -> &'static str
-    ensures { result.now ≡ chain_rest fault }
+    requires handles { HaveNewHandles (records_of plan.now node) }
+    requires bad { IsBadChain (records_of plan.now node) fault }
+    ensures { IfOk result (λ text. IsChainTold plan.now node fault (string_bytes text)) }
 {
     match fault {
-        ChainFault::Missing(_) => {
-            ", and no record has that handle.\nEdit: let next be the handle of the record that follows, or 0.\n"
-        }
-        ChainFault::Doubled(_) => {
-            ", and so has an earlier one.\nEdit: let next be the handle of the record that follows, or 0.\n"
-        }
-        ChainFault::Circle(_) => {
-            ", from which the next handles lead back to it.\nEdit: let next be 0 at one record of this circle.\n"
-        }
+        ChainFault::Missing(index) => missing_lines(alloc, plan, node, index),
+        ChainFault::Doubled(index) => doubled_lines(alloc, plan, node, index),
+        ChainFault::Circle(index) => circle_lines(alloc, plan, node, index),
     }
 }
 
-/// A record of a node, and its next handle.
-fn next_handle_text(
+/// A record whose next handle no record has.
+fn missing_lines(
     alloc: Global,
     plan: &Plan,
     node: usize,
     index: usize,
 ) -> Result<String, AllocError>
-    ensures { IfOk result (λ text. string_bytes text ≡ next_handle_text plan.now node index) }
+    ensures { IfOk result (λ text. string_bytes text ≡ missing_lines plan.now node index) }
+{
+    let mut lines = next_handle_line(alloc, plan, node, index)?;
+    lines.push_str(NO_SUCH_HANDLE)?;
+    Ok(lines)
+}
+
+/// A record whose next handle an earlier record has too.
+fn doubled_lines(
+    alloc: Global,
+    plan: &Plan,
+    node: usize,
+    index: usize,
+) -> Result<String, AllocError>
+    ensures { IfOk result (λ text. string_bytes text ≡ doubled_lines plan.now node index) }
+{
+    let mut lines = next_handle_line(alloc, plan, node, index)?;
+    let earlier = record_before(plan, node, next_handle(plan, node, index));
+    lines.push_str(&so_has_lines(alloc, &number_text(alloc, earlier)?)?)?;
+    Ok(lines)
+}
+
+fn so_has_lines(alloc: Global, earlier: &str) -> Result<String, AllocError>
+    ensures { IfOk result (λ text. string_bytes text ≡ so_has_lines earlier.now) }
+{
+    format!(in alloc;
+        "So has record {earlier}.\nEdit: let next be the handle of the record that is to follow, or 0 at the last one.\n"
+    )
+}
+
+/// A record of a node, and its next handle.
+fn next_handle_line(
+    alloc: Global,
+    plan: &Plan,
+    node: usize,
+    index: usize,
+) -> Result<String, AllocError>
+    ensures { IfOk result (λ text. string_bytes text ≡ next_handle_line plan.now node index) }
 {
     let name = name_or_dash(plan, node);
     let next = number_text(alloc, next_handle(plan, node, index))?;
-    format!(in alloc; "Record {index} of {name} has next handle {next}")
+    format!(in alloc; "Record {index} of {name} has next handle {next}.\n")
+}
+
+/// The first record of a node that has this next handle, if one has it.
+fn record_before(plan: &Plan, node: usize, next: Option<usize>) -> Option<usize>
+    ensures { result ≡ record_before plan.now node next }
+{
+    let next = next?;
+    records_at(plan, node)
+        .iter()
+        .position(|record| record.next as usize == next)
+}
+
+/// The way round the circle of a record, a line a record, and an edit that opens it.
+fn circle_lines(alloc: Global, plan: &Plan, node: usize, index: usize) -> Result<String, AllocError>
+    requires handles { HaveNewHandles (records_of plan.now node) }
+    requires circle { IsOnCircle (IsFollowedBy (records_of plan.now node)) index }
+    ensures { IfOk result (λ text. IsCircleTold plan.now node index (string_bytes text)) }
+{
+    let circle = circle_from(alloc, records_at(plan, node), index)?;
+    let mut lines = record_lines(alloc, plan, node, around(&circle))?;
+    lines.push_str(&circle_edit(alloc, plan, node, index)?)?;
+    Ok(lines)
+}
+
+/// The handle and the next handle of each of these records.
+fn record_lines(
+    alloc: Global,
+    plan: &Plan,
+    node: usize,
+    records: &[usize],
+) -> Result<String, AllocError>
+    ensures { IfOk result (λ lines. string_bytes lines ≡ flat_map (record_line plan.now node) records.now) }
+{
+    let mut lines = String::new(alloc);
+    for &index in records {
+        lines.push_str(&record_line(alloc, plan, node, index)?)?;
+    }
+    Ok(lines)
+}
+
+fn record_line(alloc: Global, plan: &Plan, node: usize, index: usize) -> Result<String, AllocError>
+    ensures { IfOk result (λ line. string_bytes line ≡ record_line plan.now node index) }
+{
+    let name = name_or_dash(plan, node);
+    let handle = number_text(alloc, handle_at(plan, node, Some(index)))?;
+    let next = number_text(alloc, next_handle(plan, node, index))?;
+    format!(in alloc; "Record {index} of {name}: handle {handle} next {next}\n")
+}
+
+/// An edit that opens the circle of a record.
+fn circle_edit(alloc: Global, plan: &Plan, node: usize, index: usize) -> Result<String, AllocError>
+    ensures { IfOk result (λ text. string_bytes text ≡ circle_edit (decimal index) (number_or_dash (next_handle plan.now node index)) (record_before plan.now node (Some 0))) }
+{
+    let next = number_text(alloc, next_handle(plan, node, index))?;
+    opened_text(alloc, index, &next, record_before(plan, node, Some(0)))
+}
+
+fn opened_text(
+    alloc: Global,
+    index: usize,
+    next: &str,
+    last: Option<usize>,
+) -> Result<String, AllocError>
+    ensures { IfOk result (λ text. string_bytes text ≡ circle_edit (decimal index) next.now last) }
+{
+    match last {
+        Some(last) => format!(in alloc;
+            "Edit: let next be {next} at record {last}, and 0 at record {index}.\n"
+        ),
+        None => format!(in alloc; "Edit: let next be 0 at record {index}.\n"),
+    }
 }
 
 /// The next handle of a node's record.

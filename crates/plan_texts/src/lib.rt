@@ -6,6 +6,7 @@ ghost use Rattle.plan_texts.specs.Lines.{name_or_dash, bus_name_or_dash, names_t
 
 mod assignments;
 mod causes;
+mod certificates;
 mod codes;
 mod drawings;
 mod explanations;
@@ -15,13 +16,15 @@ mod outcomes;
 mod pairs;
 mod readings;
 mod shown;
+mod summaries;
 mod walks;
 mod ways;
 
 pub use assignments::assignment_lines;
+pub use certificates::certificate_fault_lines;
 pub use codes::text_of;
 pub use drawings::drawing;
-pub use explanations::{cause_lines, obstacle_lines, summary_line};
+pub use explanations::{cause_lines, obstacle_lines};
 pub use findings::lint_lines;
 use mctp_transport::Eid;
 pub use moves::move_error_line;
@@ -33,11 +36,13 @@ pub use readings::{certificate_reading_lines, plan_reading_lines, unread_line};
 pub use shown::{packet_text, record_text, refused_text};
 use std::alloc::{AllocError, Global};
 use std::fmt;
+pub use summaries::summary_lines;
 pub use walks::walk_text;
 pub use ways::trace_lines;
 
 /// What is said where a certificate is at fault, and its plan has another.
-pub const REMEDY: &str = "This plan has a certificate: mctpplan certify makes it.\n";
+pub const REMEDY: &str =
+    "This plan has a certificate.\nEdit: take the one that mctpplan certify makes.\n";
 
 /// What is said where a certificate is at fault, and its plan has none.
 pub const NO_CERTIFICATE: &str =

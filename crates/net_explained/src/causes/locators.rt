@@ -2,7 +2,7 @@
 ghost use Rattle.std.specs.Prelude.{◌≡◌, ◌≢◌, ℕ, List, [], ◌∷◌, length, ◌↔◌, IsTrue, IfSome, IsSomeAnd, Some, None, MatchOption, option_map, slice_get};
 ghost use Rattle.net_check.specs.Routing.{Holds};
 ghost use Rattle.net_check.specs.Repositories.{terminus_of};
-ghost use Rattle.net_check.specs.Locators.{IsEidLocator, IsHeldByTerminus};
+ghost use Rattle.net_check.specs.Locators.{IsEidLocator, HasOneByteAsEid, IsHeldByTerminus};
 ghost use Rattle.net_check.specs.declared.rule.Rule.TheVariants.{C15};
 ghost use Rattle.net_explained.specs.declared.cause.Cause.TheVariants.{NobodyHolds, OtherTerminus};
 ghost use Rattle.net_explained.specs.Causes.{IsCauseAt};
@@ -25,23 +25,26 @@ pub fn long(plan: &Plan, node: usize, index: usize) -> Option<Cause>
 {
     match record_at(plan, node, index) {
         Some(listed) => {
-            if locates_no_eid(listed) {
-                Some(Cause::LongLocator)
-            } else {
-                None
-            }
+            let tid = tid_of_long(listed)?;
+            Some(Cause::LongLocator { tid })
         }
         None => None,
     }
 }
 
-/// Whether the record is a terminus locator whose value is not one byte long.
-fn locates_no_eid(listed: &PlannedRecord) -> bool
-    ensures { IsTrue result ↔ ((tid : ℕ) × (value : List ℕ) × IsEidLocator listed.now.bytes.items tid value × (length value ≢ 1)) }
+/// The terminus ID of the locator, if the record is one whose value is not one byte long.
+fn tid_of_long(listed: &PlannedRecord) -> Option<u8>
+    ensures { MatchOption result (HasOneByteAsEid listed.now) (λ tid. (value : List ℕ) × IsEidLocator listed.now.bytes.items tid value × (length value ≢ 1)) }
 {
     match eid_locator(&listed.bytes) {
-        Some(locator) => locator.locator_value.len() != 1,
-        None => false,
+        Some(locator) => {
+            if locator.locator_value.len() == 1 {
+                None
+            } else {
+                Some(locator.tid)
+            }
+        }
+        None => None,
     }
 }
 

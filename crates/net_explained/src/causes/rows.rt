@@ -1,15 +1,17 @@
 //! C04 to C06: what is wrong with a row.
-ghost use Rattle.std.specs.Prelude.{◌≡◌, ◌≢◌, ◌≤◌, ℕ, ◌↔◌, IsTrue, Some, None, slice_get};
+ghost use Rattle.std.specs.Prelude.{◌≡◌, ◌≢◌, ◌≤◌, ℕ, ◌↔◌, IsTrue, Option, Some, None, slice_get};
 ghost use Rattle.net_check.specs.Routing.{rows_of, Covers, IsBridge};
 ghost use Rattle.net_check.specs.Rows.{IsInRange, IsJoined, bus_of};
 ghost use Rattle.net_check.specs.declared.rule.Rule.TheVariants.{C04, C05, C06};
 ghost use Rattle.net_explained.specs.declared.cause.Cause.TheVariants.{NextIsItself, NoSuchPort, EndpointForSeveral};
-ghost use Rattle.net_explained.specs.Searches.{IsLeastEid, IsFirstWithEid};
-ghost use Rattle.net_explained.specs.Causes.{IsCauseAt, CoversAt};
+ghost use Rattle.net_explained.specs.Searches.{IsFirst, IsLeastEid, IsFirstWithEid};
+ghost use Rattle.net_explained.specs.Causes.{IsCauseAt};
+ghost use Rattle.net_explained.specs.Rows.{CoversAt, IsFittingPort};
 
 use crate::cause::Cause;
+use crate::rest::rest_of;
 use mctp_transport::Eid;
-use net_check::lookup::{bus_at, covers, is_bridge, is_on_bus, row_at, row_end};
+use net_check::lookup::{bus_at, covers, is_bridge, is_on_bus, ports_at, row_at, row_end};
 use net_plan::{Plan, Row};
 
 /// That the node's row covers nothing, or more than can be assigned.
@@ -37,7 +39,11 @@ pub fn overlapped(plan: &Plan, node: usize, row: usize) -> Option<Cause>
 {
     let found = row_at(plan, node, row)?;
     match first_overlapping(plan, node, row, found) {
-        Some((earlier, eid)) => Some(Cause::OverlappedRow { earlier, eid }),
+        Some((earlier, eid)) => Some(Cause::OverlappedRow {
+            earlier,
+            eid,
+            rest: rest_of(plan, node, row),
+        }),
         None => None,
     }
 }
@@ -95,17 +101,59 @@ pub fn no_neighbor(plan: &Plan, node: usize, row: usize) -> Option<Cause>
 fn no_neighbor_in(plan: &Plan, node: usize, row: &Row) -> Option<Cause>
     ensures cause { (r : ℕ) → slice_get (rows_of plan.now node) r ≡ Some row.now → IsCauseAt plan.now (record { rule = C06; node = node; entry = Some r; eid = None }) result }
     ensures itself { row.now.next ≡ node → result ≡ Some NextIsItself }
-    ensures port { row.now.next ≢ node → bus_of plan.now node row.now.port ≡ None → result ≡ Some NoSuchPort }
+    ensures port { row.now.next ≢ node → bus_of plan.now node row.now.port ≡ None → (fitting : Option ℕ) × (result ≡ Some (NoSuchPort fitting)) }
     ensures several { result ≡ Some EndpointForSeveral → IsJoined plan.now node row.now.port row.now.next }
 {
     if row.next == node {
         return Some(Cause::NextIsItself);
     }
     match bus_at(plan, node, row.port) {
-        None => Some(Cause::NoSuchPort),
-        Some(bus) if !is_on_bus(plan, row.next, bus) => Some(Cause::NextNotOnBus { bus }),
+        None => Some(Cause::NoSuchPort {
+            fitting: fitting_port(plan, node, row),
+        }),
+        Some(bus) if !is_on_bus(plan, row.next, bus) => Some(Cause::NextNotOnBus {
+            bus,
+            fitting: fitting_port(plan, node, row),
+        }),
         Some(_) if is_bridge_for_several(plan, row) => None,
         Some(_) => Some(Cause::EndpointForSeveral),
+    }
+}
+
+/// The first port by which the row, as one of the node's, would name a neighbor.
+#[tactic(auto, unfolding(net_check::specs::Rows::NamesNeighbor))]
+fn fitting_port(plan: &Plan, node: usize, row: &Row) -> Option<usize>
+    ensures { IsFittingPort plan.now node row.now result }
+{
+    if row.next == node {
+        return None;
+    }
+    if !is_bridge_for_several(plan, row) {
+        return None;
+    }
+    first_joined(plan, node, row.next)
+}
+
+/// The first port of a node on whose bus another is.
+fn first_joined(plan: &Plan, node: usize, next: usize) -> Option<usize>
+    ensures { IsFirst (λ port. IsJoined plan.now node port next) result }
+{
+    for port in 0..ports_at(plan, node).len() {
+        if is_joined(plan, node, port, next) {
+            return Some(port);
+        }
+    }
+    None
+}
+
+/// Whether a node has this port, and the other node is on its bus.
+#[tactic(auto, unfolding(net_check::specs::Rows::IsJoined))]
+fn is_joined(plan: &Plan, node: usize, port: usize, next: usize) -> bool
+    ensures { IsTrue result ↔ IsJoined plan.now node port next }
+{
+    match ports_at(plan, node).get(port) {
+        Some(port) => is_on_bus(plan, next, port.bus),
+        None => false,
     }
 }
 

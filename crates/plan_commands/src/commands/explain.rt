@@ -5,9 +5,7 @@ ghost use Rattle.net_check.specs.Certificates.{NamesObstacle, RulesOutCertificat
 ghost use Rattle.plan_commands.specs.declared.status.Status.TheVariants.{Yes, Fault, NoMemory};
 ghost use Rattle.plan_commands.specs.declared.refused.Refused.{Refused};
 ghost use Rattle.plan_commands.specs.Answers.{stream};
-ghost use Rattle.plan_texts.specs.ExplanationLines.{summary_text};
-ghost use Rattle.plan_commands.specs.Explaining.{IsObstacleText, IsExplained, ExplainsSo, Explains};
-ghost use Rattle.plan_commands.specs.Statuses.{yes_line};
+ghost use Rattle.plan_commands.specs.Explaining.{IsObstacleText, IsSummedUp, IsExplained, ExplainsSo, Explains};
 
 pub mod certified;
 mod unread;
@@ -17,8 +15,9 @@ use crate::commands::inputs::plan_or_text;
 use crate::refused::Refused;
 use crate::status::Status;
 use net_check::{CertifyError, certify};
-use net_plan::{Plan, Sink, Source};
-use plan_texts::{obstacle_line, obstacle_lines, summary_line};
+use net_explained::most_hops;
+use net_plan::{Certificate, Plan, Sink, Source};
+use plan_texts::{obstacle_line, obstacle_lines, summary_lines};
 use std::alloc::{AllocError, Global};
 use unread::unread_plan;
 
@@ -61,17 +60,17 @@ fn explained_plan(alloc: Global, plan: &Plan) -> Result<Answer, Refused>
     ensures refused { IfErr result (λ why. why ≡ Refused.NoMemory) }
 {
     match certify(alloc, plan) {
-        Ok(_certificate) => Ok(Answer::found(sound_text(alloc, plan)?)),
+        Ok(certificate) => Ok(Answer::found(sound_text(alloc, plan, &certificate)?)),
         Err(obstacle) => Ok(Answer::fault(obstacle_text(alloc, plan, &obstacle)?)),
     }
 }
 
-/// Says yes, and sums a plan up.
-fn sound_text(alloc: Global, plan: &Plan) -> Result<String, AllocError>
-    ensures { IfOk result (λ text. string_bytes text ≡ yes_line ++ summary_text plan.now) }
+/// Says yes, and sums a plan up that the certificate fits.
+fn sound_text(alloc: Global, plan: &Plan, certificate: &Certificate) -> Result<String, AllocError>
+    ensures { IfOk result (λ text. IsSummedUp plan.now certificate.now (string_bytes text)) }
 {
     let mut text = YES.to_string(alloc)?;
-    text.push_str(&summary_line(alloc, plan)?)?;
+    text.push_str(&summary_lines(alloc, plan, most_hops(plan, certificate))?)?;
     Ok(text)
 }
 

@@ -1,17 +1,24 @@
 //! Edits of a plan that take a fault away.
-ghost use Rattle.std.specs.Prelude.{◌≡◌, IfOk, string_bytes};
+ghost use Rattle.std.specs.Prelude.{◌≡◌, ◌++◌, IfOk, string_bytes};
 ghost use Rattle.std.specs.Fmt.{decimal};
 ghost use Rattle.net_check.specs.Faults.{eid_number};
-ghost use Rattle.plan_texts.specs.CauseLines.{row_at, next_text, handle_at};
-ghost use Rattle.plan_texts.specs.EditLines.{name_edit_text, eid_edit_text, range_edit_text, overlap_edit_text, neighbor_edit_text, several_edit_text, owner_edit_text, owned_eid_edit_text, peer_edit_text, no_pool_edit_text, pool_within_edit_text, pools_apart_edit_text, lead_edit_text, row_edit_text, no_terminus_edit_text, handle_edit_text, bytes_edit_text, header_edit_text, locator_edit_text, meant_edit_text, edits_text};
+ghost use Rattle.net_check.specs.Owners.{owner_of};
+ghost use Rattle.net_check.specs.Pools.{pool_of};
+ghost use Rattle.plan_texts.specs.CauseLines.{row_at, next_text, handle_at, tid_of};
+ghost use Rattle.plan_texts.specs.EditLines.{name_edit_text, eid_edit_text, range_edit_text, stretch_text, overlap_edit_text, neighbor_edit_text, port_edit_text, several_edit_text, owner_edit_text, owners_pool_text, owned_eid_edit_text, peer_edit_text, no_pool_edit_text, pool_around, pool_edit_text, earlier_pools_text, lead_edit_text, row_edit_text, no_terminus_edit_text, handle_edit_text, bytes_edit_text, header_edit_text, meant_edit_text, long_value_text, long_edit_text, value_edit_text, nobody_edit_text, tid_text, other_edit_text, edits_text};
 ghost use Rattle.plan_texts.specs.Lines.{name_or_dash, number_or_dash};
 
-use super::lookups::{eid_of_fault, handle_at, next_of_row, number_text};
+use super::lookups::{
+    eid_of, eid_of_fault, handle_at, next_of_row, node_with_tid, number_text, span_text, tid_of,
+};
 use crate::name_or_dash;
 use net_check::Fault;
-use net_explained::Cause;
-use net_plan::Plan;
+use net_explained::{Cause, Stretch, owner_at, pool_at};
+use net_plan::{Plan, Pool};
 use std::alloc::{AllocError, Global};
+
+/// That other pools are to lie apart from a node's own.
+const EARLIER_POOLS: &str = "Edit: or let no earlier pool with the same owner have any of it.\n";
 
 /// One or two edits, each of which takes a fault of this cause away.
 pub fn edits_text(
@@ -27,18 +34,18 @@ pub fn edits_text(
         Cause::UnassignableEid => eid_edit(alloc, plan, fault),
         Cause::SharedEid { .. } => eid_edit(alloc, plan, fault),
         Cause::RowOutOfRange => range_edit(alloc),
-        Cause::OverlappedRow { .. } => overlap_edit(alloc, plan, fault),
-        Cause::NextIsItself => neighbor_edit(alloc, plan, fault),
-        Cause::NoSuchPort => neighbor_edit(alloc, plan, fault),
-        Cause::NextNotOnBus { .. } => neighbor_edit(alloc, plan, fault),
+        Cause::OverlappedRow { rest, .. } => overlap_edit(alloc, plan, fault, rest),
+        Cause::NextIsItself => neighbor_edit(alloc, name_or_dash(plan, fault.node)),
+        Cause::NoSuchPort { fitting } => port_edit(alloc, plan, fault, fitting),
+        Cause::NextNotOnBus { fitting, .. } => port_edit(alloc, plan, fault, fitting),
         Cause::EndpointForSeveral => several_edit(alloc),
         Cause::OwnerIsEndpoint { .. } => owner_edit(alloc, plan, fault),
         Cause::OwnerSharesNoBus { .. } => owner_edit(alloc, plan, fault),
         Cause::OutsideOwnersPool { owner } => owned_eid_edit(alloc, plan, fault, owner),
         Cause::InPeersPool { peer } => peer_edit(alloc, plan, fault, peer),
-        Cause::PoolOfEndpoint => no_pool_edit(alloc, plan, fault),
+        Cause::PoolOfEndpoint => no_pool_edit(alloc, name_or_dash(plan, fault.node)),
         Cause::PoolOutOfRange => range_edit(alloc),
-        Cause::PoolBeyondOwners { owner, .. } => pool_within_edit(alloc, plan, fault, owner),
+        Cause::PoolBeyondOwners { .. } => pool_edit(alloc, plan, fault),
         Cause::PoolsMeet { .. } => pools_apart_edit(alloc, plan, fault),
         Cause::NextIsEndpoint { holder } => lead_edit(alloc, plan, fault, holder),
         Cause::NextHasNoRow { .. } => row_edit(alloc, plan, fault),
@@ -47,9 +54,11 @@ pub fn edits_text(
         Cause::SharedHandle { .. } => handle_edit(alloc, plan, fault),
         Cause::UnreadableRecord => bytes_edit(alloc),
         Cause::OtherHandle { handle } => header_edit(alloc, plan, fault, handle),
-        Cause::LongLocator => locator_edit(alloc),
-        Cause::NobodyHolds { .. } => meant_edit(alloc),
-        Cause::OtherTerminus { .. } => meant_edit(alloc),
+        Cause::LongLocator { tid } => long_edit(alloc, plan, node_with_tid(plan, tid)),
+        Cause::NobodyHolds { tid } => nobody_edit(alloc, plan, node_with_tid(plan, tid)),
+        Cause::OtherTerminus { holder, tid } => {
+            other_edit(alloc, plan, holder, node_with_tid(plan, tid))
+        }
     }
 }
 
@@ -75,23 +84,87 @@ fn range_edit(alloc: Global) -> Result<String, AllocError>
     )
 }
 
-fn overlap_edit(alloc: Global, plan: &Plan, fault: &Fault) -> Result<String, AllocError>
-    ensures { IfOk result (λ text. string_bytes text ≡ overlap_edit_text (number_or_dash fault.now.entry) (name_or_dash plan.now fault.now.node)) }
+fn overlap_edit(
+    alloc: Global,
+    plan: &Plan,
+    fault: &Fault,
+    rest: Option<Stretch>,
+) -> Result<String, AllocError>
+    ensures { IfOk result (λ text. string_bytes text ≡ overlap_edit_text (number_or_dash fault.now.entry) (name_or_dash plan.now fault.now.node) rest) }
 {
     let row = number_text(alloc, fault.entry)?;
-    let name = name_or_dash(plan, fault.node);
+    overlap_text(alloc, &row, name_or_dash(plan, fault.node), rest)
+}
+
+fn overlap_text(
+    alloc: Global,
+    row: &str,
+    name: &str,
+    rest: Option<Stretch>,
+) -> Result<String, AllocError>
+    ensures { IfOk result (λ text. string_bytes text ≡ overlap_edit_text row.now name.now rest) }
+{
+    match rest {
+        Some(rest) => {
+            let rest = stretch_text(alloc, rest)?;
+            format!(in alloc; "Edit: let row {row} of {name} cover {rest} and no more.\n")
+        }
+        None => format!(in alloc;
+            "Edit: take row {row} of {name} out: other rows cover all of it.\n"
+        ),
+    }
+}
+
+/// The endpoint IDs of a stretch: the first and the last, or the one.
+fn stretch_text(alloc: Global, rest: Stretch) -> Result<String, AllocError>
+    ensures { IfOk result (λ text. string_bytes text ≡ stretch_text rest) }
+{
+    let first = rest.first.value;
+    let last = rest.last.value;
+    if first == last {
+        format!(in alloc; "{first}")
+    } else {
+        format!(in alloc; "{first} to {last}")
+    }
+}
+
+fn neighbor_edit(alloc: Global, name: &str) -> Result<String, AllocError>
+    ensures { IfOk result (λ text. string_bytes text ≡ neighbor_edit_text name.now) }
+{
     format!(in alloc;
-        "Edit: let row {row} cover no endpoint ID that an earlier row of {name} covers.\n"
+        "Edit: let port be a port of {name}, and next another node on its bus,\nwhich is a bridge if size is over 1.\n"
     )
 }
 
-fn neighbor_edit(alloc: Global, plan: &Plan, fault: &Fault) -> Result<String, AllocError>
-    ensures { IfOk result (λ text. string_bytes text ≡ neighbor_edit_text (name_or_dash plan.now fault.now.node)) }
+fn port_edit(
+    alloc: Global,
+    plan: &Plan,
+    fault: &Fault,
+    fitting: Option<usize>,
+) -> Result<String, AllocError>
+    ensures { IfOk result (λ text. string_bytes text ≡ port_edit_text (name_or_dash plan.now fault.now.node) (next_text plan.now (row_at plan.now fault.now.node fault.now.entry)) fitting) }
 {
     let name = name_or_dash(plan, fault.node);
-    format!(in alloc;
-        "Edit: let port be one of {name}, and next another node on its bus, a bridge if size is over 1.\n"
+    port_text(
+        alloc,
+        name,
+        next_of_row(plan, fault.node, fault.entry),
+        fitting,
     )
+}
+
+fn port_text(
+    alloc: Global,
+    name: &str,
+    next: &str,
+    fitting: Option<usize>,
+) -> Result<String, AllocError>
+    ensures { IfOk result (λ text. string_bytes text ≡ port_edit_text name.now next.now fitting) }
+{
+    match fitting {
+        Some(port) => format!(in alloc; "Edit: let port be {port}; {next} is on its bus.\n"),
+        None => neighbor_edit(alloc, name),
+    }
 }
 
 fn several_edit(alloc: Global) -> Result<String, AllocError>
@@ -113,14 +186,45 @@ fn owned_eid_edit(
     fault: &Fault,
     owner: usize,
 ) -> Result<String, AllocError>
-    ensures { IfOk result (λ text. string_bytes text ≡ owned_eid_edit_text (name_or_dash plan.now fault.now.node) (name_or_dash plan.now owner) (number_or_dash (eid_number fault.now.eid))) }
+    ensures { IfOk result (λ text. string_bytes text ≡ owned_eid_edit_text (name_or_dash plan.now fault.now.node) (name_or_dash plan.now owner) (number_or_dash (eid_number fault.now.eid)) (pool_of plan.now owner)) }
 {
     let name = name_or_dash(plan, fault.node);
-    let owner = name_or_dash(plan, owner);
     let eid = number_text(alloc, eid_of_fault(fault))?;
-    format!(in alloc;
-        "Edit: give {name} an eid of the pool of {owner} that is in no pool handed on from it.\nEdit: or let the pool of {owner} have {eid}, and no pool handed on from it.\n"
+    owned_eid_text(
+        alloc,
+        name,
+        name_or_dash(plan, owner),
+        &eid,
+        pool_at(plan, owner),
     )
+}
+
+fn owned_eid_text(
+    alloc: Global,
+    name: &str,
+    owner: &str,
+    eid: &str,
+    around: Option<Pool>,
+) -> Result<String, AllocError>
+    ensures { IfOk result (λ text. string_bytes text ≡ owned_eid_edit_text name.now owner.now eid.now around) }
+{
+    let owners = owners_pool_text(alloc, owner, eid)?;
+    match around {
+        Some(pool) => {
+            let span = span_text(alloc, pool.first.value, pool.size)?;
+            format!(in alloc;
+                "Edit: give {name} a free eid of {span}, and of no pool within that.\nEdit: or {owners}"
+            )
+        }
+        None => format!(in alloc; "Edit: {owners}"),
+    }
+}
+
+/// That the owner's pool is to have the endpoint ID.
+fn owners_pool_text(alloc: Global, owner: &str, eid: &str) -> Result<String, AllocError>
+    ensures { IfOk result (λ text. string_bytes text ≡ owners_pool_text owner.now eid.now) }
+{
+    format!(in alloc; "let the pool of {owner} have {eid}, and no pool handed on from it.\n")
 }
 
 fn peer_edit(alloc: Global, plan: &Plan, fault: &Fault, peer: usize) -> Result<String, AllocError>
@@ -128,38 +232,60 @@ fn peer_edit(alloc: Global, plan: &Plan, fault: &Fault, peer: usize) -> Result<S
 {
     let peer = name_or_dash(plan, peer);
     let eid = number_text(alloc, eid_of_fault(fault))?;
-    format!(in alloc; "Edit: let the pool of {peer} leave {eid} out.\n")
+    format!(in alloc; "Edit: let the pools of {peer} and of any such node leave {eid} out.\n")
 }
 
-fn no_pool_edit(alloc: Global, plan: &Plan, fault: &Fault) -> Result<String, AllocError>
-    ensures { IfOk result (λ text. string_bytes text ≡ no_pool_edit_text (name_or_dash plan.now fault.now.node)) }
+fn no_pool_edit(alloc: Global, name: &str) -> Result<String, AllocError>
+    ensures { IfOk result (λ text. string_bytes text ≡ no_pool_edit_text name.now) }
 {
-    let name = name_or_dash(plan, fault.node);
     format!(in alloc; "Edit: let the pool of {name} be null.\n")
 }
 
-fn pool_within_edit(
-    alloc: Global,
-    plan: &Plan,
-    fault: &Fault,
-    owner: usize,
-) -> Result<String, AllocError>
-    ensures { IfOk result (λ text. string_bytes text ≡ pool_within_edit_text (name_or_dash plan.now fault.now.node) (name_or_dash plan.now owner)) }
+fn pool_edit(alloc: Global, plan: &Plan, fault: &Fault) -> Result<String, AllocError>
+    ensures { IfOk result (λ text. string_bytes text ≡ pool_edit_text (name_or_dash plan.now fault.now.node) (owner_of plan.now fault.now.node) (pool_around plan.now fault.now.node)) }
 {
     let name = name_or_dash(plan, fault.node);
-    let owner = name_or_dash(plan, owner);
-    format!(in alloc;
-        "Edit: let the pool of {name} lie in that of {owner}, and meet no other that lies there.\n"
-    )
+    let owner = owner_at(plan, fault.node);
+    pool_text(alloc, name, owner, pool_around(plan, fault.node))
 }
 
 fn pools_apart_edit(alloc: Global, plan: &Plan, fault: &Fault) -> Result<String, AllocError>
-    ensures { IfOk result (λ text. string_bytes text ≡ pools_apart_edit_text (name_or_dash plan.now fault.now.node)) }
+    ensures { IfOk result (λ text. string_bytes text ≡ pool_edit_text (name_or_dash plan.now fault.now.node) (owner_of plan.now fault.now.node) (pool_around plan.now fault.now.node) ++ earlier_pools_text) }
 {
-    let name = name_or_dash(plan, fault.node);
-    format!(in alloc;
-        "Edit: let the pool of {name} meet no pool of a node that has the same owner.\n"
-    )
+    let mut text = pool_edit(alloc, plan, fault)?;
+    text.push_str(EARLIER_POOLS)?;
+    Ok(text)
+}
+
+/// The pool of a node's owner, if it has one that has.
+fn pool_around(plan: &Plan, node: usize) -> Option<Pool>
+    ensures { result ≡ pool_around plan.now node }
+{
+    pool_at(plan, owner_at(plan, node)?)
+}
+
+fn pool_text(
+    alloc: Global,
+    name: &str,
+    owner: Option<usize>,
+    around: Option<Pool>,
+) -> Result<String, AllocError>
+    ensures { IfOk result (λ text. string_bytes text ≡ pool_edit_text name.now owner around) }
+{
+    match owner {
+        None => format!(in alloc;
+            "Edit: let the pool of {name} meet that of no other node without an owner.\n"
+        ),
+        Some(_) => match around {
+            None => no_pool_edit(alloc, name),
+            Some(pool) => {
+                let span = span_text(alloc, pool.first.value, pool.size)?;
+                format!(in alloc;
+                    "Edit: let the pool of {name} lie in {span}, and meet no other there.\n"
+                )
+            }
+        },
+    }
 }
 
 fn lead_edit(alloc: Global, plan: &Plan, fault: &Fault, holder: usize) -> Result<String, AllocError>
@@ -199,7 +325,7 @@ fn handle_edit(alloc: Global, plan: &Plan, fault: &Fault) -> Result<String, Allo
     let entry = number_text(alloc, fault.entry)?;
     let name = name_or_dash(plan, fault.node);
     format!(in alloc;
-        "Edit: give record {entry} a handle of at least 1 that no other record of {name} has.\n"
+        "Edit: give record {entry} a handle that no other of {name} has, and not 0.\n"
     )
 }
 
@@ -220,16 +346,92 @@ fn header_edit(alloc: Global, plan: &Plan, fault: &Fault, handle: u32) -> Result
     )
 }
 
-fn locator_edit(alloc: Global) -> Result<String, AllocError>
-    ensures { IfOk result (λ text. string_bytes text ≡ locator_edit_text) }
-{
-    "Edit: let the value be one byte, and let value size and data length fit it.\n".to_string(alloc)
-}
+// ---- locators
 
+/// What a locator's record is to be, where no node has its terminus ID.
 fn meant_edit(alloc: Global) -> Result<String, AllocError>
     ensures { IfOk result (λ text. string_bytes text ≡ meant_edit_text) }
 {
-    "Edit: let the record have the tid and the eid of one node that has a terminus.\n".to_string(
+    "Edit: let the record have the tid and, in one byte, the eid of one node that has a terminus.\n".to_string(
         alloc,
     )
+}
+
+fn long_edit(alloc: Global, plan: &Plan, meant: Option<usize>) -> Result<String, AllocError>
+    ensures { IfOk result (λ text. string_bytes text ≡ long_edit_text plan.now meant) }
+{
+    match meant {
+        Some(node) => long_value_text(alloc, &number_text(alloc, eid_of(plan, node))?),
+        None => meant_edit(alloc),
+    }
+}
+
+fn long_value_text(alloc: Global, eid: &str) -> Result<String, AllocError>
+    ensures { IfOk result (λ text. string_bytes text ≡ long_value_text eid.now) }
+{
+    format!(in alloc;
+        "Edit: let the value be the one byte {eid}, and value size and data length fit it.\n"
+    )
+}
+
+fn nobody_edit(alloc: Global, plan: &Plan, meant: Option<usize>) -> Result<String, AllocError>
+    ensures { IfOk result (λ text. string_bytes text ≡ nobody_edit_text plan.now meant) }
+{
+    match meant {
+        Some(node) => value_edit(alloc, plan, node),
+        None => meant_edit(alloc),
+    }
+}
+
+fn other_edit(
+    alloc: Global,
+    plan: &Plan,
+    holder: usize,
+    meant: Option<usize>,
+) -> Result<String, AllocError>
+    ensures { IfOk result (λ text. string_bytes text ≡ other_edit_text plan.now (name_or_dash plan.now holder) meant (tid_of plan.now holder)) }
+{
+    let name = name_or_dash(plan, holder);
+    other_text(alloc, plan, name, meant, tid_of(plan, holder))
+}
+
+fn other_text(
+    alloc: Global,
+    plan: &Plan,
+    holder: &str,
+    meant: Option<usize>,
+    held: Option<usize>,
+) -> Result<String, AllocError>
+    ensures { IfOk result (λ text. string_bytes text ≡ other_edit_text plan.now holder.now meant held) }
+{
+    match meant {
+        None => match held {
+            None => meant_edit(alloc),
+            Some(tid) => tid_edit(alloc, "Edit: ", holder, tid),
+        },
+        Some(node) => match held {
+            None => value_edit(alloc, plan, node),
+            Some(tid) => {
+                let mut text = value_edit(alloc, plan, node)?;
+                text.push_str(&tid_edit(alloc, "Edit: or ", holder, tid)?)?;
+                Ok(text)
+            }
+        },
+    }
+}
+
+/// That the value is to be the endpoint ID of a node.
+fn value_edit(alloc: Global, plan: &Plan, node: usize) -> Result<String, AllocError>
+    ensures { IfOk result (λ text. string_bytes text ≡ value_edit_text plan.now node) }
+{
+    let eid = number_text(alloc, eid_of(plan, node))?;
+    let name = name_or_dash(plan, node);
+    format!(in alloc; "Edit: let the value be {eid}, the endpoint ID of {name}.\n")
+}
+
+/// That the terminus ID is to be that of the holder.
+fn tid_edit(alloc: Global, begin: &str, holder: &str, tid: usize) -> Result<String, AllocError>
+    ensures { IfOk result (λ text. string_bytes text ≡ begin.now ++ tid_text holder.now tid) }
+{
+    format!(in alloc; "{begin}let the tid be {tid}, that of {holder}.\n")
 }

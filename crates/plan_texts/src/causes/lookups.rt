@@ -14,7 +14,7 @@ use net_plan::{Node, Plan, Row};
 use std::alloc::{AllocError, Global};
 
 /// So many endpoint IDs from the first on: the first and the last, or the one, or none.
-fn span_text(alloc: Global, first: u8, size: u8) -> Result<String, AllocError>
+pub fn span_text(alloc: Global, first: u8, size: u8) -> Result<String, AllocError>
     ensures { IfOk result (λ text. string_bytes text ≡ span_text first size) }
 {
     if size == 0 {
@@ -149,7 +149,7 @@ pub fn tid_of(plan: &Plan, node: usize) -> Option<usize>
 }
 
 /// The endpoint ID that a node holds.
-fn eid_of(plan: &Plan, node: usize) -> Option<usize>
+pub fn eid_of(plan: &Plan, node: usize) -> Option<usize>
     ensures { result ≡ eid_of plan.now node }
 {
     Some(usize::from(plan.nodes.get(node)?.eid.value))
@@ -180,7 +180,7 @@ fn terminus_line(alloc: Global, tid: u8, name: &str, eid: &str) -> Result<String
 }
 
 /// The first node whose terminus has the terminus ID.
-fn node_with_tid(plan: &Plan, tid: u8) -> Option<usize>
+pub fn node_with_tid(plan: &Plan, tid: u8) -> Option<usize>
     ensures { result ≡ node_with_tid plan.now tid }
 {
     plan.nodes.iter().position(|node| has_tid(node, tid))

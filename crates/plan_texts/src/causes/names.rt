@@ -46,5 +46,5 @@ pub fn shared_eid(
     let name = name_or_dash(plan, fault.node);
     let earlier = name_or_dash(plan, earlier);
     let eid = number_text(alloc, eid_of_fault(fault))?;
-    format!(in alloc; "{name} and the earlier node {earlier} both hold endpoint ID {eid}.\n")
+    format!(in alloc; "{name} holds endpoint ID {eid}.\nThe earlier node {earlier} holds it too.\n")
 }

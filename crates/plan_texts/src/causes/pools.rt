@@ -22,7 +22,7 @@ pub fn owner_is_endpoint(
     let name = name_or_dash(plan, fault.node);
     let owner = name_or_dash(plan, owner);
     format!(in alloc;
-        "The owner of {name} is {owner}, an endpoint. Only a bridge can be an owner.\n"
+        "The owner of {name} is {owner}, an endpoint.\nOnly a bridge can be an owner.\n"
     )
 }
 
@@ -37,7 +37,7 @@ pub fn owner_shares_no_bus(
 {
     let name = name_or_dash(plan, fault.node);
     let owner = name_or_dash(plan, owner);
-    format!(in alloc; "The owner of {name} is {owner}, and no bus has a port of both.\n")
+    format!(in alloc; "The owner of {name} is {owner}.\nNo bus has a port of both.\n")
 }
 
 /// The owner's pool lacks the endpoint ID.
@@ -54,7 +54,7 @@ pub fn outside_owners_pool(
     let span = pool_span(alloc, plan, owner)?;
     let owner = name_or_dash(plan, owner);
     format!(in alloc;
-        "{name} holds endpoint ID {eid}. The pool of its owner, {owner}, is {span}.\n"
+        "{name} holds endpoint ID {eid}.\nThe pool of its owner, {owner}, is {span}.\n"
     )
 }
 
@@ -72,7 +72,7 @@ pub fn in_peers_pool(
     let span = pool_span(alloc, plan, peer)?;
     let peer = name_or_dash(plan, peer);
     format!(in alloc;
-        "{name} holds endpoint ID {eid}, which is in the pool of {peer}: {span}. Both have the same owner, or none.\n"
+        "{name} holds endpoint ID {eid}.\nIt is in the pool of {peer}: {span}.\nBoth have the same owner, or none.\n"
     )
 }
 
@@ -82,7 +82,7 @@ pub fn pool_of_endpoint(alloc: Global, plan: &Plan, fault: &Fault) -> Result<Str
 {
     let name = name_or_dash(plan, fault.node);
     let span = pool_span(alloc, plan, fault.node)?;
-    format!(in alloc; "{name} is an endpoint and has a pool: {span}. Only a bridge has one.\n")
+    format!(in alloc; "{name} is an endpoint and has a pool: {span}.\nOnly a bridge has one.\n")
 }
 
 /// The pool has nothing, or what no node can hold.
@@ -93,7 +93,7 @@ pub fn pool_out_of_range(alloc: Global, plan: &Plan, fault: &Fault) -> Result<St
     let first = number_text(alloc, first_of_pool(plan, fault.node))?;
     let size = number_text(alloc, size_of_pool(plan, fault.node))?;
     format!(in alloc;
-        "The pool of {name} has first {first} and size {size}. A pool has one or more of 8 to 254, and no other.\n"
+        "The pool of {name} has first {first} and size {size}.\nA pool has one or more of 8 to 254, and no other.\n"
     )
 }
 
@@ -113,7 +113,7 @@ pub fn pool_beyond_owners(
     let around = pool_span(alloc, plan, owner)?;
     let owner = name_or_dash(plan, owner);
     format!(in alloc;
-        "The pool of {name}, {span}, has endpoint ID {eid}. The pool of its owner, {owner}, is {around}.\n"
+        "The pool of {name}, {span}, has endpoint ID {eid}.\nThe pool of its owner, {owner}, is {around}.\n"
     )
 }
 
@@ -133,6 +133,6 @@ pub fn pools_meet(
     let span = pool_span(alloc, plan, fault.node)?;
     let earlier = name_or_dash(plan, earlier);
     format!(in alloc;
-        "The pools of {earlier} and {name} both have endpoint ID {eid}: they are {earlier_span} and {span}.\n"
+        "The pool of {earlier}, {earlier_span}, has endpoint ID {eid}.\nThe pool of {name}, {span}, has it too.\n"
     )
 }

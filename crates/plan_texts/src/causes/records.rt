@@ -67,18 +67,24 @@ pub fn other_handle(
     let name = name_or_dash(plan, fault.node);
     let own = number_text(alloc, handle_at(plan, fault.node, fault.entry))?;
     format!(in alloc;
-        "Record {entry} of {name} has handle {own}, and the header of its bytes has {handle}.\n"
+        "Record {entry} of {name} has handle {own}.\nThe header of its bytes has {handle}.\n"
     )
 }
 
 /// The locator has no endpoint ID.
-pub fn long_locator(alloc: Global, plan: &Plan, fault: &Fault) -> Result<String, AllocError>
-    ensures { IfOk result (λ text. string_bytes text ≡ cause_text plan.now fault.now LongLocator) }
+pub fn long_locator(
+    alloc: Global,
+    plan: &Plan,
+    fault: &Fault,
+    tid: u8,
+) -> Result<String, AllocError>
+    ensures { IfOk result (λ text. string_bytes text ≡ cause_text plan.now fault.now (LongLocator tid)) }
 {
     let entry = number_text(alloc, fault.entry)?;
     let name = name_or_dash(plan, fault.node);
+    let meant = meant_text(alloc, plan, tid)?;
     format!(in alloc;
-        "Record {entry} of {name} locates a terminus by MCTP, and its value is not one byte long.\n"
+        "Record {entry} of {name} locates terminus {tid} by MCTP.\nIts value is not one byte long.\n{meant}"
     )
 }
 
@@ -96,7 +102,7 @@ pub fn nobody_holds(
     let eid = number_text(alloc, eid_of_fault(fault))?;
     let meant = meant_text(alloc, plan, tid)?;
     format!(in alloc;
-        "Record {entry} of {name} locates terminus {tid} at endpoint ID {eid}, which no node holds.\n{meant}"
+        "Record {entry} of {name} locates terminus {tid} at endpoint ID {eid}.\nNo node holds that.\n{meant}"
     )
 }
 

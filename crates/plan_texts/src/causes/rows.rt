@@ -1,8 +1,8 @@
 //! What is told of the causes of C04 to C06 and C11: rows.
 ghost use Rattle.std.specs.Prelude.{◌≡◌, IfOk, string_bytes};
 ghost use Rattle.std.specs.Fmt.{decimal};
-ghost use Rattle.net_explained.specs.declared.cause.Cause.TheVariants.{RowOutOfRange, OverlappedRow, NextIsItself, NoSuchPort, NextNotOnBus, EndpointForSeveral, NextIsEndpoint, NextHasNoRow};
-ghost use Rattle.plan_texts.specs.CauseLines.{cause_text, both_cover_line, spans_line};
+ghost use Rattle.net_explained.specs.declared.cause.Cause.TheVariants.{RowOutOfRange, NextIsItself, EndpointForSeveral, NextIsEndpoint, NextHasNoRow};
+ghost use Rattle.plan_texts.specs.CauseLines.{cause_text, both_cover_line, spans_line, overlapped_at, no_such_port_at, next_not_on_bus_at};
 
 use super::lookups::{
     eid_of_fault, first_of_row, next_of_row, number_text, port_of_row, row_span, size_of_row,
@@ -23,7 +23,7 @@ pub fn row_out_of_range(alloc: Global, plan: &Plan, fault: &Fault) -> Result<Str
     let first = number_text(alloc, first_of_row(plan, fault.node, fault.entry))?;
     let size = number_text(alloc, size_of_row(plan, fault.node, fault.entry))?;
     format!(in alloc;
-        "Row {row} of {name} has first {first} and size {size}. A row covers one or more of 8 to 254, and no other.\n"
+        "Row {row} of {name} has first {first} and size {size}.\nA row covers one or more of 8 to 254, and no other.\n"
     )
 }
 
@@ -35,14 +35,14 @@ pub fn overlapped(
     earlier: usize,
     eid: Eid,
 ) -> Result<String, AllocError>
-    ensures { IfOk result (λ text. string_bytes text ≡ cause_text plan.now fault.now (OverlappedRow earlier eid)) }
+    ensures { IfOk result (λ text. string_bytes text ≡ overlapped_at plan.now fault.now earlier eid) }
 {
     let row = number_text(alloc, fault.entry)?;
     let name = name_or_dash(plan, fault.node);
     let earlier_span = row_span(alloc, plan, fault.node, Some(earlier))?;
     let span = row_span(alloc, plan, fault.node, fault.entry)?;
     let mut text = both_cover_line(alloc, earlier, &row, name, eid.value)?;
-    text.push_str(&spans_line(alloc, &earlier_span, &span)?)?;
+    text.push_str(&spans_line(alloc, earlier, &earlier_span, &row, &span)?)?;
     Ok(text)
 }
 
@@ -60,10 +60,16 @@ fn both_cover_line(
 }
 
 /// What two rows cover.
-fn spans_line(alloc: Global, earlier_span: &str, span: &str) -> Result<String, AllocError>
-    ensures { IfOk result (λ text. string_bytes text ≡ spans_line earlier_span.now span.now) }
+fn spans_line(
+    alloc: Global,
+    earlier: usize,
+    earlier_span: &str,
+    row: &str,
+    span: &str,
+) -> Result<String, AllocError>
+    ensures { IfOk result (λ text. string_bytes text ≡ spans_line (decimal earlier) earlier_span.now row.now span.now) }
 {
-    format!(in alloc; "They cover {earlier_span} and {span}.\n")
+    format!(in alloc; "Row {earlier} covers {earlier_span}, and row {row} covers {span}.\n")
 }
 
 /// The row leads back to its node.
@@ -77,14 +83,14 @@ pub fn next_is_itself(alloc: Global, plan: &Plan, fault: &Fault) -> Result<Strin
 
 /// The node lacks the port.
 pub fn no_such_port(alloc: Global, plan: &Plan, fault: &Fault) -> Result<String, AllocError>
-    ensures { IfOk result (λ text. string_bytes text ≡ cause_text plan.now fault.now NoSuchPort) }
+    ensures { IfOk result (λ text. string_bytes text ≡ no_such_port_at plan.now fault.now) }
 {
     let row = number_text(alloc, fault.entry)?;
     let name = name_or_dash(plan, fault.node);
     let port = number_text(alloc, port_of_row(plan, fault.node, fault.entry))?;
     let count = ports_at(plan, fault.node).len();
     format!(in alloc;
-        "Row {row} of {name} leaves by port {port}. The ports of {name} are counted from 0; it has {count}.\n"
+        "Row {row} of {name} leaves by port {port}.\nThe ports of {name} are counted from 0; it has {count}.\n"
     )
 }
 
@@ -95,7 +101,7 @@ pub fn next_not_on_bus(
     fault: &Fault,
     bus: usize,
 ) -> Result<String, AllocError>
-    ensures { IfOk result (λ text. string_bytes text ≡ cause_text plan.now fault.now (NextNotOnBus bus)) }
+    ensures { IfOk result (λ text. string_bytes text ≡ next_not_on_bus_at plan.now fault.now bus) }
 {
     let row = number_text(alloc, fault.entry)?;
     let name = name_or_dash(plan, fault.node);
@@ -103,7 +109,7 @@ pub fn next_not_on_bus(
     let bus = bus_name_or_dash(plan, bus);
     let next = next_of_row(plan, fault.node, fault.entry);
     format!(in alloc;
-        "Row {row} of {name} leaves by port {port} on bus {bus}, where {next} has no port.\n"
+        "Row {row} of {name} leads by port {port} to {next}.\nThat port is on bus {bus}, and {next} is not.\n"
     )
 }
 
@@ -116,7 +122,7 @@ pub fn endpoint_for_several(alloc: Global, plan: &Plan, fault: &Fault) -> Result
     let span = row_span(alloc, plan, fault.node, fault.entry)?;
     let next = next_of_row(plan, fault.node, fault.entry);
     format!(in alloc;
-        "Row {row} of {name} covers {span} and leads to {next}, an endpoint. Only a bridge leads several on.\n"
+        "Row {row} of {name} covers {span}.\nIt leads to {next}, an endpoint. Only a bridge leads several on.\n"
     )
 }
 
@@ -135,7 +141,7 @@ pub fn next_is_endpoint(
     let next = next_of_row(plan, fault.node, fault.entry);
     let holder = name_or_dash(plan, holder);
     format!(in alloc;
-        "Row {row} of {name} leads endpoint ID {eid} to {next}, an endpoint. {holder} holds it.\n"
+        "Row {row} of {name} leads {eid} to {next}.\n{next} is an endpoint.\n{holder} holds endpoint ID {eid}.\n"
     )
 }
 
@@ -154,6 +160,6 @@ pub fn next_has_no_row(
     let next = next_of_row(plan, fault.node, fault.entry);
     let holder = name_or_dash(plan, holder);
     format!(in alloc;
-        "Row {row} of {name} leads endpoint ID {eid} to {next}, which has no row for it. {holder} holds it.\n"
+        "Row {row} of {name} leads {eid} to {next}.\n{next} has no row for it.\n{holder} holds endpoint ID {eid}.\n"
     )
 }

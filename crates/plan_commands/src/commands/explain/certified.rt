@@ -6,7 +6,7 @@ ghost use Rattle.net_check.specs.Faults.{IsFirstFault, site_of};
 ghost use Rattle.plan_commands.specs.declared.refused.Refused.TheVariants as refused;
 ghost use Rattle.plan_commands.specs.declared.status.Status.TheVariants as status;
 ghost use Rattle.plan_commands.specs.Answers.{stream};
-ghost use Rattle.plan_commands.specs.Explaining.{IsFaultExplained, IsFaultTold, IsCertificateTold, IsBothExplained, IsExplainedWith, ExplainsWithSo, ExplainsWith};
+ghost use Rattle.plan_commands.specs.Explaining.{IsFaultExplained, IsFaultTold, IsRemedyTold, IsCertificateTold, IsBothExplained, IsExplainedWith, ExplainsWithSo, ExplainsWith};
 
 use super::unread::{unread_certificate, unread_plan};
 use super::{obstacle_text, sound_text};
@@ -17,7 +17,7 @@ use crate::status::Status;
 use net_check::{CheckError, Fault, certify, check};
 use net_explained::{Cause, find_cause};
 use net_plan::{Certificate, Plan, Sink, Source};
-use plan_texts::{NO_CERTIFICATE, REMEDY, cause_lines, fault_line};
+use plan_texts::{NO_CERTIFICATE, REMEDY, cause_lines, certificate_fault_lines, fault_line};
 use std::alloc::{AllocError, Global};
 
 /// Says on `output` what `check` says of a plan and its certificate, and explains it. Where a file can't be read, it says
@@ -88,7 +88,7 @@ fn answer_of_both(alloc: Global, plan: &Plan, certificate: &Certificate) -> Resu
     ensures refused { IfErr result (λ why. why ≡ refused.NoMemory) }
 {
     match check(alloc, plan, certificate) {
-        Ok(_checked) => Ok(Answer::found(sound_text(alloc, plan)?)),
+        Ok(_checked) => Ok(Answer::found(sound_text(alloc, plan, certificate)?)),
         Err(error) => explained(alloc, plan, certificate, &error),
     }
 }
@@ -124,7 +124,7 @@ fn fault_text(
     ensures { IfOk result (λ text. IsFaultExplained plan.now certificate.now (string_bytes text)) }
 {
     let mut text = fault_line(alloc, plan, fault)?;
-    text.push_str(&lines_of(alloc, plan, fault, find_cause(plan, fault))?)?;
+    text.push_str(&lines_of(alloc, plan, certificate, fault, find_cause(plan, fault))?)?;
     Ok(text)
 }
 
@@ -132,20 +132,35 @@ fn fault_text(
 fn lines_of(
     alloc: Global,
     plan: &Plan,
+    certificate: &Certificate,
     fault: &Fault,
     cause: Option<Cause>,
 ) -> Result<String, AllocError>
-    ensures { IfOk result (λ text. IsFaultTold plan.now fault.now cause (string_bytes text)) }
+    ensures { IfOk result (λ text. IsFaultTold plan.now certificate.now fault.now cause (string_bytes text)) }
 {
     match cause {
         Some(cause) => cause_lines(alloc, plan, fault, cause),
-        None => certificate_lines(alloc, plan),
+        None => certificate_lines(alloc, plan, certificate, fault),
     }
 }
 
+/// What the certificate gives by which it breaks a rule, and what helps.
+fn certificate_lines(
+    alloc: Global,
+    plan: &Plan,
+    certificate: &Certificate,
+    fault: &Fault,
+) -> Result<String, AllocError>
+    ensures { IfOk result (λ text. IsCertificateTold plan.now certificate.now fault.now (string_bytes text)) }
+{
+    let mut text = certificate_fault_lines(alloc, plan, certificate, fault)?;
+    text.push_str(&remedy_lines(alloc, plan)?)?;
+    Ok(text)
+}
+
 /// Says that another certificate fits the plan, or what rules all of them out.
-fn certificate_lines(alloc: Global, plan: &Plan) -> Result<String, AllocError>
-    ensures { IfOk result (λ text. IsCertificateTold plan.now (string_bytes text)) }
+fn remedy_lines(alloc: Global, plan: &Plan) -> Result<String, AllocError>
+    ensures { IfOk result (λ text. IsRemedyTold plan.now (string_bytes text)) }
 {
     match certify(alloc, plan) {
         Ok(_certificate) => REMEDY.to_string(alloc),

@@ -1,7 +1,7 @@
 use Rattle.std.proofs.Common.{ℕ}
 use Rattle.net_plan.specs.declared.nodes.Row.{Row}
 use Rattle.net_check.specs.Routing.{rows_of, Covers}
-use Rattle.net_explained.specs.Causes.{CoversAt}
+use Rattle.net_explained.specs.Rows.{CoversAt}
 use Rattle.net_explained.proofs.Items.{has_item, item_has}
 use Rattle.net_explained.proofs.Found.{least_alike}
 use Rattle.net_explained.proofs.causes.rows.common_eid_at.Goals as goal

@@ -1,6 +1,6 @@
 use Rattle.std.proofs.Common.{ℕ, ◌<◌}
 use Rattle.net_check.specs.Routing.{Covers}
-use Rattle.net_explained.specs.Causes.{CoversAt}
+use Rattle.net_explained.specs.Rows.{CoversAt}
 use Rattle.net_explained.proofs.causes.rows.first_overlapping.Given as goal
 
 abbrev pub invariant-loop-earlier : goal.invariant-loop-earlier

@@ -1,7 +1,7 @@
-use Rattle.std.proofs.Common.{◌∙◌, subst, sym}
+use Rattle.std.proofs.Common.{subst, sym}
 use Rattle.std.specs.Cow.{cow_str_bytes}
 use Rattle.plan_commands.specs.declared.status.Status.{Status}
-use Rattle.plan_commands.specs.Explaining.{IsBothExplained}
+use Rattle.plan_commands.specs.Explaining.{IsSummedUp, IsBothExplained}
 use Rattle.plan_commands.proofs.Explained.{explained_so}
 use Rattle.plan_commands.proofs.commands.explain.certified.answer_of_both.Goals as goal
 
@@ -9,7 +9,8 @@ pub returns-in_ok-sound_text-in-Ok-clause-answers : goal.returns-in_ok-sound_tex
 returns-in_ok-sound_text-in-Ok-clause-answers c =
     let text = c.in_ok-sound_text-in-Ok in
     let S : Status → Type 0 = λ s. IsBothExplained c.args.plan.now c.args.certificate.now s (cow_str_bytes c.found.result.text) in
-    subst S (sym c.found.ensures.status) (c.in-Ok.ensures.accepted, c.found.ensures.text ∙ text.ensures)
+    let summed = subst (IsSummedUp c.args.plan.now c.args.certificate.now) (sym c.found.ensures.text) text.ensures in
+    subst S (sym c.found.ensures.status) (c.in-Ok.ensures.accepted, summed)
 
 pub returns-in-Err-clause-answers : goal.returns-in-Err-clause-answers
 returns-in-Err-clause-answers c = explained_so c.args.plan.now c.args.certificate.now c.explained.result c.explained.ensures.answers

@@ -1,6 +1,10 @@
-use Rattle.std.proofs.Common.{string_bytes}
-use Rattle.plan_commands.proofs.Explained.{remedied}
+use Rattle.std.proofs.Common.{◌++◌, ◌∙◌, ap, sym, subst}
+use Rattle.plan_commands.specs.Explaining.{IsRemedyTold}
 use Rattle.plan_commands.proofs.commands.explain.certified.certificate_lines.Goals as goal
 
-pub returns-in-Ok : goal.returns-in-Ok
-returns-in-Ok c = remedied (λ t. string_bytes t) c.args.plan.now c.in-Ok._certificate c.to_string.result c.in-Ok.ensures.accepted c.to_string.ensures.ok
+pub returns : goal.returns
+returns c = (
+  c.deref.result.now,
+  subst (IsRemedyTold c.args.plan.now) (sym c.deref.ensures) c.in_ok-remedy_lines.ensures,
+  c.in_ok-push_str.ensures.bytes ∙ ap (λ z. z ++ c.deref.result.now) c.in_ok-text.ensures,
+)

@@ -1,0 +1,12 @@
+-- Where records of a bad chain have handles of their own.
+use Rattle.std.proofs.Common.{◌<◌, ℕ, Some, None, arith}
+use Rattle.net_check.specs.declared.rule.Rule.TheVariants.{C12, C14}
+use Rattle.net_check.specs.Certificates.{CanBeMetBefore}
+use Rattle.net_check.specs.Faults.{order_of}
+use Rattle.net_check.specs.RecordChains.{HaveNewHandles}
+use Rattle.net_check.specs.Repositories.{records_of}
+use Rattle.net_plan.specs.declared.plan.Plan.{Plan}
+
+-- what comes before chains in the order of the rules is met
+pub chain_handles : (plan : Plan) (n : ℕ) → CanBeMetBefore plan (order_of C14) → HaveNewHandles (records_of plan n)
+chain_handles plan n can j r at = can.plan_meets C12 (omega arith) n (Some j) None r at
