@@ -179,7 +179,7 @@ pub fn record_at(plan: &Plan, node: usize, index: usize) -> Option<&PlannedRecor
 }
 
 /// The level of a node: 0 where it has no owner, whatever the certificate gives.
-pub(crate) fn level_of(plan: &Plan, certificate: &Certificate, node: usize) -> u8
+pub fn level_of(plan: &Plan, certificate: &Certificate, node: usize) -> u8
     ensures { result ≡ level plan.now certificate.now node }
 {
     match owner_at(plan, node) {
@@ -199,7 +199,7 @@ pub(crate) fn given_level_of(certificate: &Certificate, node: usize) -> u8
 }
 
 /// The places that the certificate gives a node's records, none where it has none for the node.
-pub(crate) fn places_at(certificate: &Certificate, node: usize) -> &[RecordPlace]
+pub fn places_at(certificate: &Certificate, node: usize) -> &[RecordPlace]
     ensures { map (λ p. p.value) result.now ≡ places_of certificate.now node }
 {
     match certificate.places.iter().find(|given| given.node == node) {

@@ -1,8 +1,6 @@
 //! The requests that give the owned nodes of a plan their endpoint IDs and pools.
 ghost use Rattle.std.specs.Prelude.{◌≡◌, ℕ, ◌++◌, ◌<◌, length, map, option_and_then, IfOk, OnOk};
-ghost use Rattle.net_check.specs.Routing.{ports_of};
-ghost use Rattle.net_check.specs.Owners.{owner_of, given_level, level};
-ghost use Rattle.net_sim.specs.Assignments.{assignment_value, shared_bus, requests_over, requests_to, is_on_bus, IsAssignmentOf};
+ghost use Rattle.net_sim.specs.Assignments.{assignment_value, shared_bus, requests_over, requests_to, IsAssignmentOf};
 ghost use Rattle.net_sim.specs.AssignmentRuns.{CanBeCarriedOut, IsAcceptedThroughout, AssignsAll};
 ghost use Rattle.net_sim.specs.AssignmentSteps.{HasAskedUpTo};
 
@@ -14,7 +12,8 @@ use crate::assigning::requests::{allocate_pool, set_eid};
 pub use assignment::Assignment;
 pub use laws::one_assignment;
 use net_check::Checked;
-use net_plan::{Certificate, Node, Plan, Port};
+use net_check::lookup::{is_on_bus, level_of};
+use net_plan::{Certificate, Node, Plan};
 use std::alloc::{AllocError, Global};
 
 /// The requests that give each owned node its endpoint ID and, where it has one, its pool: Set Endpoint ID, then
@@ -58,34 +57,6 @@ fn ask_level(
     Ok(())
 }
 
-/// The level of a node, 0 where it has no owner.
-fn level_of(plan: &Plan, certificate: &Certificate, index: usize) -> u8
-    ensures { result ≡ level plan.now certificate.now index }
-{
-    match owner_of(plan, index) {
-        Some(_) => given_level(certificate, index),
-        None => 0,
-    }
-}
-
-/// The owner of a node.
-fn owner_of(plan: &Plan, index: usize) -> Option<usize>
-    ensures { result ≡ owner_of plan.now index }
-{
-    plan.nodes.get(index)?.owner
-}
-
-/// The level that the certificate gives a node, 0 where it gives none.
-fn given_level(certificate: &Certificate, index: usize) -> u8
-    ensures { result ≡ given_level certificate.now index }
-{
-    certificate
-        .levels
-        .iter()
-        .find(|given| given.node == index)
-        .map_or(0, |given| given.level)
-}
-
 /// Adds the requests to a node, over the bus that it shares with its owner.
 fn ask(list: &mut Vec<Assignment>, plan: &Plan, index: usize) -> Result<(), AllocError>
     requires { index < length plan.now.nodes.items }
@@ -114,23 +85,6 @@ fn shared_bus(plan: &Plan, node: &Node, owner: usize) -> Option<usize>
         .iter()
         .find(|port| is_on_bus(plan, owner, port.bus))?;
     Some(shared.bus)
-}
-
-/// Whether the node has a port on the bus.
-fn is_on_bus(plan: &Plan, node: usize, bus: usize) -> bool
-    ensures { result ≡ is_on_bus plan.now node bus }
-{
-    ports_at(plan, node).iter().any(|port| port.bus == bus)
-}
-
-/// The ports of a node, none where there is no such node.
-fn ports_at(plan: &Plan, node: usize) -> &[Port]
-    ensures { result.now ≡ ports_of plan.now node }
-{
-    match plan.nodes.get(node) {
-        Some(node) => &node.ports,
-        None => &[],
-    }
 }
 
 /// Adds the requests to a node that go over the bus.

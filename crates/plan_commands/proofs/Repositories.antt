@@ -1,9 +1,9 @@
 -- Records one place after another.
-use Rattle.std.proofs.Common.{◌≡◌, ◌≢◌, ℕ, zero, suc, ◌+◌, Bool, cond, List, [], ◌∷◌, ◌++◌, length, map, position, Option, Some, None, Result, Ok, Err, refl, sym, ◌∙◌, ap, subst, add-one, add-zero, arith, Bor}
+use Rattle.std.proofs.Common.{◌≡◌, ◌≢◌, ℕ, zero, suc, ◌+◌, Bool, cond, ◌==◌, ◌<◌, List, [], ◌∷◌, ◌++◌, length, map, take, get_or, true, false, position, Option, Some, None, Result, Ok, Err, refl, sym, ◌∙◌, ap, subst, add-one, add-zero, arith, Bor}
 use Rattle.std.specs.Prelude.{◌≤◌, not, nat_lt, option_map, unwrap_or, IfOk}
 use Rattle.std.specs.List.{prefix_len, position_or_len, cons_option, filter_map, range_with_len}
-use Rattle.std.specs.Option.{option_to_list}
-use Rattle.std.proofs.lemmas.List.{length-map, map-append}
+use Rattle.std.specs.Option.{option_or, option_to_list}
+use Rattle.std.proofs.lemmas.List.{length-map, length-take-le, map-append, take_more}
 use Rattle.net_plan.specs.declared.certificate.Certificate.{Certificate}
 use Rattle.net_plan.specs.declared.plan.Plan.{Plan}
 use Rattle.net_plan.specs.declared.terminus.PlannedRecord.{PlannedRecord}
@@ -26,6 +26,51 @@ pub position_map : {A B : Type 0} (p : B → Bool) (g : A → B) (xs : List A) �
 position_map p g xs =
     ap (λ n. cond (nat_lt n (length (map g xs))) (Some n) None) (prefix_len_map (λ y. not (p y)) g xs)
     ∙ ap (λ m. cond (nat_lt (position_or_len (λ x. p (g x)) xs) m) (Some (position_or_len (λ x. p (g x)) xs)) None) (length-map xs g)
+
+-- where the first of a list stands, the list is one longer
+position_more : (here : Bool) (n l : ℕ) → cond (nat_lt (cond (not here) (1 + n) 0) (suc l)) (Some (cond (not here) (1 + n) 0)) None
+    ≡ cond here (Some 0) (option_map suc (cond (nat_lt n l) (Some n) None))
+position_more true n l = refl
+position_more false n l = within (nat_lt n l)
+  where
+    within : (b : Bool) → cond b (Some (1 + n)) None ≡ option_map suc (cond b (Some n) None)
+    within true = refl
+    within false = refl
+
+position_push : (p : ℕ → Bool) (xs : List ℕ) (x : ℕ) → position p (xs ++ x ∷ []) ≡ option_or (position p xs) (cond (p x) (Some (length xs)) None)
+position_push p [] x = alone (p x)
+  where
+    alone : (b : Bool) → cond (nat_lt (cond (not b) (1 + 0) 0) 1) (Some (cond (not b) (1 + 0) 0)) None ≡ cond b (Some 0) None
+    alone true = refl
+    alone false = refl
+position_push p (y ∷ ys) x =
+    position_more (p y) (position_or_len p (ys ++ x ∷ [])) (length (ys ++ x ∷ []))
+    ∙ (ap (λ o. cond (p y) (Some 0) (option_map suc o)) (position_push p ys x)
+    ∙ (pushed (p y) (position p ys) (p x) (length ys)
+    ∙ ap (λ o. option_or o (cond (p x) (Some (suc (length ys))) None)) (sym (position_more (p y) (position_or_len p ys) (length ys)))))
+  where
+    later : (o : Option ℕ) (b : Bool) (n : ℕ) → option_map suc (option_or o (cond b (Some n) None)) ≡ option_or (option_map suc o) (cond b (Some (suc n)) None)
+    later None true n = refl
+    later None false n = refl
+    later (Some q) b n = refl
+
+    pushed : (here : Bool) (o : Option ℕ) (b : Bool) (n : ℕ) → cond here (Some 0) (option_map suc (option_or o (cond b (Some n) None)))
+        ≡ option_or (cond here (Some 0) (option_map suc o)) (cond b (Some (suc n)) None)
+    pushed true o b n = refl
+    pushed false o b n = later o b n
+
+-- the first record that is given a place, among one record more
+pub first_given_more : {X : Type 0} (value : X → ℕ) (xs : List X) (i : ℕ) (x : X) (place : ℕ) → i < length xs → x ≡ get_or xs i x
+    → position (λ given. given == place) (map value (take (i + 1) xs))
+    ≡ option_or (position (λ given. given == place) (map value (take i xs))) (cond (value x == place) (Some i) None)
+first_given_more value xs i x place within is =
+    let p : ℕ → Bool = λ given. given == place in
+    let few : length (map value (take i xs)) ≡ i = length-map (take i xs) value ∙ length-take-le i xs (omega arith) in
+    let more : map value (take (i + 1) xs) ≡ map value (take i xs) ++ value x ∷ [] =
+    ap (map value) (take_more xs i x within ∙ ap (λ y. take i xs ++ y ∷ []) (sym is)) ∙ map-append value (take i xs) (x ∷ []) in
+    ap (position p) more
+    ∙ (position_push p (map value (take i xs)) (value x)
+    ∙ ap (λ n. option_or (position p (map value (take i xs))) (cond (value x == place) (Some n) None)) few)
 
 -- one number more
 pub filter_map_more : {X : Type 0} (h : ℕ → Option X) (a n : ℕ) → filter_map h (range_with_len a (n + 1)) ≡ filter_map h (range_with_len a n) ++ option_to_list (h (a + n))

@@ -4,6 +4,7 @@ pub mod Told
 pub mod Show
 pub mod Certifying
 pub mod Assigning
+pub mod Ordering
 pub mod Walking
 pub mod Collecting
 pub mod Gathering

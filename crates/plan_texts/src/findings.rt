@@ -4,7 +4,8 @@ ghost use Rattle.plan_texts.specs.FindingLines.{bus_of_port, address_of_port, no
 ghost use Rattle.plan_texts.specs.WayLines.{bus_text, address_text};
 
 use super::name_or_dash;
-use super::ways::{address_text, bus_text, ports_at};
+use super::ways::{address_text, bus_text};
+use net_check::lookup::ports_at;
 use net_plan::Plan;
 use net_questions::Finding;
 use std::alloc::{AllocError, Global};

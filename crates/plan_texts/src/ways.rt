@@ -1,9 +1,9 @@
 //! What the command `trace` prints.
 ghost use Rattle.std.specs.Prelude.{◌≡◌, length, IfOk, string_bytes};
-ghost use Rattle.net_check.specs.Routing.{ports_of};
 ghost use Rattle.plan_texts.specs.WayLines.{bus_of_step, bus_text, first_address, address_on, address_text, steps_from, hop_text, step_line, end_line, trace_text};
 
 use super::{bus_name_or_dash, name_or_dash};
+use net_check::lookup::ports_at;
 use net_plan::{Plan, Port};
 use net_questions::{End, Way, WayStep};
 use std::alloc::{AllocError, Global};
@@ -127,16 +127,6 @@ fn first_address(ports: &[Port], bus: usize) -> &[u8]
         .iter()
         .find(|port| port.bus == bus)
         .map_or(&[], |port| port.address.as_slice())
-}
-
-/// The ports of a node, none where there is no such node.
-pub fn ports_at(plan: &Plan, node: usize) -> &[Port]
-    ensures { result.now ≡ ports_of plan.now node }
-{
-    match plan.nodes.get(node) {
-        Some(node) => &node.ports,
-        None => &[],
-    }
 }
 
 /// An address in hex, or a dash where it is empty.

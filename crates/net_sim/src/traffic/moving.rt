@@ -145,7 +145,7 @@ impl<'a> Traffic<'a> {
             ≡ (traffic_value (λ d. tid d.terminus) (λ d. records d.terminus) self.old).termini }
         ensures told { IfOk result (λ room. (room.told.items ≡ []) × HasRoomAfter header room.told) }
         ensures kept { IfOk result (λ room. (room.kept.items ≡ []) × HasRoomAfter header room.kept) }
-        ensures room { OnOk result (HasRoomAt self.new node) }
+        ensures queue { OnOk result (HasRoomAt self.new node) }
     {
         let told = room_for_message(self.alloc, header)?;
         let kept = room_for_message(self.alloc, header)?;
@@ -158,7 +158,7 @@ impl<'a> Traffic<'a> {
         requires node { flight.now.node < length self.old.router.tables.plan.nodes.items }
         requires told { (room.told.items ≡ []) × HasRoomAfter flight.now.packet.header room.told }
         requires kept { (room.kept.items ≡ []) × HasRoomAfter flight.now.packet.header room.kept }
-        requires room { HasRoomAt self.old flight.now.node }
+        requires queue { HasRoomAt self.old flight.now.node }
         ensures router { self.new.router ≡ self.old.router }
         ensures receives { Receives (traffic_value (λ d. tid d.terminus) (λ d. records d.terminus) self.old) number
             (flight_value flight.now) (effect_value result)

@@ -1,9 +1,11 @@
 //! The records of a plan's termini, in the order of the certificate's places.
-ghost use Rattle.std.specs.Prelude.{◌≡◌, ◌==◌, ◌++◌, IfOk, OnOk, map, position, option_map, slice_get};
-ghost use Rattle.std.specs.Option.{option_to_list};
+ghost use Rattle.std.specs.Prelude.{◌≡◌, ◌==◌, ◌++◌, ◌<◌, ℕ, if◌then◌else◌, Some, None, IfOk, OnOk, length, map, option_map, slice_get, slice_index_or};
+ghost use Rattle.std.specs.Option.{option_and_then, option_or, option_to_list};
 ghost use Rattle.pdr_repository.specs.Records.{entries};
-ghost use Rattle.net_check.specs.Repositories.{entry_of, records_of, places_of, record_at, records_by_place};
+ghost use Rattle.net_check.specs.Repositories.{entry_of, records_by_place};
+ghost use Rattle.plan_commands.specs.Ordering.{AreFirstAt};
 
+use net_check::lookup::{places_at, records_at};
 use net_plan::{Certificate, Plan, PlannedRecord, RecordPlace};
 use std::alloc::{AllocError, Global};
 
@@ -17,12 +19,38 @@ pub fn records_by_place(
     ensures { IfOk result (λ records. entries records.items ≡ records_by_place plan.now certificate.now node) }
 {
     let listed = records_at(plan, node);
-    let places = places_at(certificate, node);
+    let by_place = indices_by_place(alloc, places_at(certificate, node), listed.len())?;
     let mut ordered = Vec::with_capacity(alloc, listed.len())?;
-    for place in 0..listed.len() {
-        push_record(alloc, record_at(listed, places, place), &mut ordered)?;
+    for place in 0..by_place.len() {
+        push_record(alloc, record_in(listed, by_place[place]), &mut ordered)?;
     }
     Ok(ordered)
+}
+
+/// For each of so many places the index of the first record that is given it, in one pass over the places.
+fn indices_by_place(
+    alloc: Global,
+    places: &[RecordPlace],
+    count: usize,
+) -> Result<Vec<Option<usize>>, AllocError>
+    ensures { IfOk result (λ by_place. (length by_place.items ≡ count) × AreFirstAt (map (λ p. p.value) places.now) by_place.items) }
+{
+    let mut by_place = vec![in alloc; None; count]?;
+    for (index, given) in places.iter().enumerate() {
+        note_first(&mut by_place, usize::from(given.value), index);
+    }
+    Ok(by_place)
+}
+
+/// Notes an index for a place, if there is the place and it has none.
+fn note_first(by_place: &mut [Option<usize>], place: usize, index: usize)
+    ensures long { length by_place.new ≡ length by_place.old }
+    ensures noted { (k : ℕ) → k < length by_place.old
+        → slice_index_or by_place.new k None ≡ option_or (slice_index_or by_place.old k None) (if k == place then Some index else None) }
+{
+    if place < by_place.len() && by_place[place].is_none() {
+        by_place[place] = Some(index);
+    }
 }
 
 /// Adds a copy of the record, if there is one.
@@ -39,61 +67,11 @@ fn push_record(
     Ok(())
 }
 
-/// The records of a node's terminus, as the plan lists them.
-fn records_at(plan: &Plan, node: usize) -> &[PlannedRecord]
-    ensures { result.now ≡ records_of plan.now node }
+/// The record that stands at an index of the list, where there is one.
+fn record_in(records: &[PlannedRecord], index: Option<usize>) -> Option<&PlannedRecord>
+    ensures { option_map (λ r. r.now) result ≡ option_and_then (slice_get records.now) index }
 {
-    match plan.nodes.get(node) {
-        Some(node) => match &node.terminus {
-            Some(terminus) => &terminus.records,
-            None => &[],
-        },
-        None => &[],
-    }
-}
-
-/// The places that the certificate gives them, none where it has none for the node.
-fn places_at(certificate: &Certificate, node: usize) -> &[RecordPlace]
-    ensures { map (λ p. p.value) result.now ≡ places_of certificate.now node }
-{
-    match certificate.places.iter().find(|given| given.node == node) {
-        Some(given) => &given.places,
-        None => &[],
-    }
-}
-
-/// The first record that is given a place.
-fn record_at<'a>(
-    records: &'a [PlannedRecord],
-    places: &[RecordPlace],
-    place: usize,
-) -> Option<&'a PlannedRecord>
-    ensures { option_map (λ r. r.now) result ≡ record_at records.now (map (λ p. p.value) places.now) place }
-{
-    match listed_at(places, place) {
-        Some(listed) => record_in(records, listed),
-        None => None,
-    }
-}
-
-/// The record that stands there in the list, if one does.
-fn record_in(records: &[PlannedRecord], listed: usize) -> Option<&PlannedRecord>
-    ensures { option_map (λ r. r.now) result ≡ slice_get records.now listed }
-{
-    if listed < records.len() {
-        Some(&records[listed])
-    } else {
-        None
-    }
-}
-
-/// The first place in the list that is this one.
-fn listed_at(places: &[RecordPlace], place: usize) -> Option<usize>
-    ensures { result ≡ position (λ p. p.value == place) places.now }
-{
-    places
-        .iter()
-        .position(|given| usize::from(given.value) == place)
+    records.get(index?)
 }
 
 /// A record's handle and a copy of its bytes.

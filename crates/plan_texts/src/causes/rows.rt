@@ -7,10 +7,10 @@ ghost use Rattle.plan_texts.specs.CauseLines.{cause_text, both_cover_line, spans
 use super::lookups::{
     eid_of_fault, first_of_row, next_of_row, number_text, port_of_row, row_span, size_of_row,
 };
-use crate::ways::ports_at;
 use crate::{bus_name_or_dash, name_or_dash};
 use mctp_transport::Eid;
 use net_check::Fault;
+use net_check::lookup::ports_at;
 use net_plan::Plan;
 use std::alloc::{AllocError, Global};
 

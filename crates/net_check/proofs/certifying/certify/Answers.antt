@@ -22,4 +22,4 @@ loop-rule-preserved c =
 pub returns-in_err-meet_rule-clause-none : goal.returns-in_err-meet_rule-clause-none
 returns-in_err-meet_rule-clause-none c =
     let plan = c.args.plan.now in
-    if_err c.from_residual.result (NamesObstacle plan) (RulesOutCertificates plan) (ruled_out plan) (search rules)
+    if_err c.from_residual-in_err-meet_rule.result (NamesObstacle plan) (RulesOutCertificates plan) (ruled_out plan) (search rules)

@@ -21,7 +21,7 @@ returns-in_err-effect-clause-plays g c =
 pub returns-in_default-clause-plays : goal.returns-in_default-clause-plays
 returns-in_default-clause-plays g c =
     comes_to_none c.args.self.now.traffic.router.tables _ _ c.args.number c.args.keep _ (effect_value c.in_ok-effect.effect) c.in_ok-effect.ensures.plays refl
-    (λ w s. c.in_default.ensures.place w s)
+    (λ w s. c.in_default.ensures.index w s)
 
 pub returns-in_err-reserve-clause-plays : goal.returns-in_err-reserve-clause-plays
 returns-in_err-reserve-clause-plays g c =
@@ -32,7 +32,7 @@ returns-in_err-reserve-clause-plays g c =
     let there : slice_get items i ≡ Some x = slice_get_read items _ _ x refl c.in-Some.ensures.within c.index_mut.ensures.value in
     let here : slice_get (map walker_value items) i ≡ Some (walker_value x) = slice_get-map walker_value items i ∙ ap (option_map walker_value) there in
     err_told _ _ c.from_residual-in_err-reserve.result c.from_residual-in_err-reserve.ensures.0
-    (arrival_wants now.traffic.router.tables _ c.args.number c.args.keep i (walker_value x) here (λ w s. c.in-Some.ensures.place w s) _
+    (arrival_wants now.traffic.router.tables _ c.args.number c.args.keep i (walker_value x) here (λ w s. c.in-Some.ensures.index w s) _
     (map_set_same walker_value items i x c.reserve.new.self there c.reserve.ensures.value))
 
 pub returns-in_err-effect-2-clause-plays : goal.returns-in_err-effect-2-clause-plays
@@ -63,7 +63,7 @@ returns-clause-plays g c =
     let same : walker_value y ≡ walker_value x = ap walker_value (same_Some y ready (sym again ∙ set_there items ready i within)) ∙ c.reserve.ensures.value in
     let outcome = effect_value c.in_ok-effect-2.effect in
     let handed = option_map handed_value c.hand-handed.result in
-    hands now.traffic.router.tables _ _ c.args.number c.args.keep _ i (walker_value x) here (λ w s. c.in-Some.ensures.place w s) outcome handed (walker_value taken)
+    hands now.traffic.router.tables _ _ c.args.number c.args.keep _ i (walker_value x) here (λ w s. c.in-Some.ensures.index w s) outcome handed (walker_value taken)
     c.in_ok-effect-2.ensures.plays (subst (λ (z : WalkerValue). HandsOver z (i + 1) outcome handed (walker_value taken)) same c.hand-handed.ensures)
     (map-set walker_value (slice_set items i ready) i taken
     ∙ ap (λ (xs : List WalkerValue). slice_set xs i (walker_value taken)) (map_set_same walker_value items i x ready there c.reserve.ensures.value))

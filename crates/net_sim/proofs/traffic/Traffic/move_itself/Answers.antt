@@ -35,12 +35,12 @@ receive-requires-clause-node g c =
     subst (λ (r : RouterValue). c.in-Some-end.flight.node < length r.tables.plan.nodes.items) (sym (c.end.ensures.router ∙ c.room_at.ensures.router))
     (subst (λ (x : Flight). x.node < length c.args.self.now.router.tables.plan.nodes.items) (sym same) placed.0)
 
-pub receive-requires-clause-room : goal.receive-requires-clause-room
-receive-requires-clause-room g c =
+pub receive-requires-clause-queue : goal.receive-requires-clause-queue
+receive-requires-clause-queue g c =
     let f = flight_value c.in-Some.flight.now in
     let same : flight_value c.in-Some-end.flight ≡ f =
     same_Some _ f (c.in-Some-end.ensures.flight ∙ (ap (λ (fs : List (Option Flight)). flight_at fs c.args.number) c.room_at.ensures.flights ∙ sym c.in-Some.ensures)) in
-    λ d is. c.in_ok-room-in-Here.ensures.room d
+    λ d is. c.in_ok-room-in-Here.ensures.queue d
     (subst (λ (x : Flight). slice_get c.room_at.new.self.queues.items x.node ≡ Some d) same
     (subst (λ ds. slice_get ds c.in-Some-end.flight.node ≡ Some d) c.end.ensures.queues is))
 

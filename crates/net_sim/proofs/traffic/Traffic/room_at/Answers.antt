@@ -17,8 +17,8 @@ returns-clause-termini g c =
     let short : c.args.node < length queues = omega (arith, c.requires, c.args.self.now.queued) in
     map_set_same _ queues c.args.node _ _ (slice_get_read queues _ _ c.index_mut.result.now refl short c.index_mut.ensures.value) c.reserve_at.ensures.state
 
-pub returns-clause-room : goal.returns-clause-room
-returns-clause-room g c =
+pub returns-clause-queue : goal.returns-clause-queue
+returns-clause-queue g c =
     let queues = c.args.self.now.queues.items in
     let short : c.args.node < length queues = omega (arith, c.requires, c.args.self.now.queued) in
     λ d is. subst (λ o. HasRoomFor o) (same_Some _ d (sym (set_there queues c.reserve_at.new.queue c.args.node short) ∙ is)) c.in_ok-reserve_at.ensures.room
