@@ -1,5 +1,5 @@
 -- Where each record has a handle of its own, the table of followers has the moves along next handles.
-use Rattle.std.proofs.Common.{◌≡◌, ℕ, zero, suc, ◌<◌, Bool, true, false, eqb, List, length, get_or, Option, Some, None, refl, sym, ◌∙◌, ap, subst, inl, inr}
+use Rattle.std.proofs.Common.{◌≡◌, ℕ, zero, suc, ◌<◌, Bool, true, false, eqb, List, length, get_or, Option, Some, None, refl, sym, ◌∙◌, ap, subst, arith, inl, inr}
 use Rattle.std.specs.Prelude.{slice_get, position, option_and_then, option_map}
 use Rattle.std.specs.List.{position_or_len}
 use Rattle.std.proofs.lemmas.Bool.{cases_lt, false≢true, lt-ltb, eqb-true, eq-eqb}
@@ -21,6 +21,14 @@ passes p xs k d within is = elim (cases_lt k (position_or_len p xs)) [
 ]
 
 module _ (records : List PlannedRecord) where
+  -- where each record leads
+  pub follower_at : (j : ℕ) → next_in (followers records) j ≡ option_and_then (record_of_handle records) (option_map (λ r. r.next) (slice_get records j))
+  follower_at j = ap (λ o. option_and_then (λ next. next) o) (slice_get-map (λ r. record_of_handle records r.next) records j) ∙ by (slice_get records j)
+    where
+      by : (o : Option PlannedRecord) → option_and_then (λ next. next) (option_map (λ r. record_of_handle records r.next) o) ≡ option_and_then (record_of_handle records) (option_map (λ r. r.next) o)
+      by None = refl
+      by (Some r) = refl
+
   -- the move of a record leads to the first of its next handle
   next_of_record : (j : ℕ) (r : PlannedRecord) → slice_get records j ≡ Some r → next_in (followers records) j ≡ record_of_handle records r.next
   next_of_record j r is =

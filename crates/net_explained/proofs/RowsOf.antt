@@ -41,5 +41,5 @@ module _ (plan : Plan) (n : ℕ) (row : Row) where
 
   pub fits_joined : (found : Option ℕ) → row.next ≢ n → (2 ≤ row.size → IsBridge plan row.next) → IsFirst (λ port. IsJoined plan n port row.next) found → IsFittingPort plan n row found
   unfolding NamesNeighbor
-  fits_joined None other fit none port names = none port names.1
-  fits_joined (Some port) other fit (joined, first) = ((other, joined, fit), λ k less names. first k less names.1)
+  fits_joined None other fit none = λ port names. none port names.1
+  fits_joined (Some port) other fit found = ((other, found.0, fit), λ k less names. found.1 k less names.1)

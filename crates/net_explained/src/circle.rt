@@ -1,8 +1,8 @@
 //! The way round a circle of records.
-ghost use Rattle.std.specs.Prelude.{◌≡◌, IfOk};
+ghost use Rattle.std.specs.Prelude.{◌≡◌, IfOk, option_map, slice_get};
 ghost use Rattle.net_check.specs.Circles.{next_in, IsLoopFrom, IsOnCircle};
 ghost use Rattle.net_check.specs.RecordChains.{IsFollowedBy, HaveNewHandles};
-ghost use Rattle.net_explained.specs.Followers.{followers};
+ghost use Rattle.net_explained.specs.Followers.{followers, record_of_handle};
 
 use net_plan::PlannedRecord;
 use std::alloc::{AllocError, Global};
@@ -35,6 +35,22 @@ pub fn circle_from(
 fn follower_of(records: &[PlannedRecord], index: usize) -> Option<usize>
     ensures { result ≡ next_in (followers records.now) index }
 {
-    let next = records.get(index)?.next;
-    records.iter().position(|record| record.handle == next)
+    match next_handle(records, index) {
+        Some(next) => record_of_handle(records, next),
+        None => None,
+    }
+}
+
+/// The next handle of a record, if there is such a record.
+fn next_handle(records: &[PlannedRecord], index: usize) -> Option<u32>
+    ensures { result ≡ option_map (λ r. r.next) (slice_get records.now index) }
+{
+    Some(records.get(index)?.next)
+}
+
+/// The first record of a handle, if there is one.
+fn record_of_handle(records: &[PlannedRecord], handle: u32) -> Option<usize>
+    ensures { result ≡ record_of_handle records.now handle }
+{
+    records.iter().position(|listed| listed.handle == handle)
 }

@@ -23,11 +23,9 @@ const TERMINUS_LOCATOR: u8 = 1;
 pub fn long(plan: &Plan, node: usize, index: usize) -> Option<Cause>
     ensures { IsCauseAt plan.now (record { rule = C15; node = node; entry = Some index; eid = None }) result }
 {
-    match record_at(plan, node, index) {
-        Some(listed) => {
-            let tid = tid_of_long(listed)?;
-            Some(Cause::LongLocator { tid })
-        }
+    let listed = record_at(plan, node, index)?;
+    match tid_of_long(listed) {
+        Some(tid) => Some(Cause::LongLocator { tid }),
         None => None,
     }
 }

@@ -1,4 +1,4 @@
-use Rattle.std.proofs.Common.{arith}
+use Rattle.std.proofs.Common.{◌≡◌, ◌<◌, arith}
 use Rattle.net_explained.specs.Hops.{certified_hops}
 use Rattle.net_explained.proofs.MostOf.{among_none, one_node_more}
 use Rattle.net_explained.proofs.hops.most_hops_from.Goals as goal

@@ -14,7 +14,7 @@ pub returns : goal.returns
 returns c = (
   λ _ i other covers.
       let within = covers_within c.args.plan.now c.args.node i c.args.eid.value covers in
-      let long = ap length c.rows_at.ensures in
+      let long = ap length c.rows_at-index-end.ensures in
       c.loop-index.invariant i (omega (arith, within, long)) (other, covers),
   λ _. refl,
 )

@@ -5,6 +5,6 @@ use Rattle.net_explained.proofs.rest.last_alone.Given as goal
 abbrev pub invariant-loop-number : goal.invariant-loop-number
 invariant-loop-number l = record {
   next : l.last.value + 1 ≡ l.number;
-  from : l.first.value ≤ l.last.value;
-  alone : (e : ℕ) → l.first.value ≤ e → e ≤ l.last.value → IsOnlyIn l.plan l.node l.row e;
+  from : l.fn.first.value ≤ l.last.value;
+  alone : (e : ℕ) → l.fn.first.value ≤ e → e ≤ l.last.value → IsOnlyIn l.plan l.node l.row e;
 }

@@ -1,6 +1,5 @@
-use Rattle.std.proofs.Common.{refl, sym}
+use Rattle.std.proofs.Common.{◌≢◌, ℕ, List, length, refl, sym}
 use Rattle.net_plan.specs.declared.terminus.PlannedRecord as listed
-use Rattle.std.proofs.Common.{◌≢◌, ℕ, List, length}
 use Rattle.net_check.specs.Repositories.{records_of}
 use Rattle.net_check.specs.Locators.{IsEidLocator, HasOneByteAsEid}
 use Rattle.net_explained.proofs.Items.{of_item, not_of_item}
@@ -10,13 +9,11 @@ not_one : (r : listed.PlannedRecord) (tid : ℕ) → (value : List ℕ) × IsEid
 unfolding HasOneByteAsEid
 not_one r tid (value, is, long) one = long (one tid value is)
 
-pub returns-in_err-tid : goal.returns-in_err-tid
-returns-in_err-tid c =
-    let r = c.in-Some.listed.now in
-    rw c.from_residual-in_err-tid.ensures (of_item (records_of c.args.plan.now c.args.node) c.args.index HasOneByteAsEid r c.in-Some.ensures c.in_err-tid.ensures)
+pub returns-in-Some : goal.returns-in-Some
+returns-in-Some c =
+    let r = c.in_ok-listed.listed.now in
+    let long = c.in-Some.ensures in
+    ((refl, (r, sym c.in_ok-listed.ensures, long)), not_of_item (records_of c.args.plan.now c.args.node) c.args.index HasOneByteAsEid r c.in_ok-listed.ensures (not_one r c.in-Some.tid long))
 
-pub returns-in_ok-tid : goal.returns-in_ok-tid
-returns-in_ok-tid c =
-    let r = c.in-Some.listed.now in
-    let long = c.in_ok-tid.ensures in
-    ((refl, (r, sym c.in-Some.ensures, long)), not_of_item (records_of c.args.plan.now c.args.node) c.args.index HasOneByteAsEid r c.in-Some.ensures (not_one r c.in_ok-tid.tid long))
+pub returns-in-None : goal.returns-in-None
+returns-in-None c = of_item (records_of c.args.plan.now c.args.node) c.args.index HasOneByteAsEid c.in_ok-listed.listed.now c.in_ok-listed.ensures c.in-None.ensures

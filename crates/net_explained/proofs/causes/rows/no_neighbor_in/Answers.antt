@@ -31,7 +31,7 @@ returns-in-Some-clause-cause c = λ r is.
     let row = c.args.row.now in
     let bus = c.in-Some.bus in
     let out : ¬ IsOnBus plan row.next bus = λ on. cc (c.is_on_bus.ensures, on, c.if-not-is_on_bus.true) in (
-      (refl, (row, is, (sym c.in-Some.ensures, out, c.fitting_port.ensures))),
+      (refl, (row, is, (sym c.in-Some.ensures, out, c.fitting_port-in-Some.ensures))),
       not_of_item (rows_of plan c.args.node) r (λ (row : Row). NamesNeighbor plan c.args.node row) row (sym is)
           (λ names. out (subst (λ (b : ℕ). IsOnBus plan row.next b) (same_Some names.1.0 bus (sym names.1.1 ∙ sym c.in-Some.ensures)) names.1.2)),
     )
