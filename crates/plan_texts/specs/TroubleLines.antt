@@ -170,10 +170,15 @@ pub record IsUnknownNameTold (text : List ℕ) (d : Data) (names : List (List �
 
 -- ---- what stands twice
 
--- the text begins with this text in quotes, as a value or as a key
+-- the text in quotes that the first token is, as a value or as a key
+abbrev pub first_text : List Token → Option (List ℕ)
+first_text (token.string s ∷ ts) = Some s
+first_text (token.key s ∷ ts) = Some s
+first_text _ = None
+
+-- the text begins with this text in quotes
 abbrev pub BeginsQuoted : List ℕ → List ℕ → Type 0
-BeginsQuoted text s =
-    (rest : List Token) × ((tokens text ≡ token.string s ∷ rest) ⊎ (tokens text ≡ token.key s ∷ rest))
+BeginsQuoted text s = first_text (tokens text) ≡ Some s
 
 -- Two offsets, one behind the other, at which this text stands in quotes.
 pub record StandsTwice (text s : List ℕ) (first second : ℕ) : Type 0 where
@@ -215,7 +220,8 @@ abbrev pub name_line : List Step → List ℕ → List ℕ
 name_line pointer name = pointer_text pointer ++ (codes " is " ++ (name ++ codes ".\n"))
 
 abbrev pub again_line : List Step → List ℕ → List ℕ → List ℕ
-again_line pointer name why = pointer_text pointer ++ (codes " is " ++ (name ++ (codes " too, and " ++ (why ++ codes ".\n"))))
+again_line pointer name why =
+    pointer_text pointer ++ (codes " is " ++ (name ++ (codes " too, and " ++ (why ++ codes ".\n"))))
 
 -- the lines tell of a name that stands at two items of a list, each with its pointer
 abbrev pub IsDoubledNameTold : List ℕ → Data → List ℕ → List ℕ → List ℕ → TwoIndices → List ℕ → Type 0

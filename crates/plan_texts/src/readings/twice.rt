@@ -5,7 +5,7 @@ ghost use Rattle.json.specs.Value.{value_view, items_view, members_view};
 ghost use Rattle.net_plan.specs.Trees.{view};
 ghost use Rattle.net_pointers.specs.Doubles.{part_at, part_after, item_at, member_at};
 ghost use Rattle.net_pointers.specs.Views.{step_value};
-ghost use Rattle.plan_texts.specs.TroubleLines.{BeginsQuoted, StandsTwice, AreOffsets, AreApart, two_lines, IsDoubledNameTold, name_line, again_line, IsDoubledKeyTold, key_at, part_step, path_text, object_text, keys_in, key_line, key_again_line, IsOverlapTold, range_pointer, range_line, next_range_line};
+ghost use Rattle.plan_texts.specs.TroubleLines.{first_text, BeginsQuoted, StandsTwice, AreOffsets, AreApart, two_lines, IsDoubledNameTold, name_line, again_line, IsDoubledKeyTold, key_at, part_step, path_text, object_text, keys_in, key_line, key_again_line, IsOverlapTold, range_pointer, range_line, next_range_line};
 
 use super::positions::{pointer_text, position_text};
 use super::values::{text_of, value_at};
@@ -115,10 +115,20 @@ fn begins_quoted(alloc: Global, text: &[u8], quoted: &str) -> bool
     let Ok(mut reader) = Reader::new(text, &mut scratch) else {
         return false;
     };
+    match first_text(&mut reader) {
+        Some(stands) => stands == quoted,
+        None => false,
+    }
+}
+
+/// The text in quotes that the next token is, as a value or as a key.
+fn first_text<'t>(reader: &mut Reader<'t>) -> Option<&'t str>
+    ensures { option_map (λ s. s.now) result ≡ first_text reader.old }
+{
     match reader.next() {
-        Some(Token::String(stands)) => stands == quoted,
-        Some(Token::Key(stands)) => stands == quoted,
-        _ => false,
+        Some(Token::String(text)) => Some(text),
+        Some(Token::Key(text)) => Some(text),
+        _ => None,
     }
 }
 
