@@ -31,9 +31,11 @@ position_map p g xs =
 position_more : (here : Bool) (n l : ℕ) → cond (nat_lt (cond (not here) (1 + n) 0) (suc l)) (Some (cond (not here) (1 + n) 0)) None
     ≡ cond here (Some 0) (option_map suc (cond (nat_lt n l) (Some n) None))
 position_more true n l = refl
-position_more false n l = within (nat_lt n l)
+position_more false n l =
+    let more : 1 + n ≡ suc n = omega arith in
+    ap (λ k. cond (nat_lt k (suc l)) (Some k) None) more ∙ within (nat_lt n l)
   where
-    within : (b : Bool) → cond b (Some (1 + n)) None ≡ option_map suc (cond b (Some n) None)
+    within : (b : Bool) → cond b (Some (suc n)) None ≡ option_map suc (cond b (Some n) None)
     within true = refl
     within false = refl
 

@@ -314,10 +314,11 @@ lists_by plan plan' count result output same =
 -- ---- some termini
 
 -- as many boxes as were planned
-pub boxes_planned : {B : Type 0} (boxes : List B) (plan plan' : Plan) (cert cert' : Certificate) → length boxes ≡ length (planned_termini plan' cert')
-    → plan' ≡ plan → cert' ≡ cert → length boxes ≡ length (planned_termini plan cert)
-boxes_planned boxes plan plan' cert cert' boxed same same_cert =
-    boxed ∙ (ap (λ (p : Plan). length (planned_termini p cert')) same ∙ ap (λ (k : Certificate). length (planned_termini plan k)) same_cert)
+pub boxes_planned : {B : Type 0} (boxes : List B) (plan plan' : Plan) (cert cert' : Certificate) (count : ℕ) (planned : List TerminusState) → length boxes ≡ count
+    → count ≡ length planned → planned ≡ planned_termini plan' cert' → plan' ≡ plan → cert' ≡ cert → length boxes ≡ length (planned_termini plan cert)
+boxes_planned boxes plan plan' cert cert' count planned boxed all is same same_cert =
+    boxed ∙ (all ∙ (ap (λ ts. length ts) is
+    ∙ (ap (λ (p : Plan). length (planned_termini p cert')) same ∙ ap (λ (k : Certificate). length (planned_termini plan k)) same_cert)))
 
 pub idle_boxes : {B : Type 0} (tid : B → ℕ) (records : B → List Entry) (boxes : List B) (plan : Plan) (cert : Certificate)
     → length boxes ≡ length (planned_termini plan cert) → AreIdle plan cert (map (resting tid records) boxes)

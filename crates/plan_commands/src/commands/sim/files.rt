@@ -11,11 +11,12 @@ use crate::commands::answer::refuse;
 use crate::commands::faults::print_fault;
 use crate::commands::inputs::{given_events, read_inputs};
 use crate::commands::sim::run_sim;
-use crate::commands::sim::termini::boxed_termini;
+use crate::commands::sim::termini::planned_termini;
 use crate::refused::Refused;
 use crate::status::Status;
 use net_check::{Checked, check};
 use net_plan::{Certificate, Event, Plan, Sink, Source};
+use pdr_repository::Terminus;
 use std::alloc::{AllocError, Global};
 
 /// Gives on `output` what comes of the events of a file in the network of a plan with its certificate, or the fault for
@@ -183,6 +184,9 @@ fn play<O: Sink, E: Sink>(
     ensures silent { IfOk result (λ status. status ≡ Yes → errors.new ≡ errors.old) }
     ensures unsaid { OnErr result (errors.new ≡ errors.old) }
 {
-    let termini = boxed_termini(alloc, checked.plan(), checked.certificate())?;
+    let mut termini: Vec<Box<dyn Terminus>> = Vec::new(alloc);
+    for terminus in planned_termini(alloc, checked.plan(), checked.certificate())? {
+        termini.push(Box::new(alloc, terminus)?)?;
+    }
     Ok(run_sim(alloc, checked, termini, events, output, errors))
 }

@@ -12,11 +12,12 @@ use crate::commands::answer::refuse;
 use crate::commands::inputs::{given_events, read_move};
 use crate::commands::moving::print_move_error;
 use crate::commands::sim::run_simmove;
-use crate::commands::sim::termini::boxed_termini;
+use crate::commands::sim::termini::planned_termini;
 use crate::refused::Refused;
 use crate::status::Status;
 use net_check::{CheckedMove, check_move};
 use net_plan::{Certificate, Event, Plan, Sink, Source};
+use pdr_repository::Terminus;
 use std::alloc::{AllocError, Global};
 
 /// Gives on `output` what comes of the events of a file in the network of the plan before, whose nodes may switch to
@@ -212,6 +213,10 @@ fn play_move<O: Sink, E: Sink>(
     ensures silent { IfOk result (λ status. status ≡ Yes → errors.new ≡ errors.old) }
     ensures unsaid { OnErr result (errors.new ≡ errors.old) }
 {
-    let termini = boxed_termini(alloc, checked.before(), checked.certificate())?;
+    let plan = checked.before();
+    let mut termini: Vec<Box<dyn Terminus>> = Vec::new(alloc);
+    for terminus in planned_termini(alloc, plan, checked.certificate())? {
+        termini.push(Box::new(alloc, terminus)?)?;
+    }
     Ok(run_simmove(alloc, checked, termini, events, output, errors))
 }

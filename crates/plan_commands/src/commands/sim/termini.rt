@@ -1,5 +1,5 @@
 //! The termini of a plan, as they are planned.
-ghost use Rattle.std.specs.Prelude.{◌≡◌, ◌++◌, IfOk, OnOk, length, map, option_map};
+ghost use Rattle.std.specs.Prelude.{◌≡◌, ◌++◌, IfOk, OnOk, map, option_map};
 ghost use Rattle.std.specs.Option.{option_to_list};
 ghost use Rattle.pdr_repository.specs.BlockTermini.{block_tid, block_records};
 ghost use Rattle.net_check.specs.Repositories.{terminus_of, RecordsHaveOrder};
@@ -8,12 +8,12 @@ ghost use Rattle.net_sim.specs.Dealing.{resting, planned_termini};
 
 use crate::commands::repositories::records_by_place;
 use net_plan::{Certificate, Plan};
-use pdr_repository::{BlockTerminus, Terminus};
+use pdr_repository::BlockTerminus;
 use pldm_message::Tid;
 use std::alloc::{AllocError, Global};
 
 /// The termini of a plan, in the order of its nodes.
-fn planned_termini(
+pub fn planned_termini(
     alloc: Global,
     plan: &Plan,
     certificate: &Certificate,
@@ -27,22 +27,6 @@ fn planned_termini(
             planned_terminus(alloc, plan, certificate, node)?,
             &mut termini,
         )?;
-    }
-    Ok(termini)
-}
-
-/// The termini of a plan as a network takes them, in the order of its nodes.
-pub fn boxed_termini(
-    alloc: Global,
-    plan: &Plan,
-    certificate: &Certificate,
-) -> Result<Vec<Box<dyn Terminus>>, AllocError>
-    requires { RecordsHaveOrder plan.now certificate.now }
-    ensures { IfOk result (λ termini. length termini.items ≡ length (planned_termini plan.now certificate.now)) }
-{
-    let mut termini: Vec<Box<dyn Terminus>> = Vec::new(alloc);
-    for terminus in planned_termini(alloc, plan, certificate)? {
-        termini.push(Box::new(alloc, terminus)?)?;
     }
     Ok(termini)
 }
