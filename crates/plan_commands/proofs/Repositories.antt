@@ -1,8 +1,9 @@
 -- Records one place after another.
-use Rattle.std.proofs.Common.{◌≡◌, ◌≢◌, ℕ, zero, suc, ◌+◌, Bool, cond, ◌==◌, ◌<◌, List, [], ◌∷◌, ◌++◌, length, map, take, get_or, true, false, position, Option, Some, None, Result, Ok, Err, refl, sym, ◌∙◌, ap, subst, add-one, add-zero, arith, Bor}
+use Rattle.std.proofs.Common.{◌≡◌, ◌≢◌, ℕ, zero, suc, ◌+◌, Bool, cond, ◌==◌, ◌<◌, List, [], ◌∷◌, ◌++◌, length, map, take, get_or, true, false, position, Option, Some, None, Result, Ok, Err, refl, sym, ◌∙◌, ap, subst, add-one, add-zero, arith, inl, inr, Bor}
 use Rattle.std.specs.Prelude.{◌≤◌, not, nat_lt, option_map, unwrap_or, IfOk}
 use Rattle.std.specs.List.{prefix_len, position_or_len, cons_option, filter_map, range_with_len}
 use Rattle.std.specs.Option.{option_or, option_to_list}
+use Rattle.std.proofs.lemmas.Bool.{cond-true, cond-false, lt-ltb, le-ltb, cases_lt}
 use Rattle.std.proofs.lemmas.List.{length-map, length-take-le, map-append, take_more}
 use Rattle.net_plan.specs.declared.certificate.Certificate.{Certificate}
 use Rattle.net_plan.specs.declared.plan.Plan.{Plan}
@@ -30,14 +31,16 @@ position_map p g xs =
 -- where the first of a list stands, the list is one longer
 position_more : (here : Bool) (n l : ℕ) → cond (nat_lt (cond (not here) (1 + n) 0) (suc l)) (Some (cond (not here) (1 + n) 0)) None
     ≡ cond here (Some 0) (option_map suc (cond (nat_lt n l) (Some n) None))
-position_more true n l = refl
-position_more false n l =
-    let more : 1 + n ≡ suc n = omega arith in
-    ap (λ k. cond (nat_lt k (suc l)) (Some k) None) more ∙ within (nat_lt n l)
-  where
-    within : (b : Bool) → cond b (Some (suc n)) None ≡ option_map suc (cond b (Some n) None)
-    within true = refl
-    within false = refl
+position_more true n l = cond-true (nat_lt 0 (suc l)) _ _ (lt-ltb 0 (suc l) (omega arith))
+position_more false n l = elim (cases_lt n l) [
+  | inl lt ↦ (let here : cond (nat_lt (1 + n) (suc l)) (Some (1 + n)) None ≡ Some (1 + n) = cond-true (nat_lt (1 + n) (suc l)) _ _ (lt-ltb (1 + n) (suc l) (omega (arith, lt))) in
+      let there : cond (nat_lt n l) (Some n) None ≡ Some n = cond-true (nat_lt n l) _ _ (lt-ltb n l lt) in
+      let same : 1 + n ≡ suc n = omega arith in
+      here ∙ (ap (λ k. Some k) same ∙ sym (ap (option_map suc) there)))
+  | inr le ↦ (let here : cond (nat_lt (1 + n) (suc l)) (Some (1 + n)) None ≡ None = cond-false (nat_lt (1 + n) (suc l)) _ _ (le-ltb (1 + n) (suc l) (omega (arith, le))) in
+      let there : cond (nat_lt n l) (Some n) None ≡ None = cond-false (nat_lt n l) _ _ (le-ltb n l le) in
+      here ∙ sym (ap (option_map suc) there))
+]
 
 position_push : (p : ℕ → Bool) (xs : List ℕ) (x : ℕ) → position p (xs ++ x ∷ []) ≡ option_or (position p xs) (cond (p x) (Some (length xs)) None)
 position_push p [] x = alone (p x)

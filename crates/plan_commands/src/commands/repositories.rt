@@ -46,7 +46,7 @@ fn indices_by_place(
 fn note_first(by_place: &mut [Option<usize>], place: usize, index: usize)
     ensures long { length by_place.new ≡ length by_place.old }
     ensures noted { (k : ℕ) → k < length by_place.old
-        → slice_index_or by_place.new k None ≡ option_or (slice_index_or by_place.old k None) (if k == place then Some index else None) }
+        → slice_index_or by_place.new k None ≡ option_or (slice_index_or by_place.old k None) (if place == k then Some index else None) }
 {
     if place < by_place.len() && by_place[place].is_none() {
         by_place[place] = Some(index);
