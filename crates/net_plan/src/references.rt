@@ -13,6 +13,7 @@ pub fn are_placed(buses: usize, nodes: &[Node]) -> bool
     are_among(buses, nodes.len(), nodes)
 }
 
+/// The same, said of the nodes themselves, where `are_placed` says it of their values.
 fn are_among(buses: usize, count: usize, nodes: &[Node]) -> bool
     ensures { result ≡ list_all (is_placed buses count) nodes.now }
 {

@@ -189,7 +189,7 @@ fn make_room(text: &mut Vec<u8>, filled: usize, limit: usize) -> Result<(), Allo
     text.resize(len + more.min(most), 0)
 }
 
-/// One pull, into a text's own memory from an index on.
+/// One pull, into a text's own memory from an index on. `pull_at` says of a slice what this says of the text.
 fn pull_into<S: Source>(source: &mut S, text: &mut Vec<u8>, at: usize) -> Result<usize, Failed>
     requires failures { S.failures source.old < 2 ^ 64 - 1 }
     requires room { at < vec_len text.old }
