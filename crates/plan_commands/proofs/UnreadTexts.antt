@@ -8,9 +8,10 @@ use Rattle.net_plan.specs.declared.error.PlanError.{PlanError}
 use Rattle.net_plan.specs.declared.error.PlanError.TheVariants as cause_of
 use Rattle.net_plan.specs.declared.error.ValueFault.{ValueFault}
 use Rattle.net_plan.specs.Refusals.{IsRefused, IsFaulty, GaveNone}
-use Rattle.net_plan.specs.Texts.{IsJson, StandsFor}
+use Rattle.net_plan.specs.Texts.{IsJson, IsTree, StandsFor}
 use Rattle.net_plan.proofs.Refusing.{answer_given}
-use Rattle.net_plan.proofs.SingleKeys.{not_doubled}
+use Rattle.json.specs.Json.{Json}
+use Rattle.json.specs.Strict.{HasUniqueKeys}
 use Rattle.plan_commands.specs.declared.commands.inputs.Unread.{Unread}
 use Rattle.plan_commands.specs.declared.commands.inputs.Unread.TheVariants.{NoMemory, Failed, TooLong, Text}
 use Rattle.plan_commands.specs.declared.refused.Input.{Input}
@@ -24,12 +25,15 @@ use Rattle.plan_commands.specs.Statuses.{role_of}
 same_data : (text : List ℕ) (d e : Data) → IsJson text d → IsJson text e → d ≡ e
 same_data text d e one other = cc (one.1, other.1)
 
+same_tree : (text : List ℕ) (j k : Json) → IsTree text j → IsTree text k → j ≡ k
+same_tree text j k one other = cc (one, other)
+
 module _ {A : Type 0} (said : Data → Result A ValueFault) (R : Data → A → Type 0) (text : List ℕ) where
   faulty_nothing : (f : ValueFault) → IsFaulty said R f text → (x : A) → ¬ StandsFor R text x
   faulty_nothing f h = λ x s. h.2.1 x (subst (λ (d : Data). R d x) (same_data text s.0 h.0 s.1 h.1) s.3)
 
   pub stands_for_nothing : (cause : PlanError) → length text ≤ 16777216 → cause ≢ cause_of.OutOfMemory → IsRefused said R text cause → (x : A) → ¬ StandsFor R text x
-  stands_for_nothing cause_of.NotJson few known h = λ x s. let none = h s.1.0 in let some = s.1.1 in cc (none, some)
+  stands_for_nothing cause_of.NotJson few known h = λ x s. cc (h s.1.0, s.1.1)
   stands_for_nothing cause_of.WrongKind few known h = faulty_nothing _ h
   stands_for_nothing cause_of.MissingKey few known h = faulty_nothing _ h
   stands_for_nothing cause_of.UnknownKey few known h = faulty_nothing _ h
@@ -39,7 +43,7 @@ module _ {A : Type 0} (said : Data → Result A ValueFault) (R : Data → A → 
   stands_for_nothing cause_of.OverLimit few known (inl long) = absurd (omega (arith, long, few))
   stands_for_nothing cause_of.OverLimit few known (inr h) = faulty_nothing _ h
   stands_for_nothing cause_of.Doubled few known (inl h) = faulty_nothing _ h
-  stands_for_nothing cause_of.Doubled few known (inr h) = λ x s. not_doubled text s.2 h.2
+  stands_for_nothing cause_of.Doubled few known (inr h) = λ x s. h.2.2 (subst HasUniqueKeys (same_tree text s.2.0 h.2.0 s.2.1 h.2.1) s.2.2)
   stands_for_nothing cause_of.Device few known h = absurd h
   stands_for_nothing cause_of.OutOfMemory few known h = absurd (known refl)
 

@@ -1,46 +1,62 @@
 -- What is told of a text that doesn't read.
-use Rattle.std.proofs.Common.{◌≡◌, ◌≤◌, ◌<◌, ◌+◌, ◌++◌, ◌||◌, ℕ, zero, suc, List, [], ◌∷◌, map, length, get_or, take, Bool, Option, Some, None, option_map, Result, Ok, Err, Bor, encode_utf8_all, refl, sym, ◌∙◌, ap, subst, arith}
+use Rattle.std.proofs.Common.{◌≡◌, ◌≤◌, ◌<◌, ◌+◌, ◌++◌, ◌||◌, ℕ, zero, suc, List, [], ◌∷◌, map, length, get_or, take, drop, Bool, true, false, cond, is_some, true≢false, append_assoc, option_and_then, Vec, Global, Option, Some, None, option_map, Result, Ok, Err, Bor, encode_utf8_all, refl, sym, ◌∙◌, ap, subst, arith}
 use Rattle.std.specs.Prelude.{IfOk, IfSome, codes}
 use Rattle.std.specs.List.{flat_map, list_any, slice_get}
 use Rattle.std.specs.Str.{bytes_eq}
+use Rattle.std.proofs.lemmas.List.{at_drop_more}
+use Rattle.std.proofs.lemmas.Slice.Eq.{bytes_eq-Decides}
+use Rattle.json.specs.Find.{later_or}
+use Rattle.json.specs.Find as find
+use Rattle.json.specs.Json as json
 use Rattle.json.specs.Json.{Json}
 use Rattle.json.specs.Strict.{keys}
 use Rattle.json.specs.Value as seen
 use Rattle.serde_json.specs.Data.{Data}
-use Rattle.serde_json.specs.Find.{get_item}
+use Rattle.serde_json.specs.Find.{get_item, get_member}
 use Rattle.net_plan.specs.CertificateText.{IsCertificateOf}
 use Rattle.net_plan.specs.CertificateValues.{CertificateValue}
-use Rattle.net_plan.specs.Json.{is_among}
+use Rattle.net_plan.specs.Json.{is_among, items_count}
 use Rattle.net_plan.specs.PlanText.{IsPlanOf}
 use Rattle.net_plan.specs.PlanValues.{PlanValue, node_names}
 use Rattle.net_plan.specs.Texts.{IsJson, IsTree, StandsFor}
-use Rattle.net_plan.specs.Trees.{Tree, view, items_view, data_of}
+use Rattle.net_plan.specs.Trees.{Tree, view, items_view, members_view, data_of}
+use Rattle.net_plan.proofs.Trees.{get_of}
 use Rattle.net_plan.proofs.PlanLaw.{plan_tells}
 use Rattle.net_plan.proofs.CertificateLaw.{certificate_tells}
-use Rattle.net_plan.proofs.SingleKeys.{single_sound}
-use Rattle.net_pointers.specs.Doubles.{item_at, member_at}
+use Rattle.net_plan.proofs.Refusing.{single_read}
+use Rattle.net_plan.specs.CertificateReading.{certificate}
+use Rattle.net_plan.specs.PlanReading.{plan}
+use Rattle.net_plan.specs.SingleKeys.{unless_doubled}
+use Rattle.net_plan.specs.declared.error.ValueFault.{ValueFault}
+use Rattle.net_pointers.specs.Doubles.{item_at, member_at, part_at, part_after}
 use Rattle.net_pointers.specs.PlanShapes.{fields_view}
-use Rattle.net_pointers.specs.Pointers.{Located, value_at}
+use Rattle.net_pointers.specs.Pointers.{Located, value_at, value_after}
 use Rattle.net_pointers.specs.Shapes.{keys_of, fields_of}
 use Rattle.net_pointers.specs.TextTroubles.{IsJsonOf, IsToldOfPlanText, IsToldOfCertificateText}
+use Rattle.net_pointers.specs.Views.{step_value}
+use Rattle.net_pointers.specs.declared.found.PointerStep.{PointerStep}
 use Rattle.net_pointers.specs.declared.part.Field.{Field}
 use Rattle.net_pointers.specs.declared.ranges.Overlap.{Overlap}
 use Rattle.net_pointers.specs.declared.texts.TextTrouble.{TextTrouble}
 use Rattle.plan_texts.specs.ReadingLines.{key_words, keys_words}
 use Rattle.plan_texts.specs.Standing.{IsShownLength, IsShownOf, IsShown, dots_after}
 use Rattle.plan_texts.specs.TroubleLines.{StandsAt, rest_of, IsWrongTold, IsLineOf, IsValueTold, value_line, AreOffsets, AreApart, AreTwoTold, two_lines, IsOverlapTold, range_line, next_range_line, range_pointer}
-use Rattle.plan_texts.specs.TroubleLines.{key_at, AreTroubleLines, IsPlanTextTold, IsCertificateTextTold}
+use Rattle.plan_texts.specs.TroubleLines.{key_at, part_step, path_text, AreTroubleLines, IsPlanTextTold, IsCertificateTextTold}
 
 -- ---- a text of which nothing is told is read
 
 pub plan_is_read : (text : List ℕ) → IsToldOfPlanText text None → ((p : PlanValue) → ¬ StandsFor IsPlanOf text p) → ⊥
 plan_is_read text (j, tree, json, (one, p, read)) none =
-    none p (_, json, (j, tree, single_sound j one), plan_tells.sound _ p read refl)
+    let r : Result PlanValue ValueFault = Ok p in
+    let unique = single_read (λ (x : PlanValue). x) plan IsPlanOf plan_tells j r p read (ap (λ (b : Bool). unless_doubled b r) one) in
+    none p (data_of j, json, (j, tree, unique.1), plan_tells.sound (data_of j) p read refl)
 
-pub certificate_is_read : (plan : PlanValue) (text : List ℕ) → IsToldOfCertificateText (node_names plan.nodes) text None
-    → ((c : CertificateValue) → ¬ StandsFor (IsCertificateOf plan) text c) → ⊥
-certificate_is_read plan text (j, tree, json, (one, c, read)) none =
-    none c (_, json, (j, tree, single_sound j one), (certificate_tells plan).sound _ c read refl)
+pub certificate_is_read : (p : PlanValue) (text : List ℕ) → IsToldOfCertificateText (node_names p.nodes) text None
+    → ((c : CertificateValue) → ¬ StandsFor (IsCertificateOf p) text c) → ⊥
+certificate_is_read p text (j, tree, json, (one, c, read)) none =
+    let r : Result CertificateValue ValueFault = Ok c in
+    let unique = single_read (λ (x : CertificateValue). x) (certificate (node_names p.nodes)) (IsCertificateOf p) (certificate_tells p) j r c read (ap (λ (b : Bool). unless_doubled b r) one) in
+    none c (data_of j, json, (j, tree, unique.1), (certificate_tells p).sound (data_of j) c read refl)
 
 -- ---- the keys of a table
 
@@ -58,6 +74,10 @@ pub item_of_view : (vs : List Tree) (i : ℕ) → get_item i (items_view vs) ≡
 item_of_view [] i = refl
 item_of_view (v ∷ vs) zero = refl
 item_of_view (v ∷ vs) (suc i) = item_of_view vs i
+
+pub items_counted : (vs : List Tree) → items_count (items_view vs) ≡ length vs
+items_counted [] = refl
+items_counted (v ∷ vs) = ap suc (items_counted vs)
 
 pub part_of_items : (vs : List Tree) (i : ℕ) → item_at i (seen.items_view vs) ≡ option_map seen.value_view (slice_get vs i)
 part_of_items [] i = refl
@@ -153,3 +173,64 @@ pub certificate_told : {A E : Type 0} (bytes : A → List ℕ) (nodes : List (Li
     → IfOk r (λ t. AreTroubleLines nodes text trouble (bytes t)) → IfOk r (λ t. IsCertificateTextTold nodes text (bytes t))
 certificate_told bytes nodes text trouble (Ok t) of_text h = (trouble, of_text, h)
 certificate_told bytes nodes text trouble (Err e) of_text h = tt
+
+-- ---- along a pointer, and along a path
+
+pub and_then_some : {A : Type 0} (o : Option A) → option_and_then (λ a. Some a) o ≡ o
+and_then_some None = refl
+and_then_some (Some a) = refl
+
+pub value_more : (ps : List PointerStep) (i : ℕ) (x : PointerStep) (d : Data) (o root : Option Data) → i < length ps → x ≡ get_or ps i x → o ≡ Some d
+    → option_and_then (value_at (map step_value (drop i ps))) o ≡ root → option_and_then (value_at (map step_value (drop (i + 1) ps))) (value_after (step_value x) d) ≡ root
+value_more ps i x d o root within is some before =
+    let F : List PointerStep → Option Data = λ qs. option_and_then (value_at (map step_value qs)) (Some d) in
+    let e : F (drop i ps) ≡ F (get_or ps i x ∷ drop (i + 1) ps) = at_drop_more F ps i x within in
+    ap (λ (z : PointerStep). option_and_then (value_at (map step_value (drop (i + 1) ps))) (value_after (step_value z) d)) is ∙ (sym e
+    ∙ (ap (λ (z : Option Data). option_and_then (value_at (map step_value (drop i ps))) z) (sym some) ∙ before))
+
+pub part_more : (ps : List ℕ) (i x : ℕ) (j : Json) (o root : Option Json) → i < length ps → x ≡ get_or ps i x → o ≡ Some j
+    → option_and_then (part_at (drop i ps)) o ≡ root → option_and_then (part_at (drop (i + 1) ps)) (part_after x j) ≡ root
+part_more ps i x j o root within is some before =
+    let F : List ℕ → Option Json = λ qs. option_and_then (part_at qs) (Some j) in
+    let e : F (drop i ps) ≡ F (get_or ps i x ∷ drop (i + 1) ps) = at_drop_more F ps i x within in
+    ap (λ (z : ℕ). option_and_then (part_at (drop (i + 1) ps)) (part_after z j)) is ∙ (sym e
+    ∙ (ap (λ (z : Option Json). option_and_then (part_at (drop i ps)) z) (sym some) ∙ before))
+
+pub path_more : (ps : List ℕ) (i x : ℕ) (j : Json) (o : Option Json) (text root : List ℕ) → i < length ps → x ≡ get_or ps i x → o ≡ Some j
+    → text ++ path_text (drop i ps) o ≡ root → (text ++ part_step x j) ++ path_text (drop (i + 1) ps) (part_after x j) ≡ root
+path_more ps i x j o text root within is some before =
+    let F : List ℕ → List ℕ = λ qs. text ++ path_text qs (Some j) in
+    let e : F (drop i ps) ≡ F (get_or ps i x ∷ drop (i + 1) ps) = at_drop_more F ps i x within in
+    append_assoc text (part_step x j) (path_text (drop (i + 1) ps) (part_after x j))
+    ∙ (ap (λ (z : ℕ). text ++ (part_step z j ++ path_text (drop (i + 1) ps) (part_after z j))) is ∙ (sym e
+    ∙ (ap (λ (z : Option Json). text ++ path_text (drop i ps) z) (sym some) ∙ before)))
+
+pub no_path : (ps : List ℕ) → path_text ps None ≡ []
+no_path [] = refl
+no_path (p ∷ ps) = refl
+
+-- ---- unknown keys
+
+pub member_there : (ms : List (Bor (List ℕ) × Tree)) (i : ℕ) (m : Bor (List ℕ) × Tree) → i < length ms → m ≡ get_or ms i m → is_some (find.get_member m.0.now (seen.members_view ms)) ≡ true
+member_there [] i m within is = absurd (omega arith)
+member_there (n ∷ ms) zero m within is = there (find.get_member m.0.now (seen.members_view ms)) (seen.value_view n.1) (bytes_eq n.0.now m.0.now) ((bytes_eq-Decides n.0.now m.0.now).1 (ap (λ (x : Bor (List ℕ) × Tree). x.0.now) (sym is)))
+  where
+    there : (o : Option Json) (j : Json) (b : Bool) → b ≡ true → is_some (later_or o (cond b (Some j) None)) ≡ true
+    there (Some k) j b e = refl
+    there None j true e = refl
+    there None j false e = absurd (true≢false (sym e))
+member_there (n ∷ ms) (suc i) m within is = later (find.get_member m.0.now (seen.members_view ms)) _ (member_there ms i m (omega arith) is)
+  where
+    later : (o p : Option Json) → is_some o ≡ true → is_some (later_or o p) ≡ true
+    later (Some k) p e = refl
+    later None p e = absurd (true≢false (sym e))
+
+mapped_some : {A B : Type 0} (f : A → B) (o : Option A) → is_some (option_map f o) ≡ is_some o
+mapped_some f (Some a) = refl
+mapped_some f None = refl
+
+-- a member of the object as it is written is one of its value
+pub member_known : (v : Vec (Bor (List ℕ) × Tree) Global) (i : ℕ) (m : Bor (List ℕ) × Tree) → i < length v.items → m ≡ get_or v.items i m
+    → is_some (get_member m.0.now (members_view v.items)) ≡ true
+member_known v i m within is =
+    ap (λ (o : Option Data). is_some o) (get_of m.0.now (json.object (seen.members_view v.items))) ∙ (mapped_some data_of _ ∙ member_there v.items i m within is)

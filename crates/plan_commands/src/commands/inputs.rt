@@ -1,5 +1,5 @@
 //! The files that commands read.
-ghost use Rattle.std.specs.Prelude.{◌≡◌, ◌<◌, ◌≤◌, ◌^◌, ◌-◌, length, IfOk, IfErr};
+ghost use Rattle.std.specs.Prelude.{◌≡◌, ◌<◌, ◌^◌, ◌-◌, IfOk, IfErr};
 ghost use Rattle.plan_commands.specs.Answers.{stream, GavePlan, GaveCertificate, IsPlanUnread, IsCertificateUnread, AreGiven, AreUnread};
 ghost use Rattle.net_plan.specs.CertificateText.{IsCertificateOf};
 ghost use Rattle.net_plan.specs.CertificateValues.{certificate_value};
@@ -61,10 +61,8 @@ pub fn plan_or_text<P: Source>(alloc: Global, plan: &mut P) -> Result<Plan, Unre
 
 /// The plan that a text is, or why it is none.
 fn plan_in(alloc: Global, text: Vec<u8>) -> Result<Plan, Unread>
-    requires { length text.items ≤ 16777216 }
     ensures given { IfOk result (λ plan. StandsFor IsPlanOf text.items (plan_value plan)) }
     ensures unread { IfErr result (IsNoPlanIn text.items) }
-    ensures none { IfErr result (StandsForNothing IsPlanOf) }
 {
     match plan_of_text(alloc, &text) {
         Ok(plan) => Ok(plan),
@@ -96,10 +94,8 @@ pub fn certificate_or_text<C: Source>(
 
 /// The certificate of a plan that a text is, or why it is none.
 fn certificate_in(alloc: Global, plan: &Plan, text: Vec<u8>) -> Result<Certificate, Unread>
-    requires { length text.items ≤ 16777216 }
     ensures given { IfOk result (λ c. StandsFor (IsCertificateOf (plan_value plan.now)) text.items (certificate_value c)) }
     ensures unread { IfErr result (IsNoCertificateIn plan.now text.items) }
-    ensures none { IfErr result (StandsForNothing (IsCertificateOf (plan_value plan.now))) }
 {
     match certificate_of_text(alloc, plan, &text) {
         Ok(certificate) => Ok(certificate),

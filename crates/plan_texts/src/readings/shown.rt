@@ -32,7 +32,6 @@ fn first_characters(alloc: Global, text: &str) -> Result<Vec<char>, AllocError>
 }
 
 fn shown_of(alloc: Global, characters: &[char]) -> Result<String, AllocError>
-    requires { length characters.now ≤ 41 }
     ensures { IfOk result (λ shown. IsShownOf characters.now (string_bytes shown)) }
 {
     let length = shown_length(characters);
@@ -43,7 +42,6 @@ fn shown_of(alloc: Global, characters: &[char]) -> Result<String, AllocError>
 
 /// How many of these characters are shown.
 fn shown_length(characters: &[char]) -> usize
-    requires { length characters.now ≤ 41 }
     ensures { IsShownLength characters.now result }
 {
     for count in 1..characters.len() {

@@ -237,8 +237,10 @@ fn item_of<'v, 't>(items: &'v [Value<'t>], index: usize) -> Option<&'v Value<'t>
 fn member_of<'v, 't>(members: &'v [(&'t str, Value<'t>)], index: usize) -> Option<&'v Value<'t>>
     ensures { option_map (λ v. value_view v.now) result ≡ member_at index (members_view members.now) }
 {
-    let member = members.get(index)?;
-    Some(&member.1)
+    match members.get(index) {
+        Some(member) => Some(&member.1),
+        None => None,
+    }
 }
 
 /// The key of a member; an empty one past the end.
