@@ -1,7 +1,7 @@
 -- The lines that sum up a plan that a certificate fits.
 use Rattle.std.specs.Prelude.{ℕ, List, ◌++◌, length, sum_by, codes, Option, Some, None}
 use Rattle.std.specs.Fmt.{decimal}
-use Rattle.net_explained.specs.declared.most_hops.MostHops.{MostHops}
+use Rattle.net_explained.specs.declared.hops.MostHops.{MostHops}
 use Rattle.net_plan.specs.declared.nodes.Node.{Node}
 use Rattle.net_plan.specs.declared.plan.Plan.{Plan}
 use Rattle.net_plan.specs.declared.terminus.PlannedTerminus.{PlannedTerminus}

@@ -1,5 +1,5 @@
 //! What the command `explain` tells of a certificate that breaks a rule.
-ghost use Rattle.std.specs.Prelude.{◌≡◌, IfOk, Some, option_map, string_bytes};
+ghost use Rattle.std.specs.Prelude.{◌≡◌, ◌++◌, IfOk, Some, option_map, string_bytes};
 ghost use Rattle.net_check.specs.Faults.{eid_number};
 ghost use Rattle.net_check.specs.Owners.{given_level, level, owner_of};
 ghost use Rattle.plan_texts.specs.CertificateLines.{level_lines, led_line, rank_lines, places_line, useless_lines, rank_at, levels_at, led_at, ranks_at, certificate_fault_text};
