@@ -155,11 +155,17 @@ no_such_port_text row name port count =
     codes "Row " ++ (row ++ (codes " of " ++ (name ++ (codes " leaves by port " ++ (port
     ++ (codes ".\nThe ports of " ++ (name ++ (codes " are counted from 0; it has " ++ (count ++ codes ".\n")))))))))
 
--- the next node is not on the bus
+-- where a row leads by a port
+abbrev pub led_by_port_line : (row name port next : List ℕ) → List ℕ
+led_by_port_line row name port next = codes "Row " ++ (row ++ (codes " of " ++ (name ++ (codes " leads by port " ++ (port
+    ++ (codes " to " ++ (next ++ codes ".\n")))))))
+
+-- the next node is not on the port's bus
+abbrev pub off_bus_line : (bus next : List ℕ) → List ℕ
+off_bus_line bus next = codes "That port is on bus " ++ (bus ++ (codes ", and " ++ (next ++ codes " is not.\n")))
+
 abbrev pub next_not_on_bus_text : (row name port bus next : List ℕ) → List ℕ
-next_not_on_bus_text row name port bus next =
-    codes "Row " ++ (row ++ (codes " of " ++ (name ++ (codes " leads by port " ++ (port ++ (codes " to " ++ (next
-    ++ (codes ".\nThat port is on bus " ++ (bus ++ (codes ", and " ++ (next ++ codes " is not.\n")))))))))))
+next_not_on_bus_text row name port bus next = led_by_port_line row name port next ++ off_bus_line bus next
 
 -- an endpoint is to lead several on
 abbrev pub endpoint_for_several_text : (row name span next : List ℕ) → List ℕ
@@ -167,19 +173,28 @@ endpoint_for_several_text row name span next =
     codes "Row " ++ (row ++ (codes " of " ++ (name ++ (codes " covers " ++ (span ++ (codes ".\nIt leads to "
     ++ (next ++ codes ", an endpoint. Only a bridge leads several on.\n")))))))
 
+-- where a row leads an endpoint ID
+abbrev pub led_line : (row name eid next : List ℕ) → List ℕ
+led_line row name eid next = codes "Row " ++ (row ++ (codes " of " ++ (name ++ (codes " leads " ++ (eid
+    ++ (codes " to " ++ (next ++ codes ".\n")))))))
+
+-- the node is an endpoint, and another holds the endpoint ID
+abbrev pub endpoint_lines : (next holder eid : List ℕ) → List ℕ
+endpoint_lines next holder eid =
+    next ++ (codes " is an endpoint.\n" ++ (holder ++ (codes " holds endpoint ID " ++ (eid ++ codes ".\n"))))
+
+-- the node has no row for the endpoint ID, and another holds it
+abbrev pub no_row_lines : (next holder eid : List ℕ) → List ℕ
+no_row_lines next holder eid =
+    next ++ (codes " has no row for it.\n" ++ (holder ++ (codes " holds endpoint ID " ++ (eid ++ codes ".\n"))))
+
 -- the next node is an endpoint that does not hold the endpoint ID
 abbrev pub next_is_endpoint_text : (row name eid next holder : List ℕ) → List ℕ
-next_is_endpoint_text row name eid next holder =
-    codes "Row " ++ (row ++ (codes " of " ++ (name ++ (codes " leads " ++ (eid ++ (codes " to " ++ (next ++ (codes ".\n"
-    ++ (next ++ (codes " is an endpoint.\n" ++ (holder ++ (codes " holds endpoint ID " ++ (eid
-    ++ codes ".\n")))))))))))))
+next_is_endpoint_text row name eid next holder = led_line row name eid next ++ endpoint_lines next holder eid
 
 -- the next node has no row for the endpoint ID
 abbrev pub next_has_no_row_text : (row name eid next holder : List ℕ) → List ℕ
-next_has_no_row_text row name eid next holder =
-    codes "Row " ++ (row ++ (codes " of " ++ (name ++ (codes " leads " ++ (eid ++ (codes " to " ++ (next ++ (codes ".\n"
-    ++ (next ++ (codes " has no row for it.\n" ++ (holder ++ (codes " holds endpoint ID " ++ (eid
-    ++ codes ".\n")))))))))))))
+next_has_no_row_text row name eid next holder = led_line row name eid next ++ no_row_lines next holder eid
 
 -- ---- owners and pools
 

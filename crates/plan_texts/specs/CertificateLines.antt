@@ -8,7 +8,7 @@ use Rattle.net_check.specs.Owners.{owner_of, level}
 use Rattle.net_check.specs.Ranks.{rank}
 use Rattle.net_plan.specs.declared.certificate.Certificate.{Certificate}
 use Rattle.net_plan.specs.declared.plan.Plan.{Plan}
-use Rattle.plan_texts.specs.CauseLines.{row_at, next_text}
+use Rattle.plan_texts.specs.CauseLines.{led_line, row_at, next_text}
 use Rattle.plan_texts.specs.ExplanationLines.{owner_name}
 use Rattle.plan_texts.specs.Lines.{name_or_dash, number_or_dash}
 
@@ -17,11 +17,6 @@ abbrev pub level_lines : (name level owner owner_level : List ℕ) → List ℕ
 level_lines name level owner owner_level = codes "The level of " ++ (name ++ (codes " is " ++ (level
     ++ (codes ".\nThat of its owner, " ++ (owner ++ (codes ", is " ++ (owner_level
     ++ codes "; it has to be less.\n")))))))
-
--- where a row leads an endpoint ID
-abbrev pub led_line : (row name eid next : List ℕ) → List ℕ
-led_line row name eid next = codes "Row " ++ (row ++ (codes " of " ++ (name ++ (codes " leads " ++ (eid
-    ++ (codes " to " ++ (next ++ codes ".\n")))))))
 
 -- the rank of a node for it, and that of the next node
 abbrev pub rank_lines : (name rank next next_rank : List ℕ) → List ℕ

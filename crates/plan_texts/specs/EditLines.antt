@@ -64,12 +64,16 @@ abbrev pub owners_pool_text : (owner eid : List ℕ) → List ℕ
 owners_pool_text owner eid = codes "let the pool of " ++ (owner ++ (codes " have " ++ (eid
     ++ codes ", and no pool handed on from it.\n")))
 
+-- the node is to have a free endpoint ID of these
+abbrev pub free_eid_line : (name span : List ℕ) → List ℕ
+free_eid_line name span =
+    codes "Edit: give " ++ (name ++ (codes " a free eid of " ++ (span ++ codes ", and of no pool within that.\n")))
+
 -- or the node one of those in the owner's pool, if there is one
 abbrev pub owned_eid_edit_text : (name owner eid : List ℕ) → Option Pool → List ℕ
 owned_eid_edit_text name owner eid None = codes "Edit: " ++ owners_pool_text owner eid
-owned_eid_edit_text name owner eid (Some pool) = codes "Edit: give " ++ (name ++ (codes " a free eid of "
-    ++ (span_text pool.first.value pool.size
-    ++ (codes ", and of no pool within that.\nEdit: or " ++ owners_pool_text owner eid))))
+owned_eid_edit_text name owner eid (Some pool) =
+    free_eid_line name (span_text pool.first.value pool.size) ++ (codes "Edit: or " ++ owners_pool_text owner eid)
 
 abbrev pub peer_edit_text : (peer eid : List ℕ) → List ℕ
 peer_edit_text peer eid =

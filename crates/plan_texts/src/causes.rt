@@ -7,7 +7,7 @@ pub mod lookups;
 mod names;
 mod pools;
 mod records;
-mod rows;
+pub mod rows;
 
 use net_check::Fault;
 use net_explained::Cause;

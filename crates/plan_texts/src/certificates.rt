@@ -2,11 +2,12 @@
 ghost use Rattle.std.specs.Prelude.{◌≡◌, ◌++◌, IfOk, Some, option_map, string_bytes};
 ghost use Rattle.net_check.specs.Faults.{eid_number};
 ghost use Rattle.net_check.specs.Owners.{given_level, level, owner_of};
-ghost use Rattle.plan_texts.specs.CertificateLines.{level_lines, led_line, rank_lines, places_line, useless_lines, rank_at, levels_at, led_at, ranks_at, certificate_fault_text};
+ghost use Rattle.plan_texts.specs.CertificateLines.{level_lines, rank_lines, places_line, useless_lines, rank_at, levels_at, led_at, ranks_at, certificate_fault_text};
 ghost use Rattle.plan_texts.specs.ExplanationLines.{owner_name};
 ghost use Rattle.plan_texts.specs.Lines.{name_or_dash, number_or_dash};
 
 use crate::causes::lookups::{eid_of_fault, next_at, next_of_row, number_text};
+use crate::causes::rows::led_line;
 use crate::explanations::owner_name;
 use crate::name_or_dash;
 use mctp_transport::Eid;
@@ -125,18 +126,6 @@ fn led_text(alloc: Global, plan: &Plan, fault: &Fault) -> Result<String, AllocEr
         &eid,
         next_of_row(plan, fault.node, fault.entry),
     )
-}
-
-fn led_line(
-    alloc: Global,
-    row: &str,
-    name: &str,
-    eid: &str,
-    next: &str,
-) -> Result<String, AllocError>
-    ensures { IfOk result (λ text. string_bytes text ≡ led_line row.now name.now eid.now next.now) }
-{
-    format!(in alloc; "Row {row} of {name} leads {eid} to {next}.\n")
 }
 
 fn both_ranks_text(

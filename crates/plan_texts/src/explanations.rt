@@ -1,5 +1,5 @@
 //! What the command `explain` prints below its first line.
-ghost use Rattle.std.specs.Prelude.{◌≡◌, IfOk, Some, string_bytes};
+ghost use Rattle.std.specs.Prelude.{◌≡◌, ◌==◌, IfOk, Some, position, string_bytes};
 ghost use Rattle.std.specs.Fmt.{decimal};
 ghost use Rattle.std.specs.List.{flat_map};
 ghost use Rattle.net_check.specs.Certificates.{NamesObstacle};
@@ -9,7 +9,7 @@ ghost use Rattle.net_check.specs.RecordChains.{HaveNewHandles, IsBadChain, IsFol
 ghost use Rattle.net_check.specs.Repositories.{records_of};
 ghost use Rattle.plan_texts.specs.Lines.{number_or_dash};
 ghost use Rattle.plan_texts.specs.CauseLines.{row_at};
-ghost use Rattle.plan_texts.specs.ExplanationLines.{IsCauseTold, IsChainTold, IsCircleTold, IsObstacleTold, covers_eid, row_for, bus_of_row, address_to, row_way, way_by, way_to, way_line, around, loop_lines, owner_name, owner_line, owner_loop_lines, next_handle, next_handle_line, missing_lines, record_before, so_has_lines, doubled_lines, record_line, circle_edit, told_cause};
+ghost use Rattle.plan_texts.specs.ExplanationLines.{IsCauseTold, IsChainTold, IsCircleTold, IsObstacleTold, covers_eid, row_for, bus_of_row, address_to, row_way, way_by, way_to, way_line, around, loop_lines, owner_name, owner_line, owner_loop_lines, next_handle, next_handle_line, missing_lines, record_before, so_has_lines, doubled_lines, record_line, circle_edit, circle_lines, told_cause};
 ghost use Rattle.plan_texts.specs.WayLines.{address_text, bus_text};
 
 use super::causes::cause_text;
@@ -21,7 +21,7 @@ use mctp_transport::Eid;
 use net_check::lookup::ports_at;
 use net_check::{CertifyError, ChainFault, Fault};
 use net_explained::{Cause, circle_from, find_cause, owner_at, record_at, records_at, rows_at};
-use net_plan::{Plan, Row};
+use net_plan::{Plan, PlannedRecord, Row};
 use std::alloc::{AllocError, Global};
 
 /// What is told of a next handle that no record has.
@@ -296,8 +296,17 @@ fn next_handle_line(
 fn record_before(plan: &Plan, node: usize, next: Option<usize>) -> Option<usize>
     ensures { result ≡ record_before plan.now node next }
 {
-    let next = next?;
-    records_at(plan, node)
+    match next {
+        Some(next) => first_leading_to(records_at(plan, node), next),
+        None => None,
+    }
+}
+
+/// The first of the records that has this next handle, if one has it.
+fn first_leading_to(records: &[PlannedRecord], next: usize) -> Option<usize>
+    ensures { result ≡ position (λ r. r.next == next) records.now }
+{
+    records
         .iter()
         .position(|record| record.next as usize == next)
 }
@@ -309,7 +318,21 @@ fn circle_lines(alloc: Global, plan: &Plan, node: usize, index: usize) -> Result
     ensures { IfOk result (λ text. IsCircleTold plan.now node index (string_bytes text)) }
 {
     let circle = circle_from(alloc, records_at(plan, node), index)?;
-    let mut lines = record_lines(alloc, plan, node, around(&circle))?;
+    let text = circle_text(alloc, plan, node, index, &circle)?;
+    Ok(text)
+}
+
+/// The way round a circle that is known, and an edit that opens it at the record.
+fn circle_text(
+    alloc: Global,
+    plan: &Plan,
+    node: usize,
+    index: usize,
+    circle: &[usize],
+) -> Result<String, AllocError>
+    ensures { IfOk result (λ text. string_bytes text ≡ circle_lines plan.now node index circle.now) }
+{
+    let mut lines = record_lines(alloc, plan, node, around(circle))?;
     lines.push_str(&circle_edit(alloc, plan, node, index)?)?;
     Ok(lines)
 }

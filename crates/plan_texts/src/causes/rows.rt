@@ -2,7 +2,7 @@
 ghost use Rattle.std.specs.Prelude.{◌≡◌, IfOk, string_bytes};
 ghost use Rattle.std.specs.Fmt.{decimal};
 ghost use Rattle.net_explained.specs.declared.cause.Cause.TheVariants.{RowOutOfRange, NextIsItself, EndpointForSeveral, NextIsEndpoint, NextHasNoRow};
-ghost use Rattle.plan_texts.specs.CauseLines.{cause_text, both_cover_line, spans_line, overlapped_at, no_such_port_at, next_not_on_bus_at};
+ghost use Rattle.plan_texts.specs.CauseLines.{led_line, led_by_port_line, off_bus_line, endpoint_lines, no_row_lines, cause_text, both_cover_line, spans_line, overlapped_at, no_such_port_at, next_not_on_bus_at};
 
 use super::lookups::{
     eid_of_fault, first_of_row, next_of_row, number_text, port_of_row, row_span, size_of_row,
@@ -108,9 +108,29 @@ pub fn next_not_on_bus(
     let port = number_text(alloc, port_of_row(plan, fault.node, fault.entry))?;
     let bus = bus_name_or_dash(plan, bus);
     let next = next_of_row(plan, fault.node, fault.entry);
-    format!(in alloc;
-        "Row {row} of {name} leads by port {port} to {next}.\nThat port is on bus {bus}, and {next} is not.\n"
-    )
+    let mut text = led_by_port_line(alloc, &row, name, &port, next)?;
+    text.push_str(&off_bus_line(alloc, bus, next)?)?;
+    Ok(text)
+}
+
+/// Where a row leads by a port.
+fn led_by_port_line(
+    alloc: Global,
+    row: &str,
+    name: &str,
+    port: &str,
+    next: &str,
+) -> Result<String, AllocError>
+    ensures { IfOk result (λ text. string_bytes text ≡ led_by_port_line row.now name.now port.now next.now) }
+{
+    format!(in alloc; "Row {row} of {name} leads by port {port} to {next}.\n")
+}
+
+/// The next node is not on the port's bus.
+fn off_bus_line(alloc: Global, bus: &str, next: &str) -> Result<String, AllocError>
+    ensures { IfOk result (λ text. string_bytes text ≡ off_bus_line bus.now next.now) }
+{
+    format!(in alloc; "That port is on bus {bus}, and {next} is not.\n")
 }
 
 /// An endpoint is to lead several on.
@@ -140,9 +160,29 @@ pub fn next_is_endpoint(
     let eid = number_text(alloc, eid_of_fault(fault))?;
     let next = next_of_row(plan, fault.node, fault.entry);
     let holder = name_or_dash(plan, holder);
-    format!(in alloc;
-        "Row {row} of {name} leads {eid} to {next}.\n{next} is an endpoint.\n{holder} holds endpoint ID {eid}.\n"
-    )
+    let mut text = led_line(alloc, &row, name, &eid, next)?;
+    text.push_str(&endpoint_lines(alloc, next, holder, &eid)?)?;
+    Ok(text)
+}
+
+/// Where a row leads an endpoint ID.
+pub fn led_line(
+    alloc: Global,
+    row: &str,
+    name: &str,
+    eid: &str,
+    next: &str,
+) -> Result<String, AllocError>
+    ensures { IfOk result (λ text. string_bytes text ≡ led_line row.now name.now eid.now next.now) }
+{
+    format!(in alloc; "Row {row} of {name} leads {eid} to {next}.\n")
+}
+
+/// The node is an endpoint, and another holds the endpoint ID.
+fn endpoint_lines(alloc: Global, next: &str, holder: &str, eid: &str) -> Result<String, AllocError>
+    ensures { IfOk result (λ text. string_bytes text ≡ endpoint_lines next.now holder.now eid.now) }
+{
+    format!(in alloc; "{next} is an endpoint.\n{holder} holds endpoint ID {eid}.\n")
 }
 
 /// The next node has no row for the endpoint ID.
@@ -159,7 +199,14 @@ pub fn next_has_no_row(
     let eid = number_text(alloc, eid_of_fault(fault))?;
     let next = next_of_row(plan, fault.node, fault.entry);
     let holder = name_or_dash(plan, holder);
-    format!(in alloc;
-        "Row {row} of {name} leads {eid} to {next}.\n{next} has no row for it.\n{holder} holds endpoint ID {eid}.\n"
-    )
+    let mut text = led_line(alloc, &row, name, &eid, next)?;
+    text.push_str(&no_row_lines(alloc, next, holder, &eid)?)?;
+    Ok(text)
+}
+
+/// The node has no row for the endpoint ID, and another holds it.
+fn no_row_lines(alloc: Global, next: &str, holder: &str, eid: &str) -> Result<String, AllocError>
+    ensures { IfOk result (λ text. string_bytes text ≡ no_row_lines next.now holder.now eid.now) }
+{
+    format!(in alloc; "{next} has no row for it.\n{holder} holds endpoint ID {eid}.\n")
 }
