@@ -69,11 +69,14 @@ abbrev pub free_eid_line : (name span : List ℕ) → List ℕ
 free_eid_line name span =
     codes "Edit: give " ++ (name ++ (codes " a free eid of " ++ (span ++ codes ", and of no pool within that.\n")))
 
+abbrev pub or_line : List ℕ → List ℕ
+or_line owners = codes "Edit: or " ++ owners
+
 -- or the node one of those in the owner's pool, if there is one
 abbrev pub owned_eid_edit_text : (name owner eid : List ℕ) → Option Pool → List ℕ
 owned_eid_edit_text name owner eid None = codes "Edit: " ++ owners_pool_text owner eid
 owned_eid_edit_text name owner eid (Some pool) =
-    free_eid_line name (span_text pool.first.value pool.size) ++ (codes "Edit: or " ++ owners_pool_text owner eid)
+    free_eid_line name (span_text pool.first.value pool.size) ++ or_line (owners_pool_text owner eid)
 
 abbrev pub peer_edit_text : (peer eid : List ℕ) → List ℕ
 peer_edit_text peer eid =

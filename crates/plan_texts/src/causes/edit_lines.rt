@@ -5,7 +5,7 @@ ghost use Rattle.net_check.specs.Faults.{eid_number};
 ghost use Rattle.net_check.specs.Owners.{owner_of};
 ghost use Rattle.net_check.specs.Pools.{pool_of};
 ghost use Rattle.plan_texts.specs.CauseLines.{row_at, next_text, handle_at, tid_of};
-ghost use Rattle.plan_texts.specs.EditLines.{name_edit_text, eid_edit_text, range_edit_text, stretch_text, overlap_edit_text, neighbor_edit_text, port_edit_text, several_edit_text, owner_edit_text, owners_pool_text, free_eid_line, owned_eid_edit_text, peer_edit_text, no_pool_edit_text, pool_around, pool_edit_text, earlier_pools_text, lead_edit_text, row_edit_text, no_terminus_edit_text, handle_edit_text, bytes_edit_text, header_edit_text, meant_edit_text, long_value_text, long_edit_text, value_edit_text, nobody_edit_text, tid_text, other_edit_text, edits_text};
+ghost use Rattle.plan_texts.specs.EditLines.{name_edit_text, eid_edit_text, range_edit_text, stretch_text, overlap_edit_text, neighbor_edit_text, port_edit_text, several_edit_text, owner_edit_text, owners_pool_text, free_eid_line, or_line, owned_eid_edit_text, peer_edit_text, no_pool_edit_text, pool_around, pool_edit_text, earlier_pools_text, lead_edit_text, row_edit_text, no_terminus_edit_text, handle_edit_text, bytes_edit_text, header_edit_text, meant_edit_text, long_value_text, long_edit_text, value_edit_text, nobody_edit_text, tid_text, other_edit_text, edits_text};
 ghost use Rattle.plan_texts.specs.Lines.{name_or_dash, number_or_dash};
 
 use super::lookups::{
@@ -212,12 +212,30 @@ fn owned_eid_text(
     match around {
         Some(pool) => {
             let span = span_text(alloc, pool.first.value, pool.size)?;
-            let mut text = free_eid_line(alloc, name, &span)?;
-            text.push_str(&format!(in alloc; "Edit: or {owners}")?)?;
-            Ok(text)
+            free_or_owners_text(alloc, name, &span, &owners)
         }
         None => format!(in alloc; "Edit: {owners}"),
     }
+}
+
+/// The node is to have a free endpoint ID of these, or the owner's pool is to have its own.
+fn free_or_owners_text(
+    alloc: Global,
+    name: &str,
+    span: &str,
+    owners: &str,
+) -> Result<String, AllocError>
+    ensures { IfOk result (λ text. string_bytes text ≡ free_eid_line name.now span.now ++ or_line owners.now) }
+{
+    let mut text = free_eid_line(alloc, name, span)?;
+    text.push_str(&or_line(alloc, owners)?)?;
+    Ok(text)
+}
+
+fn or_line(alloc: Global, owners: &str) -> Result<String, AllocError>
+    ensures { IfOk result (λ text. string_bytes text ≡ or_line owners.now) }
+{
+    format!(in alloc; "Edit: or {owners}")
 }
 
 /// The node is to have a free endpoint ID of these.

@@ -12,5 +12,5 @@ returns c =
     let circle = c.in_ok-circle.circle.items in (
       circle,
       subst (λ rs. IsLoopFrom (IsFollowedBy rs) c.args.index circle) c.records_at.ensures c.in_ok-circle.ensures,
-      c.in_ok-text.ensures ∙ ap (circle_lines c.args.plan.now c.args.node c.args.index) c.deref.ensures,
+      c.in_ok-text.ensures ∙ ap (circle_lines c.args.plan.now c.args.node c.args.index) c.deref.ensures.value,
     )
