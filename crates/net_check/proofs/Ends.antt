@@ -12,7 +12,7 @@ use Rattle.net_check.specs.Ranks.{rank, Falls}
 use Rattle.net_check.specs.Rules.{Accepts}
 use Rattle.net_check.specs.Moves.{Leads}
 use Rattle.net_check.specs.Promises.{WayEnds, EndsWithinRank}
-use Rattle.net_check.proofs.Deciding.{same_or_not}
+use Rattle.pdr_repository.proofs.Deciding.{same_or_not}
 
 -- along a row the rank falls
 pub move_falls : (plan : Plan) (cert : Certificate) (e n m : ℕ) → Accepts plan cert → MovesTo plan e n m → rank cert m e < rank cert n e

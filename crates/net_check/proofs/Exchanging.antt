@@ -36,7 +36,7 @@ use Rattle.net_check.proofs.Lawful as ways
 use Rattle.net_check.proofs.Reaching.{Reaches, reaches_on, one_turn}
 use Rattle.net_check.proofs.Sent.{packets_some}
 use Rattle.net_check.proofs.Replying.{HasAsked, comes_there, HasReplied, replies}
-use Rattle.net_check.proofs.Takings.{MayMake, HasTaken, may_make}
+use Rattle.pdr_repository.proofs.Takings.{MayMake, HasTaken, may_make}
 use Rattle.net_check.proofs.Travels.{Now}
 use Rattle.net_check.proofs.WalkedGoings.{IsKept, kept_is_lawful, handed_is_kept, asking_is_kept}
 use Rattle.net_check.proofs.WalkedSteps.{asked_walker, AsksUnder, asks_under, some_gives}

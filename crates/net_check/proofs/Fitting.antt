@@ -23,7 +23,7 @@ use Rattle.pdr_repository.proofs.Collecting.{collects_once}
 use Rattle.pdr_repository.proofs.Dues.{IsAt}
 use Rattle.pdr_repository.proofs.Following.{goes_on}
 use Rattle.pdr_repository.proofs.Walks.{Within, stands, one_step}
-use Rattle.net_check.proofs.SomeTakings.{takes_something}
+use Rattle.pdr_repository.proofs.SomeTakings.{takes_something}
 
 -- ---- sums over the records
 

@@ -24,8 +24,8 @@ use Rattle.net_check.specs.TwoPlans.{Tables, HasRowAlways}
 use Rattle.net_check.specs.Events.{Move, AnswerAt, Entered, Answered, Refusal, N01, N02, N03, N04, N05, N06, N07, IsRefused, most_flights}
 use Rattle.net_check.specs.Networks.{Step, answer_key}
 use Rattle.net_check.specs.Walkers.{WalkerValue, answering_key}
-use Rattle.net_check.proofs.AnswerBytes.{answer_is_bytes}
-use Rattle.net_check.proofs.Answering.{EachByte, each_byte, records_of_bytes, SomeAnswer, some_answering}
+use Rattle.pdr_repository.proofs.AnswerBytes.{answer_is_bytes}
+use Rattle.pdr_repository.proofs.SomeAnswers.{EachByte, each_byte, records_of_bytes, SomeAnswer, some_answering}
 use Rattle.net_check.proofs.AtRest.{AreUnderWay, packets_made, packets_history, packets_under_way}
 use Rattle.net_check.proofs.Bringing.{way_is_route}
 use Rattle.net_check.proofs.ByteRuns.{are_bytes}

@@ -12,8 +12,8 @@ use Rattle.net_check.specs.States.{NetworkState, Flight, destination, slots, lim
 use Rattle.net_check.specs.ExactMessages.{IsSettled}
 use Rattle.net_check.specs.Walkers.{WalkerValue, AreSettled, asking_key, answering_key}
 use Rattle.net_check.specs.WalkedGoing.{HasNumberedFlights}
-use Rattle.net_check.proofs.Deciding.{OrNot, both_or_not, implied_or_not, not_or_not, same_or_not}
-use Rattle.net_check.proofs.Searching.{all_or_not, items_or_not, three_or_not}
+use Rattle.pdr_repository.proofs.Deciding.{OrNot, both_or_not, implied_or_not, not_or_not, same_or_not}
+use Rattle.pdr_repository.proofs.Searching.{all_or_not, items_or_not, three_or_not}
 use Rattle.net_check.proofs.Steps.{holds_or_not}
 
 flag_or_not : (a b : Bool) → OrNot (a ≡ b)

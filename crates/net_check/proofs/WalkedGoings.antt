@@ -34,7 +34,7 @@ use Rattle.net_check.specs.Networks as network
 use Rattle.net_check.specs.Walkers.{WalkerValue, WalkedState, WalkedEvent, Happening, BeginWalk, Ask, TellWalk, WalkRefusal, Also, N09, N10, WalkedOutcome, Happened, Begun, Asked, ToldWalk, WalkRefused, walked_at_start, fresh_walker, with_walker, IsWalkRefused, answering_key, AreSettled, ended_after, five_packets}
 use Rattle.net_check.specs.WalkedRuns.{IsAsking, WalkedHappens, WalkedStep, WalkedTurn, WalkedRunFrom, walked_after, walked_reached}
 use Rattle.net_check.specs.WalkedGoing.{HasNumberedFlights, IsLawfulWalker, CanGoOn, EidsAreBytes, WalkedRunsGoOn}
-use Rattle.net_check.proofs.Answering.{EachByte}
+use Rattle.pdr_repository.proofs.SomeAnswers.{EachByte}
 use Rattle.net_check.proofs.ByteRuns.{IsByteNetwork, are_bytes, start_bytes, step_bytes, whole_bytes}
 use Rattle.net_check.proofs.Nexts.{step_is_next}
 use Rattle.net_check.proofs.Promised.{step_tells}

@@ -22,10 +22,10 @@ use Rattle.net_check.specs.Networks as network
 use Rattle.net_check.specs.Walkers.{WalkerValue, WalkedState, WalkedEvent, Happening, BeginWalk, Ask, TellWalk, WalkRefusal, Also, N08, N09, N10, N11, N12, N13, Happened, Begun, Asked, ToldWalk, WalkRefused, IsThere, IsOver, MustWait, IsWalkRefused, walk_refusal_number, IsFirstWalkRefusal, fresh_walker, with_walker, asking_key, answering_key, AreSettled, ended_after, standing_of, five_packets}
 use Rattle.net_check.specs.WalkedRuns.{IsAsking, IsFor}
 use Rattle.net_check.specs.WalkedGoing.{IsLawfulWalker, CanGoOn, WalkedGoesOn}
-use Rattle.net_check.proofs.Deciding.{OrNot, both_or_not, either_or_not, not_or_not, same_or_not, less_or_not, at_most_or_not, some_and_or_not, none_or_not, implied_or_not}
-use Rattle.net_check.proofs.Searching.{search_below, all_or_not, least_below, three_or_not}
+use Rattle.pdr_repository.proofs.Deciding.{OrNot, both_or_not, either_or_not, not_or_not, same_or_not, less_or_not, at_most_or_not, some_and_or_not, none_or_not, implied_or_not}
+use Rattle.pdr_repository.proofs.Searching.{search_below, all_or_not, least_below, three_or_not}
 use Rattle.net_check.proofs.SettledOrNot.{both_settled_or_not, key_or_not, holder_is_there}
-use Rattle.net_check.proofs.SomeTakings.{takes_something}
+use Rattle.pdr_repository.proofs.SomeTakings.{takes_something}
 use Rattle.net_check.proofs.Sent.{message_packets}
 use Rattle.net_check.proofs.Steps.{some_step, holds_or_not, true_or_not}
 use Rattle.net_check.proofs.FirstAsks.{never}

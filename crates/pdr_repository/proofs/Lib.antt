@@ -20,3 +20,11 @@ pub mod Ascending
 pub mod LawfulLists
 pub mod Meeting
 pub mod OneAnswers
+pub mod Deciding
+pub mod Searching
+pub mod SomeAnswers
+pub mod AnswerBytes
+pub mod AnswersRead
+pub mod CheckBytes
+pub mod Takings
+pub mod SomeTakings

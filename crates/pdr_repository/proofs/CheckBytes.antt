@@ -5,9 +5,9 @@ use Rattle.std.proofs.lemmas.List.{length_push}
 use Rattle.std.proofs.Math.Nat.{pow-suc}
 use Rattle.pdr_repository.specs.Crc.{polynomial, IsCrc}
 use Rattle.pdr_repository.proofs.Crcs.{one_crc}
-use Rattle.net_check.proofs.Answering.{EachByte, some_crc}
-use Rattle.net_check.proofs.AnswerBytes.{bytes_append}
-use Rattle.net_check.proofs.Deciding.{OrNot, same_or_not}
+use Rattle.pdr_repository.proofs.SomeAnswers.{EachByte, some_crc}
+use Rattle.pdr_repository.proofs.AnswerBytes.{bytes_append}
+use Rattle.pdr_repository.proofs.Deciding.{OrNot, same_or_not}
 
 -- one more byte
 polynomial_push : (bs : List ℕ) (b : ℕ) → polynomial (bs ++ b ∷ []) ≡ 256 * polynomial bs + b

@@ -12,9 +12,9 @@ use Rattle.pdr_repository.specs.declared.walk_fault.Step.{Step}
 use Rattle.pdr_repository.specs.declared.walk_fault.WalkFault.{WalkFault}
 use Rattle.pdr_repository.specs.declared.walk_fault.WalkFault.TheVariants.{FailedBefore, NotAsked, Unreadable, RecordChanged, OtherCode, WrongFlag, WrongSize, WrongCrc, WrongHandle, DoubledHandle, TooMuch, OutOfMemory}
 use Rattle.pdr_repository.specs.Walkers.{WalkState, Takes, TakesMessage, TakesOutcome, room_of, state_after, step_after}
-use Rattle.net_check.proofs.AnswersRead.{header_or_none, answer_or_none}
-use Rattle.net_check.proofs.CheckBytes.{crc_or_not}
-use Rattle.net_check.proofs.Deciding.{OrNot, both_or_not, either_or_not, not_or_not, same_or_not, less_or_not, at_most_or_not}
+use Rattle.pdr_repository.proofs.AnswersRead.{header_or_none, answer_or_none}
+use Rattle.pdr_repository.proofs.CheckBytes.{crc_or_not}
+use Rattle.pdr_repository.proofs.Deciding.{OrNot, both_or_not, either_or_not, not_or_not, same_or_not, less_or_not, at_most_or_not}
 
 -- ---- what can be wrong with a part
 

@@ -11,7 +11,6 @@ use Rattle.std.proofs.lemmas.Nat.{xor_of_8}
 use Rattle.std.proofs.Common.{append_assoc}
 use Rattle.mctp_transport.specs.Bits.{bit_most}
 use Rattle.mctp_transport.specs.Frames.{bit}
-use Rattle.net_check.specs.Termini.{AreBytes}
 use Rattle.pldm_message.specs.declared.kind.MessageKind.TheVariants.{Request}
 use Rattle.pldm_message.specs.declared.command.Command.{Command}
 use Rattle.pldm_message.specs.declared.command.Command.TheVariants.{SetTid, GetTid, GetPldmTypes, GetPdr}
@@ -24,13 +23,13 @@ use Rattle.pdr_repository.proofs.Crcs.{crc-none, crc-more, table_entry, IsEntry}
 use Rattle.pdr_repository.specs.Records.{Entry, IsMeant, handle_at, change_in}
 use Rattle.pdr_repository.specs.Parts.{PartAnswer, offset_of, HasChange, IsWithin, IsPartOf, AnswersFrom, AnswersPart}
 use Rattle.pdr_repository.specs.Answers.{IsAsked, reply_header, known_types, request_length, AnswersData, IsOf, AnswersCommand, Answers}
-use Rattle.net_check.proofs.Deciding.{OrNot, both_or_not, implied_or_not, not_or_not, same_or_not, less_or_not, at_most_or_not}
+use Rattle.pdr_repository.proofs.Deciding.{OrNot, both_or_not, implied_or_not, not_or_not, same_or_not, less_or_not, at_most_or_not}
 
 -- each number is a byte
 abbrev pub EachByte : List ℕ → Type 0
 EachByte bytes = AllByRecursion (λ b. b < 256) bytes
 
-pub each_byte : (bytes : List ℕ) → AreBytes bytes → EachByte bytes
+pub each_byte : (bytes : List ℕ) → All (λ b. b < 256) bytes → EachByte bytes
 each_byte [] all = tt
 each_byte (b ∷ bytes) all = (All-head (λ n. n < 256) b bytes all, each_byte bytes (All-tail (λ n. n < 256) b bytes all))
 
@@ -152,12 +151,12 @@ meant_or_not records handle = elim (same_or_not handle 0) [
 abbrev pub RecordsOfBytes : List Entry → Type 0
 RecordsOfBytes records = (place : ℕ) (e : Entry) → slice_get records place ≡ Some e → EachByte e.bytes
 
-pub records_of_bytes : (records : List Entry) → All (λ e. AreBytes e.bytes) records → RecordsOfBytes records
+pub records_of_bytes : (records : List Entry) → All (λ e. All (λ b. b < 256) e.bytes) records → RecordsOfBytes records
 records_of_bytes [] all place e is = absurd (none-some e is)
 records_of_bytes (r ∷ rs) all zero e is =
     let P : Entry → Type 0 = λ x. EachByte x.bytes in
-    subst P (same_Some r e is) (each_byte r.bytes (All-head (λ x. AreBytes x.bytes) r rs all))
-records_of_bytes (r ∷ rs) all (suc place) e is = records_of_bytes rs (All-tail (λ x. AreBytes x.bytes) r rs all) place e is
+    subst P (same_Some r e is) (each_byte r.bytes (All-head (λ x. All (λ b. b < 256) x.bytes) r rs all))
+records_of_bytes (r ∷ rs) all (suc place) e is = records_of_bytes rs (All-tail (λ x. All (λ b. b < 256) x.bytes) r rs all) place e is
 
 some_part_answer : (records : List Entry) (r : PartRequest) → RecordsOfBytes records → (a : PartAnswer) × AnswersPart records r a
 some_part_answer records r all = elim (less_or_not 1 r.operation) [
@@ -307,7 +306,7 @@ pub record SomeAnswer (tid : ℕ) (records : List Entry) (request : List ℕ) : 
   pub tid_after : ℕ
   pub answers : Answers tid records request answer tid_after
 
-pub some_answering : (tid : ℕ) (records : List Entry) (request : List ℕ) → All (λ e. AreBytes e.bytes) records → AreBytes request → SomeAnswer tid records request
+pub some_answering : (tid : ℕ) (records : List Entry) (request : List ℕ) → All (λ e. All (λ b. b < 256) e.bytes) records → All (λ b. b < 256) request → SomeAnswer tid records request
 some_answering tid records request all bytes = elim (asked_or_not request) [
   | inr not ↦ record { answer = None; tid_after = tid; answers = inl (not, (refl, refl)) }
   | inl (h, begins, kind) ↦

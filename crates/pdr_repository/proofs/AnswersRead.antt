@@ -15,9 +15,9 @@ use Rattle.pldm_message.specs.Messages.{AnswerMessage, AnswerHeadValue, answer_h
 use Rattle.pldm_message.specs.Pdrs.{Part, IsPart, part_bytes, IsChecked}
 use Rattle.pdr_repository.specs.Parts.{PartAnswer}
 use Rattle.pdr_repository.specs.Walkers.{IsAnswerIn}
-use Rattle.net_check.proofs.Answering.{EachByte, flag_of}
-use Rattle.net_check.proofs.Deciding.{OrNot, both_or_not, same_or_not, less_or_not}
-use Rattle.net_check.proofs.Searching.{each_or_not, three_or_not, four_or_not}
+use Rattle.pdr_repository.proofs.SomeAnswers.{EachByte, flag_of}
+use Rattle.pdr_repository.proofs.Deciding.{OrNot, both_or_not, same_or_not, less_or_not}
+use Rattle.pdr_repository.proofs.Searching.{each_or_not, three_or_not, four_or_not}
 
 -- ---- headers
 

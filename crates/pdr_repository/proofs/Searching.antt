@@ -4,7 +4,7 @@ use Rattle.std.specs.Prelude.{All}
 use Rattle.std.specs.List.{AllByRecursion}
 use Rattle.std.proofs.lemmas.Bool.{cases_lt, cases_order}
 use Rattle.std.proofs.lemmas.List.Elements.{All-from_recursion, recursion_from_All}
-use Rattle.net_check.proofs.Deciding.{OrNot, both_or_not}
+use Rattle.pdr_repository.proofs.Deciding.{OrNot, both_or_not}
 
 -- one of the numbers below the bound is such, or each is otherwise
 pub search_below : (P Q : ℕ → Type 0) → ((n : ℕ) → P n ⊎ Q n) → (bound : ℕ) → ((n : ℕ) × (n < bound) × P n) ⊎ ((n : ℕ) → n < bound → Q n)

@@ -12,7 +12,7 @@ use Rattle.pdr_repository.specs.Crc.{IsCrc}
 use Rattle.pdr_repository.specs.Records.{Entry}
 use Rattle.pdr_repository.specs.Parts.{PartAnswer, offset_of, IsPartOf, AnswersFrom, AnswersPart}
 use Rattle.pdr_repository.specs.Answers.{reply_header, AnswersData, AnswersCommand, Answers}
-use Rattle.net_check.proofs.Answering.{EachByte, RecordsOfBytes, bytes_drop}
+use Rattle.pdr_repository.proofs.SomeAnswers.{EachByte, RecordsOfBytes, bytes_drop}
 
 pub bytes_append : (xs ys : List ℕ) → EachByte xs → EachByte ys → EachByte (xs ++ ys)
 bytes_append [] ys a b = b
