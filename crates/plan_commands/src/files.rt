@@ -1,4 +1,5 @@
 //! Files that are opened only once they are read.
+ghost use Rattle.std.specs.Io.{ReadsAtMost};
 ghost use Rattle.std.specs.Prelude.{◌<◌, ◌^◌, ◌-◌};
 
 use net_plan::{Sink, write_whole};
@@ -44,18 +45,18 @@ impl<'a, R: Files> FileAtPath<'a, R> {
 
 impl<R: Files> Read for FileAtPath<'_, R> {
     fn read(&mut self, buf: &mut [u8]) -> io::Result<usize> {
-        match read_opened(self, buf) {
-            Ok(count) => Ok(count),
-            Err(error) => {
-                self.failure = Some(error);
-                Err(error)
-            }
+        let read = read_opened(self, buf);
+        if let Err(error) = read {
+            self.failure = Some(error);
         }
+        read
     }
 }
 
 /// Reads from a file, which is opened first where it isn't open yet.
-fn read_opened<R: Files>(file: &mut FileAtPath<'_, R>, buf: &mut [u8]) -> io::Result<usize> {
+fn read_opened<R: Files>(file: &mut FileAtPath<'_, R>, buf: &mut [u8]) -> io::Result<usize>
+    ensures { ReadsAtMost result buf.new }
+{
     match &mut file.opened {
         Some(opened) => opened.read(buf),
         None => {
