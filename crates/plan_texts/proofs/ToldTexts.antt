@@ -1,9 +1,11 @@
 -- What is told of a text that doesn't read.
-use Rattle.std.proofs.Common.{◌≡◌, ◌≤◌, ◌<◌, ◌+◌, ◌++◌, ◌||◌, ℕ, zero, suc, List, [], ◌∷◌, map, length, get_or, take, drop, Bool, true, false, cond, is_some, true≢false, append_assoc, option_and_then, Vec, Global, Option, Some, None, option_map, Result, Ok, Err, Bor, encode_utf8_all, refl, sym, ◌∙◌, ap, subst, arith}
+use Rattle.std.proofs.Common.{◌≡◌, ◌≤◌, ◌<◌, ◌+◌, ◌++◌, ◌||◌, ℕ, zero, suc, List, [], ◌∷◌, map, length, get_or, take, drop, Bool, true, false, cond, not, is_some, true≢false, append_assoc, option_and_then, Vec, Global, Option, Some, None, option_map, Result, Ok, Err, Bor, encode_utf8_all, refl, sym, ◌∙◌, ap, subst, arith}
 use Rattle.std.specs.Prelude.{IfOk, IfSome, codes}
 use Rattle.std.specs.List.{flat_map, list_any, slice_get}
+use Rattle.std.specs.Slice.{IsItemAt}
 use Rattle.std.specs.Str.{bytes_eq}
 use Rattle.std.proofs.lemmas.List.{at_drop_more}
+use Rattle.std.proofs.lemmas.Option.{slice_get_read, slice_get_past}
 use Rattle.std.proofs.lemmas.Slice.Eq.{bytes_eq-Decides}
 use Rattle.json.specs.Find.{later_or}
 use Rattle.json.specs.Find as find
@@ -15,11 +17,12 @@ use Rattle.serde_json.specs.Data.{Data}
 use Rattle.serde_json.specs.Find.{get_item, get_member}
 use Rattle.net_plan.specs.CertificateText.{IsCertificateOf}
 use Rattle.net_plan.specs.CertificateValues.{CertificateValue}
-use Rattle.net_plan.specs.Json.{is_among, items_count}
+use Rattle.net_plan.specs.Json.{is_among, items_count, has_unknown_key}
 use Rattle.net_plan.specs.PlanText.{IsPlanOf}
 use Rattle.net_plan.specs.PlanValues.{PlanValue, node_names}
 use Rattle.net_plan.specs.Texts.{IsJson, IsTree, StandsFor}
 use Rattle.net_plan.specs.Trees.{Tree, view, items_view, members_view, data_of}
+use Rattle.net_plan.proofs.Keys.{unknown_members}
 use Rattle.net_plan.proofs.Trees.{get_of}
 use Rattle.net_plan.proofs.PlanLaw.{plan_tells}
 use Rattle.net_plan.proofs.CertificateLaw.{certificate_tells}
@@ -74,6 +77,10 @@ pub item_of_view : (vs : List Tree) (i : ℕ) → get_item i (items_view vs) ≡
 item_of_view [] i = refl
 item_of_view (v ∷ vs) zero = refl
 item_of_view (v ∷ vs) (suc i) = item_of_view vs i
+
+pub item_given : (vs : List Tree) (i : ℕ) (r : Option (Bor Tree)) → IsItemAt vs i r → option_map (λ (v : Bor Tree). view v.now) r ≡ get_item i (items_view vs)
+item_given vs i (Some v) h = sym (item_of_view vs i ∙ ap (option_map view) (slice_get_read vs (length vs) i v.now refl h.3.0 h.1))
+item_given vs i None h = sym (item_of_view vs i ∙ ap (option_map view) (slice_get_past vs i h.3))
 
 pub items_counted : (vs : List Tree) → items_count (items_view vs) ≡ length vs
 items_counted [] = refl
@@ -234,3 +241,22 @@ pub member_known : (v : Vec (Bor (List ℕ) × Tree) Global) (i : ℕ) (m : Bor 
     → is_some (get_member m.0.now (members_view v.items)) ≡ true
 member_known v i m within is =
     ap (λ (o : Option Data). is_some o) (get_of m.0.now (json.object (seen.members_view v.items))) ∙ (mapped_some data_of _ ∙ member_there v.items i m within is)
+
+-- the keys of the table, as the reader has them
+keys_mapped : (fs : List Field) → keys_of (fields_view fs) ≡ map (λ (k : Bor (List ℕ)). k.now) (map (λ (f : Field). f.key) fs)
+keys_mapped [] = refl
+keys_mapped (f ∷ fs) = ap (λ ks. f.key.now ∷ ks) (keys_mapped fs)
+
+among_mapped : (fs : List Field) (key : List ℕ) → list_any (λ (other : Bor (List ℕ)). bytes_eq key other.now) (map (λ (f : Field). f.key) fs) ≡ is_among (keys_of (fields_view fs)) key
+among_mapped [] key = refl
+among_mapped (f ∷ fs) key = ap (λ b. bytes_eq key f.key.now || b) (among_mapped fs key)
+
+any_unknown : (fs : List Field) (ms : List (Bor (List ℕ) × Tree)) → list_any (λ m. not (list_any (λ (other : Bor (List ℕ)). bytes_eq m.0.now other.now) (map (λ (f : Field). f.key) fs))) ms
+    ≡ list_any (λ m. not (is_among (keys_of (fields_view fs)) m.0.now)) ms
+any_unknown fs [] = refl
+any_unknown fs (m ∷ ms) = rw (among_mapped fs m.0.now, any_unknown fs ms) refl
+
+-- whether an object has an unknown key is seen in its members as they are written
+pub unknown_keys : (fs : List Field) (ms : List (Bor (List ℕ) × Tree)) → has_unknown_key (keys_of (fields_view fs)) (members_view ms)
+    ≡ list_any (λ m. not (is_among (keys_of (fields_view fs)) m.0.now)) ms
+unknown_keys fs ms = ap (λ ks. has_unknown_key ks (members_view ms)) (keys_mapped fs) ∙ (unknown_members (map (λ (f : Field). f.key) fs) ms ∙ any_unknown fs ms)

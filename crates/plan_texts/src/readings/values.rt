@@ -194,7 +194,6 @@ fn unknown_key<'t>(fields: &[Field], members: &Vec<(&'t str, Value<'t>)>) -> Opt
 }
 
 /// Whether a key is one of a table.
-#[tactic(auto, using(crate::proofs::ToldTexts::among_fields))]
 fn is_among(fields: &[Field], key: &str) -> bool
     ensures { result ≡ is_among (keys_of (fields_view fields.now)) key.now }
 {
@@ -239,7 +238,6 @@ fn item_at<'v, 't>(value: &'v Value<'t>, index: usize) -> Option<&'v Value<'t>>
     }
 }
 
-#[tactic(auto, using(crate::proofs::ToldTexts::item_of_view))]
 fn item_of<'v, 't>(items: &'v [Value<'t>], index: usize) -> Option<&'v Value<'t>>
     ensures { option_map (λ v. view v.now) result ≡ get_item index (items_view items.now) }
 {
