@@ -1,5 +1,5 @@
 use Rattle.std.proofs.Common.{◌≡◌, ◌++◌, ℕ, List, IfOk, string_bytes, codes, sym, ap, subst, ◌∙◌, rules}
-use Rattle.net_pointers.specs.PlanShapes.{shape, fields_view}
+use Rattle.net_pointers.specs.PlanShapes.{shape}
 use Rattle.net_pointers.specs.Shapes.{fields_of}
 use Rattle.plan_texts.specs.ReadingLines.{object_words, shape_words}
 use Rattle.plan_texts.proofs.readings.shapes.shape_words.Goals as goal
