@@ -2,3 +2,4 @@ pub mod Drawn
 pub mod Traced
 pub mod ToldTexts
 pub mod Chains
+pub mod DoubledTold

@@ -226,14 +226,12 @@ fn part_after<'v, 't>(value: &'v Value<'t>, index: usize) -> Option<&'v Value<'t
     }
 }
 
-#[tactic(auto, using(crate::proofs::ToldTexts::part_of_items))]
 fn item_of<'v, 't>(items: &'v [Value<'t>], index: usize) -> Option<&'v Value<'t>>
     ensures { option_map (λ v. value_view v.now) result ≡ item_at index (items_view items.now) }
 {
     items.get(index)
 }
 
-#[tactic(auto, using(crate::proofs::ToldTexts::part_of_members))]
 fn member_of<'v, 't>(members: &'v [(&'t str, Value<'t>)], index: usize) -> Option<&'v Value<'t>>
     ensures { option_map (λ v. value_view v.now) result ≡ member_at index (members_view members.now) }
 {
@@ -244,7 +242,6 @@ fn member_of<'v, 't>(members: &'v [(&'t str, Value<'t>)], index: usize) -> Optio
 }
 
 /// The key of a member; an empty one past the end.
-#[tactic(auto, using(crate::proofs::ToldTexts::key_of_members, crate::proofs::ToldTexts::key_among_members))]
 fn key_at<'t>(members: &[(&'t str, Value<'t>)], index: usize) -> &'t str
     ensures at { result.now ≡ key_at index (members_view members.now) }
     ensures among { result.now ≡ get_or (keys (members_view members.now)) index [] }
