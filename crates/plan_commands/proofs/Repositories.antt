@@ -18,16 +18,6 @@ use Rattle.net_check.specs.MoveRules.{AcceptsMove}
 use Rattle.net_check.proofs.Accepted.{accepted_orders, move_orders}
 use Rattle.net_check.proofs.ByPlace.{by_place_length, is_lawful}
 
-prefix_len_map : {A B : Type 0} (q : B → Bool) (g : A → B) (xs : List A) → prefix_len q (map g xs) ≡ prefix_len (λ x. q (g x)) xs
-prefix_len_map q g [] = refl
-prefix_len_map q g (x ∷ xs) = ap (λ n. cond (q (g x)) (1 + n) 0) (prefix_len_map q g xs)
-
--- where a list's values are looked through, the list is
-pub position_map : {A B : Type 0} (p : B → Bool) (g : A → B) (xs : List A) → position p (map g xs) ≡ position (λ x. p (g x)) xs
-position_map p g xs =
-    ap (λ n. cond (nat_lt n (length (map g xs))) (Some n) None) (prefix_len_map (λ y. not (p y)) g xs)
-    ∙ ap (λ m. cond (nat_lt (position_or_len (λ x. p (g x)) xs) m) (Some (position_or_len (λ x. p (g x)) xs)) None) (length-map xs g)
-
 -- where the first of a list stands, the list is one longer
 position_more : (here : Bool) (n l : ℕ) → cond (nat_lt (cond (not here) (1 + n) 0) (suc l)) (Some (cond (not here) (1 + n) 0)) None
     ≡ cond here (Some 0) (option_map suc (cond (nat_lt n l) (Some n) None))

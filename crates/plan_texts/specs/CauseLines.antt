@@ -157,8 +157,8 @@ no_such_port_text row name port count =
 
 -- where a row leads by a port
 abbrev pub led_by_port_line : (row name port next : List ℕ) → List ℕ
-led_by_port_line row name port next = codes "Row " ++ (row ++ (codes " of " ++ (name ++ (codes " leads by port " ++ (port
-    ++ (codes " to " ++ (next ++ codes ".\n")))))))
+led_by_port_line row name port next = codes "Row " ++ (row ++ (codes " of " ++ (name ++ (codes " leads by port "
+    ++ (port ++ (codes " to " ++ (next ++ codes ".\n")))))))
 
 -- the next node is not on the port's bus
 abbrev pub off_bus_line : (bus next : List ℕ) → List ℕ
