@@ -4,4 +4,4 @@ use Rattle.net_check.specs.Repositories.{terminus_of}
 use Rattle.run_tests.proofs.tests.planned.is_alone.Given as goal
 
 abbrev pub invariant-loop-other : goal.invariant-loop-other
-invariant-loop-other l = (m : ℕ) → m < l.other → m ≢ l.place → terminus_of l.plan m ≡ None
+invariant-loop-other l = (m : ℕ) → m < l.other → m ≢ l.index → terminus_of l.plan m ≡ None
