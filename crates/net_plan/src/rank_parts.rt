@@ -150,6 +150,7 @@ impl<'t> RanksParts<'t> {
         Some(())
     }
 
+    #[inline(never)]
     fn take_ranges(&mut self, alloc: Global, reader: &mut Reader<'_>, depth: usize) -> Option<()>
         ensures { IfSome result (λ _. IsMore depth (codes "ranges") reader.old reader.new (AreRanksParts self.old) (AreRanksParts self.new)) }
     {

@@ -74,6 +74,7 @@ impl<'t> NodeParts<'t> {
         }
     }
 
+    #[inline(never)]
     fn take_rows(&mut self, alloc: Global, reader: &mut Reader<'t>, depth: usize) -> Option<()>
         ensures { IfSome result (λ _. IsMore depth (codes "rows") reader.old reader.new (AreNodeParts self.old) (AreNodeParts self.new)) }
     {
@@ -326,7 +327,7 @@ fn placed(alloc: Global, nodes: &NameIndex, parts: Vec<CutParts<'_>>) -> Option<
     let mut rest = parts.into_iter();
     'parts: while let Some(part) = rest.next() {
         let CutParts { rows, terminus } = part;
-        let rows = found_rows(alloc, nodes, rows)?;
+        let rows = found_rows(alloc, nodes, rows.as_slice())?;
         if list.push(PlacedParts { rows, terminus }).is_err() {
             return None;
         }
@@ -336,18 +337,18 @@ fn placed(alloc: Global, nodes: &NameIndex, parts: Vec<CutParts<'_>>) -> Option<
 
 /// Rows that lead to nodes that this index finds. Rows that follow one another often lead to the same node, which is then
 /// looked up once.
-fn found_rows(alloc: Global, nodes: &NameIndex, rows: Vec<NamedRow<'_>>) -> Option<Vec<Row>>
-    ensures { IfSome result (λ v. map row_value v.items ≡ map (found_row (find_in nodes.now)) (map named_row rows.entry.items)) }
+#[inline(never)]
+fn found_rows(alloc: Global, nodes: &NameIndex, rows: &[NamedRow<'_>]) -> Option<Vec<Row>>
+    ensures { IfSome result (λ v. map row_value v.items ≡ map (found_row (find_in nodes.now)) (map named_row rows.now)) }
 {
     let Ok(mut list) = Vec::with_capacity(alloc, rows.len()) else {
         return None;
     };
     let mut last = None;
-    let mut rest = rows.into_iter();
-    'rows: while let Some(row) = rest.next() {
+    for row in rows {
         let next = find_after(nodes, last, row.next);
         last = Some(next);
-        if list.push(row_to(&row, next)).is_err() {
+        if list.push(row_to(row, next)).is_err() {
             return None;
         }
     }

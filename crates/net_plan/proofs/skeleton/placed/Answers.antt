@@ -4,7 +4,9 @@ use Rattle.net_plan.specs.NameIndexes.{find_in}
 use Rattle.net_plan.specs.NodeValues.{RowValue, terminus_value}
 use Rattle.net_plan.specs.declared.skeleton.CutParts.{CutParts}
 use Rattle.net_plan.specs.declared.skeleton.PlacedParts.{PlacedParts}
-use Rattle.net_plan.specs.Skeleton.{PlacedValue, found_value, cut_value, placed_value}
+use Rattle.net_plan.specs.RowParts.{named_row}
+use Rattle.net_plan.specs.declared.row_parts.NamedRow.{NamedRow}
+use Rattle.net_plan.specs.Skeleton.{PlacedValue, found_row, found_value, cut_value, placed_value}
 use Rattle.net_plan.proofs.StandIns.{made_moved, map_twice, none_left}
 use Rattle.net_plan.proofs.skeleton.placed.Goals as goal
 
@@ -20,8 +22,9 @@ parts-preserved c =
     let count = ap length step in
     let before = l.invariant.1 in
     let counted : into_iter_len c.next.new.self ≡ length left = omega arith in
+    let seen : c.as_slice.result.now ≡ part.rows.items = search rules in
     let made : PlacedParts = record { rows = c.in_ok-rows.rows; terminus = part.terminus } in
-    let same : placed_value made ≡ found_value (find_in c.args.nodes.now) (cut_value part) = ap (λ (rs : List RowValue). record { rows = rs; terminus = option_map terminus_value part.terminus }) c.in_ok-rows.ensures in
+    let same : placed_value made ≡ found_value (find_in c.args.nodes.now) (cut_value part) = ap (λ (rs : List RowValue). record { rows = rs; terminus = option_map terminus_value part.terminus }) (c.in_ok-rows.ensures ∙ ap (λ (rows : List NamedRow). map (found_row (find_in c.args.nodes.now)) (map named_row rows)) seen) in
     let pushed : c.push.new.self.items ≡ l.list.items ++ made ∷ [] = search rules in
     (made_moved f placed_value (map f all) l.list.items made part left (l.invariant.0 ∙ ap (λ xs. map placed_value l.list.items ++ map f xs) step) same ∙ ap (λ xs. map placed_value xs ++ map f left) (sym pushed), counted)
 
