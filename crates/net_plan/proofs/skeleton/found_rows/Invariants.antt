@@ -1,5 +1,5 @@
 -- What was made stands before what is left.
-use Rattle.std.proofs.Common.{◌≡◌, ◌++◌, map, length, drop}
+use Rattle.std.proofs.Common.{◌≡◌, ◌++◌, map, drop}
 use Rattle.std.specs.Prelude.{IfSome}
 use Rattle.net_plan.specs.NameIndexes.{find_in}
 use Rattle.net_plan.specs.NodeValues.{row_value}
