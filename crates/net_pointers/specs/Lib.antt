@@ -11,6 +11,8 @@ pub mod PlanTroubles
 pub mod CertificateTroubles
 pub mod Ascending
 pub mod Positions
+pub mod PartTokens
+pub mod Paths
 pub mod Offsets
 pub mod TextTroubles
 pub mod Nearest

@@ -10,11 +10,13 @@ mod nearest;
 mod offset;
 mod own;
 mod part;
+mod path;
 mod plans;
 mod position;
 mod ranges;
 mod syntax;
 mod texts;
+mod tokens;
 
 pub use certificates::{CertificateList, CertificateTrouble, certificate_trouble, list_key};
 pub use doubled::{DoubledKey, TwoIndices, doubled_key, first_doubled};

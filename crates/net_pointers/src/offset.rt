@@ -1,26 +1,28 @@
 //! Where in a text the value stands that has a fault.
-ghost use Rattle.std.specs.Prelude.{◌≡◌, IfSome, IsTrue, Some};
+ghost use Rattle.std.specs.Prelude.{◌≡◌, IfSome, IsTrue, Some, map};
+ghost use Rattle.json.specs.Lex.{tokens};
 ghost use Rattle.net_plan.specs.Trees.{view};
-ghost use Rattle.net_pointers.specs.Offsets.{BeginsWithFault, BeginsThere};
+ghost use Rattle.net_pointers.specs.Offsets.{BeginsWithFault, BeginsThere, is_mark, AreTokensFrom, PartStandsAt, LeadsTo, LeadsToKey};
 ghost use Rattle.net_pointers.specs.KnownNames.{known_seen};
 ghost use Rattle.net_pointers.specs.PlanShapes.{shape, shape_among};
 ghost use Rattle.net_pointers.specs.Shapes.{own_fault};
+ghost use Rattle.net_pointers.specs.Views.{step_value};
 
 use crate::found::{Found, PointerStep};
 use crate::known::KnownNames;
 use crate::own::own_fault;
-use json::{Reader, Scratch, Token, Value};
+use crate::path::path_of;
+use crate::tokens::{MOST_DEPTH, enter_object, follow, have_same_tokens};
+use json::{Reader, Scratch, Value};
 use net_plan::json_of;
 use std::alloc::Global;
 
-/// How deep arrays and objects may nest.
-const MOST_DEPTH: usize = 127;
-
 /// The offset at which the value begins that has a fault. `None` where it isn't found, or memory ran out.
 ///
-/// What begins there is read once more, and has the fault. That it is the value of the pointer is left to tests.
+/// The pointer leads to what begins there. That is read once more, and has the fault.
 pub fn offset_of(alloc: Global, text: &[u8], found: &Found) -> Option<usize>
-    ensures { IfSome result (λ offset. BeginsThere text.now offset (shape found.now.part) found.now.fault) }
+    ensures begins { IfSome result (λ offset. BeginsThere text.now offset (shape found.now.part) found.now.fault) }
+    ensures leads { IfSome result (λ offset. LeadsTo text.now (map step_value found.now.pointer.items) offset) }
 {
     offset_among(alloc, None, text, found)
 }
@@ -32,10 +34,11 @@ pub fn offset_among(
     text: &[u8],
     found: &Found,
 ) -> Option<usize>
-    ensures { IfSome result (λ offset. BeginsThere text.now offset (shape_among (known_seen known.entry) found.now.part) found.now.fault) }
+    ensures begins { IfSome result (λ offset. BeginsThere text.now offset (shape_among (known_seen known.entry) found.now.part) found.now.fault) }
+    ensures leads { IfSome result (λ offset. LeadsTo text.now (map step_value found.now.pointer.items) offset) }
 {
     let offset = offset_of_pointer(alloc, text, found.pointer.as_slice())?;
-    if offset > text.len() || !begins_with_fault(alloc, known, &text[offset..], found) {
+    if !begins_with_fault(alloc, known, &text[offset..], found) {
         return None;
     }
     Some(offset)
@@ -78,34 +81,64 @@ fn has_fault(
     }
 }
 
-/// Where the value of a pointer begins. Nothing is proved of it but that it ends.
-pub fn offset_of_pointer(alloc: Global, text: &[u8], pointer: &[PointerStep]) -> Option<usize> {
-    let mut tree = Scratch::new(alloc);
-    let root = json_of(alloc, text, &mut tree).ok()?;
+/// Where the value of a pointer begins. `None` where it isn't found, or memory ran out.
+#[tactic(auto, using(crate::proofs::Offsets::pointer_leads))]
+pub fn offset_of_pointer(alloc: Global, text: &[u8], pointer: &[PointerStep]) -> Option<usize>
+    ensures { IfSome result (λ offset. LeadsTo text.now (map step_value pointer.now) offset) }
+{
     let mut scratch = Scratch::new(alloc);
-    let mut reader = Reader::new(simdutf8::compat::from_utf8(text).ok()?, &mut scratch).ok()?;
-    let mut value = &root;
-    for step in pointer {
-        let (index, part) = part_of(value, *step)?;
-        enter(&mut reader, index)?;
-        value = part;
-    }
-    next_offset(text, reader.offset())
+    let tree = json_of(alloc, text, &mut scratch).ok()?;
+    let path = path_of(alloc, &tree, pointer)?;
+    offset_of_part(alloc, text, path.as_slice())
 }
 
-/// Where the key of a member of an object stands, by the path to the object. Nothing is proved of it but that it ends.
-pub fn offset_of_key(alloc: Global, text: &[u8], path: &[usize], member: usize) -> Option<usize> {
+/// Where the part begins to which a path of indices leads.
+fn offset_of_part(alloc: Global, text: &[u8], path: &[usize]) -> Option<usize>
+    ensures { IfSome result (λ offset. PartStandsAt text.now path.now offset) }
+{
     let mut scratch = Scratch::new(alloc);
     let mut reader = Reader::new(simdutf8::compat::from_utf8(text).ok()?, &mut scratch).ok()?;
-    for index in path {
-        enter(&mut reader, *index)?;
+    follow(&mut reader, path)?;
+    offset_left(alloc, text, &mut reader)
+}
+
+/// Where the key of a member of an object begins, by the path to the object. `None` where it isn't found, or memory ran
+/// out.
+pub fn offset_of_key(alloc: Global, text: &[u8], path: &[usize], member: usize) -> Option<usize>
+    ensures { IfSome result (λ offset. LeadsToKey text.now path.now member offset) }
+{
+    let mut scratch = Scratch::new(alloc);
+    let mut reader = Reader::new(simdutf8::compat::from_utf8(text).ok()?, &mut scratch).ok()?;
+    follow(&mut reader, path)?;
+    enter_object(&mut reader, member)?;
+    offset_left(alloc, text, &mut reader)
+}
+
+/// Where the tokens begin that a reader of the text has left.
+///
+/// `json` promises nothing of the offset that it tells. So the text is read from there on, and has the same tokens.
+fn offset_left(alloc: Global, text: &[u8], reader: &mut Reader<'_>) -> Option<usize>
+    ensures { IfSome result (λ offset. AreTokensFrom text.now offset reader.old) }
+{
+    let offset = next_offset(text, reader.offset())?;
+    if is_mark(*text.get(offset)?) || !are_left(alloc, &text[offset..], reader) {
+        return None;
     }
-    reader.next()?;
-    for _ in 0..member {
-        reader.next_key().ok()??;
-        reader.skip_value(MOST_DEPTH).ok()?;
-    }
-    next_offset(text, reader.offset())
+    Some(offset)
+}
+
+/// Whether the tokens that a reader has left are those of a text.
+fn are_left(alloc: Global, text: &[u8], reader: &mut Reader<'_>) -> bool
+    ensures { IsTrue result → reader.old ≡ tokens text.now }
+{
+    let Ok(text) = simdutf8::compat::from_utf8(text) else {
+        return false;
+    };
+    let mut scratch = Scratch::new(alloc);
+    let Ok(mut other) = Reader::new(text, &mut scratch) else {
+        return false;
+    };
+    have_same_tokens(reader, &mut other)
 }
 
 /// Where the next value, key or bracket begins.
@@ -115,39 +148,8 @@ fn next_offset(text: &[u8], offset: usize) -> Option<usize> {
 }
 
 /// White space, a colon or a comma.
-fn is_mark(byte: u8) -> bool {
+fn is_mark(byte: u8) -> bool
+    ensures { result ≡ is_mark byte }
+{
     matches!(byte, b' ' | b'\t' | b'\n' | b'\r' | b':' | b',')
-}
-
-/// The part of a value that a step leads to, and how many parts stand before it. Of a key that stands twice it is the
-/// last.
-fn part_of<'v, 't>(value: &'v Value<'t>, step: PointerStep) -> Option<(usize, &'v Value<'t>)> {
-    match (value, step) {
-        (Value::Array(items), PointerStep::Index(index)) => Some((index, items.get(index)?)),
-        (Value::Object(members), PointerStep::Key(key)) => {
-            let index = members.iter().rposition(|member| member.0 == key)?;
-            Some((index, &members.get(index)?.1))
-        }
-        _ => None,
-    }
-}
-
-/// Goes into a list or an object, past so many of its parts.
-fn enter(reader: &mut Reader<'_>, count: usize) -> Option<()> {
-    match reader.next()? {
-        Token::BeginArray => {
-            for _ in 0..count {
-                reader.skip_value(MOST_DEPTH).ok()?;
-            }
-        }
-        Token::BeginObject => {
-            for _ in 0..count {
-                reader.next_key().ok()??;
-                reader.skip_value(MOST_DEPTH).ok()?;
-            }
-            reader.next_key().ok()??;
-        }
-        _ => return None,
-    }
-    Some(())
 }
