@@ -209,7 +209,7 @@ pub fn places_at(certificate: &Certificate, node: usize) -> &[RecordPlace]
 }
 
 /// The ranges that give a node its ranks, none where the certificate gives it no rank.
-pub(crate) fn ranges_at(certificate: &Certificate, node: usize) -> &[RankRange]
+pub fn ranges_at(certificate: &Certificate, node: usize) -> &[RankRange]
     ensures { result.now ≡ ranges_of certificate.now node }
 {
     match certificate.ranks.iter().find(|given| given.node == node) {
@@ -219,7 +219,7 @@ pub(crate) fn ranges_at(certificate: &Certificate, node: usize) -> &[RankRange]
 }
 
 /// The rank that a node's ranges give an endpoint ID.
-pub(crate) fn rank_in_ranges(ranges: &[RankRange], eid: u8) -> u8
+pub fn rank_in_ranges(ranges: &[RankRange], eid: u8) -> u8
     ensures { result ≡ rank_in ranges.now eid }
 {
     ranges

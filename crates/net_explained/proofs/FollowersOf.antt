@@ -1,11 +1,11 @@
 -- Where each record has a handle of its own, the table of followers has the moves along next handles.
-use Rattle.std.proofs.Common.{◌≡◌, ℕ, zero, suc, ◌<◌, Bool, true, false, eqb, List, length, get_or, Option, Some, None, refl, sym, ◌∙◌, ap, subst, arith, inl, inr}
+use Rattle.std.proofs.Common.{◌≡◌, ℕ, suc, ◌<◌, Bool, true, eqb, List, length, get_or, Option, Some, None, refl, sym, ◌∙◌, ap, subst, arith, inl, inr}
 use Rattle.std.specs.Prelude.{slice_get, position, option_and_then, option_map}
 use Rattle.std.specs.List.{position_or_len}
 use Rattle.std.proofs.lemmas.Bool.{cases_lt, false≢true, lt-ltb, eqb-true, eq-eqb}
 use Rattle.std.proofs.lemmas.List.Sums.{fails_before_first}
 use Rattle.std.proofs.lemmas.List.Quantifiers.{position-Some}
-use Rattle.std.proofs.lemmas.Option.{same_Some, none-some, slice_get-map, slice_get-get_or, get_or_from_slice_get, slice_get_within, option_and_then_some}
+use Rattle.std.proofs.lemmas.Option.{none-some, slice_get-map, slice_get-get_or, get_or_from_slice_get, slice_get_within}
 use Rattle.net_plan.specs.declared.terminus.PlannedRecord.{PlannedRecord}
 use Rattle.net_check.specs.Circles.{MovesBy, IsOnCircle, IsLoopFrom, next_in}
 use Rattle.net_check.specs.RecordChains.{IsFollowedBy, HaveNewHandles}

@@ -1,5 +1,5 @@
 -- Searches for one thing that are searches for another.
-use Rattle.std.proofs.Common.{ℕ, ◌<◌, Option, Some, None}
+use Rattle.std.proofs.Common.{ℕ, Option, Some, None}
 use Rattle.mctp_transport.specs.declared.address.Eid.{Eid}
 use Rattle.net_explained.specs.Searches.{IsLeastEid}
 

@@ -10,7 +10,7 @@ use Rattle.net_plan.specs.declared.nodes.Row.{Row}
 use Rattle.net_plan.specs.declared.terminus.PlannedRecord.{PlannedRecord}
 use Rattle.net_check.specs.declared.rule.Rule.TheVariants.{C01, C02, C03, C04, C05, C06, C07, C08}
 use Rattle.net_check.specs.declared.rule.Rule.TheVariants.{C09, C11, C12, C13, C15}
-use Rattle.net_check.specs.Routing.{rows_of, Holds, Covers, HasRow, IsBridge}
+use Rattle.net_check.specs.Routing.{Holds, Covers, HasRow, IsBridge}
 use Rattle.net_check.specs.Names.{HaveOneName}
 use Rattle.net_check.specs.Rows.{IsInRange, IsOnBus, bus_of}
 use Rattle.net_check.specs.Owners.{IsOwnedBy, owner_of, ShareBus}

@@ -1,11 +1,11 @@
 //! Between which nodes a certificate allows most hops.
 ghost use Rattle.std.specs.Prelude.{◌≡◌, ◌<◌, ◌≤◌, length};
-ghost use Rattle.net_check.specs.Ranks.{rank, rank_in};
+ghost use Rattle.net_check.specs.Ranks.{rank};
 ghost use Rattle.net_explained.specs.Hops.{IsMostHops, IsFirstOfMost, certified_hops, hops_of};
 
 use mctp_transport::Eid;
-use net_check::lookup::eid_at;
-use net_plan::{Certificate, Plan, RankRange};
+use net_check::lookup::{eid_at, ranges_at, rank_in_ranges};
+use net_plan::{Certificate, Plan};
 
 /// Two nodes, by their indexes in the plan's list, and how many hops a certificate allows a packet from the one to the
 /// other, 1 to 255.
@@ -86,19 +86,5 @@ fn certified_hops(plan: &Plan, certificate: &Certificate, from: usize, to: usize
 pub fn rank_of(certificate: &Certificate, node: usize, eid: Eid) -> u8
     ensures { result ≡ rank certificate.now node eid.value }
 {
-    match certificate.ranks.iter().find(|given| given.node == node) {
-        Some(given) => rank_in(&given.ranges, eid.value),
-        None => 0,
-    }
-}
-
-/// The rank that a node's ranges give an endpoint ID.
-fn rank_in(ranges: &[RankRange], eid: u8) -> u8
-    ensures { result ≡ rank_in ranges.now eid }
-{
-    ranges
-        .iter()
-        .find(|range| range.first.value <= eid
-            && u16::from(eid) < u16::from(range.first.value) + u16::from(range.size))
-        .map_or(0, |range| range.rank)
+    rank_in_ranges(ranges_at(certificate, node), eid.value)
 }

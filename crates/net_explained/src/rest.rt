@@ -1,5 +1,5 @@
 //! What a row covers alone.
-ghost use Rattle.std.specs.Prelude.{◌≡◌, ◌≢◌, ℕ, ◌+◌, ◌≤◌, ◌↔◌, IsTrue};
+ghost use Rattle.std.specs.Prelude.{◌≢◌, ℕ, ◌+◌, ◌≤◌, ◌↔◌, IsTrue};
 ghost use Rattle.net_explained.specs.Rows.{CoversAt};
 ghost use Rattle.net_explained.specs.Rests.{IsOnlyIn, IsRest};
 ghost use Rattle.net_explained.specs.Searches.{IsLeastEid};

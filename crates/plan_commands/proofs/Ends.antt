@@ -7,8 +7,9 @@ use Rattle.std.specs.Str.Parse.{digits_value, ParsesUnsigned}
 use Rattle.std.proofs.lemmas.Option.{none-some}
 use Rattle.std.proofs.lemmas.Str.Parse.{IsNumeralModel, numerals_by_value, parse_digits}
 use Rattle.mctp_transport.specs.declared.address.Eid.{Eid}
+use Rattle.net_check.specs.Faults.{eid_number}
 use Rattle.net_check.specs.Names.{name_of}
-use Rattle.net_check.specs.Routing.{node_at, eid_of, Holds}
+use Rattle.net_check.specs.Routing.{node_at, eid_of}
 use Rattle.net_plan.specs.declared.nodes.Node.{Node}
 use Rattle.net_plan.specs.declared.plan.Plan.{Plan}
 use Rattle.plan_commands.specs.Walking.{IsFirstNamed}
@@ -27,10 +28,10 @@ unnamed None word none named = none-some word named
 unnamed (Some node) word none named = none-some node.eid.value (sym none)
 
 pub by_name : (plan : Plan) (word : List ℕ) (place : ℕ) (result : Option Eid) → IsFirstNamed plan word place
-    → MatchOption result (eid_of plan place ≡ None) (λ (eid : Eid). Holds plan place eid.value)
+    → eid_number result ≡ eid_of plan place
     → MatchOption result ((e : ℕ) → ¬ IsDestination plan word e) (λ (eid : Eid). IsDestination plan word eid.value)
-by_name plan word place None first none = absurd (unnamed (node_at plan place) word none first.named)
-by_name plan word place (Some eid) first holds = inl (place, first, holds)
+by_name plan word place None first held = absurd (unnamed (node_at plan place) word (sym held) first.named)
+by_name plan word place (Some eid) first held = inl (place, first, sym held)
 
 pub by_number : (plan : Plan) (word : List ℕ) (result : Option Eid) → ((n : ℕ) → name_of plan n ≢ Some word)
     → MatchOption result ((e : ℕ) → ¬ IsEidWord word e) (λ (eid : Eid). IsEidWord word eid.value)

@@ -14,7 +14,7 @@ use Rattle.plan_commands.specs.declared.refused.Refused.{Refused}
 use Rattle.plan_commands.specs.declared.refused.Refused.TheVariants as refused
 use Rattle.plan_commands.specs.declared.status.Status.{Status}
 use Rattle.plan_commands.specs.declared.status.Status.TheVariants as status
-use Rattle.plan_commands.specs.Answers.{Stream, AreGiven, GavePlan, GaveCertificate}
+use Rattle.plan_commands.specs.Answers.{Stream, GavePlan, GaveCertificate}
 use Rattle.plan_commands.specs.Explaining.{IsExplained, ExplainsSo, IsExplainAnswer, Explains}
 use Rattle.plan_commands.specs.Explaining.{IsBothExplained, IsExplainedWith, ExplainsWithSo, IsCertifiedAnswer, ExplainsWith, IsFaultExplained, IsRemedyTold, remedy_text}
 use Rattle.plan_commands.specs.UnreadTexts.{IsNoPlanBy, IsNoCertificateBy, IsUnreadText, IsUnreadCertificateText}

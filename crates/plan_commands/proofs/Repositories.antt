@@ -1,7 +1,7 @@
 -- Records one place after another.
 use Rattle.std.proofs.Common.{◌≡◌, ◌≢◌, ℕ, zero, suc, ◌+◌, Bool, cond, ◌==◌, ◌<◌, List, [], ◌∷◌, ◌++◌, length, map, take, get_or, true, false, position, Option, Some, None, Result, Ok, Err, refl, sym, ◌∙◌, ap, subst, add-one, add-zero, arith, inl, inr, Bor}
 use Rattle.std.specs.Prelude.{◌≤◌, not, nat_lt, option_map, unwrap_or, IfOk}
-use Rattle.std.specs.List.{prefix_len, position_or_len, cons_option, filter_map, range_with_len}
+use Rattle.std.specs.List.{position_or_len, cons_option, filter_map, range_with_len}
 use Rattle.std.specs.Option.{option_or, option_to_list}
 use Rattle.std.proofs.lemmas.Bool.{cond-true, cond-false, lt-ltb, le-ltb, cases_lt}
 use Rattle.std.proofs.lemmas.List.{length-map, length-take-le, map-append, take_more}

@@ -1,5 +1,5 @@
 -- What the end of `walk` says of the plan and the certificate that it read, and of what it wrote.
-use Rattle.std.specs.Prelude.{◌≡◌, ◌≢◌, ◌<◌, ◌-◌, ℕ, List, ◌++◌, length, Some, None, sum_by, ⊤}
+use Rattle.std.specs.Prelude.{◌≡◌, ◌≢◌, ◌<◌, ℕ, List, ◌++◌, length, Some, None, sum_by, ⊤}
 use Rattle.std.specs.Io.KnownBytes.{Appends}
 use Rattle.std.specs.List.{flat_map}
 use Rattle.net_check.specs.declared.fault.Fault.{Fault}

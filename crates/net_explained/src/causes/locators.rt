@@ -4,7 +4,6 @@ ghost use Rattle.net_check.specs.Routing.{Holds};
 ghost use Rattle.net_check.specs.Repositories.{terminus_of};
 ghost use Rattle.net_check.specs.Locators.{IsEidLocator, HasOneByteAsEid, IsHeldByTerminus};
 ghost use Rattle.net_check.specs.declared.rule.Rule.TheVariants.{C15};
-ghost use Rattle.net_explained.specs.declared.cause.Cause.TheVariants.{NobodyHolds, OtherTerminus};
 ghost use Rattle.net_explained.specs.Causes.{IsCauseAt};
 
 use crate::cause::Cause;

@@ -1,7 +1,7 @@
 //! C08 and C09: whose pool an endpoint ID should lie in and doesn't, or shouldn't and does, and what is wrong with a
 //! node's own pool.
-ghost use Rattle.std.specs.Prelude.{◌≡◌, ℕ, ◌+◌, ◌<◌, ◌≤◌, ◌↔◌, IsTrue, Some, None, MatchOption};
-ghost use Rattle.net_check.specs.Routing.{Holds, IsBridge};
+ghost use Rattle.std.specs.Prelude.{◌≡◌, ℕ, ◌+◌, ◌≤◌, ◌↔◌, IsTrue, Some, None, MatchOption};
+ghost use Rattle.net_check.specs.Routing.{IsBridge};
 ghost use Rattle.net_check.specs.Owners.{owner_of, IsOwnedBy};
 ghost use Rattle.net_check.specs.Pools.{pool_of, IsInPool, IsInPoolOf, IsInOwnersPool, IsPoolInRange, LiesInOwnersPool};
 ghost use Rattle.net_check.specs.declared.rule.Rule.TheVariants.{C08, C09};

@@ -1,5 +1,5 @@
 //! C11: why a row leads what another node holds nowhere.
-ghost use Rattle.std.specs.Prelude.{◌≡◌, ◌≢◌, ℕ, ◌↔◌, ◌⊎◌, ⊤, IsTrue, Some, None, MatchOption};
+ghost use Rattle.std.specs.Prelude.{◌≢◌, ◌↔◌, ◌⊎◌, ⊤, IsTrue, Some, MatchOption};
 ghost use Rattle.net_check.specs.Routing.{Holds, IsBridge, HasRow};
 ghost use Rattle.net_check.specs.TwoPlans.{one_plan};
 ghost use Rattle.net_check.specs.HeldEids.{IsLedOn};

@@ -1,5 +1,5 @@
 //! The command `explain`: what `certify` answers of a plan, and why.
-ghost use Rattle.std.specs.Prelude.{◌≡◌, ◌⊎◌, ◌<◌, ◌^◌, ◌-◌, ◌++◌, IfOk, IfErr, string_bytes};
+ghost use Rattle.std.specs.Prelude.{◌≡◌, ◌⊎◌, ◌<◌, ◌^◌, ◌-◌, IfOk, IfErr, string_bytes};
 ghost use Rattle.std.specs.Cow.{cow_str_bytes};
 ghost use Rattle.net_check.specs.Certificates.{NamesObstacle, RulesOutCertificates};
 ghost use Rattle.plan_commands.specs.declared.status.Status.TheVariants.{Yes, Fault, NoMemory};

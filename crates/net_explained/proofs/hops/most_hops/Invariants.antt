@@ -1,4 +1,4 @@
-use Rattle.std.proofs.Common.{ℕ, ◌<◌, length}
+use Rattle.std.proofs.Common.{◌<◌, length}
 use Rattle.net_explained.specs.Hops.{IsFirstOfMost, certified_hops}
 use Rattle.net_explained.proofs.hops.most_hops.Given as goal
 

@@ -1,4 +1,4 @@
-use Rattle.std.proofs.Common.{◌≡◌, ℕ, ◌<◌}
+use Rattle.std.proofs.Common.{◌≡◌, ◌<◌}
 use Rattle.net_explained.specs.Hops.{IsFirstOfMost, certified_hops}
 use Rattle.net_explained.proofs.hops.most_hops_from.Given as goal
 

@@ -7,6 +7,7 @@ ghost use Rattle.net_check.specs.Termini.{terminus_at_start};
 ghost use Rattle.net_sim.specs.Dealing.{resting, planned_termini};
 
 use crate::commands::repositories::records_by_place;
+use net_check::lookup::terminus_at;
 use net_plan::{Certificate, Plan};
 use pdr_repository::BlockTerminus;
 use pldm_message::Tid;
@@ -65,11 +66,5 @@ fn planned_terminus(
 fn tid_at(plan: &Plan, node: usize) -> Option<Tid>
     ensures { option_map (λ tid. tid.value) result ≡ option_map (λ t. t.tid) (terminus_of plan.now node) }
 {
-    match plan.nodes.get(node) {
-        Some(node) => match &node.terminus {
-            Some(terminus) => Some(Tid::new(terminus.tid)),
-            None => None,
-        },
-        None => None,
-    }
+    Some(Tid::new(terminus_at(plan, node)?.tid))
 }

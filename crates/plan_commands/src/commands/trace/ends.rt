@@ -1,14 +1,14 @@
 //! The ends of a way, by the words that name them.
-ghost use Rattle.std.specs.Prelude.{◌≡◌, ℕ, None, MatchOption};
+ghost use Rattle.std.specs.Prelude.{◌≡◌, ℕ, MatchOption};
 ghost use Rattle.std.specs.Char.{is_ascii_digit};
 ghost use Rattle.std.specs.List.{list_all};
 ghost use Rattle.mctp_transport.specs.Frames.{IsAssignable};
-ghost use Rattle.net_check.specs.Routing.{Holds, eid_of};
 ghost use Rattle.plan_commands.specs.Walking.{IsFirstNamed};
 ghost use Rattle.plan_commands.specs.Tracing.{IsEidWord, IsDestination, NameTheEnds};
 
 use crate::commands::naming::first_named;
 use mctp_transport::Eid;
+use net_check::lookup::eid_at;
 use net_plan::Plan;
 
 /// The index of the node that the one word names, and the endpoint ID that the other word names.
@@ -31,13 +31,6 @@ fn destination(plan: &Plan, word: &str) -> Option<Eid>
         Some(index) => eid_at(plan, index),
         None => eid_of_word(word),
     }
-}
-
-/// The endpoint ID of the node at an index.
-fn eid_at(plan: &Plan, index: usize) -> Option<Eid>
-    ensures { MatchOption result (eid_of plan.now index ≡ None) (λ eid. Holds plan.now index eid.value) }
-{
-    Some(plan.nodes.get(index)?.eid)
 }
 
 /// The endpoint ID whose number the word is in ASCII digits, if it can be assigned.

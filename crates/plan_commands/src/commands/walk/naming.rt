@@ -1,9 +1,10 @@
 //! The terminus that a node's name stands for.
-ghost use Rattle.std.specs.Prelude.{◌≡◌, Some, None, MatchOption};
+ghost use Rattle.std.specs.Prelude.{◌≡◌, Some, MatchOption};
 ghost use Rattle.net_check.specs.Repositories.{terminus_of};
 ghost use Rattle.plan_commands.specs.Walking.{IsTerminusNamed, HasTerminusNamed};
 
 use crate::commands::naming::first_named;
+use net_check::lookup::terminus_at;
 use net_plan::{Plan, PlannedTerminus};
 
 /// The terminus of the first node of the name, if it has one, and the index of that node.
@@ -15,11 +16,4 @@ pub fn named_terminus<'a>(plan: &'a Plan, name: &str) -> Option<(usize, &'a Plan
     let index = first_named(plan, name)?;
     let terminus = terminus_at(plan, index)?;
     Some((index, terminus))
-}
-
-/// The terminus of the node at an index.
-fn terminus_at(plan: &Plan, index: usize) -> Option<&PlannedTerminus>
-    ensures { MatchOption result (terminus_of plan.now index ≡ None) (λ terminus. terminus_of plan.now index ≡ Some terminus.now) }
-{
-    plan.nodes.get(index)?.terminus.as_ref()
 }

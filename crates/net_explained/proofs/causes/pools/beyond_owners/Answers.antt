@@ -1,4 +1,4 @@
-use Rattle.std.proofs.Common.{◌≡◌, ℕ, Some, sym, ◌∙◌, subst}
+use Rattle.std.proofs.Common.{ℕ, ◌∙◌, subst}
 use Rattle.std.proofs.lemmas.Option.{same_Some}
 use Rattle.net_check.specs.Pools.{IsInPool, IsInPoolOf, LiesInOwnersPool}
 use Rattle.net_explained.proofs.PoolFaults.{lies_in}

@@ -1,9 +1,9 @@
-use Rattle.std.proofs.Common.{◌≡◌, ℕ, ◌≤◌, Some, refl, sym, ◌∙◌, subst, arith, inl, inr}
+use Rattle.std.proofs.Common.{ℕ, ◌≤◌, refl, sym, ◌∙◌, subst, arith, inl, inr}
 use Rattle.std.proofs.lemmas.Bool.{cases_lt}
 use Rattle.std.proofs.lemmas.Option.{same_Some, none-some}
 use Rattle.net_plan.specs.declared.nodes.Row.{Row}
 use Rattle.net_check.specs.Routing.{rows_of, IsBridge}
-use Rattle.net_check.specs.Rows.{bus_of, IsOnBus, IsJoined, NamesNeighbor}
+use Rattle.net_check.specs.Rows.{IsOnBus, IsJoined, NamesNeighbor}
 use Rattle.net_explained.proofs.Items.{not_of_item}
 use Rattle.net_explained.proofs.causes.rows.no_neighbor_in.Goals as goal
 
