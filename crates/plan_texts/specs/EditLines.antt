@@ -76,7 +76,8 @@ or_line owners = codes "Edit: or " ++ owners
 abbrev pub owned_eid_edit_text : (name owner eid : List ℕ) → Option Pool → List ℕ
 owned_eid_edit_text name owner eid None = codes "Edit: " ++ owners_pool_text owner eid
 owned_eid_edit_text name owner eid (Some pool) =
-    free_eid_line name (span_text pool.first.value pool.size) ++ or_line (owners_pool_text owner eid)
+    if pool.size == 0 then codes "Edit: " ++ owners_pool_text owner eid
+    else free_eid_line name (span_text pool.first.value pool.size) ++ or_line (owners_pool_text owner eid)
 
 abbrev pub peer_edit_text : (peer eid : List ℕ) → List ℕ
 peer_edit_text peer eid =

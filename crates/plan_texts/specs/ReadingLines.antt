@@ -1,5 +1,5 @@
 -- The lines that tell why a text doesn't read, and their parts.
-use Rattle.std.specs.Prelude.{◌+◌, ◌-◌, ◌==◌, ℕ, List, [], ◌∷◌, ◌++◌, length, take, count_by, codes, if◌then◌else◌}
+use Rattle.std.specs.Prelude.{◌+◌, ◌-◌, ◌==◌, nat_le, ℕ, List, [], ◌∷◌, ◌++◌, length, take, count_by, codes, if◌then◌else◌}
 use Rattle.std.specs.Prelude.{Option, Some, None}
 use Rattle.std.specs.Fmt.{decimal}
 use Rattle.std.specs.List.{flat_map, slice_get}
@@ -50,6 +50,14 @@ step_text (index i) = codes "/" ++ decimal i
 abbrev pub pointer_text : List Step → List ℕ
 pointer_text [] = codes "the whole text"
 pointer_text (s ∷ ss) = flat_map step_text (s ∷ ss)
+
+-- a space where one line of both parts, with a semicolon and a full stop, has at most 100 bytes, else a new line
+abbrev pub gap_between : List ℕ → List ℕ → List ℕ
+gap_between first second = if nat_le (length first + length second) 97 then codes " " else codes "\n"
+
+-- two parts of a sentence: on one line where they fit, and else on two
+abbrev pub joined : List ℕ → List ℕ → List ℕ
+joined first second = first ++ (codes ";" ++ (gap_between first second ++ (second ++ codes ".\n")))
 
 -- ---- what is wrong, and what would be right
 

@@ -5,7 +5,7 @@ use Rattle.std.specs.Str.{chars}
 
 -- the first characters of a text, one more than are shown
 abbrev pub first_characters : List ℕ → List ℕ
-first_characters text = take 41 (chars text)
+first_characters text = take 38 (chars text)
 
 -- a character behind a number or a word of JSON: a comma, a closing bracket, or white space
 abbrev pub ends_word : ℕ → Bool
@@ -26,13 +26,13 @@ ends_at cs k =
     if get_or cs 0 0 == 34 then ends_quoted cs k
     else (if get_or cs 0 0 == 91 || get_or cs 0 0 == 123 then ends_bracketed cs k else ends_word (get_or cs k 0))
 
--- So many characters are shown: at least one where there is one, at most 40, and fewer only where the text ends, or
--- where what begins there may end.
+-- So many characters are shown: at least one where there is one, at most 37, and fewer only where the text ends, or
+-- where what begins there may end. With three dots behind them they are at most 40.
 pub record IsShownLength (cs : List ℕ) (k : ℕ) : Type 0 where
   pub within : k ≤ length cs
-  pub few : k ≤ 40
+  pub few : k ≤ 37
   pub some : 0 < length cs → 0 < k
-  pub ends : (k ≡ 40) ⊎ ((k ≡ length cs) ⊎ (ends_at cs k ≡ true))
+  pub ends : (k ≡ 37) ⊎ ((k ≡ length cs) ⊎ (ends_at cs k ≡ true))
 
 -- three dots where more would follow
 abbrev pub dots_after : List ℕ → ℕ → List ℕ
@@ -51,6 +51,14 @@ IsShown text shown = IsShownOf (first_characters text) shown
 abbrev pub printable : ℕ → ℕ
 printable c = if nat_lt c 32 || c == 127 then 63 else c
 
--- a key as it is shown: its first 40 characters, none of them a control character
+-- the beginning of a key: its first 37 characters, none of them a control character
+abbrev pub key_beginning : List ℕ → List ℕ
+key_beginning k = encode_utf8_all (map printable (take 37 (chars k)))
+
+-- three dots where there are more characters than are shown
+abbrev pub key_dots : List ℕ → List ℕ
+key_dots cs = if nat_lt 37 (length cs) then codes "..." else []
+
+-- a key as it is shown
 abbrev pub shown_key : List ℕ → List ℕ
-shown_key k = encode_utf8_all (map printable (take 40 (chars k)))
+shown_key k = key_beginning k ++ key_dots (first_characters k)

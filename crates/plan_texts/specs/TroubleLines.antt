@@ -41,7 +41,7 @@ use Rattle.net_pointers.specs.declared.syntax.Wanted.{Wanted}
 use Rattle.net_pointers.specs.declared.syntax.Wanted.TheVariants as wanted
 use Rattle.net_pointers.specs.declared.texts.TextTrouble.{TextTrouble}
 use Rattle.net_pointers.specs.declared.texts.TextTrouble.TheVariants.{TooLong, NotJson, Plan, Certificate}
-use Rattle.plan_texts.specs.ReadingLines.{position_text, pointer_text, fault_words, number_noun, shape_words}
+use Rattle.plan_texts.specs.ReadingLines.{position_text, pointer_text, joined, fault_words, number_noun, shape_words}
 use Rattle.plan_texts.specs.Standing.{IsShown, shown_key}
 
 -- ---- no JSON
@@ -50,23 +50,27 @@ use Rattle.plan_texts.specs.Standing.{IsShown, shown_key}
 abbrev pub long_line : ℕ → List ℕ
 long_line count = codes "The text has " ++ (decimal count ++ codes " bytes; it may have 16777216.\n")
 
--- what may stand where a text stops being JSON
-abbrev pub wanted_words : Wanted → List ℕ
-wanted_words wanted.Value = codes "a value"
-wanted_words wanted.ValueOrEnd = codes "a value or ']'"
-wanted_words wanted.Key = codes "a key in quotes"
-wanted_words wanted.KeyOrEnd = codes "a key in quotes or '}'"
-wanted_words wanted.Colon = codes "':'"
-wanted_words wanted.CommaOrEndOfList = codes "',' or ']'"
-wanted_words wanted.CommaOrEndOfObject = codes "',' or '}'"
-wanted_words wanted.End = codes "the end of the text"
-wanted_words wanted.LessDepth = codes "a list or an object that 126 others or fewer surround"
+-- what may stand where a text stops being JSON; none where it nests too deep
+abbrev pub wanted_words : Wanted → Option (List ℕ)
+wanted_words wanted.Value = Some (codes "a value")
+wanted_words wanted.ValueOrEnd = Some (codes "a value or ']'")
+wanted_words wanted.Key = Some (codes "a key in quotes")
+wanted_words wanted.KeyOrEnd = Some (codes "a key in quotes or '}'")
+wanted_words wanted.Colon = Some (codes "':'")
+wanted_words wanted.CommaOrEndOfList = Some (codes "',' or ']'")
+wanted_words wanted.CommaOrEndOfObject = Some (codes "',' or '}'")
+wanted_words wanted.End = Some (codes "the end of the text")
+wanted_words wanted.LessDepth = None
+
+-- the line of a text that is UTF-8 and no JSON, by what may stand there
+abbrev pub syntax_line : List ℕ → Option (List ℕ) → List ℕ
+syntax_line position (Some words) = position ++ (codes "there may stand " ++ (words ++ codes ", and nothing else.\n"))
+syntax_line position None = position ++ codes "lists and objects nest 128 deep there, and 127 is the most.\n"
 
 -- where the text stops being JSON, and what may stand there
 abbrev pub json_line : List ℕ → JsonFault → List ℕ
 json_line text (NotUtf8 offset) = position_text text (Some offset) ++ codes "there the text is no UTF-8.\n"
-json_line text (Unreadable offset w) =
-    position_text text (Some offset) ++ (codes "there may stand " ++ (wanted_words w ++ codes ", and nothing else.\n"))
+json_line text (Unreadable offset w) = syntax_line (position_text text (Some offset)) (wanted_words w)
 
 -- ---- a value that is wrong in itself
 
@@ -120,8 +124,9 @@ IsWrongTold fs f d rest words = IsStandingTold f rest words
 
 -- where the value is, what is wrong with it, and what may stand there
 abbrev pub value_line : List ℕ → Option ℕ → Located → List ℕ → List ℕ
-value_line text offset l words = position_text text offset ++ (pointer_text l.pointer ++ (codes " " ++ (words
-    ++ (codes "; " ++ (shape_words (number_noun l.pointer) l.shape ++ codes ".\n")))))
+value_line text offset l words =
+    joined (position_text text offset ++ (pointer_text l.pointer ++ (codes " " ++ words)))
+    (shape_words (number_noun l.pointer) l.shape)
 
 -- the line of a value, with what is wrong with it
 abbrev pub IsLineOf : List ℕ → Located → Data → Option ℕ → Option (List ℕ) → List ℕ → Type 0
@@ -153,9 +158,13 @@ abbrev pub nearest_line : List (List ℕ) → Option ℕ → List ℕ
 nearest_line names (Some i) = codes "The nearest name is " ++ (get_or names i [] ++ codes ".\n")
 nearest_line names None = codes "No name is close to it.\n"
 
+abbrev pub missing_words : List ℕ → List ℕ
+missing_words noun = codes "no " ++ (noun ++ codes " has that name")
+
 abbrev pub unknown_line : List ℕ → Option ℕ → List Step → List ℕ → List ℕ → List ℕ
-unknown_line text offset pointer name noun = position_text text offset ++ (pointer_text pointer ++ (codes " is "
-    ++ (name ++ (codes ", and no " ++ (noun ++ codes " has that name.\n")))))
+unknown_line text offset pointer name noun =
+    joined (position_text text offset ++ (pointer_text pointer ++ (codes " is " ++ name)))
+    (missing_words noun)
 
 -- The lines tell of a name in the data that is none of these: where it stands, and the nearest of them, where one is
 -- close.
@@ -221,7 +230,7 @@ name_line pointer name = pointer_text pointer ++ (codes " is " ++ (name ++ codes
 
 abbrev pub again_line : List Step → List ℕ → List ℕ → List ℕ
 again_line pointer name why =
-    pointer_text pointer ++ (codes " is " ++ (name ++ (codes " too, and " ++ (why ++ codes ".\n"))))
+    pointer_text pointer ++ (codes " is " ++ (name ++ (codes " too.\n" ++ (why ++ codes ".\n"))))
 
 -- the lines tell of a name that stands at two items of a list, each with its pointer
 abbrev pub IsDoubledNameTold : List ℕ → Data → List ℕ → List ℕ → List ℕ → TwoIndices → List ℕ → Type 0
@@ -230,10 +239,10 @@ IsDoubledNameTold text d list k why indices lines = let name = doubled_name d li
     (again_line (entry_pointer list indices.second k) name why) lines
 
 abbrev pub one_bus : List ℕ
-one_bus = codes "no two buses have one name"
+one_bus = codes "No two buses have one name"
 
 abbrev pub one_entry : List ℕ
-one_entry = codes "a list names a node once"
+one_entry = codes "A list names a node once"
 
 -- the key of the member at an index
 abbrev pub key_at : ℕ → Members → List ℕ
@@ -269,7 +278,7 @@ abbrev pub key_line : List ℕ → List ℕ → List ℕ
 key_line whole k = whole ++ (codes " has the key " ++ (k ++ codes ".\n"))
 
 abbrev pub key_again_line : List ℕ → List ℕ → List ℕ
-key_again_line whole k = whole ++ (codes " has the key " ++ (k ++ codes " again, and an object has a key once.\n"))
+key_again_line whole k = whole ++ (codes " has the key " ++ (k ++ codes " again.\nAn object has a key once.\n"))
 
 -- the lines tell of a key that an object has twice
 abbrev pub IsDoubledKeyTold : List ℕ → Json → DoubledKey → List ℕ → Type 0

@@ -11,8 +11,9 @@ use crate::causes::rows::led_line;
 use crate::explanations::owner_name;
 use crate::name_or_dash;
 use mctp_transport::Eid;
+use net_check::lookup::owner_at;
 use net_check::{Fault, Rule};
-use net_explained::{owner_at, rank_of};
+use net_explained::rank_of;
 use net_plan::{Certificate, Plan};
 use std::alloc::{AllocError, Global};
 

@@ -18,9 +18,9 @@ use super::causes::lookups::{handle_at, next_at, next_of_row, number_text, port_
 use super::name_or_dash;
 use super::ways::{address_on, address_text, bus_text};
 use mctp_transport::Eid;
-use net_check::lookup::ports_at;
+use net_check::lookup::{owner_at, ports_at, record_at, records_at, rows_at};
 use net_check::{CertifyError, ChainFault, Fault};
-use net_explained::{Cause, circle_from, find_cause, owner_at, record_at, records_at, rows_at};
+use net_explained::{Cause, circle_from, find_cause};
 use net_plan::{Plan, PlannedRecord, Row};
 use std::alloc::{AllocError, Global};
 

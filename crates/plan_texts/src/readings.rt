@@ -12,6 +12,7 @@ ghost use Rattle.net_pointers.specs.TextTroubles.{IsJsonOf, IsToldOfPlanText, Is
 ghost use Rattle.plan_texts.specs.ReadingLines.{unread_code, unread_line};
 ghost use Rattle.plan_texts.specs.TroubleLines.{long_line, ArePlanLines, AreCertificateLines, AreTroubleLines, IsPlanTextTold, IsCertificateTextTold};
 
+mod joined;
 mod names;
 mod positions;
 mod shapes;
@@ -33,10 +34,10 @@ use twice::{doubled_key_lines, doubled_name_lines, overlap_lines};
 use values::value_line;
 
 /// Why no two buses have one name.
-const ONE_BUS: &str = "no two buses have one name";
+const ONE_BUS: &str = "No two buses have one name";
 
 /// Why no two entries of a certificate's list are of one node.
-const ONE_ENTRY: &str = "a list names a node once";
+const ONE_ENTRY: &str = "A list names a node once";
 
 /// The code of why a text gave nothing; `file` where the source failed.
 fn unread_code(cause: PlanError) -> &'static str

@@ -13,7 +13,8 @@ use super::lookups::{
 };
 use crate::name_or_dash;
 use net_check::Fault;
-use net_explained::{Cause, Stretch, owner_at, pool_at};
+use net_check::lookup::{owner_at, pool_at};
+use net_explained::{Cause, Stretch};
 use net_plan::{Plan, Pool};
 use std::alloc::{AllocError, Global};
 
@@ -210,11 +211,11 @@ fn owned_eid_text(
 {
     let owners = owners_pool_text(alloc, owner, eid)?;
     match around {
-        Some(pool) => {
+        Some(pool) if pool.size > 0 => {
             let span = span_text(alloc, pool.first.value, pool.size)?;
             free_or_owners_text(alloc, name, &span, &owners)
         }
-        None => format!(in alloc; "Edit: {owners}"),
+        _ => format!(in alloc; "Edit: {owners}"),
     }
 }
 

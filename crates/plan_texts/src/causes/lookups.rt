@@ -9,7 +9,7 @@ ghost use Rattle.plan_texts.specs.CauseLines.{span_text, first_of_row, size_of_r
 
 use crate::name_or_dash;
 use net_check::Fault;
-use net_explained::{pool_at, record_at, row_at, terminus_at};
+use net_check::lookup::{pool_at, record_at, row_at, terminus_at};
 use net_plan::{Node, Plan, Row};
 use std::alloc::{AllocError, Global};
 

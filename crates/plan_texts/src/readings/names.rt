@@ -3,8 +3,9 @@ ghost use Rattle.std.specs.Prelude.{◌≡◌, ◌≤◌, [], Some, length, map,
 ghost use Rattle.net_plan.specs.Trees.{view};
 ghost use Rattle.net_pointers.specs.KnownNames.{known_view};
 ghost use Rattle.net_pointers.specs.Views.{located_among, step_value};
-ghost use Rattle.plan_texts.specs.TroubleLines.{IsUnknownNameTold, names_for, named_noun, nearest_line, unknown_line};
+ghost use Rattle.plan_texts.specs.TroubleLines.{IsUnknownNameTold, names_for, named_noun, nearest_line, missing_words, unknown_line};
 
+use super::joined::joined;
 use super::positions::{pointer_text, position_text};
 use super::values::{text_of, value_at};
 use json::Value;
@@ -43,8 +44,15 @@ fn unknown_line(
 {
     let position = position_text(alloc, text, offset)?;
     let pointer = pointer_text(alloc, found.pointer.as_slice())?;
-    let noun = named_noun(found.part);
-    format!(in alloc; "{position}{pointer} is {name}, and no {noun} has that name.\n")
+    let stands = format!(in alloc; "{position}{pointer} is {name}")?;
+    let missing = missing_words(alloc, named_noun(found.part))?;
+    joined(alloc, &stands, &missing)
+}
+
+fn missing_words(alloc: Global, noun: &str) -> Result<String, AllocError>
+    ensures { IfOk result (λ words. string_bytes words ≡ missing_words noun.now) }
+{
+    format!(in alloc; "no {noun} has that name")
 }
 
 /// The line of the nearest name.

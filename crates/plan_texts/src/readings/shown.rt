@@ -1,11 +1,11 @@
 //! What stands at an offset of a text, as far as it is shown.
 ghost use Rattle.std.specs.Prelude.{◌≡◌, ◌≤◌, length, drop, get_or, IfOk, IfSome, string_bytes, encode_utf8_all};
-ghost use Rattle.plan_texts.specs.Standing.{first_characters, ends_word, ends_quoted, ends_bracketed, ends_at, IsShownLength, IsShownOf, IsShown, dots_after, printable, shown_key};
+ghost use Rattle.plan_texts.specs.Standing.{first_characters, ends_word, ends_quoted, ends_bracketed, ends_at, IsShownLength, IsShownOf, IsShown, dots_after, printable, key_beginning, key_dots, shown_key};
 
 use std::alloc::{AllocError, Global};
 
-/// How many characters are shown.
-const MOST_SHOWN: usize = 40;
+/// How many characters are shown: with three dots behind them, 40.
+const MOST_SHOWN: usize = 37;
 
 /// The text from an offset on, where the offset is in it and UTF-8 follows.
 pub fn rest_at(text: &[u8], offset: usize) -> Option<&str>
@@ -28,7 +28,7 @@ pub fn shown_text(alloc: Global, text: &str) -> Result<String, AllocError>
 fn first_characters(alloc: Global, text: &str) -> Result<Vec<char>, AllocError>
     ensures { IfOk result (λ characters. characters.items ≡ first_characters text.now) }
 {
-    text.chars().take(41).collect(alloc)
+    text.chars().take(38).collect(alloc)
 }
 
 fn shown_of(alloc: Global, characters: &[char]) -> Result<String, AllocError>
@@ -109,11 +109,30 @@ fn written(alloc: Global, characters: &[char]) -> Result<String, AllocError>
     characters.iter().copied().collect(alloc)
 }
 
-/// A key as it is shown: its beginning, with a question mark for each control character.
+/// A key as it is shown: its beginning, and three dots where more follows.
 pub fn shown_key(alloc: Global, key: &str) -> Result<String, AllocError>
     ensures { IfOk result (λ shown. string_bytes shown ≡ shown_key key.now) }
 {
-    key.chars().take(40).map(|c| printable(c)).collect(alloc)
+    let characters = first_characters(alloc, key)?;
+    let beginning = key_beginning(alloc, key)?;
+    let dots = key_dots(characters.as_slice());
+    format!(in alloc; "{beginning}{dots}")
+}
+
+/// The beginning of a key, with a question mark for each control character.
+fn key_beginning(alloc: Global, key: &str) -> Result<String, AllocError>
+    ensures { IfOk result (λ beginning. string_bytes beginning ≡ key_beginning key.now) }
+{
+    key.chars().take(37).map(|c| printable(c)).collect(alloc)
+}
+
+fn key_dots(characters: &[char]) -> &'static str
+    ensures { result.now ≡ key_dots characters.now }
+{
+    if characters.len() > MOST_SHOWN {
+        return "...";
+    }
+    ""
 }
 
 fn printable(character: char) -> char

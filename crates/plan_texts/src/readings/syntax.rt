@@ -1,7 +1,7 @@
 //! Where a text stops being JSON.
-ghost use Rattle.std.specs.Prelude.{◌≡◌, ◌≤◌, length, IfOk, string_bytes};
+ghost use Rattle.std.specs.Prelude.{◌≡◌, ◌≤◌, length, IfOk, option_map, string_bytes};
 ghost use Rattle.net_pointers.specs.TextTroubles.{IsFaultOfJson};
-ghost use Rattle.plan_texts.specs.TroubleLines.{json_line, wanted_words};
+ghost use Rattle.plan_texts.specs.TroubleLines.{json_line, syntax_line, wanted_words};
 
 use super::positions::position_text;
 use net_pointers::{JsonFault, Wanted};
@@ -19,16 +19,29 @@ pub fn json_line(alloc: Global, text: &[u8], fault: JsonFault) -> Result<String,
         }
         JsonFault::Unreadable(offset, wanted) => {
             let position = position_text(alloc, text, Some(offset))?;
-            let words = wanted_words(wanted);
-            format!(in alloc; "{position}there may stand {words}, and nothing else.\n")
+            syntax_line(alloc, &position, wanted_words(wanted))
         }
     }
 }
 
-fn wanted_words(wanted: Wanted) -> &'static str
-    ensures { result.now ≡ wanted_words wanted }
+fn syntax_line(alloc: Global, position: &str, words: Option<&str>) -> Result<String, AllocError>
+    ensures { IfOk result (λ line. string_bytes line ≡ syntax_line position.now (option_map (λ w. w.now) words.entry)) }
 {
-    match wanted {
+    match words {
+        Some(words) => format!(in alloc; "{position}there may stand {words}, and nothing else.\n"),
+        None => {
+            format!(in alloc;
+                "{position}lists and objects nest 128 deep there, and 127 is the most.\n"
+            )
+        }
+    }
+}
+
+/// What may stand where a text stops being JSON; none where it nests too deep.
+fn wanted_words(wanted: Wanted) -> Option<&'static str>
+    ensures { option_map (λ w. w.now) result ≡ wanted_words wanted }
+{
+    let words = match wanted {
         Wanted::Value => "a value",
         Wanted::ValueOrEnd => "a value or ']'",
         Wanted::Key => "a key in quotes",
@@ -37,6 +50,7 @@ fn wanted_words(wanted: Wanted) -> &'static str
         Wanted::CommaOrEndOfList => "',' or ']'",
         Wanted::CommaOrEndOfObject => "',' or '}'",
         Wanted::End => "the end of the text",
-        Wanted::LessDepth => "a list or an object that 126 others or fewer surround",
-    }
+        Wanted::LessDepth => return None,
+    };
+    Some(words)
 }

@@ -60,7 +60,7 @@ fn again_line(
     ensures { IfOk result (λ line. string_bytes line ≡ again_line (map step_value pointer.now) name.now why.now) }
 {
     let pointer = pointer_text(alloc, pointer)?;
-    format!(in alloc; "{pointer} is {name} too, and {why}.\n")
+    format!(in alloc; "{pointer} is {name} too.\n{why}.\n")
 }
 
 /// The offsets of the values of two pointers, where the same text stands in quotes at both.
@@ -175,7 +175,7 @@ fn key_line(alloc: Global, object: &str, key: &str) -> Result<String, AllocError
 fn key_again_line(alloc: Global, object: &str, key: &str) -> Result<String, AllocError>
     ensures { IfOk result (λ line. string_bytes line ≡ key_again_line object.now key.now) }
 {
-    format!(in alloc; "{object} has the key {key} again, and an object has a key once.\n")
+    format!(in alloc; "{object} has the key {key} again.\nAn object has a key once.\n")
 }
 
 fn key_offsets(

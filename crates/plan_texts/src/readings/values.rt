@@ -13,6 +13,7 @@ ghost use Rattle.net_pointers.specs.Views.{located, step_value};
 ghost use Rattle.plan_texts.specs.Standing.{IsShown};
 ghost use Rattle.plan_texts.specs.TroubleLines.{StandsAt, IsStandingTold, IsUnknownKey, IsUnknownKeyTold, IsLengthTold, IsWrongTold, IsLineOf, IsValueTold, lacked_key, lack_words, unknown_words, value_line};
 
+use super::joined::joined;
 use super::positions::{pointer_text, position_text};
 use super::shapes::{fault_words, number_noun, shape_words};
 use super::shown::{rest_at, shown_key, shown_text};
@@ -77,9 +78,10 @@ fn value_text(
 {
     let position = position_text(alloc, text, offset)?;
     let pointer = pointer_text(alloc, found.pointer.as_slice())?;
+    let stands = format!(in alloc; "{position}{pointer} {words}")?;
     let noun = number_noun(found.pointer.as_slice());
     let shape = shape_words(alloc, noun, found.part)?;
-    format!(in alloc; "{position}{pointer} {words}; {shape}.\n")
+    joined(alloc, &stands, &shape)
 }
 
 /// What is wrong with a value: the key that it lacks or that doesn't belong there, its length, or what stands there.
