@@ -14,7 +14,4 @@ pub use cause::Cause;
 pub use circle::circle_from;
 pub use finding::find_cause;
 pub use hops::{MostHops, most_hops, rank_of};
-pub use net_check::lookup::{
-    owner_at, pool_at, record_at, records_at, row_at, rows_at, terminus_at,
-};
 pub use rest::Stretch;

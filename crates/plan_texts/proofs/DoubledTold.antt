@@ -7,6 +7,7 @@ use Rattle.json.specs.Strict.{keys}
 use Rattle.json.specs.Value.{value_view, items_view, members_view}
 use Rattle.net_plan.specs.Trees.{Tree}
 use Rattle.net_pointers.specs.Doubles.{item_at, member_at}
+use Rattle.net_pointers.specs.Offsets.{LeadsToKey}
 use Rattle.net_pointers.specs.declared.doubled.DoubledKey.{DoubledKey}
 use Rattle.plan_texts.specs.TroubleLines.{AreOffsets, two_lines, IsDoubledKeyTold, key_at, key_of, key_line, key_again_line, object_text, path_text}
 use Rattle.plan_texts.proofs.ToldTexts.{no_path}
@@ -61,10 +62,10 @@ path_done text whole ps o none is =
 -- ---- the lines of a key
 
 pub key_told : {A E : Type 0} (bytes : A → List ℕ) (text : List ℕ) (j : Json) (k : DoubledKey) (key whole one other : List ℕ) (offsets : Option (ℕ × ℕ)) (r : Result A E)
-    → key ≡ key_of j k → whole ≡ object_text k.path.items j → one ≡ key_line whole key → other ≡ key_again_line whole key → AreOffsets text key offsets
+    → key ≡ key_of j k → whole ≡ object_text k.path.items j → one ≡ key_line whole key → other ≡ key_again_line whole key → AreOffsets text key (LeadsToKey text k.path.items k.members.first) (LeadsToKey text k.path.items k.members.second) offsets
     → IfOk r (λ t. bytes t ≡ two_lines text offsets one other) → IfOk r (λ t. IsDoubledKeyTold text j k (bytes t))
 key_told bytes text j k key whole one other offsets (Ok t) the_key the_object first second at is =
     let F : List ℕ → List ℕ → List ℕ = λ w s. two_lines text offsets (key_line w s) (key_again_line w s) in
     let written : bytes t ≡ F whole key = is ∙ (ap (λ z. two_lines text offsets z other) first ∙ ap (λ z. two_lines text offsets (key_line whole key) z) second) in
-    (offsets, subst (λ (s : List ℕ). AreOffsets text s offsets) the_key at, written ∙ (ap (λ w. F w key) the_object ∙ ap (λ s. F (object_text k.path.items j) s) the_key))
+    (offsets, subst (λ (s : List ℕ). AreOffsets text s (LeadsToKey text k.path.items k.members.first) (LeadsToKey text k.path.items k.members.second) offsets) the_key at, written ∙ (ap (λ w. F w key) the_object ∙ ap (λ s. F (object_text k.path.items j) s) the_key))
 key_told bytes text j k key whole one other offsets (Err e) the_key the_object first second at is = tt

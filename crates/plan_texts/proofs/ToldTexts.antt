@@ -33,7 +33,7 @@ use Rattle.net_plan.specs.SingleKeys.{unless_doubled}
 use Rattle.net_plan.specs.declared.error.ValueFault.{ValueFault}
 use Rattle.net_pointers.specs.Doubles.{item_at, member_at, part_at, part_after}
 use Rattle.net_pointers.specs.PlanShapes.{fields_view}
-use Rattle.net_pointers.specs.Pointers.{Located, value_at, value_after}
+use Rattle.net_pointers.specs.Pointers.{Located, Step, value_at, value_after}
 use Rattle.net_pointers.specs.Shapes.{keys_of, fields_of}
 use Rattle.net_pointers.specs.TextTroubles.{IsJsonOf, IsToldOfPlanText, IsToldOfCertificateText}
 use Rattle.net_pointers.specs.Views.{step_value}
@@ -134,25 +134,25 @@ value_told bytes text d stands l offset rest (Ok t) at leads same is =
     record { offset = offset; stands = stands; at = at; leads = leads; written = subst (λ (o : Option (List ℕ)). IsLineOf text l stands offset o (bytes t)) same is }
 value_told bytes text d stands l offset rest (Err e) at leads same is = tt
 
-pub two_told : {A E : Type 0} (bytes : A → List ℕ) (text s one other : List ℕ) (offsets : Option (ℕ × ℕ)) (r : Result A E) → AreOffsets text s offsets
-    → IfOk r (λ t. bytes t ≡ two_lines text offsets one other) → IfOk r (λ t. AreTwoTold text s one other (bytes t))
-two_told bytes text s one other offsets (Ok t) at is = (offsets, at, is)
-two_told bytes text s one other offsets (Err e) at is = tt
+pub two_told : {A E : Type 0} (bytes : A → List ℕ) (text s : List ℕ) (first second : ℕ → Type 0) (one other : List ℕ) (offsets : Option (ℕ × ℕ)) (r : Result A E) → AreOffsets text s first second offsets
+    → IfOk r (λ t. bytes t ≡ two_lines text offsets one other) → IfOk r (λ t. AreTwoTold text s first second one other (bytes t))
+two_told bytes text s first second one other offsets (Ok t) at is = (offsets, at, is)
+two_told bytes text s first second one other offsets (Err e) at is = tt
 
-pub overlap_told : {A E : Type 0} (bytes : A → List ℕ) (text : List ℕ) (o : Overlap) (offsets : Option (ℕ × ℕ)) (r : Result A E) → AreApart text offsets
+pub overlap_told : {A E : Type 0} (bytes : A → List ℕ) (text : List ℕ) (o : Overlap) (offsets : Option (ℕ × ℕ)) (r : Result A E) → AreApart text (range_pointer o.entry o.range) (range_pointer o.entry (o.range + 1)) offsets
     → IfOk r (λ t. bytes t ≡ two_lines text offsets (range_line (range_pointer o.entry o.range)) (next_range_line (range_pointer o.entry (o.range + 1))))
     → IfOk r (λ t. IsOverlapTold text o (bytes t))
 overlap_told bytes text o offsets (Ok t) at is = (offsets, at, is)
 overlap_told bytes text o offsets (Err e) at is = tt
 
 -- the offsets of what stands twice are in the text
-pub offsets_within : (text s : List ℕ) (offsets : Option (ℕ × ℕ)) → AreOffsets text s offsets → IfSome offsets (λ o. (o.0 ≤ length text) × (o.1 ≤ length text))
-offsets_within text s None h = tt
-offsets_within text s (Some o) h = (omega (arith, h.ascends, h.within), h.within)
+pub offsets_within : (text s : List ℕ) (first second : ℕ → Type 0) (offsets : Option (ℕ × ℕ)) → AreOffsets text s first second offsets → IfSome offsets (λ o. (o.0 ≤ length text) × (o.1 ≤ length text))
+offsets_within text s first second None h = tt
+offsets_within text s first second (Some o) h = (omega (arith, h.2.ascends, h.2.within), h.2.within)
 
-pub apart_within : (text : List ℕ) (offsets : Option (ℕ × ℕ)) → AreApart text offsets → IfSome offsets (λ o. (o.0 ≤ length text) × (o.1 ≤ length text))
-apart_within text None h = tt
-apart_within text (Some o) h = (omega (arith, h.0, h.1), h.1)
+pub apart_within : (text : List ℕ) (one other : List Step) (offsets : Option (ℕ × ℕ)) → AreApart text one other offsets → IfSome offsets (λ o. (o.0 ≤ length text) × (o.1 ≤ length text))
+apart_within text one other None h = tt
+apart_within text one other (Some o) h = (omega (arith, h.2, h.3), h.3)
 
 -- ---- a text that is JSON of one tree
 

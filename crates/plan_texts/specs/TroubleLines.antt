@@ -20,7 +20,7 @@ use Rattle.net_pointers.specs.CertificateTroubles.{list_key, nodes_at, known_nod
 use Rattle.net_pointers.specs.Doubles.{part_at, part_after}
 use Rattle.net_pointers.specs.KnownNames.{Known, known_in, names_at}
 use Rattle.net_pointers.specs.Nearest.{IsNearest}
-use Rattle.net_pointers.specs.Offsets.{BeginsThere}
+use Rattle.net_pointers.specs.Offsets.{BeginsThere, LeadsTo, LeadsToKey}
 use Rattle.net_pointers.specs.Pointers.{Located, value_at, key, index, Step}
 use Rattle.net_pointers.specs.Shapes.{Fields, fields_of, keys_of}
 use Rattle.net_pointers.specs.TextTroubles.{IsJsonOf, IsToldOfPlanText, IsToldOfCertificateText}
@@ -74,10 +74,10 @@ json_line text (Unreadable offset w) = syntax_line (position_text text (Some off
 
 -- ---- a value that is wrong in itself
 
--- a value with this fault begins at the offset, where that is known
+-- the pointer leads to what begins at the offset, and that is a value with this fault, where the offset is known
 abbrev pub StandsAt : List ℕ → Option ℕ → Located → Type 0
 StandsAt text None l = ⊤
-StandsAt text (Some offset) l = BeginsThere text offset l.shape l.fault
+StandsAt text (Some offset) l = LeadsTo text l.pointer offset × BeginsThere text offset l.shape l.fault
 
 -- the text from an offset on, where that is known
 abbrev pub rest_of : List ℕ → Option ℕ → Option (List ℕ)
@@ -196,10 +196,10 @@ pub record StandsTwice (text s : List ℕ) (first second : ℕ) : Type 0 where
   pub one : BeginsQuoted (drop first text) s
   pub other : BeginsQuoted (drop second text) s
 
--- the two offsets, where they are known
-abbrev pub AreOffsets : List ℕ → List ℕ → Option (ℕ × ℕ) → Type 0
-AreOffsets text s None = ⊤
-AreOffsets text s (Some o) = StandsTwice text s o.0 o.1
+-- the two offsets, where they are known: this is so of the first one, and that of the second
+abbrev pub AreOffsets : List ℕ → List ℕ → (one other : ℕ → Type 0) → Option (ℕ × ℕ) → Type 0
+AreOffsets text s one other None = ⊤
+AreOffsets text s one other (Some o) = one o.0 × (other o.1 × StandsTwice text s o.0 o.1)
 
 abbrev pub first_offset : Option (ℕ × ℕ) → Option ℕ
 first_offset o = option_map (λ p. p.0) o
@@ -213,9 +213,9 @@ two_lines text offsets one other =
     position_text text (first_offset offsets) ++ (one ++ (position_text text (second_offset offsets) ++ other))
 
 -- the lines tell of what stands twice, where each stands
-abbrev pub AreTwoTold : List ℕ → List ℕ → List ℕ → List ℕ → List ℕ → Type 0
-AreTwoTold text s one other lines =
-    (offsets : Option (ℕ × ℕ)) × AreOffsets text s offsets × (lines ≡ two_lines text offsets one other)
+abbrev pub AreTwoTold : List ℕ → List ℕ → (first second : ℕ → Type 0) → (one other : List ℕ) → List ℕ → Type 0
+AreTwoTold text s first second one other lines =
+    (offsets : Option (ℕ × ℕ)) × AreOffsets text s first second offsets × (lines ≡ two_lines text offsets one other)
 
 -- to a value at a key of an item of the list at a key
 abbrev pub entry_pointer : List ℕ → ℕ → List ℕ → List Step
@@ -235,7 +235,9 @@ again_line pointer name why =
 -- the lines tell of a name that stands at two items of a list, each with its pointer
 abbrev pub IsDoubledNameTold : List ℕ → Data → List ℕ → List ℕ → List ℕ → TwoIndices → List ℕ → Type 0
 IsDoubledNameTold text d list k why indices lines = let name = doubled_name d list k indices in
-    AreTwoTold text name (name_line (entry_pointer list indices.first k) name)
+    AreTwoTold text name
+    (LeadsTo text (entry_pointer list indices.first k)) (LeadsTo text (entry_pointer list indices.second k))
+    (name_line (entry_pointer list indices.first k) name)
     (again_line (entry_pointer list indices.second k) name why) lines
 
 abbrev pub one_bus : List ℕ
@@ -283,7 +285,9 @@ key_again_line whole k = whole ++ (codes " has the key " ++ (k ++ codes " again.
 -- the lines tell of a key that an object has twice
 abbrev pub IsDoubledKeyTold : List ℕ → Json → DoubledKey → List ℕ → Type 0
 IsDoubledKeyTold text j k lines =
-    AreTwoTold text (key_of j k) (key_line (object_text k.path.items j) (key_of j k))
+    AreTwoTold text (key_of j k)
+    (LeadsToKey text k.path.items k.members.first) (LeadsToKey text k.path.items k.members.second)
+    (key_line (object_text k.path.items j) (key_of j k))
     (key_again_line (object_text k.path.items j) (key_of j k)) lines
 
 -- to a range of ranks
@@ -291,10 +295,11 @@ abbrev pub range_pointer : ℕ → ℕ → List Step
 range_pointer entry range =
     key (codes "ranks") ∷ (index entry ∷ (key (codes "ranges") ∷ (index range ∷ [])))
 
--- two offsets of the text, one behind the other, where they are known
-abbrev pub AreApart : List ℕ → Option (ℕ × ℕ) → Type 0
-AreApart text None = ⊤
-AreApart text (Some o) = (o.0 < o.1) × (o.1 ≤ length text)
+-- two offsets of the text, one behind the other, where they are known: the pointers lead to what begins there
+abbrev pub AreApart : List ℕ → (one other : List Step) → Option (ℕ × ℕ) → Type 0
+AreApart text one other None = ⊤
+AreApart text one other (Some o) =
+    LeadsTo text one o.0 × (LeadsTo text other o.1 × ((o.0 < o.1) × (o.1 ≤ length text)))
 
 abbrev pub range_line : List Step → List ℕ
 range_line pointer = pointer_text pointer ++ codes " is one range.\n"
@@ -305,7 +310,8 @@ next_range_line pointer =
 
 -- the lines tell of two ranges of a node, of which the second begins before the first has ended
 abbrev pub IsOverlapTold : List ℕ → Overlap → List ℕ → Type 0
-IsOverlapTold text o lines = (offsets : Option (ℕ × ℕ)) × AreApart text offsets
+IsOverlapTold text o lines = (offsets : Option (ℕ × ℕ))
+    × AreApart text (range_pointer o.entry o.range) (range_pointer o.entry (o.range + 1)) offsets
     × (lines ≡ two_lines text offsets (range_line (range_pointer o.entry o.range))
     (next_range_line (range_pointer o.entry (o.range + 1))))
 

@@ -4,6 +4,7 @@ ghost use Rattle.json.specs.Strict.{keys};
 ghost use Rattle.json.specs.Value.{value_view, items_view, members_view};
 ghost use Rattle.net_plan.specs.Trees.{view};
 ghost use Rattle.net_pointers.specs.Doubles.{part_at, part_after, item_at, member_at};
+ghost use Rattle.net_pointers.specs.Offsets.{LeadsTo, LeadsToKey};
 ghost use Rattle.net_pointers.specs.Views.{step_value};
 ghost use Rattle.plan_texts.specs.TroubleLines.{first_text, BeginsQuoted, StandsTwice, AreOffsets, AreApart, two_lines, IsDoubledNameTold, name_line, again_line, IsDoubledKeyTold, key_at, part_step, path_text, object_text, keys_in, key_line, key_again_line, IsOverlapTold, range_pointer, range_line, next_range_line};
 
@@ -71,7 +72,7 @@ fn offsets_of(
     one: &[PointerStep],
     other: &[PointerStep],
 ) -> Option<(usize, usize)>
-    ensures { AreOffsets text.now quoted.now result }
+    ensures { AreOffsets text.now quoted.now (LeadsTo text.now (map step_value one.now)) (LeadsTo text.now (map step_value other.now)) result }
 {
     let first = offset_of_pointer(alloc, text, one)?;
     let second = offset_of_pointer(alloc, text, other)?;
@@ -86,7 +87,7 @@ fn quoted_at(
     first: usize,
     second: usize,
 ) -> Option<(usize, usize)>
-    ensures { AreOffsets text.now quoted.now result }
+    ensures { IfSome result (λ o. (o.0 ≡ first) × (o.1 ≡ second) × StandsTwice text.now quoted.now first second) }
 {
     if !stands_twice(alloc, text, quoted, first, second) {
         return None;
@@ -184,7 +185,8 @@ fn key_offsets(
     key: &str,
     doubled: &DoubledKey,
 ) -> Option<(usize, usize)>
-    ensures { AreOffsets text.now key.now result }
+    ensures { AreOffsets text.now key.now (LeadsToKey text.now doubled.now.path.items doubled.now.members.first)
+        (LeadsToKey text.now doubled.now.path.items doubled.now.members.second) result }
 {
     let path = doubled.path.as_slice();
     let first = offset_of_key(alloc, text, path, doubled.members.first)?;
@@ -324,7 +326,7 @@ fn offsets_apart(
     one: &[PointerStep],
     other: &[PointerStep],
 ) -> Option<(usize, usize)>
-    ensures { AreApart text.now result }
+    ensures { AreApart text.now (map step_value one.now) (map step_value other.now) result }
 {
     let first = offset_of_pointer(alloc, text, one)?;
     let second = offset_of_pointer(alloc, text, other)?;
