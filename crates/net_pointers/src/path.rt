@@ -52,7 +52,7 @@ fn last_index(members: &[(&str, Value<'_>)], key: &str) -> Option<usize>
 }
 
 /// The item of a list, or what stands at a member of an object, at an index from 0.
-fn part_after<'v, 't>(value: &'v Value<'t>, index: usize) -> Option<&'v Value<'t>>
+pub fn part_after<'v, 't>(value: &'v Value<'t>, index: usize) -> Option<&'v Value<'t>>
     ensures { option_map (λ v. value_view v.now) result ≡ part_after index (value_view value.now) }
 {
     match value {

@@ -1,42 +1,16 @@
--- What stands twice, as it is told: parts and keys by index, and the lines of a key.
-use Rattle.std.proofs.Common.{◌≡◌, ◌≤◌, ◌<◌, ◌++◌, ℕ, zero, suc, List, [], ◌∷◌, length, get_or, append-nil, Option, Some, None, option_map, Result, Ok, Err, Bor, refl, sym, ◌∙◌, ap, subst, arith}
+-- What stands twice, as it is told: keys by index, and the lines of a key.
+use Rattle.std.proofs.Common.{◌≡◌, ◌≤◌, ◌<◌, ◌++◌, ℕ, zero, suc, List, [], ◌∷◌, length, get_or, append-nil, Option, Some, None, Result, Ok, Err, Bor, refl, sym, ◌∙◌, ap, subst, arith}
 use Rattle.std.specs.Prelude.{IfOk}
-use Rattle.std.specs.Slice.{IsItemAt}
 use Rattle.json.specs.Json.{Json}
 use Rattle.json.specs.Strict.{keys}
-use Rattle.json.specs.Value.{value_view, items_view, members_view}
+use Rattle.json.specs.Value.{members_view}
 use Rattle.net_plan.specs.Trees.{Tree}
-use Rattle.net_pointers.specs.Doubles.{item_at, member_at}
 use Rattle.net_pointers.specs.Offsets.{LeadsToKey}
 use Rattle.net_pointers.specs.declared.doubled.DoubledKey.{DoubledKey}
 use Rattle.plan_texts.specs.TroubleLines.{AreOffsets, two_lines, IsDoubledKeyTold, key_at, key_of, key_line, key_again_line, object_text, path_text}
 use Rattle.plan_texts.proofs.ToldTexts.{no_path}
 
 -- ---- by index
-
-pub item_there : (vs : List Tree) (i : ℕ) (v : Tree) → i < length vs → v ≡ get_or vs i v → Some (value_view v) ≡ item_at i (items_view vs)
-item_there [] i v within is = absurd (omega arith)
-item_there (w ∷ vs) zero v within is = ap (λ (x : Tree). Some (value_view x)) is
-item_there (w ∷ vs) (suc i) v within is = item_there vs i v (omega arith) is
-
-pub no_item : (vs : List Tree) (i : ℕ) → length vs ≤ i → None ≡ item_at i (items_view vs)
-no_item [] i past = refl
-no_item (w ∷ vs) zero past = absurd (omega arith)
-no_item (w ∷ vs) (suc i) past = no_item vs i (omega arith)
-
-pub item_given : (vs : List Tree) (i : ℕ) (r : Option (Bor Tree)) → IsItemAt vs i r → option_map (λ (v : Bor Tree). value_view v.now) r ≡ item_at i (items_view vs)
-item_given vs i (Some v) at = item_there vs i v.now at.3.0 at.1
-item_given vs i None at = no_item vs i at.3
-
-pub member_there : (ms : List (Bor (List ℕ) × Tree)) (i : ℕ) (m : Bor (List ℕ) × Tree) → i < length ms → m ≡ get_or ms i m → Some (value_view m.1) ≡ member_at i (members_view ms)
-member_there [] i m within is = absurd (omega arith)
-member_there (n ∷ ms) zero m within is = ap (λ (x : Bor (List ℕ) × Tree). Some (value_view x.1)) is
-member_there (n ∷ ms) (suc i) m within is = member_there ms i m (omega arith) is
-
-pub no_member : (ms : List (Bor (List ℕ) × Tree)) (i : ℕ) → length ms ≤ i → None ≡ member_at i (members_view ms)
-no_member [] i past = refl
-no_member (n ∷ ms) zero past = absurd (omega arith)
-no_member (n ∷ ms) (suc i) past = no_member ms i (omega arith)
 
 pub key_there : (ms : List (Bor (List ℕ) × Tree)) (i : ℕ) (m : Bor (List ℕ) × Tree) → i < length ms → m ≡ get_or ms i m → m.0.now ≡ key_at i (members_view ms)
 key_there [] i m within is = absurd (omega arith)

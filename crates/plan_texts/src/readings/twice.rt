@@ -1,9 +1,9 @@
 //! What stands twice, and where both stand.
 ghost use Rattle.std.specs.Prelude.{◌≡◌, ◌≤◌, length, map, get_or, [], IfOk, IfSome, IsTrue, Some, option_map, string_bytes};
 ghost use Rattle.json.specs.Strict.{keys};
-ghost use Rattle.json.specs.Value.{value_view, items_view, members_view};
+ghost use Rattle.json.specs.Value.{value_view, members_view};
 ghost use Rattle.net_plan.specs.Trees.{view};
-ghost use Rattle.net_pointers.specs.Doubles.{part_at, part_after, item_at, member_at};
+ghost use Rattle.net_pointers.specs.Doubles.{part_at};
 ghost use Rattle.net_pointers.specs.Offsets.{LeadsTo, LeadsToKey};
 ghost use Rattle.net_pointers.specs.Views.{step_value};
 ghost use Rattle.plan_texts.specs.TroubleLines.{first_text, BeginsQuoted, StandsTwice, AreOffsets, AreApart, two_lines, IsDoubledNameTold, name_line, again_line, IsDoubledKeyTold, key_at, part_step, path_text, object_text, keys_in, key_line, key_again_line, IsOverlapTold, range_pointer, range_line, next_range_line};
@@ -12,7 +12,7 @@ use super::positions::{pointer_text, position_text};
 use super::values::{text_of, value_at};
 use json::{Reader, Scratch, Token, Value};
 use net_pointers::{
-    DoubledKey, Overlap, PointerStep, TwoIndices, offset_of_key, offset_of_pointer,
+    DoubledKey, Overlap, PointerStep, TwoIndices, offset_of_key, offset_of_pointer, part_after,
 };
 use std::alloc::{AllocError, Global};
 
@@ -216,31 +216,6 @@ fn part_at<'v, 't>(value: &'v Value<'t>, path: &[usize]) -> Option<&'v Value<'t>
         part = part_after(whole, *index);
     }
     part
-}
-
-fn part_after<'v, 't>(value: &'v Value<'t>, index: usize) -> Option<&'v Value<'t>>
-    ensures { option_map (λ v. value_view v.now) result ≡ part_after index (value_view value.now) }
-{
-    match value {
-        Value::Array(items) => item_of(items.as_slice(), index),
-        Value::Object(members) => member_of(members.as_slice(), index),
-        _ => None,
-    }
-}
-
-fn item_of<'v, 't>(items: &'v [Value<'t>], index: usize) -> Option<&'v Value<'t>>
-    ensures { option_map (λ v. value_view v.now) result ≡ item_at index (items_view items.now) }
-{
-    items.get(index)
-}
-
-fn member_of<'v, 't>(members: &'v [(&'t str, Value<'t>)], index: usize) -> Option<&'v Value<'t>>
-    ensures { option_map (λ v. value_view v.now) result ≡ member_at index (members_view members.now) }
-{
-    match members.get(index) {
-        Some(member) => Some(&member.1),
-        None => None,
-    }
 }
 
 /// The key of a member; an empty one past the end.
