@@ -1,6 +1,6 @@
 -- The lines that tell why a text doesn't read, and their parts.
-use Rattle.std.specs.Prelude.{◌+◌, ◌-◌, ◌==◌, nat_le, ℕ, List, [], ◌∷◌, ◌++◌, length, take, count_by, codes, if◌then◌else◌}
-use Rattle.std.specs.Prelude.{Option, Some, None}
+use Rattle.std.specs.Prelude.{◌+◌, ◌-◌, ◌==◌, nat_le, ℕ, List, [], ◌∷◌, ◌++◌, length, take, count_by, codes}
+use Rattle.std.specs.Prelude.{if◌then◌else◌, Option, Some, None}
 use Rattle.std.specs.Fmt.{decimal}
 use Rattle.std.specs.List.{flat_map, slice_get}
 use Rattle.std.specs.Str.{bytes_eq}
