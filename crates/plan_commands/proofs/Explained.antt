@@ -1,5 +1,5 @@
 -- What the end of `explain` tells of an answer.
-use Rattle.std.proofs.Common.{◌≡◌, ◌≢◌, ◌⊎◌, List, ℕ, Result, Ok, Err, Some, inl, inr, refl, sym, ◌∙◌, subst}
+use Rattle.std.proofs.Common.{◌≡◌, ◌≢◌, ◌⊎◌, List, ℕ, Result, Ok, Err, Some, inl, inr, refl, sym, ◌∙◌, ap, subst}
 use Rattle.std.specs.Prelude.{IfOk, IfErr}
 use Rattle.std.specs.Cow.{cow_str_bytes}
 use Rattle.std.specs.Io.KnownBytes.{Appends}
@@ -27,6 +27,19 @@ pub not_memory : (plan : Plan) (obstacle : CertifyError) (text : List ℕ) → o
 not_memory plan obstacle text told is =
     let untold : obstacle_text plan error.OutOfMemory ≡ Some text = subst (λ o. obstacle_text plan o ≡ Some text) is told in
     cc
+
+-- ---- standard error
+
+-- want of memory ends with its own status
+of_memory : (why : Refused) (s : Status) → why ≡ refused.NoMemory → (s ≡ status_of why) ⊎ (s ≡ status.NoMemory) → s ≡ status.NoMemory
+of_memory why s is (inl ends) = ends ∙ ap status_of is
+of_memory why s is (inr ends) = ends
+
+-- where only want of memory is no answer, what holds of an answer holds under every other status
+pub quiet_told : (P Q : Type 0) (s : Status) (answered : Result Answer Refused) → IfErr answered (λ why. why ≡ refused.NoMemory)
+    → IfOk answered (λ _. P → Q) → IfErr answered (λ why. (s ≡ status_of why) ⊎ (s ≡ status.NoMemory)) → s ≢ status.NoMemory → P → Q
+quiet_told P Q s (Ok answer) none quiet ends told p = quiet p
+quiet_told P Q s (Err why) none quiet ends told p = absurd (told (of_memory why s none ends))
 
 -- ---- of a plan
 

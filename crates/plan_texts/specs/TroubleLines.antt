@@ -199,7 +199,7 @@ pub record StandsTwice (text s : List ℕ) (first second : ℕ) : Type 0 where
 -- the two offsets, where they are known: this is so of the first one, and that of the second
 abbrev pub AreOffsets : List ℕ → List ℕ → (one other : ℕ → Type 0) → Option (ℕ × ℕ) → Type 0
 AreOffsets text s one other None = ⊤
-AreOffsets text s one other (Some o) = one o.0 × (other o.1 × StandsTwice text s o.0 o.1)
+AreOffsets text s one other (Some o) = one o.0 × other o.1 × StandsTwice text s o.0 o.1
 
 abbrev pub first_offset : Option (ℕ × ℕ) → Option ℕ
 first_offset o = option_map (λ p. p.0) o
@@ -299,7 +299,7 @@ range_pointer entry range =
 abbrev pub AreApart : List ℕ → (one other : List Step) → Option (ℕ × ℕ) → Type 0
 AreApart text one other None = ⊤
 AreApart text one other (Some o) =
-    LeadsTo text one o.0 × (LeadsTo text other o.1 × ((o.0 < o.1) × (o.1 ≤ length text)))
+    LeadsTo text one o.0 × LeadsTo text other o.1 × (o.0 < o.1) × (o.1 ≤ length text)
 
 abbrev pub range_line : List Step → List ℕ
 range_line pointer = pointer_text pointer ++ codes " is one range.\n"

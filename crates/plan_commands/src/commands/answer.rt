@@ -139,6 +139,7 @@ pub fn tell<O: Sink, E: Sink>(
     ensures ends { IfErr answered (λ why. (result ≡ status_of why) ⊎ (result ≡ NoMemory)) }
     ensures untouched { OnErr answered (output.new ≡ output.old) }
     ensures silent { (result ≡ Yes) ⊎ (result ≡ Fault) → errors.new ≡ errors.old }
+    ensures quiet { IfOk answered (λ _. O.failures output.new ≡ O.failures output.old → errors.new ≡ errors.old) }
     ensures no_memory { result ≡ NoMemory → output.new ≡ output.old }
 {
     match answered {

@@ -1,5 +1,5 @@
 //! The command `explain` of a plan with its certificate: what `check` answers, and why.
-ghost use Rattle.std.specs.Prelude.{◌≡◌, ◌⊎◌, ◌<◌, ◌^◌, ◌-◌, IfOk, IfErr, string_bytes};
+ghost use Rattle.std.specs.Prelude.{◌≡◌, ◌≢◌, ◌⊎◌, ◌<◌, ◌^◌, ◌-◌, IfOk, IfErr, string_bytes};
 ghost use Rattle.std.specs.Cow.{cow_str_bytes};
 ghost use Rattle.net_check.specs.Errors.{NamesFirstFault};
 ghost use Rattle.net_check.specs.Faults.{IsFirstFault, site_of};
@@ -39,6 +39,7 @@ pub fn run_explain_certified<P: Source, C: Source, O: Sink, E: Sink>(
         let outputs = stream (O.contents output.old) (O.failures output.old) (O.contents output.new) (O.failures output.new) in
         ExplainsWith result plans certificates outputs }
     ensures silent { (result ≡ status.Yes) ⊎ (result ≡ status.Fault) → errors.new ≡ errors.old }
+    ensures quiet { result ≢ status.NoMemory → O.failures output.new ≡ O.failures output.old → errors.new ≡ errors.old }
     ensures no_memory { result ≡ status.NoMemory → output.new ≡ output.old }
 {
     let answered = answer_explain_certified(alloc, plan, certificate);
