@@ -17,7 +17,7 @@ use Rattle.net_check.proofs.Elements.{element}
 
 -- ---- the rows are lawful
 
--- the row of the table at a place is that of the plan there
+-- the row of the table at an index is that of the plan there
 row_at : (rows : List Row) (k : ℕ) (d : bridge.TableRow) (row : Row) → slice_get rows k ≡ Some row → get_or (map table_row rows) k d ≡ table_row row
 row_at rows k d row is = get_or-map table_row rows k row d (slice_get_within rows k row is) ∙ ap table_row (get_or_from_slice_get rows k row row is)
 
@@ -59,17 +59,17 @@ first_in_take rows n i row is =
 
 pub no_fault : (rows : List bridge.TableRow) (fault : TableFault) → rule.AreLawful rows → IsFirstFault rows fault → fault ≡ Memory
 unfolding rule.AreApart
-no_fault rows (Empty place) rows_lawful (before, (row, is, empty)) =
+no_fault rows (Empty index) rows_lawful (before, (row, is, empty)) =
     let P = rule.IsLawful in
-    absurd ((subst P (get_or_from_slice_get rows place row row is) (rows_lawful.each place row (slice_get_within rows place row is))).0 empty)
-no_fault rows (Outside place) rows_lawful (before, (row, is, (some, outside))) =
+    absurd ((subst P (get_or_from_slice_get rows index row row is) (rows_lawful.each index row (slice_get_within rows index row is))).0 empty)
+no_fault rows (Outside index) rows_lawful (before, (row, is, (some, outside))) =
     let P = rule.IsLawful in
-    absurd ((subst P (get_or_from_slice_get rows place row row is) (rows_lawful.each place row (slice_get_within rows place row is))).1 outside)
-no_fault rows (Overlap place earlier) rows_lawful (before, (row, is, (some, inside, ((other, there, shares), first)))) =
-    let at = first_in_take rows place earlier other there in
-    let apart = rows_lawful.apart earlier place row at.0 (slice_get_within rows place row is) in
+    absurd ((subst P (get_or_from_slice_get rows index row row is) (rows_lawful.each index row (slice_get_within rows index row is))).1 outside)
+no_fault rows (Overlap index earlier) rows_lawful (before, (row, is, (some, inside, ((other, there, shares), first)))) =
+    let at = first_in_take rows index earlier other there in
+    let apart = rows_lawful.apart earlier index row at.0 (slice_get_within rows index row is) in
     let one = get_or_from_slice_get rows earlier other row at.1 in
-    let two = get_or_from_slice_get rows place row row is in
+    let two = get_or_from_slice_get rows index row row is in
     absurd (shares (λ e here there. subst (λ x. rule.AreApart x row) one (subst (rule.AreApart (get_or rows earlier row)) two apart) e there here))
 no_fault rows Memory rows_lawful fault = refl
 

@@ -70,11 +70,11 @@ chain_entry_of (Missing j) = j
 chain_entry_of (Doubled j) = j
 chain_entry_of (Circle j) = j
 
--- the place is the first at which the key stands
+-- the index is the first at which the key stands
 abbrev pub IsFirstIndexOf : List ℕ → ℕ → ℕ → Type 0
-IsFirstIndexOf keys key place = (slice_get keys place ≡ Some key) × ((i : ℕ) → i < place → slice_get keys i ≢ Some key)
+IsFirstIndexOf keys key first = (slice_get keys first ≡ Some key) × ((i : ℕ) → i < first → slice_get keys i ≢ Some key)
 
--- each key of the list is mapped to its first place, and no other is
+-- each key of the list is mapped to its first index, and no other is
 abbrev pub IsIndexOf : List ℕ → BTreeMap ℕ ℕ → Type 0
 IsIndexOf keys index =
     (key : ℕ) → MatchOption (get nat_cmp index key) ((i : ℕ) → slice_get keys i ≢ Some key) (IsFirstIndexOf keys key)

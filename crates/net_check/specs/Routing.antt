@@ -42,6 +42,6 @@ HasRow plan n e = (m : ℕ) × Routes plan n e m
 abbrev pub MovesTo : Plan → ℕ → ℕ → ℕ → Type 0
 MovesTo plan e n m = ¬ Holds plan n e × Routes plan n e m
 
--- the item at the place of the list, if there is one, has the property
+-- the item at the index of the list, if there is one, has the property
 abbrev pub OfItem : {A : Type 0} → List A → ℕ → (A → Type 0) → Type 0
 OfItem {A} items i P = (item : A) → slice_get items i ≡ Some item → P item

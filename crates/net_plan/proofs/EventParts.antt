@@ -221,9 +221,9 @@ module _ {A : Type 0} (key : List ℕ) (R : Data → A → Type 0) (o : Option A
 -- ---- events by what happens
 
 module _ (p : EventParts) (ms : Members) (h : AreEventParts p ms) where
-  pub put_of : (find : List ℕ → Option ℕ) (node : Bor (List ℕ)) (bytes : Vec ℕ Global) (place : ℕ) → keys_given p ≡ 2 → p.node ≡ Some node → p.bytes ≡ Some bytes → find node.now ≡ Some place → IsGathered (codes "do") IsWritten (Some (codes "put")) ms
-      → IsEventBy find (data_of (object ms)) (put place bytes.items) × IsPlain (object ms)
-  put_of find node bytes place count is_node is_bytes is_index does =
+  pub put_of : (find : List ℕ → Option ℕ) (node : Bor (List ℕ)) (bytes : Vec ℕ Global) (index : ℕ) → keys_given p ≡ 2 → p.node ≡ Some node → p.bytes ≡ Some bytes → find node.now ≡ Some index → IsGathered (codes "do") IsWritten (Some (codes "put")) ms
+      → IsEventBy find (data_of (object ms)) (put index bytes.items) × IsPlain (object ms)
+  put_of find node bytes index count is_node is_bytes is_index does =
       let sum : given p.node + given p.bytes + given p.flight + given p.keep + given p.source + given p.tag + given p.owner + given p.eid + given p.count + given p.walker ≡ 2 = count in
       let one_node : given p.node ≡ 1 = ap given is_node in
       let one_bytes : given p.bytes ≡ 1 = ap given is_bytes in
@@ -242,7 +242,7 @@ module _ (p : EventParts) (ms : Members) (h : AreEventParts p ms) where
         λ names places. record {
           keys = keyed;
           does = at_gathered (codes "do") IsWritten (codes "put") ms does;
-          at_node = placed_at names find places node.now place is_index ms node_here;
+          at_node = placed_at names find places node.now index is_index ms node_here;
           packet = at_gathered (codes "bytes") IsHex bytes.items ms bytes_here;
         },
         object_plain put_keys ms plain,
@@ -300,9 +300,9 @@ module _ (p : EventParts) (ms : Members) (h : AreEventParts p ms) where
         object_plain lose_keys ms plain,
       )
 
-  pub expire_of : (find : List ℕ → Option ℕ) (node : Bor (List ℕ)) (source : ℕ) (tag : Tag) (owner : Bool) (place : ℕ) → keys_given p ≡ 4 → p.node ≡ Some node → p.source ≡ Some source → p.tag ≡ Some tag → p.owner ≡ Some owner → find node.now ≡ Some place → IsGathered (codes "do") IsWritten (Some (codes "expire")) ms
-      → IsEventBy find (data_of (object ms)) (expire place source tag.value owner) × IsPlain (object ms)
-  expire_of find node source tag owner place count is_node is_source is_tag is_owner is_index does =
+  pub expire_of : (find : List ℕ → Option ℕ) (node : Bor (List ℕ)) (source : ℕ) (tag : Tag) (owner : Bool) (index : ℕ) → keys_given p ≡ 4 → p.node ≡ Some node → p.source ≡ Some source → p.tag ≡ Some tag → p.owner ≡ Some owner → find node.now ≡ Some index → IsGathered (codes "do") IsWritten (Some (codes "expire")) ms
+      → IsEventBy find (data_of (object ms)) (expire index source tag.value owner) × IsPlain (object ms)
+  expire_of find node source tag owner index count is_node is_source is_tag is_owner is_index does =
       let sum : given p.node + given p.bytes + given p.flight + given p.keep + given p.source + given p.tag + given p.owner + given p.eid + given p.count + given p.walker ≡ 4 = count in
       let one_node : given p.node ≡ 1 = ap given is_node in
       let one_source : given p.source ≡ 1 = ap given is_source in
@@ -323,7 +323,7 @@ module _ (p : EventParts) (ms : Members) (h : AreEventParts p ms) where
         λ names places. record {
           keys = keyed;
           does = at_gathered (codes "do") IsWritten (codes "expire") ms does;
-          at_node = placed_at names find places node.now place is_index ms node_here;
+          at_node = placed_at names find places node.now index is_index ms node_here;
           from = at_gathered (codes "source") IsByte source ms source_here;
           tagged = at_gathered (codes "tag") (IsNumberWithin 0 7) tag.value ms tag_here;
           owned = at_gathered (codes "owner") IsBit owner ms owner_here;
@@ -331,9 +331,9 @@ module _ (p : EventParts) (ms : Members) (h : AreEventParts p ms) where
         object_plain expire_keys ms plain,
       )
 
-  pub answer_of : (find : List ℕ → Option ℕ) (node : Bor (List ℕ)) (place : ℕ) → keys_given p ≡ 1 → p.node ≡ Some node → find node.now ≡ Some place → IsGathered (codes "do") IsWritten (Some (codes "answer")) ms
-      → IsEventBy find (data_of (object ms)) (answer place) × IsPlain (object ms)
-  answer_of find node place count is_node is_index does =
+  pub answer_of : (find : List ℕ → Option ℕ) (node : Bor (List ℕ)) (index : ℕ) → keys_given p ≡ 1 → p.node ≡ Some node → find node.now ≡ Some index → IsGathered (codes "do") IsWritten (Some (codes "answer")) ms
+      → IsEventBy find (data_of (object ms)) (answer index) × IsPlain (object ms)
+  answer_of find node index count is_node is_index does =
       let sum : given p.node + given p.bytes + given p.flight + given p.keep + given p.source + given p.tag + given p.owner + given p.eid + given p.count + given p.walker ≡ 1 = count in
       let one_node : given p.node ≡ 1 = ap given is_node in
       let no_bytes = missing (codes "bytes") IsHex (option_map (λ v. v.items) p.bytes) ms h.bytes (ap (option_map (λ v. v.items)) (none_given p.bytes (omega (arith, sum, one_node)))) in
@@ -351,14 +351,14 @@ module _ (p : EventParts) (ms : Members) (h : AreEventParts p ms) where
         λ names places. record {
           keys = keyed;
           does = at_gathered (codes "do") IsWritten (codes "answer") ms does;
-          at_node = placed_at names find places node.now place is_index ms node_here;
+          at_node = placed_at names find places node.now index is_index ms node_here;
         },
         object_plain answer_keys ms plain,
       )
 
-  pub switch_of : (find : List ℕ → Option ℕ) (node : Bor (List ℕ)) (place : ℕ) → keys_given p ≡ 1 → p.node ≡ Some node → find node.now ≡ Some place → IsGathered (codes "do") IsWritten (Some (codes "switch")) ms
-      → IsEventBy find (data_of (object ms)) (switch place) × IsPlain (object ms)
-  switch_of find node place count is_node is_index does =
+  pub switch_of : (find : List ℕ → Option ℕ) (node : Bor (List ℕ)) (index : ℕ) → keys_given p ≡ 1 → p.node ≡ Some node → find node.now ≡ Some index → IsGathered (codes "do") IsWritten (Some (codes "switch")) ms
+      → IsEventBy find (data_of (object ms)) (switch index) × IsPlain (object ms)
+  switch_of find node index count is_node is_index does =
       let sum : given p.node + given p.bytes + given p.flight + given p.keep + given p.source + given p.tag + given p.owner + given p.eid + given p.count + given p.walker ≡ 1 = count in
       let one_node : given p.node ≡ 1 = ap given is_node in
       let no_bytes = missing (codes "bytes") IsHex (option_map (λ v. v.items) p.bytes) ms h.bytes (ap (option_map (λ v. v.items)) (none_given p.bytes (omega (arith, sum, one_node)))) in
@@ -377,14 +377,14 @@ module _ (p : EventParts) (ms : Members) (h : AreEventParts p ms) where
           later = λ e. cc;
           keys = keyed;
           does = at_gathered (codes "do") IsWritten (codes "switch") ms does;
-          at_node = placed_at names find places node.now place is_index ms node_here;
+          at_node = placed_at names find places node.now index is_index ms node_here;
         },
         object_plain switch_keys ms plain,
       )
 
-  pub walk_of : (find : List ℕ → Option ℕ) (node : Bor (List ℕ)) (eid : ℕ) (tag : Tag) (count : ℕ) (place : ℕ) → keys_given p ≡ 4 → p.node ≡ Some node → p.eid ≡ Some eid → p.tag ≡ Some tag → p.count ≡ Some count → find node.now ≡ Some place → IsGathered (codes "do") IsWritten (Some (codes "walk")) ms
-      → IsEventBy find (data_of (object ms)) (walk place eid tag.value count) × IsPlain (object ms)
-  walk_of find node eid tag count place number is_node is_eid is_tag is_count is_index does =
+  pub walk_of : (find : List ℕ → Option ℕ) (node : Bor (List ℕ)) (eid : ℕ) (tag : Tag) (count : ℕ) (index : ℕ) → keys_given p ≡ 4 → p.node ≡ Some node → p.eid ≡ Some eid → p.tag ≡ Some tag → p.count ≡ Some count → find node.now ≡ Some index → IsGathered (codes "do") IsWritten (Some (codes "walk")) ms
+      → IsEventBy find (data_of (object ms)) (walk index eid tag.value count) × IsPlain (object ms)
+  walk_of find node eid tag count index number is_node is_eid is_tag is_count is_index does =
       let sum : given p.node + given p.bytes + given p.flight + given p.keep + given p.source + given p.tag + given p.owner + given p.eid + given p.count + given p.walker ≡ 4 = number in
       let one_node : given p.node ≡ 1 = ap given is_node in
       let one_eid : given p.eid ≡ 1 = ap given is_eid in
@@ -406,7 +406,7 @@ module _ (p : EventParts) (ms : Members) (h : AreEventParts p ms) where
           third = refl;
           keys = keyed;
           does = at_gathered (codes "do") IsWritten (codes "walk") ms does;
-          at_node = placed_at names find places node.now place is_index ms node_here;
+          at_node = placed_at names find places node.now index is_index ms node_here;
           asked = at_gathered (codes "eid") (IsNumberWithin 8 254) eid ms eid_here;
           tagged = at_gathered (codes "tag") (IsNumberWithin 0 7) tag.value ms tag_here;
           counted = at_gathered (codes "count") (IsNumberWithin 8 4079) count ms count_here;

@@ -17,7 +17,7 @@ pushed : (here : Bool) (all first : Option ℕ) (b : Bool) (n : ℕ) → all ≡
 pushed true all first b n e = refl
 pushed false all first b n e = ap (option_map suc) e ∙ later first b n
 
--- one more name has its place, if it had none
+-- one more name has its index, if it had none
 pub index_of-push : (ns : List (List ℕ)) (n q : List ℕ) → index_of (ns ++ n ∷ []) q ≡ option_or (index_of ns q) (if bytes_eq q n then Some (length ns) else None)
 index_of-push [] n q = refl
 index_of-push (m ∷ ns) n q = pushed (bytes_eq q m) _ _ (bytes_eq q n) (length ns) (index_of-push ns n q)
@@ -37,28 +37,28 @@ swapped false a c e = by (bytes_eq c a) refl
     by false h = refl
     by true h = absurd (true≢false (sym ((bytes_eq-Decides a c).1 (sym ((bytes_eq-Decides c a).0 h))) ∙ e))
 
--- a name that has no place is given one
-pub noted_now : (find after : List ℕ → Option ℕ) (name : List ℕ) (place : ℕ) (q : List ℕ) → is_some (find name) ≡ false → after q ≡ cond (bytes_eq name q) (Some place) (find q)
-    → after q ≡ option_or (find q) (if bytes_eq q name then Some place else None)
-noted_now find after name place q none e = e ∙ by (bytes_eq name q) (find q) refl refl
+-- a name that has no index is given one
+pub noted_now : (find after : List ℕ → Option ℕ) (name : List ℕ) (index : ℕ) (q : List ℕ) → is_some (find name) ≡ false → after q ≡ cond (bytes_eq name q) (Some index) (find q)
+    → after q ≡ option_or (find q) (if bytes_eq q name then Some index else None)
+noted_now find after name index q none e = e ∙ by (bytes_eq name q) (find q) refl refl
   where
-    by : (b : Bool) (o : Option ℕ) → bytes_eq name q ≡ b → find q ≡ o → cond b (Some place) o ≡ option_or o (if bytes_eq q name then Some place else None)
+    by : (b : Bool) (o : Option ℕ) → bytes_eq name q ≡ b → find q ≡ o → cond b (Some index) o ≡ option_or o (if bytes_eq q name then Some index else None)
     by true None d h = rw (swapped true name q d) refl
     by true (Some p) d h = absurd (true≢false (sym (ap is_some h) ∙ ap (λ s. is_some (find s)) (sym ((bytes_eq-Decides name q).0 d)) ∙ none))
     by false None d h = rw (swapped false name q d) refl
     by false (Some p) d h = refl
 
--- a name that has a place is given it back
-pub noted_again : (find between after : List ℕ → Option ℕ) (name : List ℕ) (place before : ℕ) (q : List ℕ) → Some before ≡ find name → between q ≡ cond (bytes_eq name q) (Some place) (find q)
-    → after q ≡ cond (bytes_eq name q) (Some before) (between q) → after q ≡ option_or (find q) (if bytes_eq q name then Some place else None)
-noted_again find between after name place before q had e again = again ∙ ap (cond (bytes_eq name q) (Some before)) e ∙ by (bytes_eq name q) (find q) refl refl
+-- a name that has an index is given it back
+pub noted_again : (find between after : List ℕ → Option ℕ) (name : List ℕ) (index before : ℕ) (q : List ℕ) → Some before ≡ find name → between q ≡ cond (bytes_eq name q) (Some index) (find q)
+    → after q ≡ cond (bytes_eq name q) (Some before) (between q) → after q ≡ option_or (find q) (if bytes_eq q name then Some index else None)
+noted_again find between after name index before q had e again = again ∙ ap (cond (bytes_eq name q) (Some before)) e ∙ by (bytes_eq name q) (find q) refl refl
   where
-    by : (b : Bool) (o : Option ℕ) → bytes_eq name q ≡ b → find q ≡ o → cond b (Some before) (cond b (Some place) o) ≡ option_or o (if bytes_eq q name then Some place else None)
+    by : (b : Bool) (o : Option ℕ) → bytes_eq name q ≡ b → find q ≡ o → cond b (Some before) (cond b (Some index) o) ≡ option_or o (if bytes_eq q name then Some index else None)
     by true o d h = rw (sym (had ∙ ap find ((bytes_eq-Decides name q).0 d) ∙ h)) refl
     by false None d h = rw (swapped false name q d) refl
     by false (Some p) d h = refl
 
--- the place that was noted, or the length of the list
+-- the index that was noted, or the length of the list
 pub index_among-of : (ns : List (List ℕ)) (q : List ℕ) → unwrap_or (index_of ns q) (length ns) ≡ index_among ns q
 index_among-of [] q = refl
 index_among-of (n ∷ ns) q = by (bytes_eq q n) (index_of ns q) (index_among-of ns q)
@@ -68,7 +68,7 @@ index_among-of (n ∷ ns) q = by (bytes_eq q n) (index_of ns q) (index_among-of 
     by false None e = ap suc e
     by false (Some p) e = ap suc e
 
--- a name has a place where it stands in the list
+-- a name has an index where it stands in the list
 pub index_of-among : (ns : List (List ℕ)) (q : List ℕ) → is_some (index_of ns q) ≡ is_among ns q
 index_of-among [] q = refl
 index_of-among (n ∷ ns) q = by (bytes_eq q n) (index_of ns q) (index_of-among ns q)
@@ -100,7 +100,7 @@ names_take f items i x within is = ap (map f) (take_more items i x within ∙ ap
 pub names_drop : {T : Type 0} (f : T → List ℕ) (items : List T) (i : ℕ) (x : T) → i < length items → x ≡ get_or items i x → map f (drop i items) ≡ f x ∷ map f (drop (i + 1) items)
 names_drop f items i x within is = ap (map f) (drop-cons items i x within ∙ ap (λ y. y ∷ drop (suc i) items) (sym is)) ∙ ap (λ j. f x ∷ map f (drop j items)) (sym (add-one i))
 
--- a name that has a place has one within the list
+-- a name that has an index has one within the list
 pub index_within : (ns : List (List ℕ)) (q : List ℕ) (n : ℕ) → index_of ns q ≡ Some n → n < length ns
 index_within [] q n e = cc
 index_within (m ∷ ns) q n e = by (bytes_eq q m) (index_of ns q) refl e (index_within ns q)

@@ -16,6 +16,6 @@ pub record ArePlacesParts (p : PlacesParts) (ms : Members) : Type 0 where
   pub places : IsGathered (codes "places") (IsListOf (IsNumberWithin 0 4095))
       (option_map (λ v. map (λ place. place.value) v.items) p.places) ms
 
--- the places of the records of a node whose place is found
+-- the places of the records of a node whose index is found
 abbrev pub ArePlacesBy : (List ℕ → Option ℕ) → Data → PlacesValue → Type 0
 ArePlacesBy find d p = (names : List (List ℕ)) → IsIndexOf find names → ArePlacesOf names d p

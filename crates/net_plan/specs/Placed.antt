@@ -19,7 +19,7 @@ is_none_or test (Some x) = test x
 
 -- the owner is one of so many nodes
 abbrev pub is_owner_placed : ℕ → Option ℕ → Bool
-is_owner_placed nodes owner = is_none_or (λ place. nat_lt place nodes) owner
+is_owner_placed nodes owner = is_none_or (λ index. nat_lt index nodes) owner
 
 -- what a node names is among so many buses and nodes
 abbrev pub is_node_placed : ℕ → ℕ → NodeValue → Bool

@@ -31,7 +31,7 @@ IsSo plan (LonePort n p) = IsAloneOnBus plan n p
 IsSo plan (EmptyReadableRange n j) = HasEmptyReadableRange plan n j
 IsSo plan (Isolated n) = IsIsolated plan n
 
--- the place of a code among the codes
+-- the index of a code among the codes
 abbrev pub order_of : Code → ℕ
 order_of code.SharedAddress = 0
 order_of code.MissingAddress = 1

@@ -128,9 +128,9 @@ module _ (slots : List Slot) (next : ℕ) (up : Ascend slots) (given : AreGiven 
   none_at n others = at_number n ∙ ap (option_map flight_value) (kept_none slots n others)
 
   -- where the slot that was read has it
-  pub slot_at : (n place : ℕ) (slot : Slot) → place < length slots → HoldsAt (λ s. s.number ≡ n) slots place → slot ≡ get_or slots place slot
+  pub slot_at : (n index : ℕ) (slot : Slot) → index < length slots → HoldsAt (λ s. s.number ≡ n) slots index → slot ≡ get_or slots index slot
       → flight_at (meant slots next) n ≡ option_map flight_value slot.flight
-  slot_at n place slot within has read = at_number n ∙ ap (option_map flight_value) (kept_at slots place n slot up within (has slot))
+  slot_at n index slot within has read = at_number n ∙ ap (option_map flight_value) (kept_at slots index n slot up within (has slot))
       ∙ ap (λ (s : Slot). option_map flight_value s.flight) (sym read)
 
   module _ (P : Option state.Flight → Type 0) (none : P None) where
@@ -171,47 +171,47 @@ module _ (slots : List Slot) (next : ℕ) (up : Ascend slots) (given : AreGiven 
           more ∙ ap (λ (xs : List (Option state.Flight)). xs ++ seen (slots ++ new ∷ []) next ∷ []) before
           ∙ ap (λ (o : Option Flight). meant slots next ++ option_map flight_value o ∷ []) (last ∙ ap (λ (s : Slot). s.flight) there)
 
-    module _ (place : ℕ) (within : place < length slots) (has : HoldsAt (λ s. s.number ≡ new.number) slots place) where
-      number_after : (k : ℕ) (d : Slot) → (get_or (slice_set slots place new) k d).number ≡ (get_or slots k d).number
-      number_after k d = elim (cases_eq k place) [
-        | inl same ↦ rw same (ap (λ (s : Slot). s.number) (get_or-set_same slots place new d within) ∙ sym (has d))
-        | inr other ↦ ap (λ (s : Slot). s.number) (get_or-set_other slots place k new d other)
+    module _ (index : ℕ) (within : index < length slots) (has : HoldsAt (λ s. s.number ≡ new.number) slots index) where
+      number_after : (k : ℕ) (d : Slot) → (get_or (slice_set slots index new) k d).number ≡ (get_or slots k d).number
+      number_after k d = elim (cases_eq k index) [
+        | inl same ↦ rw same (ap (λ (s : Slot). s.number) (get_or-set_same slots index new d within) ∙ sym (has d))
+        | inr other ↦ ap (λ (s : Slot). s.number) (get_or-set_other slots index k new d other)
       ]
 
-      pub set_ascend : Ascend (slice_set slots place new)
+      pub set_ascend : Ascend (slice_set slots index new)
       set_ascend i j d lt below =
-          let still = up i j d lt (omega (arith, below, length-set slots place new)) in
+          let still = up i j d lt (omega (arith, below, length-set slots index new)) in
           omega (arith, still, number_after i d, number_after j d)
 
-      pub set_given : AreGiven (slice_set slots place new) next
+      pub set_given : AreGiven (slice_set slots index new) next
       set_given k d below =
-          let low = given k d (omega (arith, below, length-set slots place new)) in
+          let low = given k d (omega (arith, below, length-set slots index new)) in
           omega (arith, low, number_after k d)
 
       -- the number of the slot has the flight, and each other one what it had
-      pub set_means : meant (slice_set slots place new) next ≡ slice_set (meant slots next) new.number (option_map flight_value new.flight)
+      pub set_means : meant (slice_set slots index new) next ≡ slice_set (meant slots next) new.number (option_map flight_value new.flight)
       set_means =
           let value = option_map flight_value new.flight in
           let long = length-set (meant slots next) new.number value ∙ sym (meant_length slots next) in
-          sym (fill_by_all (seen (slice_set slots place new)) (slice_set (meant slots next) new.number value) next None long (λ k below. elim (cases_eq k new.number) [
+          sym (fill_by_all (seen (slice_set slots index new)) (slice_set (meant slots next) new.number value) next None long (λ k below. elim (cases_eq k new.number) [
             | inl same ↦
                 let small : new.number < length (meant slots next) = omega (arith, below, same, meant_length slots next) in
-                let there = get_or-set_same slots place new new within in
-                let now = kept_at (slice_set slots place new) place new.number new set_ascend (omega (arith, within, length-set slots place new)) (ap (λ (s : Slot). s.number) there)
+                let there = get_or-set_same slots index new new within in
+                let now = kept_at (slice_set slots index new) index new.number new set_ascend (omega (arith, within, length-set slots index new)) (ap (λ (s : Slot). s.number) there)
                 ∙ ap (λ (s : Slot). s.flight) there in
                 ap (λ n. get_or (slice_set (meant slots next) new.number value) n None) same ∙ get_or-set_same (meant slots next) new.number value None small
-                ∙ sym (ap (seen (slice_set slots place new)) same ∙ ap (option_map flight_value) now)
+                ∙ sym (ap (seen (slice_set slots index new)) same ∙ ap (option_map flight_value) now)
             | inr other ↦
                 get_or-set_other (meant slots next) new.number k value None other ∙ get_or-map-range_with_len (seen slots) 0 next k k None below (omega arith)
-                ∙ sym (ap (option_map flight_value) (set_keeps slots place new new k (has new) (λ same. other (sym same))))
+                ∙ sym (ap (option_map flight_value) (set_keeps slots index new new k (has new) (λ same. other (sym same))))
           ]))
 
       -- one more slot is empty, if the new one is and the one before it wasn't
-      pub set_counted : (get_or slots place new).flight ≢ None → count_by (λ slot. is_none slot.flight) (slice_set slots place new)
+      pub set_counted : (get_or slots index new).flight ≢ None → count_by (λ slot. is_none slot.flight) (slice_set slots index new)
           ≡ count_by (λ slot. is_none slot.flight) slots + cond (is_none new.flight) 1 0
       set_counted some =
-          let none = filled_none (get_or slots place new).flight some in
-          let sums = sum_by-set empty_one slots place new new within in
+          let none = filled_none (get_or slots index new).flight some in
+          let sums = sum_by-set empty_one slots index new new within in
           omega (arith, sums, none)
 
   abbrev swept : List Slot
@@ -265,21 +265,21 @@ few_hops None few = tt
 few_hops (Some f) few = few
 
 -- where halving finds a slot, it has the number, and where it finds none, none has it
-module _ (slots read : List Slot) (n place : ℕ) (same : read ≡ slots) where
-  pub found_place : place < length read → HoldsAt (λ slot. nat_cmp slot.number n ≡ Equal) read place → (place < length slots) × HoldsAt (λ slot. slot.number ≡ n) slots place
-  found_place within equal =
-      let P : List Slot → Type 0 = λ ss. (place < length ss) × HoldsAt (λ slot. slot.number ≡ n) ss place in
-      subst P same (within, λ d. ranked (get_or read place d).number n Equal (sym (equal d)))
+module _ (slots read : List Slot) (n index : ℕ) (same : read ≡ slots) where
+  pub found_index : index < length read → HoldsAt (λ slot. nat_cmp slot.number n ≡ Equal) read index → (index < length slots) × HoldsAt (λ slot. slot.number ≡ n) slots index
+  found_index within equal =
+      let P : List Slot → Type 0 = λ ss. (index < length ss) × HoldsAt (λ slot. slot.number ≡ n) ss index in
+      subst P same (within, λ d. ranked (get_or read index d).number n Equal (sym (equal d)))
 
   pub found_none : Ascend slots
-      → (IsNonDecreasingBy (λ slot. ordering_index (nat_cmp slot.number n)) read → IsPartitionPoint (λ slot. nat_cmp slot.number n ≡ Less) (λ slot. nat_cmp slot.number n ≡ Greater) read place)
+      → (IsNonDecreasingBy (λ slot. ordering_index (nat_cmp slot.number n)) read → IsPartitionPoint (λ slot. nat_cmp slot.number n ≡ Less) (λ slot. nat_cmp slot.number n ≡ Greater) read index)
       → All (λ slot. slot.number ≢ n) slots
   found_none up splits =
       let rises : IsSortedByKey (λ (slot : Slot). slot.number) nat_cmp slots = λ k d low high. ordered k d (up k (k + 1) d (omega arith) (omega arith)) in
       let S : List Slot → Type 0 = λ ss. IsSortedByKey (λ (slot : Slot). slot.number) nat_cmp ss in
       let parts = splits (searchable_from_sorted nat_cmp_total (λ (slot : Slot). slot.number) read n (subst S (sym same) rises)) in
       let N : List Slot → Type 0 = λ ss. All (λ slot. slot.number ≢ n) ss in
-      subst N same (λ k d within at. elim (cases_lt k place) [
+      subst N same (λ k d within at. elim (cases_lt k index) [
         | inl before ↦
             let less : (get_or read k d).number < n = ranked (get_or read k d).number n Less (sym (parts.0 k d (omega arith) before)) in
             omega (arith, less, at)

@@ -12,7 +12,7 @@ use Rattle.net_sim.specs.WalkedStanding.{NetworkValue, StandsForWalked}
 use Rattle.net_sim.specs.Played.{IsRunOf}
 
 -- Each whole message that the outcomes tell under the key, at a node that holds d, is the message of the epoch at the
--- outcome's place, where that is of five packets at most.
+-- outcome's index, where that is of five packets at most.
 abbrev pub TellWhatWasSent : (unit : ℕ) → Plan → KeyValue → ℕ → List WalkedOutcome → List Epoch → Type 0
 TellWhatWasSent unit plan key d outcomes epochs =
     (i number n : ℕ) (message : List ℕ) (epoch : Epoch) (handed : Option Handed)

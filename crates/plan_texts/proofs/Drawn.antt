@@ -12,9 +12,9 @@ use Rattle.net_plan.specs.declared.nodes.Bus.{Bus}
 use Rattle.net_plan.specs.declared.nodes.Node.{Node}
 use Rattle.net_plan.specs.declared.nodes.Port.{Port}
 use Rattle.net_plan.specs.declared.plan.Plan.{Plan}
-use Rattle.plan_texts.specs.DrawingLines.{first_line, last_line, bus_line, node_line, port_line, owner_lines, by_place, all_by_index, drawing_lines, port_count, owned_count, IsDrawing}
+use Rattle.plan_texts.specs.DrawingLines.{first_line, last_line, bus_line, node_line, port_line, owner_lines, by_index, all_by_index, drawing_lines, port_count, owned_count, IsDrawing}
 
--- ---- items by their places
+-- ---- items by their indices
 
 enumerate_more : {A : Type 0} (k : ℕ) (xs : List A) (x : A) → enumerate_from k (xs ++ x ∷ []) ≡ enumerate_from k xs ++ (k + length xs, x) ∷ []
 enumerate_more {A} k [] x =
@@ -37,12 +37,12 @@ all_more {A} say xs x =
     ∙ ap (λ z. flat_map f (enumerate_from 0 xs) ++ z) (append-nil (say (length xs) x))))
 
 -- what was said of so many items, and what is said of the next
-pub one_more : {A : Type 0} (say : ℕ → A → List ℕ) (xs : List A) (place : ℕ) (x : A) (lines line : List ℕ) → place < length xs → x ≡ get_or xs place x
-    → lines ≡ all_by_index say (take place xs) → line ≡ say place x → lines ++ line ≡ all_by_index say (take (place + 1) xs)
-one_more say xs place x lines line within is before said =
-    let earlier = take place xs in
-    let many : length earlier ≡ place = length-take-le place xs (omega (arith, within)) in
-    let more : take (place + 1) xs ≡ earlier ++ x ∷ [] = take_more xs place x within ∙ ap (λ y. earlier ++ y ∷ []) (sym is) in
+pub one_more : {A : Type 0} (say : ℕ → A → List ℕ) (xs : List A) (index : ℕ) (x : A) (lines line : List ℕ) → index < length xs → x ≡ get_or xs index x
+    → lines ≡ all_by_index say (take index xs) → line ≡ say index x → lines ++ line ≡ all_by_index say (take (index + 1) xs)
+one_more say xs index x lines line within is before said =
+    let earlier = take index xs in
+    let many : length earlier ≡ index = length-take-le index xs (omega (arith, within)) in
+    let more : take (index + 1) xs ≡ earlier ++ x ∷ [] = take_more xs index x within ∙ ap (λ y. earlier ++ y ∷ []) (sym is) in
     ap (λ z. z ++ line) before
     ∙ (ap (λ z. all_by_index say earlier ++ z) (said ∙ ap (λ n. say n x) (sym many))
     ∙ (sym (all_more say earlier x) ∙ ap (all_by_index say) (sym more)))
@@ -78,8 +78,8 @@ parts first last buses nodes ports arrows =
 
 -- ---- how many lines
 
-length-by_place : {A B : Type 0} (say : ℕ → A → B) (items : List A) → length (by_place say items) ≡ length items
-length-by_place {A} say items = length-map (enumerate_from 0 items) (λ (placed : ℕ × A). say placed.0 placed.1) ∙ length-enumerate_from 0 items
+length-by_index : {A B : Type 0} (say : ℕ → A → B) (items : List A) → length (by_index say items) ≡ length items
+length-by_index {A} say items = length-map (enumerate_from 0 items) (λ (placed : ℕ × A). say placed.0 placed.1) ∙ length-enumerate_from 0 items
 
 length-said : {A B : Type 0} (say : ℕ → A → List B) (size : A → ℕ) → ((n : ℕ) (x : A) → length (say n x) ≡ size x) → (k : ℕ) (xs : List A)
     → length (flat_map (λ (placed : ℕ × A). say placed.0 placed.1) (enumerate_from k xs)) ≡ sum_by size xs
@@ -109,13 +109,13 @@ length-parts first last buses nodes ports arrows =
 
 module _ (plan : Plan) (red red_owned : List ℕ) (cert : Option Certificate) where
   abbrev bus_parts : List (List ℕ)
-  bus_parts = by_place bus_line plan.buses.items
+  bus_parts = by_index bus_line plan.buses.items
 
   abbrev node_parts : List (List ℕ)
-  node_parts = by_place (node_line red cert) plan.nodes.items
+  node_parts = by_index (node_line red cert) plan.nodes.items
 
   abbrev port_parts : List (List ℕ)
-  port_parts = all_by_index (λ n (node : Node). by_place (port_line n) node.ports.items) plan.nodes.items
+  port_parts = all_by_index (λ n (node : Node). by_index (port_line n) node.ports.items) plan.nodes.items
 
   abbrev arrow_parts : List (List ℕ)
   arrow_parts = all_by_index (λ n (node : Node). owner_lines red_owned n node.owner) plan.nodes.items
@@ -124,10 +124,10 @@ module _ (plan : Plan) (red red_owned : List ℕ) (cert : Option Certificate) wh
   counted : length (drawing_lines plan red red_owned cert) ≡ length plan.buses.items + (length plan.nodes.items + (port_count plan + owned_count plan)) + 2
   counted =
       let all = length-parts first_line last_line bus_parts node_parts port_parts arrow_parts in
-      let buses = length-by_place bus_line plan.buses.items in
-      let nodes = length-by_place (node_line red cert) plan.nodes.items in
-      let ports = length-said (λ n (node : Node). by_place (port_line n) node.ports.items) (λ node. length node.ports.items)
-      (λ n node. length-by_place (port_line n) node.ports.items) 0 plan.nodes.items in
+      let buses = length-by_index bus_line plan.buses.items in
+      let nodes = length-by_index (node_line red cert) plan.nodes.items in
+      let ports = length-said (λ n (node : Node). by_index (port_line n) node.ports.items) (λ node. length node.ports.items)
+      (λ n node. length-by_index (port_line n) node.ports.items) 0 plan.nodes.items in
       let arrows = length-said (λ n (node : Node). owner_lines red_owned n node.owner) (λ node. cond (is_some node.owner) 1 0)
       (λ n node. length-owner_lines red_owned n node.owner) 0 plan.nodes.items in
       omega (arith, all, buses, nodes, ports, arrows)
@@ -140,7 +140,7 @@ module _ (plan : Plan) (red red_owned : List ℕ) (cert : Option Certificate) wh
   drawn text buses nodes ports arrows has_buses has_nodes has_ports has_arrows is =
       let b = concat-map (λ (placed : ℕ × Bus). bus_line placed.0 placed.1) (enumerate_from 0 plan.buses.items) in
       let n = concat-map (λ (placed : ℕ × Node). node_line red cert placed.0 placed.1) (enumerate_from 0 plan.nodes.items) in
-      let p = concat-flat_map (λ (placed : ℕ × Node). by_place (port_line placed.0) placed.1.ports.items)
+      let p = concat-flat_map (λ (placed : ℕ × Node). by_index (port_line placed.0) placed.1.ports.items)
       (λ (placed : ℕ × Node). all_by_index (port_line placed.0) placed.1.ports.items)
       (λ placed. concat-map (λ (port : ℕ × Port). port_line placed.0 port.0 port.1) (enumerate_from 0 placed.1.ports.items))
       (enumerate_from 0 plan.nodes.items) in

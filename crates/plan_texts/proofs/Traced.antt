@@ -18,14 +18,14 @@ steps_more plan number (first ∷ steps) step =
     ∙ ap (λ n. step_line plan number first ++ steps_from plan (number + 1) steps ++ step_line plan n step) further)
 
 -- the lines of so many steps, and that of the next
-pub one_step_more : (plan : Plan) (steps : List WayStep) (place : ℕ) (default : WayStep) (lines line : List ℕ) → place < length steps
-    → lines ≡ steps_from plan 1 (take place steps) → line ≡ step_line plan (place + 1) (get_or steps place default) → lines ++ line ≡ steps_from plan 1 (take (place + 1) steps)
-one_step_more plan steps place default lines line within before told =
-    let step = get_or steps place default in
-    let earlier = take place steps in
-    let many : length earlier ≡ place = length-take-le place steps (omega (arith, within)) in
-    let number : 1 + length earlier ≡ place + 1 = omega (arith, many) in
-    let more : take (place + 1) steps ≡ earlier ++ step ∷ [] = take_more steps place default within in
+pub one_step_more : (plan : Plan) (steps : List WayStep) (index : ℕ) (default : WayStep) (lines line : List ℕ) → index < length steps
+    → lines ≡ steps_from plan 1 (take index steps) → line ≡ step_line plan (index + 1) (get_or steps index default) → lines ++ line ≡ steps_from plan 1 (take (index + 1) steps)
+one_step_more plan steps index default lines line within before told =
+    let step = get_or steps index default in
+    let earlier = take index steps in
+    let many : length earlier ≡ index = length-take-le index steps (omega (arith, within)) in
+    let number : 1 + length earlier ≡ index + 1 = omega (arith, many) in
+    let more : take (index + 1) steps ≡ earlier ++ step ∷ [] = take_more steps index default within in
     ap (λ z. z ++ line) before
     ∙ (ap (λ z. steps_from plan 1 earlier ++ z) (told ∙ ap (λ n. step_line plan n step) (sym number))
     ∙ (sym (steps_more plan 1 earlier step) ∙ ap (steps_from plan 1) (sym more)))

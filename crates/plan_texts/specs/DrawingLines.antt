@@ -105,10 +105,10 @@ owner_lines red n (Some owner) = owner_line red n owner ∷ []
 owner_lines red n None = []
 
 -- what is said of each item of a list by its index
-abbrev pub by_place : {A B : Type 0} → (ℕ → A → B) → List A → List B
-by_place say items = map (λ placed. say placed.0 placed.1) (enumerate_from 0 items)
+abbrev pub by_index : {A B : Type 0} → (ℕ → A → B) → List A → List B
+by_index say items = map (λ placed. say placed.0 placed.1) (enumerate_from 0 items)
 
--- all that is said of the items of a list by their places, one after the other
+-- all that is said of the items of a list by their indices, one after the other
 abbrev pub all_by_index : {A B : Type 0} → (ℕ → A → List B) → List A → List B
 all_by_index say items = flat_map (λ placed. say placed.0 placed.1) (enumerate_from 0 items)
 
@@ -116,9 +116,9 @@ all_by_index say items = flat_map (λ placed. say placed.0 placed.1) (enumerate_
 -- that has an owner, in the order of the plan, between the first one and the last. Nodes of the one list are red, and
 -- arrows to nodes of the other.
 abbrev pub drawing_lines : Plan → (red red_owned : List ℕ) → Option Certificate → List (List ℕ)
-drawing_lines plan red red_owned cert = first_line ∷ (by_place bus_line plan.buses.items
-    ++ (by_place (node_line red cert) plan.nodes.items
-    ++ (all_by_index (λ n node. by_place (port_line n) node.ports.items) plan.nodes.items
+drawing_lines plan red red_owned cert = first_line ∷ (by_index bus_line plan.buses.items
+    ++ (by_index (node_line red cert) plan.nodes.items
+    ++ (all_by_index (λ n node. by_index (port_line n) node.ports.items) plan.nodes.items
     ++ (all_by_index (λ n node. owner_lines red_owned n node.owner) plan.nodes.items ++ last_line ∷ []))))
 
 -- how many ports the nodes of a plan have, and how many of them have an owner
