@@ -8,6 +8,7 @@ ghost use Rattle.net_check.specs.States.{NetworkState, unit_of};
 ghost use Rattle.net_check.specs.Headline.{Headline};
 ghost use Rattle.net_check.specs.Deliveries.{Delivers};
 ghost use Rattle.net_check.specs.ExactMessages.{RunsAsSent};
+ghost use Rattle.net_check.specs.NetworkWalks.{WalksOverNetworks};
 
 use crate::check_error::CheckError;
 use crate::first_fault::first_of_all;
@@ -54,7 +55,7 @@ impl<'a> Checked<'a> {
 
 /// Whether each rule holds of the plan and the certificate. Otherwise the error is the first fault, or out of memory:
 /// it takes lists with an entry for each node, and sets of the handles and places of one terminus after the other.
-#[tactic(auto, using(crate::proofs::Ends::ends_within_rank, crate::proofs::Whole::whole_headline, crate::proofs::Whole::accepted_delivers, crate::proofs::Exact::runs_as_sent))]
+#[tactic(auto, using(crate::proofs::Ends::ends_within_rank, crate::proofs::Whole::whole_headline, crate::proofs::Whole::accepted_delivers, crate::proofs::Exact::runs_as_sent, crate::proofs::WalksOver::walks_over_networks))]
 pub fn check<'a>(
     alloc: Global,
     plan: &'a Plan,
@@ -78,6 +79,10 @@ pub fn check<'a>(
     // Where one message at a time is sent under a key to a destination, of five packets at most, what comes of it is
     // that message.
     ensures exact { OnOk result ((key : KeyValue) (d : ℕ) (w : NetworkState) → RunsAsSent (unit_of plan.now) plan.now key d w) }
+
+    // The exchanges that a walker has taken are a walk over the records of the terminus that it asks, whatever is lost,
+    // repeated or out of order.
+    ensures walks { OnOk result (WalksOverNetworks plan.now certificate.now) }
 {
     if let Some(fault) = first_of_all(alloc, plan, certificate)? {
         return Err(CheckError::Fault(fault));

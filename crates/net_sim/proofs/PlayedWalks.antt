@@ -13,6 +13,8 @@ use Rattle.net_sim.specs.Accepted.{AreAccepted, IsAccepted}
 use Rattle.net_sim.specs.Outcomes.{outcome_value}
 use Rattle.net_sim.specs.WalkedStanding.{NetworkValue, WalkedPlays, WalkedWants}
 use Rattle.net_sim.specs.Played.{PlaysAll}
+use Rattle.net_check.proofs.WalkedHeadline.{plans_walked_headline, moves_walked_headline, plans_walked_delivers, moves_walked_delivers}
+use Rattle.net_sim.specs.Promised.{IsPromised}
 use Rattle.net_sim.specs.Walks.{HaveWalked, PlaysWalks}
 use Rattle.net_sim.proofs.PlayedRuns.{one_played}
 
@@ -37,9 +39,18 @@ have_walked tables cert turns accepted run earlier later rest begins k node eid 
 
 pub plays_walks : (tables : Tables) (cert : Certificate) (old : NetworkValue) (events : List WalkedEvent) (outcomes : List WalkedOutcome) (new : NetworkValue)
     → IsAccepted tables cert → PlaysAll tables old events outcomes new → PlaysWalks tables cert old events outcomes new
-plays_walks tables cert old events outcomes new accepted all before run stands =
-    let played = all (walked_reached tables.plan cert before) stands in
-    (played, have_walked tables cert (before ++ played.turns) accepted (run_joins tables (walked_at_start tables.plan cert) before played.turns run played.runs))
+plays_walks tables cert old events outcomes new accepted all before run stands = (
+  all (walked_reached tables.plan cert before) stands,
+  λ played. have_walked tables cert (before ++ played.turns) accepted (run_joins tables (walked_at_start tables.plan cert) before played.turns run played.runs),
+)
+
+-- what is promised of accepted tables
+pub promised : (tables : Tables) (cert : Certificate) → IsAccepted tables cert → IsPromised tables cert
+promised tables cert accepted = by tables.plan tables.after accepted
+  where
+    by : (plan : Plan) (after : Option Plan) → AreAccepted plan after cert → IsPromised (record { plan = plan; after = after }) cert
+    by plan None accepted = record { headline = plans_walked_headline plan cert accepted; delivers = plans_walked_delivers plan cert accepted }
+    by plan (Some after) accepted = record { headline = moves_walked_headline plan after cert accepted; delivers = moves_walked_delivers plan after cert accepted }
 
 pub one_walks : {E : Type 0} (tables : Tables) (cert : Certificate) (old : NetworkValue) (event : WalkedEvent) (new : NetworkValue) (result : Result Outcome E)
     → IsAccepted tables cert → MatchResult result (λ outcome. WalkedPlays tables old event (outcome_value outcome) new) (λ _. WalkedWants tables old event new)

@@ -19,12 +19,14 @@ HaveWalked tables cert turns = (earlier later rest : List WalkedTurn) (begins : 
     → All (λ turn. KeepsOff tables.plan (fresh_walker node eid tag count) turn.event turn.outcome) later
     → Holds tables.plan n eid → terminus_of tables.plan n ≢ None
     → WalksThere tables (records_by_place tables.plan cert n) (fresh_walker node eid tag count) k
-    (walked_reached tables.plan cert (earlier ++ begins ∷ later))
+    begins.after later (walked_reached tables.plan cert (earlier ++ begins ∷ later))
 
--- After every run that the network stood for, these events with these outcomes go on with it, and so do all walks.
+-- After every run that the network stood for, these events with these outcomes go on with it, and in each way of going
+-- on with it so do all walks.
 abbrev pub PlaysWalks : Tables → Certificate → NetworkValue → List WalkedEvent → List WalkedOutcome → NetworkValue
     → Type 0
 PlaysWalks tables cert old events outcomes new = (before : List WalkedTurn) → WalkedRunOf tables cert before
     → StandsForWalked old (walked_reached tables.plan cert before)
-    → (run : IsRunOf tables (walked_reached tables.plan cert before) events outcomes new)
-    × HaveWalked tables cert (before ++ run.turns)
+    → IsRunOf tables (walked_reached tables.plan cert before) events outcomes new
+    × ((run : IsRunOf tables (walked_reached tables.plan cert before) events outcomes new)
+    → HaveWalked tables cert (before ++ run.turns))

@@ -48,6 +48,7 @@ impl<'a> Network<'a> {
     ghost use Rattle.net_sim.specs.Played.{PlaysAll, StopsAfter};
     ghost use Rattle.net_sim.specs.Walks.{PlaysWalks};
     ghost use Rattle.net_sim.specs.AsSent.{PlaysAsSent};
+    ghost use Rattle.net_sim.specs.Promised.{IsPromised};
 
     /// The network of a checked plan, in which nothing has happened yet. The termini are dealt to the nodes that have one, in
     /// the plan's order, one to each, as many as `planned_termini_count` tells; where they are as planned, it stands for the
@@ -115,6 +116,8 @@ impl<'a> Network<'a> {
             (λ _. WalkedWants (checked_of self.old).0
             (network_value (λ d. tid d.terminus) (λ d. records d.terminus) self.old) (event_value event.now)
             (network_value (λ d. tid d.terminus) (λ d. records d.terminus) self.new)) }
+        // Every run with walkers that the network may stand for keeps the headline, and what is promised of deliveries.
+        ensures promises { IsPromised (checked_of self.old).0 (checked_of self.old).1 }
         // The exchanges that each walker has taken are a walk over the records of the terminus that it asks.
         ensures walks { IfOk result (λ outcome. PlaysWalks (checked_of self.old).0 (checked_of self.old).1
             (network_value (λ d. tid d.terminus) (λ d. records d.terminus) self.old) (event_value event.now ∷ []) (outcome_value outcome ∷ [])
@@ -139,6 +142,8 @@ impl<'a> Network<'a> {
             (network_value (λ d. tid d.terminus) (λ d. records d.terminus) self.old)
             (take (length played.outcomes.items) (map event_value events.now)) (map outcome_value played.outcomes.items)
             (network_value (λ d. tid d.terminus) (λ d. records d.terminus) self.new)) }
+        // Every run with walkers that the network may stand for keeps the headline, and what is promised of deliveries.
+        ensures promises { IsPromised (checked_of self.old).0 (checked_of self.old).1 }
         // The exchanges that each walker has taken are a walk over the records of the terminus that it asks.
         ensures walks { IfOk result (λ played. PlaysWalks (checked_of self.old).0 (checked_of self.old).1
             (network_value (λ d. tid d.terminus) (λ d. records d.terminus) self.old)

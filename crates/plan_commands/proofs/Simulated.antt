@@ -239,7 +239,8 @@ pub walks_in : (checked checked' : Tables × Certificate) (events : List WalkedE
     → (run : IsRunOf checked.0 (walked_at_start checked.0.plan checked.1) events outcomes new) × HaveWalked checked.0 checked.1 run.turns
 walks_in checked checked' events outcomes old new same stands plays =
     let P : Tables × Certificate → Type 0 = λ c. PlaysWalks c.0 c.1 old events outcomes new in
-    subst P same plays [] tt stands
+    let went = subst P same plays [] tt stands in
+    (went.0, went.1 went.0)
 
 -- ---- so many outcomes
 

@@ -3,7 +3,7 @@ use Rattle.net_check.specs.States.{unit_of}
 use Rattle.net_sim.specs.Networks.{checked_of}
 use Rattle.net_sim.proofs.PlayedRuns.{played_start, played_plays, played_next, stopped_plays, stopped_after}
 use Rattle.net_sim.proofs.AsSent.{plays_as_sent}
-use Rattle.net_sim.proofs.PlayedWalks.{plays_walks}
+use Rattle.net_sim.proofs.PlayedWalks.{plays_walks, promised}
 use Rattle.net_sim.proofs.network.Network.run.Goals as goal
 
 pub loop-event-init : goal.loop-event-init
@@ -59,3 +59,12 @@ returns-clause-walks g c = plays_walks (checked_of c.args.self.now).0 (checked_o
 
 pub returns-clause-whole : goal.returns-clause-whole
 returns-clause-whole g c = λ whole. omega (arith, c.loop-event.invariant.1.long)
+
+pub returns-in_err-outcomes-clause-promises : goal.returns-in_err-outcomes-clause-promises
+returns-in_err-outcomes-clause-promises g c = promised (checked_of c.args.self.now).0 (checked_of c.args.self.now).1 c.plan-plan.ensures.accepted
+
+pub returns-in-Err-clause-promises : goal.returns-in-Err-clause-promises
+returns-in-Err-clause-promises g c = promised (checked_of c.args.self.now).0 (checked_of c.args.self.now).1 c.plan-plan.ensures.accepted
+
+pub returns-clause-promises : goal.returns-clause-promises
+returns-clause-promises g c = promised (checked_of c.args.self.now).0 (checked_of c.args.self.now).1 c.plan-plan.ensures.accepted
