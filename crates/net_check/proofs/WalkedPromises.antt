@@ -19,7 +19,7 @@ use Rattle.net_check.specs.Deliveries.{IsDeliverable, moves_of, IsNotLost, HasEn
 use Rattle.net_check.specs.Walkers.{WalkedState, WalkedEvent, Happening, WalkedOutcome, Happened, Handed, walked_at_start}
 use Rattle.net_check.specs.WalkedRuns.{WalkedStep, WalkedTurn, WalkedRunOf, walked_after}
 use Rattle.net_check.specs.Below.{HasRunBelow}
-use Rattle.net_check.specs.WalkedHeadline.{WasPutInWalked, JoinsPacketsWalked, network_reached, WalkedHeadline, walked_moves_of, IsNotLostWalked, HasEnteredWalked, IsOnItsWayWalked, WalkedDelivers}
+use Rattle.net_check.specs.WalkedPromises.{WasPutInWalked, JoinsPacketsWalked, network_reached, WalkedHeadline, walked_moves_of, IsNotLostWalked, HasEnteredWalked, IsOnItsWayWalked, WalkedDelivers}
 use Rattle.net_check.proofs.Below.{runs_below, walked_splits, walked_after_splits, run_joins, after_joins, happened_below, puts_below, moves_below, not_lost_below, entered_below}
 use Rattle.net_check.proofs.Whole.{whole_headline, accepted_delivers, move_headline, move_delivers}
 
