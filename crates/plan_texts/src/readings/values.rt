@@ -85,7 +85,6 @@ fn value_text(
 }
 
 /// What is wrong with a value: the key that it lacks or that doesn't belong there, its length, or what stands there.
-#[tactic(auto, using(crate::proofs::ToldTexts::wrong_told))]
 fn wrong_words(
     alloc: Global,
     found: &Found,
