@@ -10,6 +10,7 @@ pub mod Cutting
 pub mod Sending
 pub mod PacketsLeft
 pub mod Histories
+pub mod OpenKeys
 pub mod Causes
 pub mod Hearing
 pub mod Tables

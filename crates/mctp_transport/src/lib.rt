@@ -15,7 +15,7 @@ pub use address::{Eid, Key, Reserved, Seq, Tag};
 pub use assembler::{Assembler, Fed, MAX_SLOTS};
 pub use cutting::{MAX_MESSAGE, Packets, cut_joins, one_cut};
 pub use drop_cause::DropCause;
-pub use laws::one_spelling;
+pub use laws::{one_spelling, open_keys};
 pub use packet::{BASELINE_UNIT, HEADER_LENGTH, Header, MAX_UNIT, Packet, PacketView};
 pub use packet_error::PacketError;
 pub use wire::{Wire, round_trip};

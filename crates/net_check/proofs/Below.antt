@@ -1,12 +1,14 @@
 -- Below each run with walkers there is a run of the network, turn by turn.
-use Rattle.std.proofs.Common.{◌≡◌, ◌≢◌, ◌⊎◌, ℕ, zero, suc, Bool, true, false, not, ◌&&◌, List, [], ◌∷◌, ◌++◌, length, if◌then◌else◌, Option, Some, None, refl, sym, ap, ◌∙◌, subst, inl, inr}
+use Rattle.std.proofs.Common.{◌≡◌, ◌≢◌, ◌⊎◌, ℕ, ◌+◌, zero, suc, Bool, true, false, not, ◌&&◌, List, [], ◌∷◌, ◌++◌, length, if◌then◌else◌, Option, Some, None, refl, sym, ap, ◌∙◌, subst, inl, inr}
 use Rattle.std.specs.Prelude.{slice_get}
 use Rattle.std.specs.List.{AllByRecursion}
+use Rattle.std.proofs.lemmas.Bool.Decides.{eqb_tells}
 use Rattle.std.proofs.lemmas.Option.{same_Some, none-some}
-use Rattle.mctp_transport.specs.Frames.{Frame, KeyValue}
+use Rattle.mctp_transport.specs.Frames.{Frame, KeyValue, Spelled}
+use Rattle.mctp_transport.specs.FrameLaws.{one_frame}
 use Rattle.mctp_transport.specs.Hearing.{Answer}
 use Rattle.net_check.specs.Routing.{Holds}
-use Rattle.net_check.specs.States.{NetworkState}
+use Rattle.net_check.specs.States.{NetworkState, Flight, with_packet, unit_of}
 use Rattle.net_check.specs.TwoPlans.{Tables}
 use Rattle.net_check.specs.Events.{EventValue, Put, OutcomeValue, PutIn, Entered, Lost, Brings}
 use Rattle.net_check.specs.Networks as network
@@ -16,19 +18,19 @@ use Rattle.net_check.specs.Walkers.{WalkedState, WalkedEvent, Happening, BeginWa
 use Rattle.net_check.specs.WalkedRuns.{WalkedHappens, WalkedStep, WalkedTurn, WalkedRunFrom, walked_after}
 use Rattle.net_check.specs.WalkedMessages.{IsPutOfWalked}
 use Rattle.net_check.specs.Below.{IsOfWalkersAlone, IsAlikeBelow, AreBelow, HasRunBelow, RunsBelow}
-use Rattle.net_check.specs.WalkedHeadline.{WasPutInWalked, moves_itself, walked_moves_of, HasEnteredWalked}
-use Rattle.net_check.proofs.WalkedExact.{put_flies}
+use Rattle.net_check.specs.WalkedPromises.{WasPutInWalked, moves_itself, walked_moves_of, HasEnteredWalked}
+use Rattle.net_check.proofs.Nexts.{new_flight}
 
 -- ---- turns
 
 -- what happens to the network with a turn
-record HasTurnBelow (tables : Tables) (w : WalkedState) (event : WalkedEvent) (outcome : WalkedOutcome) (new : WalkedState) : Type 0 where
-  lower : EventValue
-  told : OutcomeValue
-  step : network.Step tables w.network lower told new.network
-  alike : IsAlikeBelow tables w event outcome new lower told
+pub record HasTurnBelow (tables : Tables) (w : WalkedState) (event : WalkedEvent) (outcome : WalkedOutcome) (new : WalkedState) : Type 0 where
+  pub lower : EventValue
+  pub told : OutcomeValue
+  pub step : network.Step tables w.network lower told new.network
+  pub alike : IsAlikeBelow tables w event outcome new lower told
 
-AreOfWalkersAlone : WalkedState → WalkedEvent → WalkedOutcome → WalkedState → Type 0
+abbrev pub AreOfWalkersAlone : WalkedState → WalkedEvent → WalkedOutcome → WalkedState → Type 0
 AreOfWalkersAlone w event outcome new = IsOfWalkersAlone event outcome × (new.network ≡ w.network)
 
 same_network : (w new : WalkedState) → new ≡ w → new.network ≡ w.network
@@ -42,7 +44,6 @@ refused_alone (TellWalk k) why = tt
 
 happens_below : (tables : Tables) (w : WalkedState) (event : WalkedEvent) (outcome : WalkedOutcome) (new : WalkedState) → WalkedHappens tables w event outcome new
     → AreOfWalkersAlone w event outcome new ⊎ HasTurnBelow tables w event outcome new
-unfolding AreOfWalkersAlone
 happens_below tables w (Happening event) (Happened outcome None) new (step, none, kept, begun) = inr (record { lower = event; told = outcome; step = step; alike = (refl, refl) })
 happens_below tables w (Happening event) (Happened outcome (Some handed)) new (step, given, begun) = inr (record { lower = event; told = outcome; step = step; alike = (refl, refl) })
 happens_below tables w (BeginWalk node eid tag count) (Begun k) new (number, is) = inl (tt, ap (λ (u : WalkedState). u.network) is)
@@ -51,9 +52,8 @@ happens_below tables w (Ask k) (Asked j flight) new (number, walker, next, there
 happens_below tables w (TellWalk k) (ToldWalk j records standing) new (number, walker, there, many, stands, is) = inl (tt, same_network w new is)
 happens_below tables w _ _ new h = absurd h
 
-turn_below : (tables : Tables) (w : WalkedState) (event : WalkedEvent) (outcome : WalkedOutcome) (new : WalkedState) → WalkedStep tables w event outcome new
+pub turn_below : (tables : Tables) (w : WalkedState) (event : WalkedEvent) (outcome : WalkedOutcome) (new : WalkedState) → WalkedStep tables w event outcome new
     → AreOfWalkersAlone w event outcome new ⊎ HasTurnBelow tables w event outcome new
-unfolding AreOfWalkersAlone
 turn_below tables w event (WalkRefused why) new h = inl (refused_alone event why, same_network w new h.1)
 turn_below tables w event outcome new h = happens_below tables w event outcome new h.1
 
@@ -75,7 +75,6 @@ left_out tables w turn turns (below ∷ belows) alone same rest = inl (alone, sa
 
 more_below : (tables : Tables) (w : WalkedState) (turn : WalkedTurn) (turns : List WalkedTurn) → WalkedStep tables w turn.event turn.outcome turn.after
     → HasRunBelow tables turn.after turns → HasRunBelow tables w (turn ∷ turns)
-unfolding AreOfWalkersAlone
 more_below tables w turn turns step later = elim (turn_below tables w turn.event turn.outcome turn.after step) [
   | inl (alone, same) ↦
       let R : NetworkState → Type 0 = λ u. RunFrom tables u later.below in
@@ -118,8 +117,19 @@ after_joins w (turn ∷ earlier) later = after_joins turn.after earlier later
 
 -- ---- what alike turns say alike
 
+-- the flight of a put has its packet
+put_flies : (tables : Tables) (w : NetworkState) (node flight : ℕ) (bytes : List ℕ) (new : NetworkState) → network.Step tables w (Put node bytes) (PutIn flight node) new
+    → (p : Frame) → Spelled (unit_of tables.plan) p bytes → (f : Flight) × (new.flight flight ≡ Some f) × (f.packet ≡ p)
+put_flies tables w node flight bytes new (may, (q, spelled, number, at, is)) p mine =
+    let same : q ≡ p = one_frame (unit_of tables.plan) q p spelled.0 mine.0 (sym spelled.1 ∙ mine.1) in
+    let there : (with_packet w node q).flight flight ≡ Some (new_flight node q) = elim (eqb_tells flight (w.made + 1)) [
+      | inl here ↦ rw here.0 refl
+      | inr other ↦ absurd (other.1 number)
+    ] in
+    (new_flight node q, ap (λ (u : NetworkState). u.flight flight) is ∙ there, same)
+
 module _ (tables : Tables) where
-  puts_alike : (w : WalkedState) (event : WalkedEvent) (outcome : WalkedOutcome) (new : WalkedState) (lower : EventValue) (told : OutcomeValue) → IsAlikeBelow tables w event outcome new lower told
+  pub puts_alike : (w : WalkedState) (event : WalkedEvent) (outcome : WalkedOutcome) (new : WalkedState) (lower : EventValue) (told : OutcomeValue) → IsAlikeBelow tables w event outcome new lower told
       → (p : Frame) → IsPutOf tables.plan lower told new.network p → IsPutOfWalked tables.plan event outcome new.network p
   puts_alike w (Happening event) (Happened outcome handed) new lower told (is, said) p put =
       let E : EventValue → Type 0 = λ e. IsPutOf tables.plan e told new.network p in

@@ -3,18 +3,20 @@ use Rattle.std.specs.Prelude.{◌≡◌, ◌⊎◌, List, [], ◌∷◌, Some}
 use Rattle.net_check.specs.TwoPlans.{Tables}
 use Rattle.net_check.specs.Events.{EventValue, OutcomeValue, Put, PutIn}
 use Rattle.net_check.specs.Runs.{Turn, RunFrom, after_all}
-use Rattle.net_check.specs.Walkers.{WalkerValue, WalkedState, WalkedEvent, Happening, Ask, WalkedOutcome, Happened, Asked}
+use Rattle.net_check.specs.Walkers.{WalkerValue, WalkedState, WalkedEvent, Happening, Ask}
+use Rattle.net_check.specs.Walkers.{WalkedOutcome, Happened, Asked}
 use Rattle.net_check.specs.WalkedRuns.{IsAsking, WalkedTurn, WalkedRunFrom, walked_after}
 
--- it is of walkers alone or refused there, so nothing happens to the network
+-- It is of walkers alone, or an event of a walk that is refused, so nothing happens to the network.
 abbrev pub IsOfWalkersAlone : WalkedEvent → WalkedOutcome → Type 0
 IsOfWalkersAlone (Happening event) (Happened outcome handed) = ⊥
 IsOfWalkersAlone (Ask k) (Asked j flight) = ⊥
 IsOfWalkersAlone _ _ = Unit {0}
 
--- What happens to the network with it, and what comes of that: the same event and outcome, and of a request that is put
--- in, a put of its bytes at the walker's node, as the same flight.
-abbrev pub IsAlikeBelow : Tables → WalkedState → WalkedEvent → WalkedOutcome → WalkedState → EventValue → OutcomeValue → Type 0
+-- What happens to the network with it, and what comes of that: the same event and outcome. For a request of a walker
+-- that is put in this is a put of its bytes at the walker's node, as the same flight.
+abbrev pub IsAlikeBelow : Tables → WalkedState → WalkedEvent → WalkedOutcome → WalkedState → EventValue
+    → OutcomeValue → Type 0
 IsAlikeBelow tables w (Happening event) (Happened outcome handed) new lower told = (lower ≡ event) × (told ≡ outcome)
 IsAlikeBelow tables w (Ask k) (Asked j flight) new lower told =
     (walker : WalkerValue) × (next : WalkerValue) × (w.walker k ≡ Some walker)
@@ -27,7 +29,7 @@ pub record IsTurnBelow (tables : Tables) (w : WalkedState) (turn : WalkedTurn) (
   pub alike : IsAlikeBelow tables w turn.event turn.outcome turn.after below.event below.outcome
   pub same : below.after ≡ turn.after.network
 
--- Turn by turn: one is below each turn with which something happens to the network, and none below the others, which
+-- Turn by turn: one turn is below each with which something happens to the network, and none is below the others, which
 -- leave the network as it is.
 abbrev pub AreBelow : Tables → WalkedState → List WalkedTurn → List Turn → Type 0
 AreBelow tables w [] [] = Unit {0}
@@ -39,14 +41,14 @@ AreBelow tables w (turn ∷ turns) (below ∷ belows) =
     × AreBelow tables turn.after turns (below ∷ belows))
     ⊎ (IsTurnBelow tables w turn below × AreBelow tables turn.after turns belows)
 
--- Below each run with walkers there is a run of the network, turn by turn, to the same network: so what is promised
--- of all runs of the network holds of it.
+-- Below the run with walkers there is a run of the network, turn by turn, to the same network.
 pub record HasRunBelow (tables : Tables) (w : WalkedState) (turns : List WalkedTurn) : Type 0 where
   pub below : List Turn
   pub run : RunFrom tables w.network below
   pub alike : AreBelow tables w turns below
   pub reaches : after_all w.network below ≡ (walked_after w turns).network
 
+-- so it is of every run with walkers
 abbrev pub RunsBelow : Tables → Type 0
 RunsBelow tables =
     (w : WalkedState) (turns : List WalkedTurn) → WalkedRunFrom tables w turns → HasRunBelow tables w turns

@@ -1,8 +1,9 @@
 //! Where the bytes of a text come from, and where they go.
-ghost use Rattle.std.specs.Prelude.{◌≡◌, ℕ, ◌+◌, ◌^◌, ◌-◌, ◌<◌, ◌≤◌, List, length, take, drop, Option, IfOk, IfErr, OnOk, OnErr, vec_len, vec_capacity};
+ghost use Rattle.std.specs.Prelude.{◌≡◌, ◌≢◌, ℕ, ◌+◌, ◌^◌, ◌-◌, ◌<◌, ◌≤◌, List, length, take, drop, Option, IfOk, IfErr, OnOk, OnErr, vec_len, vec_capacity};
 ghost use Rattle.std.specs.Io.{ReadsAtMost, WritesAtMost};
-ghost use Rattle.std.specs.Io.KnownBytes.{ReadConsumes, WriteAppends, Consumes, Appends, IsAtEnd};
+ghost use Rattle.std.specs.Io.KnownBytes.{Keeps, ReadConsumes, WriteAppends, Consumes, Appends, IsAtEnd};
 ghost use Rattle.net_plan.specs.Stream.{failure_count, TakesMoreThan, AppendsBeginning};
+ghost use Rattle.net_plan.specs.Taken.{TakesAtMost};
 ghost use Rattle.net_plan.specs.TextFaults.{device_count};
 
 use std::alloc::{AllocError, Global};
@@ -135,7 +136,8 @@ impl From<Failed> for TextFault {
     }
 }
 
-/// The bytes that a source gives to its end, at most so many. No read is tried again once it has failed.
+/// The bytes that a source gives to its end, at most so many. No read is tried again once it has failed, and the source
+/// then stands where its last pull left it, as it does where memory was wanting.
 pub fn read_within<S: Source>(
     alloc: Global,
     source: &mut S,
@@ -147,6 +149,8 @@ pub fn read_within<S: Source>(
     ensures within { IfOk result (λ text. length text.items ≤ limit) }
     ensures too_long { IfErr result (λ e. e ≡ TextFault.TooLong
         → TakesMoreThan limit (S.remaining source.old) (S.remaining source.new)) }
+    ensures stands { IfErr result (λ e. e ≢ TextFault.TooLong
+        → TakesAtMost limit (S.remaining source.old) (S.remaining source.new)) }
     ensures counts { S.failures source.new ≡ S.failures source.old + device_count result }
 {
     let mut text = Vec::new(alloc);
@@ -197,6 +201,7 @@ fn pull_into<S: Source>(source: &mut S, text: &mut Vec<u8>, at: usize) -> Result
     ensures fits { IfOk result (λ count. at + count ≤ vec_len text.new) }
     ensures bytes { IfOk result (λ count. Consumes (S.remaining source.old) (S.remaining source.new) (take count (drop at text.new.items))) }
     ensures end { IfOk result (λ count. count ≡ 0 → IsAtEnd (S.remaining source.new)) }
+    ensures stands { OnErr result (Keeps (S.remaining source.old) (S.remaining source.new)) }
     ensures counts { S.failures source.new ≡ S.failures source.old + failure_count result }
 {
     pull_at(source, text.as_mut_slice(), at)
@@ -210,6 +215,7 @@ fn pull_at<S: Source>(source: &mut S, text: &mut [u8], at: usize) -> Result<usiz
     ensures fits { IfOk result (λ count. at + count ≤ length text.new) }
     ensures bytes { IfOk result (λ count. Consumes (S.remaining source.old) (S.remaining source.new) (take count (drop at text.new))) }
     ensures end { IfOk result (λ count. count ≡ 0 → IsAtEnd (S.remaining source.new)) }
+    ensures stands { OnErr result (Keeps (S.remaining source.old) (S.remaining source.new)) }
     ensures counts { S.failures source.new ≡ S.failures source.old + failure_count result }
 {
     source.pull(&mut text[at..])

@@ -23,6 +23,7 @@ pub mod Packing
 pub mod Asking
 pub mod PlayedRuns
 pub mod PlayedWalks
+pub mod PutInBefore
 pub mod AsSent
 pub mod SentRequests
 pub mod Dealt

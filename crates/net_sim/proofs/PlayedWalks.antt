@@ -7,25 +7,23 @@ use Rattle.net_check.specs.TwoPlans.{Tables}
 use Rattle.net_check.specs.Walkers.{WalkedState, WalkedEvent, WalkedOutcome, walked_at_start}
 use Rattle.net_check.specs.WalkedRuns.{WalkedTurn, WalkedRunFrom, WalkedRunOf, walked_after, walked_reached}
 use Rattle.net_check.specs.NetworkWalks.{WalksOverBy}
+use Rattle.net_check.proofs.Below.{walked_splits}
+use Rattle.net_check.proofs.WalkedPromises.{plans_walked_headline, moves_walked_headline, plans_walked_delivers, moves_walked_delivers}
 use Rattle.net_check.proofs.WalksOver.{walks_over_networks, walks_over_moves}
 use Rattle.net_sim.specs.declared.outcome.Outcome.{Outcome}
 use Rattle.net_sim.specs.Accepted.{AreAccepted, IsAccepted}
 use Rattle.net_sim.specs.Outcomes.{outcome_value}
 use Rattle.net_sim.specs.WalkedStanding.{NetworkValue, WalkedPlays, WalkedWants}
 use Rattle.net_sim.specs.Played.{PlaysAll}
-use Rattle.net_check.proofs.WalkedHeadline.{plans_walked_headline, moves_walked_headline, plans_walked_delivers, moves_walked_delivers}
 use Rattle.net_sim.specs.Promised.{IsPromised}
 use Rattle.net_sim.specs.Walks.{HaveWalked, PlaysWalks}
 use Rattle.net_sim.proofs.PlayedRuns.{one_played}
 
-run_joins : (tables : Tables) (w : WalkedState) (xs ys : List WalkedTurn) → WalkedRunFrom tables w xs → WalkedRunFrom tables (walked_after w xs) ys
+-- a run goes on from where another ends
+pub run_joins : (tables : Tables) (w : WalkedState) (xs ys : List WalkedTurn) → WalkedRunFrom tables w xs → WalkedRunFrom tables (walked_after w xs) ys
     → WalkedRunFrom tables w (xs ++ ys)
 run_joins tables w [] ys run rest = rest
 run_joins tables w (turn ∷ xs) ys (step, run) rest = (step, run_joins tables turn.after xs ys run rest)
-
-run_begins : (tables : Tables) (w : WalkedState) (xs ys : List WalkedTurn) → WalkedRunFrom tables w (xs ++ ys) → WalkedRunFrom tables w xs
-run_begins tables w [] ys run = tt
-run_begins tables w (turn ∷ xs) ys (step, run) = (step, run_begins tables turn.after xs ys run)
 
 accepted_walks : (plan : Plan) (after : Option Plan) (cert : Certificate) → AreAccepted plan after cert → WalksOverBy (record { plan = plan; after = after }) cert
 accepted_walks plan None cert accepted = walks_over_networks plan cert accepted
@@ -34,8 +32,8 @@ accepted_walks plan (Some after) cert accepted = walks_over_moves plan after cer
 have_walked : (tables : Tables) (cert : Certificate) (turns : List WalkedTurn) → IsAccepted tables cert → WalkedRunOf tables cert turns → HaveWalked tables cert turns
 have_walked tables cert turns accepted run earlier later rest begins k node eid tag count n split asks tells off holds has =
     let R : List WalkedTurn → Type 0 = WalkedRunOf tables cert in
-    let until = run_begins tables (walked_at_start tables.plan cert) (earlier ++ begins ∷ later) rest (subst R split run) in
-    accepted_walks tables.plan tables.after cert accepted earlier later begins k node eid tag count n until asks tells off holds has
+    let until = walked_splits tables (walked_at_start tables.plan cert) (earlier ++ begins ∷ later) rest (subst R split run) in
+    accepted_walks tables.plan tables.after cert accepted earlier later begins k node eid tag count n until.0 asks tells off holds has
 
 pub plays_walks : (tables : Tables) (cert : Certificate) (old : NetworkValue) (events : List WalkedEvent) (outcomes : List WalkedOutcome) (new : NetworkValue)
     → IsAccepted tables cert → PlaysAll tables old events outcomes new → PlaysWalks tables cert old events outcomes new

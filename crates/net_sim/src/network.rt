@@ -50,6 +50,7 @@ impl<'a, T: Terminus> Network<'a, T> {
     ghost use Rattle.net_sim.specs.Walks.{PlaysWalks};
     ghost use Rattle.net_sim.specs.AsSent.{PlaysAsSent};
     ghost use Rattle.net_sim.specs.Promised.{IsPromised};
+    ghost use Rattle.net_sim.specs.PutInBefore.{PlaysWhatWasPutIn};
 
     /// The network of a checked plan, in which nothing has happened yet. The termini are dealt to the nodes that have one, in
     /// the plan's order, one to each, as many as `planned_termini_count` tells; where they are as planned, it stands for the
@@ -145,6 +146,11 @@ impl<'a, T: Terminus> Network<'a, T> {
             (network_value T.tid T.records self.new)) }
         // Every run with walkers that the network may stand for keeps the headline, and what is promised of deliveries.
         ensures promises { IsPromised (checked_of self.old).0 (checked_of self.old).1 }
+        // A whole message that is told joins packets that were put in before it, by events that are named by their indices.
+        ensures joins { IfOk result (λ played. PlaysWhatWasPutIn (checked_of self.old).0 (checked_of self.old).1
+            (network_value T.tid T.records self.old)
+            (take (length played.outcomes.items) (map event_value events.now)) (map outcome_value played.outcomes.items)
+            (network_value T.tid T.records self.new)) }
         // The exchanges that each walker has taken are a walk over the records of the terminus that it asks.
         ensures walks { IfOk result (λ played. PlaysWalks (checked_of self.old).0 (checked_of self.old).1
             (network_value T.tid T.records self.old)

@@ -101,11 +101,13 @@ impl Walker {
     }
 
     /// The next request, under an instance ID. None once the walk is done or has failed. Asked again before an answer
-    /// was taken it gives the same request under the new ID. It takes no memory.
+    /// was taken it gives the same request under the new ID. It takes no memory, and it keeps the room that `reserve`
+    /// made.
     #[tactic(auto, using(crate::proofs::Telling::asks_what_is_due))]
     pub fn next_request(&mut self, id: InstanceId) -> Option<[u8; GetPdrRequest::LENGTH]>
         ensures asks { Asks (state_of self.old) id.value result (state_of self.new) }
         ensures due { AsksWhatIsDue (state_of self.old) id.value result (state_of self.new) }
+        ensures room { HasRoom self.old → HasRoom self.new }
     {
         if self.failed {
             return None;

@@ -46,6 +46,21 @@ fn cuts_by_the_unit(rt: HostRuntime) {
 }
 
 #[test]
+fn begins_at_number_0_again_after_3(rt: HostRuntime) {
+    let five = [(0x89, 64), (0x19, 64), (0x29, 64), (0x39, 64), (0x49, 64)];
+    expect_packets(&rt, cut(&[7; 320]), &five);
+    let six = [
+        (0x89, 64),
+        (0x19, 64),
+        (0x29, 64),
+        (0x39, 64),
+        (0x09, 64),
+        (0x59, 64),
+    ];
+    expect_packets(&rt, cut(&[7; 384]), &six);
+}
+
+#[test]
 fn writes_a_packet(rt: HostRuntime) -> Result<(), Fail> {
     let message = [0x01, 0x80, 0x00, 0x02];
     let key = Key {

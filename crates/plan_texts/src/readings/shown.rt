@@ -1,6 +1,6 @@
 //! What stands at an offset of a text, as far as it is shown.
-ghost use Rattle.std.specs.Prelude.{◌≡◌, ◌≤◌, length, drop, get_or, IfOk, IfSome, string_bytes, encode_utf8_all};
-ghost use Rattle.plan_texts.specs.Standing.{first_characters, ends_word, ends_quoted, ends_bracketed, ends_at, IsShownLength, IsShownOf, IsShown, dots_after, printable, key_beginning, key_dots, shown_key};
+ghost use Rattle.std.specs.Prelude.{◌≡◌, ◌≤◌, length, drop, get_or, IfOk, IfSome, string_bytes};
+ghost use Rattle.plan_texts.specs.Standing.{first_characters, ends_word, is_escaped, ends_quoted, ends_bracketed, ends_at, IsShownLength, IsShownOf, IsShown, dots_after, is_unprintable, printable, printed, key_beginning, key_dots, shown_key};
 
 use std::alloc::{AllocError, Global};
 
@@ -35,7 +35,7 @@ fn shown_of(alloc: Global, characters: &[char]) -> Result<String, AllocError>
     ensures { IfOk result (λ shown. IsShownOf characters.now (string_bytes shown)) }
 {
     let length = shown_length(characters);
-    let shown = written(alloc, &characters[..length])?;
+    let shown = printed(alloc, &characters[..length])?;
     let dots = dots_after(characters, length);
     format!(in alloc; "{shown}{dots}")
 }
@@ -63,13 +63,22 @@ fn ends_at(characters: &[char], count: usize) -> bool
     }
 }
 
-/// Whether so many characters end with a quote that is not the first of them.
+/// Whether so many characters end with a quote that is not the first of them, and not escaped.
 fn ends_quoted(characters: &[char], count: usize) -> bool
     ensures { result ≡ ends_quoted characters.now count }
 {
-    1 < count
-        && character_at(characters, count - 1) == '"'
-        && character_at(characters, count - 2) != '\\'
+    1 < count && character_at(characters, count - 1) == '"' && !is_escaped(characters, count - 1)
+}
+
+/// Whether the character at an index is the second of an escape.
+fn is_escaped(characters: &[char], index: usize) -> bool
+    ensures { result ≡ is_escaped characters.now index }
+{
+    let mut escaped = false;
+    for before in 0..index {
+        escaped = character_at(characters, before) == '\\' && !escaped;
+    }
+    escaped
 }
 
 /// Whether so many characters end with a closing bracket, or a line ends behind them.
@@ -103,10 +112,15 @@ fn dots_after(characters: &[char], count: usize) -> &'static str
     "..."
 }
 
-fn written(alloc: Global, characters: &[char]) -> Result<String, AllocError>
-    ensures { IfOk result (λ text. string_bytes text ≡ encode_utf8_all characters.now) }
+/// Characters as they are shown.
+fn printed(alloc: Global, characters: &[char]) -> Result<String, AllocError>
+    ensures { IfOk result (λ text. string_bytes text ≡ printed characters.now) }
 {
-    characters.iter().copied().collect(alloc)
+    characters
+        .iter()
+        .copied()
+        .map(|c| printable(c))
+        .collect(alloc)
 }
 
 /// A key as it is shown: its beginning, and three dots where more follows.
@@ -119,7 +133,7 @@ pub fn shown_key(alloc: Global, key: &str) -> Result<String, AllocError>
     format!(in alloc; "{beginning}{dots}")
 }
 
-/// The beginning of a key, with a question mark for each control character.
+/// The beginning of a key, as it is shown.
 fn key_beginning(alloc: Global, key: &str) -> Result<String, AllocError>
     ensures { IfOk result (λ beginning. string_bytes beginning ≡ key_beginning key.now) }
 {
@@ -135,11 +149,27 @@ fn key_dots(characters: &[char]) -> &'static str
     ""
 }
 
+/// A question mark for a character that a terminal may take for more than a sign.
 fn printable(character: char) -> char
     ensures { result ≡ printable character }
 {
-    if character < ' ' || character == '\u{7f}' {
+    if is_unprintable(character) {
         return '?';
     }
     character
+}
+
+/// Whether this is a control character, a separator of lines, or a mark that turns the direction of writing.
+fn is_unprintable(character: char) -> bool
+    ensures { result ≡ is_unprintable character }
+{
+    matches!(
+        character,
+        '\0'..='\u{1f}'
+            | '\u{7f}'..='\u{9f}'
+            | '\u{61c}'
+            | '\u{200e}'..='\u{200f}'
+            | '\u{2028}'..='\u{202e}'
+            | '\u{2066}'..='\u{2069}'
+    )
 }

@@ -4,6 +4,7 @@ use Rattle.net_sim.specs.Networks.{checked_of}
 use Rattle.net_sim.proofs.PlayedRuns.{played_start, played_plays, played_next, stopped_plays, stopped_after}
 use Rattle.net_sim.proofs.AsSent.{plays_as_sent}
 use Rattle.net_sim.proofs.PlayedWalks.{plays_walks, promised}
+use Rattle.net_sim.proofs.PutInBefore.{plays_what_was_put_in}
 use Rattle.net_sim.proofs.network.Network.run.Goals as goal
 
 pub loop-event-init : goal.loop-event-init
@@ -68,3 +69,11 @@ returns-in-Err-clause-promises g c = promised (checked_of c.args.self.now).0 (ch
 
 pub returns-clause-promises : goal.returns-clause-promises
 returns-clause-promises g c = promised (checked_of c.args.self.now).0 (checked_of c.args.self.now).1 c.plan-plan.ensures.accepted
+
+pub returns-in-Err-clause-joins : goal.returns-in-Err-clause-joins
+returns-in-Err-clause-joins g c =
+    plays_what_was_put_in (checked_of c.args.self.now).0 (checked_of c.args.self.now).1 _ _ _ _ c.plan-plan.ensures.accepted (returns-in-Err-clause-plays g c)
+
+pub returns-clause-joins : goal.returns-clause-joins
+returns-clause-joins g c =
+    plays_what_was_put_in (checked_of c.args.self.now).0 (checked_of c.args.self.now).1 _ _ _ _ c.plan-plan.ensures.accepted (returns-clause-plays g c)
