@@ -1,5 +1,5 @@
 -- What the end of `draw` tells of an answer.
-use Rattle.std.proofs.Common.{◌≡◌, ◌≢◌, ◌⊎◌, ℕ, List, [], Some, None, Result, Ok, Err, refl}
+use Rattle.std.proofs.Common.{◌≢◌, ℕ, List, [], Some, None, Result, Ok, Err, refl}
 use Rattle.std.specs.Prelude.{IfOk, IfErr}
 use Rattle.std.specs.Cow.{cow_str_bytes}
 use Rattle.std.specs.Io.KnownBytes.{Appends}

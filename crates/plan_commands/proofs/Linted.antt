@@ -1,5 +1,5 @@
 -- What the end of `lint` tells of an answer.
-use Rattle.std.proofs.Common.{◌≡◌, ◌⊎◌, ℕ, List, [], Result, inl, inr, refl, subst, arith}
+use Rattle.std.proofs.Common.{◌≡◌, ℕ, List, [], Result, inl, inr, refl, subst, arith}
 use Rattle.std.specs.Prelude.{IfOk, IfErr, Contains}
 use Rattle.std.specs.Cow.{cow_str_bytes}
 use Rattle.std.specs.Io.KnownBytes.{Appends}

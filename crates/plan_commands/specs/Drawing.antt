@@ -1,5 +1,5 @@
 -- What `draw` prints of a plan, in Graphviz' DOT language, and what the end of it says.
-use Rattle.std.specs.Prelude.{◌≡◌, ◌≢◌, ℕ, List, []}
+use Rattle.std.specs.Prelude.{◌≢◌, ℕ, List, []}
 use Rattle.std.specs.Prelude.{Option, Some, None}
 use Rattle.net_check.specs.Certificates.{NamesObstacle, HasNoCertificate}
 use Rattle.net_check.specs.declared.certify_error.CertifyError.{CertifyError}
