@@ -213,13 +213,15 @@ pub item_first : (vs : List Tree) (i : ℕ) (d : Tree) (inner outer : DoubledKey
     → outer.path.items ≡ i ∷ inner.path.items → outer.members ≡ inner.members → ItemsPassed vs i → IsFirstDoubledKey (array (items_view vs)) outer
 item_first vs i d inner outer within h path members passed =
     let none : NoneBefore (array (items_view vs)) (i ∷ inner.path.items) =
-        none_before_part (array (items_view vs)) (value_view (get_or vs i d)) i inner.path.items (item_of_view vs i d within) h.1 (λ ms same. cc) passed in
+    none_before_part (array (items_view vs)) (value_view (get_or vs i d)) i inner.path.items (item_of_view vs i d within) h.1 (λ ms same. cc) passed in
     (item_doubled vs i d inner outer within h.0 path members, subst (NoneBefore (array (items_view vs))) (sym path) none)
 
 pub member_first : (ms : List (Bor (List ℕ) × Tree)) (i : ℕ) (d : Bor (List ℕ) × Tree) (inner outer : DoubledKey) → i < length ms → IsFirstDoubledKey (value_view (get_or ms i d).1) inner
     → outer.path.items ≡ i ∷ inner.path.items → outer.members ≡ inner.members → names_differ (keys (members_view ms)) ≡ true → MembersPassed ms i → IsFirstDoubledKey (object (members_view ms)) outer
 member_first ms i d inner outer within h path members differ passed =
-    let own : (os : Members) → object (members_view ms) ≡ object os → names_differ (keys os) ≡ true = λ os same. subst (λ (x : Members). names_differ (keys x) ≡ true) (cc) differ in
+    let own : (os : Members) → object (members_view ms) ≡ object os → names_differ (keys os) ≡ true = λ os same.
+    let is : members_view ms ≡ os = cc in
+    subst (λ (x : Members). names_differ (keys x) ≡ true) is differ in
     let none : NoneBefore (object (members_view ms)) (i ∷ inner.path.items) =
-        none_before_part (object (members_view ms)) (value_view (get_or ms i d).1) i inner.path.items (member_of_view ms i d within) h.1 own passed in
+    none_before_part (object (members_view ms)) (value_view (get_or ms i d).1) i inner.path.items (member_of_view ms i d within) h.1 own passed in
     (member_doubled ms i d inner outer within h.0 path members, subst (NoneBefore (object (members_view ms))) (sym path) none)

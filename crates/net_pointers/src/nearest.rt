@@ -34,7 +34,7 @@ fn edits_between(alloc: Global, name: &str, other: &str) -> Result<usize, AllocE
 fn least_within(counts: &[usize], most: usize) -> Option<usize>
     ensures { MatchOption result (All (λ count. most < count) counts.now)
         (λ index. (index < length counts.now) × (get_or counts.now index 0 ≤ most) × All (λ count. get_or counts.now index 0 ≤ count) counts.now
-            × ((k : ℕ) → k < index → get_or counts.now index 0 < get_or counts.now k 0)) }
+        × ((k : ℕ) → k < index → get_or counts.now index 0 < get_or counts.now k 0)) }
 {
     if counts.is_empty() {
         return None;

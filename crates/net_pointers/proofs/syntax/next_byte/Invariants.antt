@@ -1,4 +1,3 @@
-use Rattle.std.proofs.Common.{◌+◌}
 use Rattle.net_pointers.specs.Syntax.{is_filled}
 use Rattle.net_pointers.proofs.Firsts.{NoneYet}
 use Rattle.net_pointers.proofs.syntax.next_byte.Given as goal

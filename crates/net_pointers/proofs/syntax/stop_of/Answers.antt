@@ -1,4 +1,4 @@
-use Rattle.std.proofs.Common.{rules, ◌≤◌, ◌<◌, length, sym, subst, arith}
+use Rattle.std.proofs.Common.{rules, ◌≤◌, ◌<◌, sym, subst, arith}
 use Rattle.net_pointers.specs.Syntax.{IsBegun, nothing, further, Passes}
 use Rattle.net_pointers.specs.declared.syntax.Wanted.TheVariants.{Value}
 use Rattle.net_pointers.proofs.syntax.stop_of.Goals as goal
