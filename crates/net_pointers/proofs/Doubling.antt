@@ -1,19 +1,21 @@
 -- Names and keys that stand twice, as they are looked for.
-use Rattle.std.proofs.Common.{◌≡◌, ◌≢◌, ◌<◌, ◌+◌, false, subst, ℕ, zero, suc, List, [], ◌∷◌, ◌++◌, map, length, take, get_or, Bool, true, not, Some, option_and_then, Bor, refl, sym, ap, ◌∙◌, append-nil, append_assoc, arith, true≢false, AllPairs}
+use Rattle.std.proofs.Common.{◌≡◌, ◌≢◌, ◌<◌, ◌+◌, false, subst, ℕ, zero, suc, List, [], ◌∷◌, ◌++◌, map, length, take, get_or, Bool, true, not, Option, Some, None, ◌⊎◌, inl, inr, ◌==◌, option_and_then, Bor, refl, sym, ap, ◌∙◌, append-nil, append_assoc, arith, true≢false, AllPairs}
 use Rattle.std.proofs.lemmas.List.{length-map, length-take-le}
+use Rattle.std.proofs.lemmas.Bool.Decides.{Decides-eqb}
 use Rattle.std.specs.List.{list_any}
 use Rattle.std.specs.Str.{bytes_eq}
-use Rattle.json.specs.Json.{array, object}
+use Rattle.json.specs.Json.{Json, null, boolean, number, string, array, object, Items, no_items, item, Members, no_members, member}
 use Rattle.json.specs.Strict.{keys}
 use Rattle.json.specs.Value.{value_view, items_view, members_view}
 use Rattle.net_plan.specs.Json.{is_among}
 use Rattle.net_plan.specs.Names.{are_new, names_differ}
+use Rattle.net_plan.specs.SingleKeys.{single, items_single, members_single}
 use Rattle.net_plan.specs.Trees.{Tree}
 use Rattle.net_plan.proofs.Differing.{differ_sound}
 use Rattle.net_plan.proofs.Keys.{list_any-map}
 use Rattle.net_plan.proofs.Names.{one_new, names_take}
 use Rattle.net_plan.proofs.Telling.{both}
-use Rattle.net_pointers.specs.Doubles.{IsFirstDoubled, item_at, member_at, part_at, HasDoubledKey}
+use Rattle.net_pointers.specs.Doubles.{IsFirstDoubled, item_at, member_at, part_after, part_at, HasDoubledKey, IsBefore, NoneBefore, IsFirstDoubledKey}
 use Rattle.net_pointers.specs.declared.doubled.DoubledKey.{DoubledKey}
 use Rattle.net_pointers.specs.declared.doubled.TwoIndices.{TwoIndices}
 
@@ -119,3 +121,107 @@ pub member_doubled : (ms : List (Bor (List ℕ) × Tree)) (i : ℕ) (d : Bor (Li
     → outer.path.items ≡ i ∷ inner.path.items → outer.members ≡ inner.members → HasDoubledKey (object (members_view ms)) outer
 member_doubled ms i d inner outer within h path members =
     (h.0, ap (λ p. part_at p (object (members_view ms))) path ∙ ap (option_and_then (part_at inner.path.items)) (member_of_view ms i d within) ∙ h.1, subst (IsFirstDoubled (keys h.0)) (sym members) h.2)
+
+-- ---- the first of several
+
+pub none_before_whole : (j : Json) → NoneBefore j []
+none_before_whole j [] ms before is = absurd before
+none_before_whole j (i ∷ q) ms before is = absurd before
+
+item_single : (js : Items) (i : ℕ) (k : Json) → items_single js ≡ true → item_at i js ≡ Some k → single k ≡ true
+item_single no_items i k e is = cc
+item_single (item j js) zero k e is =
+    let same : j ≡ k = cc in
+    subst (λ (x : Json). single x ≡ true) same (both (single j) (items_single js) e).0
+item_single (item j js) (suc i) k e is = item_single js i k (both (single j) (items_single js) e).1 is
+
+member_single : (ms : Members) (i : ℕ) (k : Json) → members_single ms ≡ true → member_at i ms ≡ Some k → single k ≡ true
+member_single no_members i k e is = cc
+member_single (member s j ms) zero k e is =
+    let same : j ≡ k = cc in
+    subst (λ (x : Json). single x ≡ true) same (both (single j) (members_single ms) e).0
+member_single (member s j ms) (suc i) k e is = member_single ms i k (both (single j) (members_single ms) e).1 is
+
+after_single : (i : ℕ) (j k : Json) → single j ≡ true → part_after i j ≡ Some k → single k ≡ true
+after_single i null k e is = cc
+after_single i (boolean b) k e is = cc
+after_single i (number n) k e is = cc
+after_single i (string s) k e is = cc
+after_single i (array js) k e is = item_single js i k e is
+after_single i (object ms) k e is = member_single ms i k (both (names_differ (keys ms)) (members_single ms) e).1 is
+
+part_of : (o : Option Json) (q : List ℕ) (ms : Members) → ((k : Json) → o ≡ Some k → part_at q k ≡ Some (object ms) → names_differ (keys ms) ≡ true)
+    → option_and_then (part_at q) o ≡ Some (object ms) → names_differ (keys ms) ≡ true
+part_of None q ms h is = cc
+part_of (Some k) q ms h is = h k refl is
+
+-- where no key stands twice each object has its keys once
+pub single_parts : (q : List ℕ) (j : Json) (ms : Members) → single j ≡ true → part_at q j ≡ Some (object ms) → names_differ (keys ms) ≡ true
+single_parts [] j ms e is =
+    let same : j ≡ object ms = cc in
+    (both (names_differ (keys ms)) (members_single ms) (subst (λ (x : Json). single x ≡ true) same e)).0
+single_parts (i ∷ q) j ms e is = part_of (part_after i j) q ms (λ k found below. single_parts q k ms (after_single i j k e found) below) is
+
+-- none before a part of one that has its own keys once, where no key stands twice in the parts before
+none_before_part : (j part : Json) (i : ℕ) (path : List ℕ) → part_after i j ≡ Some part → NoneBefore part path
+    → ((ms : Members) → j ≡ object ms → names_differ (keys ms) ≡ true)
+    → ((k : ℕ) (e : Json) → k < i → part_after k j ≡ Some e → single e ≡ true) → NoneBefore j (i ∷ path)
+none_before_part j part i path at inner own passed [] ms before is = own ms cc
+none_before_part j part i path at inner own passed (k ∷ q) ms before is = part_of (part_after k j) q ms (λ e found below. by before e found below) is
+  where
+    by : (k < i) ⊎ ((k ≡ i) × IsBefore q path) → (e : Json) → part_after k j ≡ Some e → part_at q e ≡ Some (object ms) → names_differ (keys ms) ≡ true
+    by (inl less) e found below = single_parts q e ms (passed k e less found) below
+    by (inr h) e found below =
+        let there : part_after k j ≡ part_after i j = ap (λ n. part_after n j) h.0 in
+        let same : e ≡ part = cc in
+        inner q ms h.1 (subst (λ (x : Json). part_at q x ≡ Some (object ms)) same below)
+
+-- no key stands twice in the items that were passed
+abbrev pub ItemsPassed : List Tree → ℕ → Type 0
+ItemsPassed vs n = (k : ℕ) (e : Json) → k < n → item_at k (items_view vs) ≡ Some e → single e ≡ true
+
+abbrev pub MembersPassed : List (Bor (List ℕ) × Tree) → ℕ → Type 0
+MembersPassed ms n = (k : ℕ) (e : Json) → k < n → member_at k (members_view ms) ≡ Some e → single e ≡ true
+
+pub items_more : (vs : List Tree) (n : ℕ) (d : Tree) → n < length vs → ItemsPassed vs n → single (value_view (get_or vs n d)) ≡ true → ItemsPassed vs (n + 1)
+items_more vs n d within before here k e below found = by (k == n) refl
+  where
+    by : (b : Bool) → (k == n) ≡ b → single e ≡ true
+    by true is =
+        let there : item_at k (items_view vs) ≡ item_at n (items_view vs) = ap (λ i. item_at i (items_view vs)) ((Decides-eqb k n).0 is) in
+        let seen : item_at n (items_view vs) ≡ Some (value_view (get_or vs n d)) = item_of_view vs n d within in
+        let same : value_view (get_or vs n d) ≡ e = cc in
+        subst (λ (x : Json). single x ≡ true) same here
+    by false is =
+        let other : k ≢ n = λ same. true≢false (sym ((Decides-eqb k n).1 same) ∙ is) in
+        before k e (omega arith) found
+
+pub members_more : (ms : List (Bor (List ℕ) × Tree)) (n : ℕ) (d : Bor (List ℕ) × Tree) → n < length ms → MembersPassed ms n → single (value_view (get_or ms n d).1) ≡ true → MembersPassed ms (n + 1)
+members_more ms n d within before here k e below found = by (k == n) refl
+  where
+    by : (b : Bool) → (k == n) ≡ b → single e ≡ true
+    by true is =
+        let there : member_at k (members_view ms) ≡ member_at n (members_view ms) = ap (λ i. member_at i (members_view ms)) ((Decides-eqb k n).0 is) in
+        let seen : member_at n (members_view ms) ≡ Some (value_view (get_or ms n d).1) = member_of_view ms n d within in
+        let same : value_view (get_or ms n d).1 ≡ e = cc in
+        subst (λ (x : Json). single x ≡ true) same here
+    by false is =
+        let other : k ≢ n = λ same. true≢false (sym ((Decides-eqb k n).1 same) ∙ is) in
+        before k e (omega arith) found
+
+pub item_first : (vs : List Tree) (i : ℕ) (d : Tree) (inner outer : DoubledKey) → i < length vs → IsFirstDoubledKey (value_view (get_or vs i d)) inner
+    → outer.path.items ≡ i ∷ inner.path.items → outer.members ≡ inner.members → ItemsPassed vs i → IsFirstDoubledKey (array (items_view vs)) outer
+item_first vs i d inner outer within h path members passed =
+    let none : NoneBefore (array (items_view vs)) (i ∷ inner.path.items) =
+    none_before_part (array (items_view vs)) (value_view (get_or vs i d)) i inner.path.items (item_of_view vs i d within) h.1 (λ ms same. cc) passed in
+    (item_doubled vs i d inner outer within h.0 path members, subst (NoneBefore (array (items_view vs))) (sym path) none)
+
+pub member_first : (ms : List (Bor (List ℕ) × Tree)) (i : ℕ) (d : Bor (List ℕ) × Tree) (inner outer : DoubledKey) → i < length ms → IsFirstDoubledKey (value_view (get_or ms i d).1) inner
+    → outer.path.items ≡ i ∷ inner.path.items → outer.members ≡ inner.members → names_differ (keys (members_view ms)) ≡ true → MembersPassed ms i → IsFirstDoubledKey (object (members_view ms)) outer
+member_first ms i d inner outer within h path members differ passed =
+    let own : (os : Members) → object (members_view ms) ≡ object os → names_differ (keys os) ≡ true = λ os same.
+    let is : members_view ms ≡ os = cc in
+    subst (λ (x : Members). names_differ (keys x) ≡ true) is differ in
+    let none : NoneBefore (object (members_view ms)) (i ∷ inner.path.items) =
+    none_before_part (object (members_view ms)) (value_view (get_or ms i d).1) i inner.path.items (member_of_view ms i d within) h.1 own passed in
+    (member_doubled ms i d inner outer within h.0 path members, subst (NoneBefore (object (members_view ms))) (sym path) none)

@@ -6,6 +6,16 @@ use Rattle.std.proofs.lemmas.Bool.{ltb-true, ltb-false}
 abbrev pub IsLeast : List ℕ → ℕ → ℕ → Type 0
 IsLeast xs least place = (k d : ℕ) → k < place → get_or xs least 0 ≤ get_or xs k d
 
+-- each one before it is larger
+abbrev pub IsFirst : List ℕ → ℕ → Type 0
+IsFirst xs least = (k : ℕ) → k < least → get_or xs least 0 < get_or xs k 0
+
+-- a smaller one than all before is the first
+pub first_more : (xs : List ℕ) (old new : ℕ) → IsLeast xs old new → get_or xs new 0 < get_or xs old 0 → IsFirst xs new
+first_more xs old new least below k before =
+    let above : get_or xs old 0 ≤ get_or xs k 0 = least k 0 before in
+    omega arith
+
 same_at : (xs : List ℕ) (k a b : ℕ) → k < length xs → get_or xs k a ≡ get_or xs k b
 same_at [] k a b within = absurd (omega arith)
 same_at (x ∷ xs) zero a b within = refl

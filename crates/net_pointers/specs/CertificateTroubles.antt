@@ -1,5 +1,5 @@
 -- What is told of a certificate that is refused.
-use Rattle.std.specs.Prelude.{◌≡◌, ◌<◌, ◌+◌, ℕ, codes, true, List, [], ◌∷◌}
+use Rattle.std.specs.Prelude.{◌≡◌, ◌<◌, ◌+◌, ⊤, ℕ, codes, true, List, [], ◌∷◌}
 use Rattle.std.specs.Prelude.{Option, Some, None, Result, Ok, Err}
 use Rattle.json.specs.Json.{Json}
 use Rattle.serde_json.specs.Data.{Data}
@@ -7,14 +7,14 @@ use Rattle.serde_json.specs.Find.{get}
 use Rattle.net_plan.specs.CertificateReading.{certificate}
 use Rattle.net_plan.specs.CertificateValues.{CertificateValue}
 use Rattle.net_plan.specs.Json.{at_key, whole_number}
-use Rattle.net_plan.specs.Names.{texts_at}
+use Rattle.net_plan.specs.Names.{texts_at, names_differ}
 use Rattle.net_plan.specs.Refusals.{IsWellButForNames}
 use Rattle.net_plan.specs.SingleKeys.{single}
 use Rattle.net_plan.specs.Trees.{data_of}
 use Rattle.net_plan.specs.declared.error.ValueFault.{ValueFault}
 use Rattle.net_plan.specs.declared.error.ValueFault.TheVariants.{UnknownName, Doubled}
 use Rattle.net_pointers.specs.CertificateShapes.{a_certificate}
-use Rattle.net_pointers.specs.Doubles.{IsFirstDoubled, HasDoubledKey}
+use Rattle.net_pointers.specs.Doubles.{IsFirstDoubled, HasDoubledKey, NoneBefore}
 use Rattle.net_pointers.specs.KnownNames.{Known}
 use Rattle.net_pointers.specs.PlanTroubles.{IsUnknownNameAt}
 use Rattle.net_pointers.specs.Pointers.{Located, key, index, value_at, HasFaultAt, first_fault}
@@ -43,6 +43,13 @@ list_key Ranks = codes "ranks"
 -- the nodes that the entries of a list of a certificate name
 abbrev pub nodes_at : List ℕ → Data → List (List ℕ)
 nodes_at k d = nodes_in (get k d)
+
+-- no list that comes before this one names a node twice: levels come before places, and places before ranks
+abbrev pub NoneDoubledBefore : CertificateList → Data → Type 0
+NoneDoubledBefore Levels d = ⊤
+NoneDoubledBefore Places d = names_differ (nodes_at (codes "levels") d) ≡ true
+NoneDoubledBefore Ranks d =
+    (names_differ (nodes_at (codes "levels") d) ≡ true) × (names_differ (nodes_at (codes "places") d) ≡ true)
 
 -- a number that was read, 0 where none was
 abbrev pub number_or_zero : Result ℕ ValueFault → ℕ
@@ -79,10 +86,11 @@ IsToldOfCertificate nodes j None =
 IsToldOfCertificate nodes j (Some (trouble.Value found)) = IsFaultOfCertificate nodes (data_of j) (located found)
 IsToldOfCertificate nodes j (Some (trouble.DoubledNode list places)) =
     (certificate nodes (data_of j) ≡ Err Doubled) × IsFirstDoubled (nodes_at (list_key list) (data_of j)) places
+    × NoneDoubledBefore list (data_of j)
 IsToldOfCertificate nodes j (Some (trouble.Overlap overlap)) =
     (certificate nodes (data_of j) ≡ Err Doubled) × DoOverlap (data_of j) overlap
 IsToldOfCertificate nodes j (Some (trouble.DoubledKey doubled)) =
-    IsWellButForNames (certificate nodes) (data_of j) × HasDoubledKey j doubled
+    IsWellButForNames (certificate nodes) (data_of j) × HasDoubledKey j doubled × NoneBefore j doubled.path.items
 IsToldOfCertificate nodes j (Some (trouble.UnknownName found)) =
     (certificate nodes (data_of j) ≡ Err UnknownName) × (single j ≡ true)
     × IsUnknownNameAt (a_certificate (Some (known_nodes nodes))) (data_of j)

@@ -1,9 +1,10 @@
 -- Names and keys that stand twice.
-use Rattle.std.specs.Prelude.{◌≡◌, ◌≢◌, ◌<◌, ℕ, zero, suc, List, [], ◌∷◌, length, take, get_or, AllPairs}
+use Rattle.std.specs.Prelude.{◌≡◌, ◌≢◌, ◌<◌, ◌⊎◌, ⊤, true, ℕ, zero, suc, List, [], ◌∷◌, length, take, get_or, AllPairs}
 use Rattle.std.specs.Prelude.{Option, Some, None, option_and_then}
 use Rattle.json.specs.Json.{Json, null, boolean, number, string, array, object}
 use Rattle.json.specs.Json.{Items, no_items, item, Members, no_members, member}
 use Rattle.json.specs.Strict.{keys}
+use Rattle.net_plan.specs.Names.{names_differ}
 use Rattle.net_pointers.specs.declared.doubled.DoubledKey.{DoubledKey}
 use Rattle.net_pointers.specs.declared.doubled.TwoIndices.{TwoIndices}
 
@@ -41,3 +42,20 @@ part_at (i ∷ is) j = option_and_then (part_at is) (part_after i j)
 -- the path leads to an object, and its first doubled key is that of these two members
 abbrev pub HasDoubledKey : Json → DoubledKey → Type 0
 HasDoubledKey j k = (ms : Members) × (part_at k.path.items j ≡ Some (object ms)) × IsFirstDoubled (keys ms) k.members
+
+-- the first path comes before the second, depth first: it leads to a whole that has the other's part, or to a part that
+-- stands before
+abbrev pub IsBefore : List ℕ → List ℕ → Type 0
+IsBefore [] [] = ⊥
+IsBefore [] (k ∷ ks) = ⊤
+IsBefore (i ∷ is) [] = ⊥
+IsBefore (i ∷ is) (k ∷ ks) = (i < k) ⊎ ((i ≡ k) × IsBefore is ks)
+
+-- no object to which a path leads that comes before this one has a key twice
+abbrev pub NoneBefore : Json → List ℕ → Type 0
+NoneBefore j path =
+    (q : List ℕ) (ms : Members) → IsBefore q path → part_at q j ≡ Some (object ms) → names_differ (keys ms) ≡ true
+
+-- an object has a key twice, and none before it, depth first
+abbrev pub IsFirstDoubledKey : Json → DoubledKey → Type 0
+IsFirstDoubledKey j k = HasDoubledKey j k × NoneBefore j k.path.items

@@ -14,5 +14,6 @@ pub mod Positions
 pub mod PartTokens
 pub mod Paths
 pub mod Offsets
+pub mod Syntax
 pub mod TextTroubles
 pub mod Nearest

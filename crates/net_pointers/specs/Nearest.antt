@@ -15,8 +15,9 @@ close name = length name / 3
 abbrev pub edits_to : List (List ℕ) → List ℕ → List ℕ
 edits_to names name = map (edits name) names
 
--- the index of a name that is close, and none is nearer; or no name is close
+-- the index of a name that is close, none is nearer, and each one before it is farther; or no name is close
 abbrev pub IsNearest : List (List ℕ) → List ℕ → Option ℕ → Type 0
 IsNearest names name None = All (λ count. close name < count) (edits_to names name)
 IsNearest names name (Some i) = (i < length (edits_to names name)) × (get_or (edits_to names name) i 0 ≤ close name)
     × All (λ count. get_or (edits_to names name) i 0 ≤ count) (edits_to names name)
+    × ((k : ℕ) → k < i → get_or (edits_to names name) i 0 < get_or (edits_to names name) k 0)

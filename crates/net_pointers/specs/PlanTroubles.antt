@@ -8,7 +8,7 @@ use Rattle.net_plan.specs.Refusals.{IsWellButForNames}
 use Rattle.net_plan.specs.SingleKeys.{single}
 use Rattle.net_plan.specs.Trees.{data_of}
 use Rattle.net_plan.specs.declared.error.ValueFault.TheVariants.{UnknownName, Doubled}
-use Rattle.net_pointers.specs.Doubles.{IsFirstDoubled, HasDoubledKey}
+use Rattle.net_pointers.specs.Doubles.{IsFirstDoubled, HasDoubledKey, NoneBefore}
 use Rattle.net_pointers.specs.KnownNames.{names_at, known_in}
 use Rattle.net_pointers.specs.PlanShapes.{a_plan_among}
 use Rattle.net_pointers.specs.Plans.{IsFaultOfPlan}
@@ -35,7 +35,8 @@ IsToldOfPlan j None = (single j ≡ true) × (p : PlanValue) × (plan (data_of j
 IsToldOfPlan j (Some (trouble.Value found)) = IsFaultOfPlan (data_of j) (located found)
 IsToldOfPlan j (Some (trouble.DoubledBus places)) =
     (plan (data_of j) ≡ Err Doubled) × IsFirstDoubled (names_at (codes "buses") (data_of j)) places
-IsToldOfPlan j (Some (trouble.DoubledKey doubled)) = IsWellButForNames plan (data_of j) × HasDoubledKey j doubled
+IsToldOfPlan j (Some (trouble.DoubledKey doubled)) =
+    IsWellButForNames plan (data_of j) × HasDoubledKey j doubled × NoneBefore j doubled.path.items
 IsToldOfPlan j (Some (trouble.UnknownName found)) =
     (plan (data_of j) ≡ Err UnknownName) × (single j ≡ true)
     × IsUnknownNameAt (a_named_plan (data_of j)) (data_of j) (located_among (Some (known_in (data_of j))) found)

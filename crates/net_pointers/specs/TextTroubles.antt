@@ -1,20 +1,21 @@
 -- What is told of a text that is refused.
-use Rattle.std.specs.Prelude.{◌≡◌, ◌<◌, ◌≤◌, ℕ, List, length, Option, Some, None, IsUtf8}
+use Rattle.std.specs.Prelude.{◌≡◌, ◌<◌, ℕ, List, length, Option, Some, None, IsUtf8}
 use Rattle.json.specs.Json.{Json}
 use Rattle.std.specs.Str.{IsValidUpTo}
 use Rattle.net_plan.specs.Texts.{IsJson, IsTree, IsNoJson}
 use Rattle.net_plan.specs.Trees.{data_of}
 use Rattle.net_pointers.specs.CertificateTroubles.{IsToldOfCertificate}
 use Rattle.net_pointers.specs.PlanTroubles.{IsToldOfPlan}
+use Rattle.net_pointers.specs.Syntax.{IsStop}
 use Rattle.net_pointers.specs.declared.syntax.JsonFault.{JsonFault}
 use Rattle.net_pointers.specs.declared.syntax.JsonFault.TheVariants.{NotUtf8, Unreadable}
 use Rattle.net_pointers.specs.declared.texts.TextTrouble.{TextTrouble}
 use Rattle.net_pointers.specs.declared.texts.TextTrouble.TheVariants.{TooLong, NotJson, Plan, Certificate}
 
--- Where a text stops being JSON: at the first byte that is no UTF-8, or somewhere in it.
+-- Where a text stops being JSON: at the first byte that is no UTF-8, or where nothing that is wanted stands.
 abbrev pub IsFaultOfJson : List ℕ → JsonFault → Type 0
 IsFaultOfJson text (NotUtf8 offset) = (¬ IsUtf8 text) × IsValidUpTo text offset
-IsFaultOfJson text (Unreadable offset wanted) = IsUtf8 text × (offset ≤ length text)
+IsFaultOfJson text (Unreadable offset wanted) = IsUtf8 text × IsStop text offset wanted
 
 -- the text is JSON of a tree of which P holds
 abbrev pub IsJsonOf : List ℕ → (Json → Type 0) → Type 0

@@ -5,7 +5,7 @@ ghost use Rattle.net_plan.specs.Names.{names_differ};
 ghost use Rattle.net_plan.specs.PlanValues.{node_value, node_names};
 ghost use Rattle.net_plan.specs.Trees.{view};
 ghost use Rattle.net_pointers.specs.CertificateShapes.{a_certificate};
-ghost use Rattle.net_pointers.specs.CertificateTroubles.{IsToldOfCertificate, list_key, nodes_at};
+ghost use Rattle.net_pointers.specs.CertificateTroubles.{IsToldOfCertificate, NoneDoubledBefore, list_key, nodes_at};
 ghost use Rattle.net_pointers.specs.Doubles.{IsFirstDoubled};
 ghost use Rattle.net_pointers.specs.Pointers.{first_fault};
 
@@ -89,7 +89,7 @@ fn doubled_node(
 ) -> Result<Option<(CertificateList, TwoIndices)>, AllocError>
     ensures { let d = view certificate.now in IfOk result (λ found. MatchOption found
         ((names_differ (nodes_at (codes "levels") d) ≡ true) × (names_differ (nodes_at (codes "places") d) ≡ true) × (names_differ (nodes_at (codes "ranks") d) ≡ true))
-        (λ p. IsFirstDoubled (nodes_at (list_key p.0) d) p.1)) }
+        (λ p. IsFirstDoubled (nodes_at (list_key p.0) d) p.1 × NoneDoubledBefore p.0 d)) }
 {
     if let Some(places) = doubled_in(alloc, certificate, CertificateList::Levels)? {
         return Ok(Some((CertificateList::Levels, places)));

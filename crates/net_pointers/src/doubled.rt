@@ -7,7 +7,7 @@ ghost use Rattle.json.specs.Strict.{keys};
 ghost use Rattle.json.specs.Value.{value_view, items_view, members_view};
 ghost use Rattle.net_plan.specs.Names.{names_differ};
 ghost use Rattle.net_plan.specs.SingleKeys.{single, items_single, members_single};
-ghost use Rattle.net_pointers.specs.Doubles.{IsFirstDoubled, HasDoubledKey};
+ghost use Rattle.net_pointers.specs.Doubles.{IsFirstDoubled, IsFirstDoubledKey};
 
 use json::Value;
 use std::alloc::{AllocError, Global};
@@ -54,7 +54,7 @@ fn index_of(names: &[&str], name: &str) -> Option<usize>
 /// The first object, depth first, that has a key twice.
 #[cycle(doubled)]
 pub fn doubled_key(alloc: Global, value: &Value<'_>) -> Result<Option<DoubledKey>, AllocError>
-    ensures { IfOk result (λ found. MatchOption found (single (value_view value.now) ≡ true) (λ doubled. HasDoubledKey (value_view value.now) doubled)) }
+    ensures { IfOk result (λ found. MatchOption found (single (value_view value.now) ≡ true) (λ doubled. IsFirstDoubledKey (value_view value.now) doubled)) }
 {
     match value {
         Value::Array(items) => doubled_in_items(alloc, items),
@@ -73,7 +73,7 @@ pub fn doubled_key(alloc: Global, value: &Value<'_>) -> Result<Option<DoubledKey
 
 #[cycle(doubled)]
 fn doubled_in_items(alloc: Global, items: &Vec<Value<'_>>) -> Result<Option<DoubledKey>, AllocError>
-    ensures { IfOk result (λ found. MatchOption found (items_single (items_view items.now.items) ≡ true) (λ doubled. HasDoubledKey (array (items_view items.now.items)) doubled)) }
+    ensures { IfOk result (λ found. MatchOption found (items_single (items_view items.now.items) ≡ true) (λ doubled. IsFirstDoubledKey (array (items_view items.now.items)) doubled)) }
 {
     for (index, item) in items.iter().enumerate() {
         if let Some(doubled) = doubled_key(alloc, item)? {
@@ -88,7 +88,8 @@ fn doubled_in_members(
     alloc: Global,
     members: &Vec<(&str, Value<'_>)>,
 ) -> Result<Option<DoubledKey>, AllocError>
-    ensures { IfOk result (λ found. MatchOption found (members_single (members_view members.now.items) ≡ true) (λ doubled. HasDoubledKey (object (members_view members.now.items)) doubled)) }
+    requires { names_differ (keys (members_view members.now.items)) ≡ true }
+    ensures { IfOk result (λ found. MatchOption found (members_single (members_view members.now.items) ≡ true) (λ doubled. IsFirstDoubledKey (object (members_view members.now.items)) doubled)) }
 {
     for (index, member) in members.iter().enumerate() {
         if let Some(doubled) = doubled_key(alloc, &member.1)? {

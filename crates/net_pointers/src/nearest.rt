@@ -1,11 +1,11 @@
 //! The name that is nearest to another.
-ghost use Rattle.std.specs.Prelude.{◌≡◌, ◌<◌, ◌≤◌, map, length, get_or, All, MatchOption, IfOk};
+ghost use Rattle.std.specs.Prelude.{◌≡◌, ◌<◌, ◌≤◌, ℕ, map, length, get_or, All, MatchOption, IfOk};
 ghost use Rattle.net_pointers.specs.Nearest.{edits, edits_to, IsNearest};
 
 use std::alloc::{AllocError, Global};
 use strsim::levenshtein;
 
-/// The index of the name that is nearest to this one, where one is close.
+/// The index of the first name that is nearest to this one, where one is close.
 pub fn nearest_name(alloc: Global, name: &str, names: &[&str]) -> Result<Option<usize>, AllocError>
     ensures { IfOk result (λ found. IsNearest (map (λ other. other.now) names.now) name.now found) }
 {
@@ -30,10 +30,11 @@ fn edits_between(alloc: Global, name: &str, other: &str) -> Result<usize, AllocE
     levenshtein(alloc, name, other)
 }
 
-/// The index of the least count, where it is at most this.
+/// The index of the first least count, where it is at most this.
 fn least_within(counts: &[usize], most: usize) -> Option<usize>
     ensures { MatchOption result (All (λ count. most < count) counts.now)
-        (λ index. (index < length counts.now) × (get_or counts.now index 0 ≤ most) × All (λ count. get_or counts.now index 0 ≤ count) counts.now) }
+        (λ index. (index < length counts.now) × (get_or counts.now index 0 ≤ most) × All (λ count. get_or counts.now index 0 ≤ count) counts.now
+        × ((k : ℕ) → k < index → get_or counts.now index 0 < get_or counts.now k 0)) }
 {
     if counts.is_empty() {
         return None;
@@ -45,11 +46,12 @@ fn least_within(counts: &[usize], most: usize) -> Option<usize>
     None
 }
 
-/// The index of the least count.
+/// The index of the first least count.
 fn least_of(counts: &[usize]) -> usize
     requires { 0 < length counts.now }
     ensures within { result < length counts.now }
     ensures least { All (λ count. get_or counts.now result 0 ≤ count) counts.now }
+    ensures first { (k : ℕ) → k < result → get_or counts.now result 0 < get_or counts.now k 0 }
 {
     let mut least = 0;
     for (index, count) in counts.iter().enumerate() {

@@ -1,8 +1,12 @@
 //! Where a text stops being JSON.
-ghost use Rattle.std.specs.Prelude.{◌≡◌, ◌≤◌, length, IfOk};
+ghost use Rattle.std.specs.Prelude.{◌≡◌, ◌≤◌, ◌<◌, ◌+◌, false, true, length, get_or, IfOk, IfErr};
+ghost use Rattle.serde_json.specs.Data.{Data};
+ghost use Rattle.net_plan.specs.Texts.{IsJson, IsNoJson};
+ghost use Rattle.net_pointers.specs.Syntax.{is_blank, follows_value, opens, is_sign, is_of_word, IsFirstFrom, is_filled, ends_before, closes, IsQuoteEnd, IsTokenEnd, token_between, may_begin, after_value, after_comma, innermost, has_room, open_after, after_sign, after_token, IsPassing, IsStop};
 ghost use Rattle.net_pointers.specs.TextTroubles.{IsFaultOfJson};
 
-use json::{Reader, Scratch, Token};
+use json::Scratch;
+use net_plan::{PlanError, json_of};
 use std::alloc::{AllocError, Global};
 
 /// How many lists and objects may stand open at one place.
@@ -40,7 +44,16 @@ enum Open {
     Object,
 }
 
-/// Where a text that is no JSON stops being it. That the offset is the first such is left to tests.
+/// What comes of a place at which something stands.
+enum Passing {
+    /// It ends behind it, and this may stand there.
+    Past(usize, Wanted),
+    /// It may not stand there, where this may.
+    Stops(Wanted),
+}
+
+/// Where a text that is no JSON stops being it: up to there it is JSON as far as it goes, and nothing that is wanted there
+/// stands there.
 pub fn json_fault(alloc: Global, text: &[u8]) -> Result<JsonFault, AllocError>
     ensures { IfOk result (λ fault. IsFaultOfJson text.now fault) }
 {
@@ -53,115 +66,297 @@ pub fn json_fault(alloc: Global, text: &[u8]) -> Result<JsonFault, AllocError>
 fn syntax_fault(alloc: Global, text: &str) -> Result<JsonFault, AllocError>
     ensures { IfOk result (λ fault. IsFaultOfJson text.now fault) }
 {
-    let (offset, wanted) = break_of(alloc, text)?;
-    let end = text.len();
-    if offset <= end {
-        return Ok(JsonFault::Unreadable(offset, wanted));
-    }
-    Ok(JsonFault::Unreadable(end, wanted))
+    let (offset, wanted) = stop_of(alloc, text.as_bytes())?;
+    Ok(JsonFault::Unreadable(offset, wanted))
 }
 
-/// Goes through the tokens up to the first that may not stand where it does.
-fn break_of(alloc: Global, text: &str) -> Result<(usize, Wanted), AllocError> {
-    let bytes = text.as_bytes();
-    if bytes.is_empty() {
-        return Ok((0, Wanted::Value));
-    }
+/// Goes through a text up to the first place at which nothing that is wanted stands.
+fn stop_of(alloc: Global, text: &[u8]) -> Result<(usize, Wanted), AllocError>
+    ensures { IfOk result (λ stop. IsStop text.now stop.0 stop.1) }
+{
     let mut scratch = Scratch::new(alloc);
-    let mut reader = Reader::new(text, &mut scratch)?;
     let mut open: Vec<Open> = Vec::new(alloc);
-    for count in 0..bytes.len() {
-        let start = next_byte(bytes, reader.offset());
-        let wanted = wanted_at(bytes, start, open.last().copied(), count);
-        let Some(token) = reader.next() else {
-            return Ok((bytes.len(), wanted));
-        };
-        if !may_stand(&token, wanted) {
-            return Ok(refused(bytes, &token, start, wanted, reader.offset()));
+    let mut wanted = Wanted::Value;
+    let mut offset = 0;
+    for _ in 0..text.len() {
+        let start = next_byte(text, offset);
+        if start == text.len() {
+            return Ok((start, wanted));
         }
-        match token {
-            Token::BeginArray => open.push(Open::List)?,
-            Token::BeginObject => open.push(Open::Object)?,
-            Token::EndArray | Token::EndObject => {
-                open.pop();
+        match pass(alloc, text, start, wanted, &mut open, &mut scratch)? {
+            Passing::Past(end, next) => {
+                offset = end;
+                wanted = next;
             }
-            _ => {}
-        }
-        if open.len() > MOST_OPEN {
-            return Ok((start, Wanted::LessDepth));
+            Passing::Stops(lacking) => return Ok((start, lacking)),
         }
     }
-    Ok((bytes.len(), Wanted::End))
+    Ok((text.len(), wanted))
 }
 
-/// Where a token may not stand. A comma that the reader has passed stands before it, or behind a text that is no key.
-fn refused(
+/// Goes past what stands at a place, where it may stand there.
+fn pass(
+    alloc: Global,
     text: &[u8],
-    token: &Token<'_>,
     start: usize,
     wanted: Wanted,
-    after: usize,
-) -> (usize, Wanted) {
-    match (token, wanted) {
-        (Token::String(_), Wanted::Key | Wanted::KeyOrEnd) => {
-            let next = next_byte(text, after);
-            (comma_before(text, next).unwrap_or(next), Wanted::Colon)
+    open: &mut Vec<Open>,
+    scratch: &mut Scratch,
+) -> Result<Passing, AllocError>
+    requires { start < length text.now }
+    ensures { IfOk result (λ passing. IsPassing text.now start wanted «open».old.items «open».new.items passing) }
+{
+    let byte = text[start];
+    if !may_begin(wanted, byte) {
+        return Ok(Passing::Stops(wanted));
+    }
+    if is_sign(byte) {
+        return pass_sign(text, start, wanted, open);
+    }
+    pass_token(alloc, text, start, wanted, open, scratch)
+}
+
+fn pass_sign(
+    text: &[u8],
+    start: usize,
+    wanted: Wanted,
+    open: &mut Vec<Open>,
+) -> Result<Passing, AllocError>
+    requires within { start < length text.now }
+    requires sign { is_sign (get_or text.now start 0) ≡ true }
+    requires may { may_begin wanted (get_or text.now start 0) ≡ true }
+    ensures { IfOk result (λ passing. IsPassing text.now start wanted «open».old.items «open».new.items passing) }
+{
+    let byte = text[start];
+    if !has_room(open, byte) {
+        return Ok(Passing::Stops(Wanted::LessDepth));
+    }
+    let next = after_sign(open, byte)?;
+    Ok(Passing::Past(start + 1, next))
+}
+
+fn pass_token(
+    alloc: Global,
+    text: &[u8],
+    start: usize,
+    wanted: Wanted,
+    open: &Vec<Open>,
+    scratch: &mut Scratch,
+) -> Result<Passing, AllocError>
+    requires within { start < length text.now }
+    requires token { is_sign (get_or text.now start 0) ≡ false }
+    requires may { may_begin wanted (get_or text.now start 0) ≡ true }
+    ensures { IfOk result (λ passing. IsPassing text.now start wanted «open».now.items «open».now.items passing) }
+{
+    let end = token_end(text, start);
+    if !is_json(alloc, text, start, end, scratch)? {
+        return Ok(Passing::Stops(wanted));
+    }
+    Ok(Passing::Past(end, after_token(wanted, innermost(open))))
+}
+
+/// Whether what is wanted may begin with a byte.
+fn may_begin(wanted: Wanted, byte: u8) -> bool
+    ensures { result ≡ may_begin wanted byte }
+{
+    match wanted {
+        Wanted::Value => !follows_value(byte),
+        Wanted::ValueOrEnd => byte == b']' || !follows_value(byte),
+        Wanted::Key => byte == b'"',
+        Wanted::KeyOrEnd => byte == b'"' || byte == b'}',
+        Wanted::Colon => byte == b':',
+        Wanted::CommaOrEndOfList => byte == b',' || byte == b']',
+        Wanted::CommaOrEndOfObject => byte == b',' || byte == b'}',
+        Wanted::End | Wanted::LessDepth => false,
+    }
+}
+
+/// Whether one more list or object may stand open, where a byte opens one.
+fn has_room(open: &Vec<Open>, byte: u8) -> bool
+    ensures { result ≡ has_room byte «open».now.items }
+{
+    !opens(byte) || open.len() < MOST_OPEN
+}
+
+/// Goes past a bracket, a comma or a colon, and tells what may stand behind it.
+fn after_sign(open: &mut Vec<Open>, byte: u8) -> Result<Wanted, AllocError>
+    ensures { IfOk result (λ wanted. («open».new.items ≡ open_after byte «open».old.items) × (wanted ≡ after_sign byte «open».new.items)) }
+{
+    match byte {
+        b'[' => {
+            open.push(Open::List)?;
+            Ok(Wanted::ValueOrEnd)
         }
-        (_, Wanted::End) => (comma_before(text, start).unwrap_or(start), wanted),
-        _ => (start, wanted),
+        b'{' => {
+            open.push(Open::Object)?;
+            Ok(Wanted::KeyOrEnd)
+        }
+        b',' => Ok(after_comma(innermost(open))),
+        b':' => Ok(Wanted::Value),
+        _ => {
+            open.pop();
+            Ok(after_value(innermost(open)))
+        }
     }
 }
 
-/// Where the next byte stands that is no white space.
-fn next_byte(text: &[u8], offset: usize) -> usize {
-    let rest = text.get(offset..).unwrap_or(&[]);
-    match rest.iter().position(|byte| !byte.is_ascii_whitespace()) {
-        Some(blanks) => offset.saturating_add(blanks),
-        None => text.len(),
+/// The innermost list or object that stands open.
+fn innermost(open: &Vec<Open>) -> Option<Open>
+    ensures { result ≡ innermost «open».now.items }
+{
+    open.last().copied()
+}
+
+/// What may stand behind a value.
+fn after_value(inner: Option<Open>) -> Wanted
+    ensures { result ≡ after_value inner }
+{
+    match inner {
+        None => Wanted::End,
+        Some(Open::List) => Wanted::CommaOrEndOfList,
+        Some(Open::Object) => Wanted::CommaOrEndOfObject,
     }
 }
 
-/// Where the comma stands that is the last byte before an offset, but for white space.
-fn comma_before(text: &[u8], offset: usize) -> Option<usize> {
-    let before = text.get(..offset)?;
-    let last = before.iter().rposition(|byte| !byte.is_ascii_whitespace())?;
-    match before.get(last) {
-        Some(b',') => Some(last),
-        _ => None,
+/// What may stand behind a comma.
+fn after_comma(inner: Option<Open>) -> Wanted
+    ensures { result ≡ after_comma inner }
+{
+    match inner {
+        Some(Open::Object) => Wanted::Key,
+        _ => Wanted::Value,
     }
 }
 
-/// Whether a token may stand where this is wanted.
-fn may_stand(token: &Token<'_>, wanted: Wanted) -> bool {
-    match token {
-        Token::Bad => false,
-        Token::Key(_) => matches!(wanted, Wanted::Key | Wanted::KeyOrEnd),
-        Token::EndArray => matches!(wanted, Wanted::ValueOrEnd | Wanted::CommaOrEndOfList),
-        Token::EndObject => matches!(wanted, Wanted::KeyOrEnd | Wanted::CommaOrEndOfObject),
-        _ => matches!(wanted, Wanted::Value | Wanted::ValueOrEnd),
+/// What may stand behind a number, a word or a text in quotes.
+fn after_token(wanted: Wanted, inner: Option<Open>) -> Wanted
+    ensures { result ≡ after_token wanted inner }
+{
+    match wanted {
+        Wanted::Key | Wanted::KeyOrEnd => Wanted::Colon,
+        _ => after_value(inner),
     }
 }
 
-/// What may stand at an offset: it follows from the byte before it and from what stands open there.
-fn wanted_at(text: &[u8], offset: usize, open: Option<Open>, count: usize) -> Wanted {
-    match (byte_before(text, offset), open) {
-        (_, None) if count == 0 => Wanted::Value,
-        (_, None) => Wanted::End,
-        (Some(b'['), Some(Open::List)) => Wanted::ValueOrEnd,
-        (Some(b','), Some(Open::List)) => Wanted::Value,
-        (_, Some(Open::List)) => Wanted::CommaOrEndOfList,
-        (Some(b'{'), Some(Open::Object)) => Wanted::KeyOrEnd,
-        (Some(b','), Some(Open::Object)) => Wanted::Key,
-        (Some(b':'), Some(Open::Object)) => Wanted::Value,
-        (_, Some(Open::Object)) => Wanted::CommaOrEndOfObject,
+/// Where the next byte stands that is no white space; the end of the text where none does.
+fn next_byte(text: &[u8], offset: usize) -> usize
+    requires { offset ≤ length text.now }
+    ensures { IsFirstFrom (is_filled text.now) offset (length text.now) result }
+{
+    for index in offset..text.len() {
+        if !is_blank(text[index]) {
+            return index;
+        }
+    }
+    text.len()
+}
+
+/// Where the number, the word or the text in quotes ends that begins at a place.
+fn token_end(text: &[u8], start: usize) -> usize
+    requires { start < length text.now }
+    ensures end { IsTokenEnd text.now start result }
+    ensures within { (start < result) × (result ≤ length text.now) }
+{
+    if text[start] == b'"' {
+        quote_end(text, start)
+    } else {
+        word_end(text, start)
     }
 }
 
-/// The last byte before an offset that is no white space.
-fn byte_before(text: &[u8], offset: usize) -> Option<u8> {
-    text.get(..offset)?
-        .iter()
-        .rev()
-        .find(|byte| !byte.is_ascii_whitespace())
-        .copied()
+/// The place behind the quote that closes the text that a quote opens; the end of the text where none does.
+fn quote_end(text: &[u8], quote: usize) -> usize
+    requires { quote < length text.now }
+    ensures end { IsQuoteEnd text.now quote result }
+    ensures within { (quote < result) × (result ≤ length text.now) }
+{
+    let rest = &text[quote + 1..];
+    let count = closing_quote(rest);
+    if count < rest.len() {
+        return quote + count + 2;
+    }
+    text.len()
+}
+
+/// Where the first quote stands that is not escaped; the end where there is none.
+fn closing_quote(bytes: &[u8]) -> usize
+    ensures { IsFirstFrom (closes bytes.now) 0 (length bytes.now) result }
+{
+    let mut escaped = false;
+    for index in 0..bytes.len() {
+        let byte = bytes[index];
+        if byte == b'"' && !escaped {
+            return index;
+        }
+        escaped = byte == b'\\' && !escaped;
+    }
+    bytes.len()
+}
+
+/// Where the number or the word ends that begins at a place.
+fn word_end(text: &[u8], start: usize) -> usize
+    requires { start < length text.now }
+    ensures { IsFirstFrom (ends_before text.now) (start + 1) (length text.now) result }
+{
+    for index in start + 1..text.len() {
+        if !is_of_word(text[index]) {
+            return index;
+        }
+    }
+    text.len()
+}
+
+/// Whether the number, the word or the text in quotes between two places is a value of JSON by itself.
+fn is_json(
+    alloc: Global,
+    text: &[u8],
+    start: usize,
+    end: usize,
+    scratch: &mut Scratch,
+) -> Result<bool, AllocError>
+    requires { (start ≤ end) × (end ≤ length text.now) }
+    ensures sound { IfOk result (λ is. is ≡ true → (d : Data) × IsJson (token_between text.now start end) d) }
+    ensures broken { IfOk result (λ is. is ≡ false → IsNoJson (token_between text.now start end)) }
+{
+    let token = &text[start..end];
+    match json_of(alloc, token, scratch) {
+        Ok(_) => Ok(true),
+        Err(PlanError::NotJson) => Ok(false),
+        Err(_) => Err(AllocError),
+    }
+}
+
+/// White space of JSON.
+fn is_blank(byte: u8) -> bool
+    ensures { result ≡ is_blank byte }
+{
+    matches!(byte, b' ' | b'\t' | b'\n' | b'\r')
+}
+
+/// A closing bracket, a comma or a colon.
+fn follows_value(byte: u8) -> bool
+    ensures { result ≡ follows_value byte }
+{
+    matches!(byte, b']' | b'}' | b',' | b':')
+}
+
+/// An opening bracket.
+fn opens(byte: u8) -> bool
+    ensures { result ≡ opens byte }
+{
+    matches!(byte, b'[' | b'{')
+}
+
+/// A bracket, a comma or a colon.
+fn is_sign(byte: u8) -> bool
+    ensures { result ≡ is_sign byte }
+{
+    follows_value(byte) || opens(byte)
+}
+
+/// A letter, a digit, a plus, a minus or a point, of which numbers and words are.
+fn is_of_word(byte: u8) -> bool
+    ensures { result ≡ is_of_word byte }
+{
+    matches!(byte, b'0'..=b'9' | b'A'..=b'Z' | b'a'..=b'z' | b'+' | b'-' | b'.')
 }

@@ -67,7 +67,7 @@ owners_pool_text owner eid = codes "let the pool of " ++ (owner ++ (codes " have
 -- the node is to have a free endpoint ID of these
 abbrev pub free_eid_line : (name span : List ℕ) → List ℕ
 free_eid_line name span =
-    codes "Edit: give " ++ (name ++ (codes " a free eid of " ++ (span ++ codes ", and of no pool within that.\n")))
+    codes "Edit: give " ++ (name ++ (codes " a free eid of " ++ (span ++ codes ", if any, and of no pool in it.\n")))
 
 abbrev pub or_line : List ℕ → List ℕ
 or_line owners = codes "Edit: or " ++ owners

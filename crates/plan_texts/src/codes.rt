@@ -221,10 +221,10 @@ fn of_h(code: &str) -> Option<&'static str> {
             "H05: a record reads as a numeric or state sensor, and an earlier record of its terminus reads as one\nwith the same sensor ID.\nCause: a sensor's record was copied.\nHint: give one of the two sensors its own sensor ID.\n",
         ),
         "H06" => Some(
-            "H06: a node has a topmost owner (its owner, or that one's owner, and so on, which nobody owns), and\nwhat that one sends for the node's endpoint ID does not come to the node along the rows.\nCause: the topmost owner, or a node on the way, has no row for the endpoint ID, or a row that leads\nelsewhere.\nHint: give each of them a row for the endpoint ID, toward the node.\n",
+            "H06: a node has a topmost owner (its owner, or that one's owner, and so on, which nobody owns), and\nwhat that one sends for the node's endpoint ID does not come to the node along the rows. Of two rows\nof a node for one endpoint ID the first one counts, and the way ends at the first node that holds\nthe endpoint ID.\nCause: the topmost owner, or a node on the way, has no row for the endpoint ID, or a row that leads\nelsewhere.\nHint: give each of them a row for the endpoint ID, toward the node.\n",
         ),
         "H07" => Some(
-            "H07: a node has a topmost owner, and what it sends for that one's endpoint ID does not come there\nalong the rows.\nCause: the node, or one on the way, has no row for the owner's endpoint ID, or a row that leads\nelsewhere.\nHint: give each of them a row for the endpoint ID, toward the owner.\n",
+            "H07: a node has a topmost owner, and what it sends for that one's endpoint ID does not come there\nalong the rows. Rows count as in H06.\nCause: the node, or one on the way, has no row for the owner's endpoint ID, or a row that leads\nelsewhere.\nHint: give each of them a row for the endpoint ID, toward the owner.\n",
         ),
         "H08" => Some(
             "H08: a row has no endpoint ID that a node holds or that lies in a pool.\nCause: the row is left over, or its endpoint IDs are mistyped.\nHint: drop the row, or write the endpoint IDs of those behind it.\n",
@@ -248,7 +248,7 @@ fn of_h(code: &str) -> Option<&'static str> {
 fn of_j(code: &str) -> Option<&'static str> {
     match code {
         "J01" => Some(
-            "J01: the text is no JSON, or no UTF-8, or more than 127 lists and objects stand open at one place.\nHint: look for a missing brace or comma: an empty file is no JSON either.\n",
+            "J01: the text is no JSON, or no UTF-8, or has a number that no 64-bit float reaches, or more than\n127 lists and objects stand open at one place.\nHint: look for a missing brace or comma: an empty file is no JSON either.\n",
         ),
         "J02" => Some(
             "J02: a value is of another kind than belongs there, as a list in place of an object.\nHint: compare the text with docs/FORMATS.md.\n",

@@ -243,7 +243,7 @@ fn or_line(alloc: Global, owners: &str) -> Result<String, AllocError>
 fn free_eid_line(alloc: Global, name: &str, span: &str) -> Result<String, AllocError>
     ensures { IfOk result (λ text. string_bytes text ≡ free_eid_line name.now span.now) }
 {
-    format!(in alloc; "Edit: give {name} a free eid of {span}, and of no pool within that.\n")
+    format!(in alloc; "Edit: give {name} a free eid of {span}, if any, and of no pool in it.\n")
 }
 
 /// That the owner's pool is to have the endpoint ID.

@@ -21,7 +21,7 @@ returns-in-Some c =
     let nodes = node_names (map node_value c.args.nodes.now) in
     let d = view c.args.certificate.now in
     let twice : IsFirstDoubled (nodes_at (list_key c.in-Some.list) d) c.in-Some.places = search rules in
-    (node_doubled nodes d c.requires c.in-Some.list (first_differs (nodes_at (list_key c.in-Some.list) d) c.in-Some.places twice), twice)
+    (node_doubled nodes d c.requires c.in-Some.list (first_differs (nodes_at (list_key c.in-Some.list) d) c.in-Some.places twice), twice, search rules)
 
 pub returns-in-Some-first_overlap : goal.returns-in-Some-first_overlap
 returns-in-Some-first_overlap c =
@@ -36,7 +36,7 @@ returns-in-Some-2 c =
     let d = view c.args.certificate.now in
     let once : AreSingle nodes d c.requires = search rules in
     let apart : ranks_ascend (get (codes "ranks") d) ≡ true = search rules in
-    (well_but_names nodes d c.requires once apart, search rules)
+    (well_but_names nodes d c.requires once apart, search rules, search rules)
 
 pub returns-in-Some-3 : goal.returns-in-Some-3
 returns-in-Some-3 c =

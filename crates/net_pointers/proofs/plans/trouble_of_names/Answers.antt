@@ -17,7 +17,7 @@ pub returns-in-Some-2 : goal.returns-in-Some-2
 returns-in-Some-2 c =
     let d = view c.args.value.now in
     let buses : names_differ (known_view c.in_ok-known.known).buses ≡ true = search rules in
-    (late_well d c.requires (ap (λ (k : Known). names_differ k.buses) (sym c.in_ok-known.ensures) ∙ buses), search rules)
+    (late_well d c.requires (ap (λ (k : Known). names_differ k.buses) (sym c.in_ok-known.ensures) ∙ buses), search rules, search rules)
 
 pub returns-in-Some-3 : goal.returns-in-Some-3
 returns-in-Some-3 c =
