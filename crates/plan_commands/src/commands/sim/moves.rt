@@ -212,6 +212,7 @@ fn play_move<O: Sink, E: Sink>(
     ensures silent { IfOk result (λ status. status ≡ Yes → errors.new ≡ errors.old) }
     ensures unsaid { OnErr result (errors.new ≡ errors.old) }
 {
-    let termini = planned_termini(alloc, checked.before(), checked.certificate())?;
+    let plan = checked.before();
+    let termini = planned_termini(alloc, plan, checked.certificate())?;
     Ok(run_simmove(alloc, checked, termini, events, output, errors))
 }

@@ -6,14 +6,14 @@ use Rattle.plan_commands.proofs.commands.sim.moves.play_move.Goals as goal
 
 pub planned_termini-requires : goal.planned_termini-requires
 planned_termini-requires g c =
-    moved_orders c.args.checked.0 c.args.checked.1 c.before.result.now c.args.checked.2 c.certificate.result.now c.before.ensures.accepted c.before.ensures.plan c.certificate.ensures.certificate
+    moved_orders c.args.checked.0 c.args.checked.1 c.before-plan.result.now c.args.checked.2 c.certificate.result.now c.before-plan.ensures.accepted c.before-plan.ensures.plan c.certificate.ensures.certificate
 
 pub run_simmove-requires-clause-termini : goal.run_simmove-requires-clause-termini
 run_simmove-requires-clause-termini g c =
     many_planned (resting block_tid block_records) c.in_ok-termini.termini.items _
-    (planned_by _ c.args.checked.0 c.before.result.now c.args.checked.2 c.certificate.result.now c.in_ok-termini.ensures c.before.ensures.plan c.certificate.ensures.certificate)
+    (planned_by _ c.args.checked.0 c.before-plan.result.now c.args.checked.2 c.certificate.result.now c.in_ok-termini.ensures c.before-plan.ensures.plan c.certificate.ensures.certificate)
 
 pub returns-clause-plays : goal.returns-clause-plays
 returns-clause-plays g c =
     c.run_simmove.ensures.plays
-    (planned_by _ c.args.checked.0 c.before.result.now c.args.checked.2 c.certificate.result.now c.in_ok-termini.ensures c.before.ensures.plan c.certificate.ensures.certificate)
+    (planned_by _ c.args.checked.0 c.before-plan.result.now c.args.checked.2 c.certificate.result.now c.in_ok-termini.ensures c.before-plan.ensures.plan c.certificate.ensures.certificate)
