@@ -24,8 +24,3 @@ answers_oldest tid records others waiting rest oldest bytes answer next is kept 
       answers = subst (λ (b : List ℕ). Answers tid records b answer next) same answers;
       after = ap after kept;
     }
-
--- the same answer, of a terminus that is the same
-pub answers_along : (t u : ℕ) (rs ss : List Entry) (request : List ℕ) (answer : Option (List ℕ)) (next : ℕ) → Answers t rs request answer next → t ≡ u → rs ≡ ss → Answers u ss request answer next
-answers_along t u rs ss request answer next answers same kept =
-    subst (λ k. Answers k ss request answer next) same (subst (λ (xs : List Entry). Answers t xs request answer next) kept answers)

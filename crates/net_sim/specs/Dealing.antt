@@ -13,8 +13,8 @@ use Rattle.net_check.specs.States.{NetworkState}
 use Rattle.net_sim.specs.Standing.{at_place}
 
 -- a terminus at which nothing waits
-abbrev pub resting : {B : Type 0} → (B → ℕ) → (B → List Entry) → B → TerminusState
-resting tid records b = record { tid = tid b; records = records b; waiting = [] }
+abbrev pub resting : {T : Type 0} → (T → ℕ) → (T → List Entry) → T → TerminusState
+resting tid records t = record { tid = tid t; records = records t; waiting = [] }
 
 -- one to each node that has a terminus, in the order of the nodes
 abbrev pub dealt_to : Option PlannedTerminus → List TerminusState → Option TerminusState

@@ -15,12 +15,12 @@ abbrev pub waiting_value : Waiting → WaitingMessage
 waiting_value m = record { key = key_value m.key; bytes = m.bytes.items }
 
 -- the terminus ID and the records by the termini's own meaning
-abbrev pub queue_state : {X : Type 0} {R : X → Type 0} → (TerminusQueue X R → ℕ) → (TerminusQueue X R → List Entry)
-    → TerminusQueue X R → TerminusState
-queue_state tid records d = record { tid = tid d; records = records d; waiting = map waiting_value d.waiting.items }
+abbrev pub queue_state : {T : Type 0} → (T → ℕ) → (T → List Entry) → TerminusQueue T → TerminusState
+queue_state tid records d =
+    record { tid = tid d.terminus; records = records d.terminus; waiting = map waiting_value d.waiting.items }
 
 -- where there is a terminus, one message more can wait without growing
-abbrev pub HasRoomFor : {X : Type 0} {R : X → Type 0} → Option (TerminusQueue X R) → Type 0
+abbrev pub HasRoomFor : {T : Type 0} → Option (TerminusQueue T) → Type 0
 HasRoomFor None = Unit {0}
 HasRoomFor (Some d) = deque_len d.waiting < deque_capacity d.waiting
 

@@ -11,12 +11,11 @@ use Rattle.net_sim.specs.TerminusQueues.{queue_state, HasRoomFor}
 use Rattle.net_sim.specs.Standing.{TrafficValue}
 
 -- the tables of the network, of one plan or of two, and the certificate for them
-abbrev pub traffic_checked : {X : Type 0} {R : X → Type 0} → Traffic X R → Tables × Certificate
+abbrev pub traffic_checked : {T : Type 0} → Traffic T → Tables × Certificate
 traffic_checked network = (network.router.tables, network.router.certificate)
 
 -- by the terminus IDs and the records that the termini mean
-abbrev pub traffic_value : {X : Type 0} {R : X → Type 0} → (TerminusQueue X R → ℕ) → (TerminusQueue X R → List Entry)
-    → Traffic X R → TrafficValue
+abbrev pub traffic_value : {T : Type 0} → (T → ℕ) → (T → List Entry) → Traffic T → TrafficValue
 traffic_value tid records network = record {
   flights = slots_of network.flights;
   assemblers = network.assemblers.items;
@@ -25,10 +24,10 @@ traffic_value tid records network = record {
 }
 
 -- where the node has a terminus, one message more can wait there without growing
-abbrev pub HasRoomAt : {X : Type 0} {R : X → Type 0} → Traffic X R → ℕ → Type 0
-HasRoomAt {X} {R} network node =
-    (d : Option (TerminusQueue X R)) → slice_get network.queues.items node ≡ Some d → HasRoomFor d
+abbrev pub HasRoomAt : {T : Type 0} → Traffic T → ℕ → Type 0
+HasRoomAt {T} network node =
+    (d : Option (TerminusQueue T)) → slice_get network.queues.items node ≡ Some d → HasRoomFor d
 
 -- a flight number is left, and one flight more can be made without growing
-abbrev pub HasNumberAndRoom : {X : Type 0} {R : X → Type 0} → Traffic X R → Type 0
+abbrev pub HasNumberAndRoom : {T : Type 0} → Traffic T → Type 0
 HasNumberAndRoom network = (length (slots_of network.flights) ≤ most_flights) × (0 < room_of network.flights)

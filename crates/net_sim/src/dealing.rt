@@ -27,13 +27,13 @@ fn with_terminus(nodes: &[Node]) -> usize
 }
 
 /// A queue for each node that has a terminus, with the next of the termini.
-pub fn deal(
+pub fn deal<T: Terminus>(
     alloc: Global,
     plan: &Plan,
-    termini: Vec<Box<dyn Terminus>>,
-) -> Result<Vec<Option<TerminusQueue>>, AllocError>
-    ensures { IfOk result (λ queues. map (option_map (queue_state (λ d. tid d.terminus) (λ d. records d.terminus))) queues.items
-        ≡ dealt plan.now.nodes.items (map (resting (λ b. tid b) (λ b. records b)) termini.items)) }
+    termini: Vec<T>,
+) -> Result<Vec<Option<TerminusQueue<T>>>, AllocError>
+    ensures { IfOk result (λ queues. map (option_map (queue_state T.tid T.records)) queues.items
+        ≡ dealt plan.now.nodes.items (map (resting T.tid T.records) termini.items)) }
 {
     let mut queues = Vec::new(alloc);
     let mut left = termini.into_iter();
@@ -44,14 +44,14 @@ pub fn deal(
 }
 
 /// The queue of a node, if it has a terminus and one is left.
-fn deal_to(
+fn deal_to<T: Terminus>(
     alloc: Global,
     node: &Node,
-    left: &mut IntoIter<Box<dyn Terminus>>,
-) -> Option<TerminusQueue>
-    ensures { (nodes : List Node) → dealt (node.now ∷ nodes) (map (resting (λ b. tid b) (λ b. records b)) (into_iter_items left.old))
-        ≡ option_map (queue_state (λ d. tid d.terminus) (λ d. records d.terminus)) result
-        ∷ dealt nodes (map (resting (λ b. tid b) (λ b. records b)) (into_iter_items left.new)) }
+    left: &mut IntoIter<T>,
+) -> Option<TerminusQueue<T>>
+    ensures { (nodes : List Node) → dealt (node.now ∷ nodes) (map (resting T.tid T.records) (into_iter_items left.old))
+        ≡ option_map (queue_state T.tid T.records) result
+        ∷ dealt nodes (map (resting T.tid T.records) (into_iter_items left.new)) }
 {
     if node.terminus.is_none() {
         return None;

@@ -27,16 +27,17 @@ pub struct Played {
 
 /// The network of a checked plan, or of a checked move, at one moment: the packets on their way, the assembler of each node,
 /// the terminus of each node that has one, with the messages that wait there, which nodes have switched to the rows of the
-/// plan that they move to, and the walkers, in the order in which they began.
+/// plan that they move to, and the walkers, in the order in which they began. The termini are of one type, which may be a
+/// box of any terminus.
 #[derive(Drop)]
-pub struct Network<'a> {
+pub struct Network<'a, T = Box<dyn Terminus>> {
     alloc: Global,
-    traffic: Traffic<'a>,
+    traffic: Traffic<'a, T>,
     walkers: Vec<NetworkWalker>,
     ghost placed: { All (λ walker. (walker_value walker).node < length (traffic_checked traffic).0.plan.nodes.items) walkers.items },
 }
 
-impl<'a> Network<'a> {
+impl<'a, T: Terminus> Network<'a, T> {
     ghost use Rattle.net_check.specs.TwoPlans.{one_plan, moving};
     ghost use Rattle.net_check.specs.States.{at_start, unit_of};
     ghost use Rattle.net_check.specs.Walkers.{WalkerValue, WalkedState};
@@ -57,14 +58,14 @@ impl<'a> Network<'a> {
     pub fn new(
         alloc: Global,
         checked: Checked<'a>,
-        termini: Vec<Box<dyn Terminus>>,
-    ) -> Result<Network<'a>, AllocError>
+        termini: Vec<T>,
+    ) -> Result<Network<'a, T>, AllocError>
         requires boxes { length termini.items ≡ length (planned_termini checked.0 checked.1) }
         ensures checked { IfOk result (λ network. checked_of network ≡ (one_plan checked.entry.0, checked.entry.1)) }
-        ensures at_rest { IfOk result (λ network. StandsForWalked (network_value (λ d. tid d.terminus) (λ d. records d.terminus) network)
-            (without_walkers (at_rest checked.entry.0 (map (resting (λ b. tid b) (λ b. records b)) termini.items)))) }
-        ensures stands { IfOk result (λ network. map (resting (λ b. tid b) (λ b. records b)) termini.items ≡ planned_termini checked.entry.0 checked.entry.1
-            → StandsForWalked (network_value (λ d. tid d.terminus) (λ d. records d.terminus) network) (without_walkers (at_start checked.entry.0 checked.entry.1))) }
+        ensures at_rest { IfOk result (λ network. StandsForWalked (network_value T.tid T.records network)
+            (without_walkers (at_rest checked.entry.0 (map (resting T.tid T.records) termini.items)))) }
+        ensures stands { IfOk result (λ network. map (resting T.tid T.records) termini.items ≡ planned_termini checked.entry.0 checked.entry.1
+            → StandsForWalked (network_value T.tid T.records network) (without_walkers (at_start checked.entry.0 checked.entry.1))) }
     {
         Network::start(alloc, Accepted::Plan(checked), termini)
     }
@@ -74,14 +75,14 @@ impl<'a> Network<'a> {
     pub fn new_move(
         alloc: Global,
         checked: CheckedMove<'a>,
-        termini: Vec<Box<dyn Terminus>>,
-    ) -> Result<Network<'a>, AllocError>
+        termini: Vec<T>,
+    ) -> Result<Network<'a, T>, AllocError>
         requires boxes { length termini.items ≡ length (planned_termini checked.0 checked.2) }
         ensures checked { IfOk result (λ network. checked_of network ≡ (moving checked.entry.0 checked.entry.1, checked.entry.2)) }
-        ensures at_rest { IfOk result (λ network. StandsForWalked (network_value (λ d. tid d.terminus) (λ d. records d.terminus) network)
-            (without_walkers (at_rest checked.entry.0 (map (resting (λ b. tid b) (λ b. records b)) termini.items)))) }
-        ensures stands { IfOk result (λ network. map (resting (λ b. tid b) (λ b. records b)) termini.items ≡ planned_termini checked.entry.0 checked.entry.2
-            → StandsForWalked (network_value (λ d. tid d.terminus) (λ d. records d.terminus) network) (without_walkers (at_start checked.entry.0 checked.entry.2))) }
+        ensures at_rest { IfOk result (λ network. StandsForWalked (network_value T.tid T.records network)
+            (without_walkers (at_rest checked.entry.0 (map (resting T.tid T.records) termini.items)))) }
+        ensures stands { IfOk result (λ network. map (resting T.tid T.records) termini.items ≡ planned_termini checked.entry.0 checked.entry.2
+            → StandsForWalked (network_value T.tid T.records network) (without_walkers (at_start checked.entry.0 checked.entry.2))) }
     {
         Network::start(alloc, Accepted::Move(checked), termini)
     }
@@ -90,13 +91,13 @@ impl<'a> Network<'a> {
     fn start(
         alloc: Global,
         accepted: Accepted<'a>,
-        termini: Vec<Box<dyn Terminus>>,
-    ) -> Result<Network<'a>, AllocError>
+        termini: Vec<T>,
+    ) -> Result<Network<'a, T>, AllocError>
         ensures checked { IfOk result (λ network. checked_of network ≡ (tables_of accepted.entry, certificate_of accepted.entry)) }
-        ensures at_rest { IfOk result (λ network. StandsForWalked (network_value (λ d. tid d.terminus) (λ d. records d.terminus) network)
-            (without_walkers (at_rest (tables_of accepted.entry).plan (map (resting (λ b. tid b) (λ b. records b)) termini.items)))) }
-        ensures stands { IfOk result (λ network. map (resting (λ b. tid b) (λ b. records b)) termini.items ≡ planned_termini (tables_of accepted.entry).plan (certificate_of accepted.entry)
-            → StandsForWalked (network_value (λ d. tid d.terminus) (λ d. records d.terminus) network) (without_walkers (at_start (tables_of accepted.entry).plan (certificate_of accepted.entry)))) }
+        ensures at_rest { IfOk result (λ network. StandsForWalked (network_value T.tid T.records network)
+            (without_walkers (at_rest (tables_of accepted.entry).plan (map (resting T.tid T.records) termini.items)))) }
+        ensures stands { IfOk result (λ network. map (resting T.tid T.records) termini.items ≡ planned_termini (tables_of accepted.entry).plan (certificate_of accepted.entry)
+            → StandsForWalked (network_value T.tid T.records network) (without_walkers (at_start (tables_of accepted.entry).plan (certificate_of accepted.entry)))) }
     {
         let traffic = Traffic::start(alloc, accepted, termini)?;
         let walkers = Vec::new(alloc);
@@ -112,17 +113,17 @@ impl<'a> Network<'a> {
         ensures checked { checked_of self.new ≡ checked_of self.old }
         ensures plays { MatchResult result
             (λ outcome. WalkedPlays (checked_of self.old).0
-            (network_value (λ d. tid d.terminus) (λ d. records d.terminus) self.old) (event_value event.now) (outcome_value outcome)
-            (network_value (λ d. tid d.terminus) (λ d. records d.terminus) self.new))
+            (network_value T.tid T.records self.old) (event_value event.now) (outcome_value outcome)
+            (network_value T.tid T.records self.new))
             (λ _. WalkedWants (checked_of self.old).0
-            (network_value (λ d. tid d.terminus) (λ d. records d.terminus) self.old) (event_value event.now)
-            (network_value (λ d. tid d.terminus) (λ d. records d.terminus) self.new)) }
+            (network_value T.tid T.records self.old) (event_value event.now)
+            (network_value T.tid T.records self.new)) }
         // Every run with walkers that the network may stand for keeps the headline, and what is promised of deliveries.
         ensures promises { IsPromised (checked_of self.old).0 (checked_of self.old).1 }
         // The exchanges that each walker has taken are a walk over the records of the terminus that it asks.
         ensures walks { IfOk result (λ outcome. PlaysWalks (checked_of self.old).0 (checked_of self.old).1
-            (network_value (λ d. tid d.terminus) (λ d. records d.terminus) self.old) (event_value event.now ∷ []) (outcome_value outcome ∷ [])
-            (network_value (λ d. tid d.terminus) (λ d. records d.terminus) self.new)) }
+            (network_value T.tid T.records self.old) (event_value event.now ∷ []) (outcome_value outcome ∷ [])
+            (network_value T.tid T.records self.new)) }
     {
         // The walks rest on this: the tables are accepted.
         let _plan = self.traffic.plan();
@@ -134,34 +135,34 @@ impl<'a> Network<'a> {
     pub fn run(&mut self, events: &[Event]) -> Result<Played, AllocError>
         ensures checked { checked_of self.new ≡ checked_of self.old }
         ensures plays { IfOk result (λ played. PlaysAll (checked_of self.old).0
-            (network_value (λ d. tid d.terminus) (λ d. records d.terminus) self.old)
+            (network_value T.tid T.records self.old)
             (take (length played.outcomes.items) (map event_value events.now)) (map outcome_value played.outcomes.items)
-            (network_value (λ d. tid d.terminus) (λ d. records d.terminus) self.new)) }
+            (network_value T.tid T.records self.new)) }
         // Where one message at a time is sent under a key to a destination, of five packets at most, what is told of it is
         // that message.
         ensures exact { IfOk result (λ played. PlaysAsSent (unit_of (checked_of self.old).0.plan) (checked_of self.old).0
-            (network_value (λ d. tid d.terminus) (λ d. records d.terminus) self.old)
+            (network_value T.tid T.records self.old)
             (take (length played.outcomes.items) (map event_value events.now)) (map outcome_value played.outcomes.items)
-            (network_value (λ d. tid d.terminus) (λ d. records d.terminus) self.new)) }
+            (network_value T.tid T.records self.new)) }
         // Every run with walkers that the network may stand for keeps the headline, and what is promised of deliveries.
         ensures promises { IsPromised (checked_of self.old).0 (checked_of self.old).1 }
         // A whole message that is told joins packets that were put in before it, by events that are named by their indices.
         ensures joins { IfOk result (λ played. PlaysWhatWasPutIn (checked_of self.old).0 (checked_of self.old).1
-            (network_value (λ d. tid d.terminus) (λ d. records d.terminus) self.old)
+            (network_value T.tid T.records self.old)
             (take (length played.outcomes.items) (map event_value events.now)) (map outcome_value played.outcomes.items)
-            (network_value (λ d. tid d.terminus) (λ d. records d.terminus) self.new)) }
+            (network_value T.tid T.records self.new)) }
         // The exchanges that each walker has taken are a walk over the records of the terminus that it asks.
         ensures walks { IfOk result (λ played. PlaysWalks (checked_of self.old).0 (checked_of self.old).1
-            (network_value (λ d. tid d.terminus) (λ d. records d.terminus) self.old)
+            (network_value T.tid T.records self.old)
             (take (length played.outcomes.items) (map event_value events.now)) (map outcome_value played.outcomes.items)
-            (network_value (λ d. tid d.terminus) (λ d. records d.terminus) self.new)) }
+            (network_value T.tid T.records self.new)) }
         ensures whole { IfOk result (λ played. played.stopped ≡ false → length played.outcomes.items ≡ length events.now) }
         ensures stopped { IfOk result (λ played. played.stopped ≡ true → StopsAfter (checked_of self.old).0
-            (network_value (λ d. tid d.terminus) (λ d. records d.terminus) self.old)
+            (network_value T.tid T.records self.old)
             (map event_value events.now) (map outcome_value played.outcomes.items)
-            (network_value (λ d. tid d.terminus) (λ d. records d.terminus) self.new)) }
-        ensures unplayed { OnErr result (network_value (λ d. tid d.terminus) (λ d. records d.terminus) self.new
-            ≡ network_value (λ d. tid d.terminus) (λ d. records d.terminus) self.old) }
+            (network_value T.tid T.records self.new)) }
+        ensures unplayed { OnErr result (network_value T.tid T.records self.new
+            ≡ network_value T.tid T.records self.old) }
     {
         let _plan = self.traffic.plan();
         let mut outcomes = Vec::with_capacity(self.alloc, events.len())?;
@@ -184,7 +185,7 @@ impl<'a> Network<'a> {
 
     /// The records that the walker of this number has collected, by place. None where there is no such walker.
     pub fn collected(&self, walker: usize) -> Option<&[Vec<u8>]>
-        ensures { (w : WalkedState) → StandsForWalked (network_value (λ d. tid d.terminus) (λ d. records d.terminus) self.now) w
+        ensures { (w : WalkedState) → StandsForWalked (network_value T.tid T.records self.now) w
             → MatchOption result (w.walker walker ≡ None) (λ found. (x : WalkerValue) × (w.walker walker ≡ Some x) × (map (λ v. v.items) found.now ≡ x.walk.records)) }
     {
         let index = walker.checked_sub(1)?;

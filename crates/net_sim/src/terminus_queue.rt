@@ -24,8 +24,8 @@ pub struct Waiting {
 
 /// The terminus of a node, and the messages that wait there, oldest first.
 #[derive(Drop)]
-pub struct TerminusQueue {
-    terminus: Box<dyn Terminus>,
+pub struct TerminusQueue<T> {
+    terminus: T,
     waiting: VecDeque<Waiting>,
 }
 
@@ -36,9 +36,9 @@ pub struct Asked {
     pub answered: bool,
 }
 
-impl TerminusQueue {
+impl<T: Terminus> TerminusQueue<T> {
     /// A terminus at which nothing waits.
-    pub fn new(alloc: Global, terminus: Box<dyn Terminus>) -> TerminusQueue
+    pub fn new(alloc: Global, terminus: T) -> TerminusQueue<T>
         ensures terminus { result.terminus ≡ terminus }
         ensures waiting { result.waiting.items ≡ [] }
     {
@@ -51,12 +51,12 @@ impl TerminusQueue {
     /// Takes the oldest message off, if there is one, and asks the terminus.
     fn answer_oldest(&mut self, out: &mut ArrayVec<u8, MAX_ANSWER>) -> Option<Asked>
         ensures none { IfNone result (self.old.waiting.items ≡ []) }
-        ensures asked { IfSome result (λ asked. AnswersOldest (Some (queue_state (λ d. tid d.terminus) (λ d. records d.terminus) self.old))
+        ensures asked { IfSome result (λ asked. AnswersOldest (Some (queue_state T.tid T.records self.old))
             (key_value asked.key) (answer_of asked.answered out.new.items)
-            (Some (queue_state (λ d. tid d.terminus) (λ d. records d.terminus) self.new))) }
+            (Some (queue_state T.tid T.records self.new))) }
     {
         let oldest = self.waiting.pop_front()?;
-        let answered = ask(&mut self.terminus, &oldest.bytes, out);
+        let answered = self.terminus.answer(&oldest.bytes, out);
         Some(Asked {
             key: oldest.key,
             answered,
@@ -74,8 +74,8 @@ impl TerminusQueue {
 
     /// Makes room for a message more.
     pub fn reserve(&mut self) -> Result<(), AllocError>
-        ensures state { queue_state (λ d. tid d.terminus) (λ d. records d.terminus) self.new
-            ≡ queue_state (λ d. tid d.terminus) (λ d. records d.terminus) self.old }
+        ensures state { queue_state T.tid T.records self.new
+            ≡ queue_state T.tid T.records self.old }
         ensures room { OnOk result (deque_len self.new.waiting < deque_capacity self.new.waiting) }
     {
         self.waiting.reserve(1)
@@ -85,8 +85,8 @@ impl TerminusQueue {
     pub fn wait(&mut self, key: Key, bytes: &[u8], mut room: Vec<u8>)
         requires room { deque_len self.old.waiting < deque_capacity self.old.waiting }
         requires empty { room.items ≡ [] }
-        ensures { length bytes.now ≤ vec_capacity room → queue_state (λ d. tid d.terminus) (λ d. records d.terminus) self.new
-            ≡ with_waiting (queue_state (λ d. tid d.terminus) (λ d. records d.terminus) self.old) (record { key = key_value key; bytes = bytes.now }) }
+        ensures { length bytes.now ≤ vec_capacity room → queue_state T.tid T.records self.new
+            ≡ with_waiting (queue_state T.tid T.records self.old) (record { key = key_value key; bytes = bytes.now }) }
     {
         let _ = room.extend_from_slice(bytes);
         room.shrink_to_fit();
@@ -95,17 +95,9 @@ impl TerminusQueue {
     }
 }
 
-/// Asks a terminus.
-fn ask(terminus: &mut Box<dyn Terminus>, request: &[u8], out: &mut ArrayVec<u8, MAX_ANSWER>) -> bool
-    ensures answered { Answers (tid terminus.old) (records terminus.old) request.now (answer_of result out.new.items) (tid terminus.new) }
-    ensures kept { records terminus.new ≡ records terminus.old }
-{
-    terminus.answer(request, out)
-}
-
 /// Why nothing is asked there: there is no terminus, or nothing waits.
-pub fn idle_at(queue: &Option<TerminusQueue>) -> Option<Refusal>
-    ensures { IsIdleFor (option_map (queue_state (λ d. tid d.terminus) (λ d. records d.terminus)) queue.now) result }
+pub fn idle_at<T: Terminus>(queue: &Option<TerminusQueue<T>>) -> Option<Refusal>
+    ensures { IsIdleFor (option_map (queue_state T.tid T.records) queue.now) result }
 {
     match queue {
         None => Some(Refusal::NoTerminus),
@@ -121,14 +113,14 @@ pub fn idle_at(queue: &Option<TerminusQueue>) -> Option<Refusal>
 
 /// Takes the oldest message off, where there is one, and asks the terminus. Its answer is written into `out`: the key of the
 /// message is told, and whether there is an answer.
-pub fn answer_at(
-    queue: &mut Option<TerminusQueue>,
+pub fn answer_at<T: Terminus>(
+    queue: &mut Option<TerminusQueue<T>>,
     out: &mut ArrayVec<u8, MAX_ANSWER>,
 ) -> Option<Asked>
-    ensures none { IfNone result (IsIdle (option_map (queue_state (λ d. tid d.terminus) (λ d. records d.terminus)) queue.old)) }
-    ensures asked { IfSome result (λ asked. AnswersOldest (option_map (queue_state (λ d. tid d.terminus) (λ d. records d.terminus)) queue.old)
+    ensures none { IfNone result (IsIdle (option_map (queue_state T.tid T.records) queue.old)) }
+    ensures asked { IfSome result (λ asked. AnswersOldest (option_map (queue_state T.tid T.records) queue.old)
         (key_value asked.key) (answer_of asked.answered out.new.items)
-        (option_map (queue_state (λ d. tid d.terminus) (λ d. records d.terminus)) queue.new)) }
+        (option_map (queue_state T.tid T.records) queue.new)) }
 {
     queue.as_mut()?.answer_oldest(out)
 }
@@ -141,8 +133,8 @@ fn is_of_another_key(message: &Waiting, key: Key) -> bool
 }
 
 /// Whether no message of the key waits there.
-pub fn none_waits_at(queue: &Option<TerminusQueue>, key: Key) -> bool
-    ensures { IsTrue result ↔ NoneWaits (key_value key) (option_map (queue_state (λ d. tid d.terminus) (λ d. records d.terminus)) queue.now) }
+pub fn none_waits_at<T: Terminus>(queue: &Option<TerminusQueue<T>>, key: Key) -> bool
+    ensures { IsTrue result ↔ NoneWaits (key_value key) (option_map (queue_state T.tid T.records) queue.now) }
 {
     match queue {
         Some(queue) => queue.none_waits(key),
@@ -151,9 +143,9 @@ pub fn none_waits_at(queue: &Option<TerminusQueue>, key: Key) -> bool
 }
 
 /// Makes room for a message more, where there is a terminus.
-pub fn reserve_at(queue: &mut Option<TerminusQueue>) -> Result<(), AllocError>
-    ensures state { option_map (queue_state (λ d. tid d.terminus) (λ d. records d.terminus)) queue.new
-        ≡ option_map (queue_state (λ d. tid d.terminus) (λ d. records d.terminus)) queue.old }
+pub fn reserve_at<T: Terminus>(queue: &mut Option<TerminusQueue<T>>) -> Result<(), AllocError>
+    ensures state { option_map (queue_state T.tid T.records) queue.new
+        ≡ option_map (queue_state T.tid T.records) queue.old }
     ensures room { OnOk result (HasRoomFor queue.new) }
 {
     match queue {
@@ -163,12 +155,17 @@ pub fn reserve_at(queue: &mut Option<TerminusQueue>) -> Result<(), AllocError>
 }
 
 /// Lets a message whose source owns the tag wait, where there is a terminus. It is copied into the room.
-pub fn wait_at(queue: &mut Option<TerminusQueue>, key: Key, bytes: &[u8], room: Vec<u8>)
+pub fn wait_at<T: Terminus>(
+    queue: &mut Option<TerminusQueue<T>>,
+    key: Key,
+    bytes: &[u8],
+    room: Vec<u8>,
+)
     requires room { HasRoomFor queue.old }
     requires empty { room.items ≡ [] }
-    ensures { length bytes.now ≤ vec_capacity room → option_map (queue_state (λ d. tid d.terminus) (λ d. records d.terminus)) queue.new
+    ensures { length bytes.now ≤ vec_capacity room → option_map (queue_state T.tid T.records) queue.new
         ≡ with_message (record { key = key_value key; bytes = bytes.now })
-        (option_map (queue_state (λ d. tid d.terminus) (λ d. records d.terminus)) queue.old) }
+        (option_map (queue_state T.tid T.records) queue.old) }
 {
     if key.owner
         && let Some(queue) = queue

@@ -31,19 +31,19 @@ use std::alloc::{AllocError, Global};
 /// of each node, the terminus of each node that has one, with the messages that wait there, and which nodes have switched
 /// to the rows of the plan that they move to.
 #[derive(Drop)]
-pub struct Traffic<'a> {
+pub struct Traffic<'a, T> {
     alloc: Global,
     router: Router<'a>,
     flights: Flights,
     assemblers: Vec<Assembler>,
-    queues: Vec<Option<TerminusQueue>>,
+    queues: Vec<Option<TerminusQueue<T>>>,
     ghost queued: { length queues.items ≡ length router.tables.plan.nodes.items },
     ghost assembled: { length assemblers.items ≡ length router.tables.plan.nodes.items },
     ghost sized: { (n : ℕ) (a : Assembler) → slice_get assemblers.items n ≡ Some a → (assembler_slots a ≡ 16) × (assembler_limit a ≡ 4096) },
     ghost placed: { (number : ℕ) (f : Flight) → flight_at (slots_of flights) number ≡ Some f → IsPlaced router.tables.plan router.certificate f },
 }
 
-impl<'a> Traffic<'a> {
+impl<'a, T: Terminus> Traffic<'a, T> {
     ghost use Rattle.net_check.specs.Events.{most_flights, Switch};
     ghost use Rattle.net_sim.specs.Accepted.{tables_of, certificate_of, IsAccepted};
     ghost use Rattle.net_sim.specs.Effects.{effect_value};
@@ -59,13 +59,13 @@ impl<'a> Traffic<'a> {
     pub fn start(
         alloc: Global,
         accepted: Accepted<'a>,
-        termini: Vec<Box<dyn Terminus>>,
-    ) -> Result<Traffic<'a>, AllocError>
+        termini: Vec<T>,
+    ) -> Result<Traffic<'a, T>, AllocError>
         ensures checked { IfOk result (λ network. traffic_checked network ≡ (tables_of accepted.entry, certificate_of accepted.entry)) }
-        ensures at_rest { IfOk result (λ network. StandsFor (traffic_value (λ d. tid d.terminus) (λ d. records d.terminus) network)
-            (at_rest (tables_of accepted.entry).plan (map (resting (λ b. tid b) (λ b. records b)) termini.items))) }
-        ensures stands { IfOk result (λ network. map (resting (λ b. tid b) (λ b. records b)) termini.items ≡ planned_termini (tables_of accepted.entry).plan (certificate_of accepted.entry)
-            → StandsFor (traffic_value (λ d. tid d.terminus) (λ d. records d.terminus) network) (at_start (tables_of accepted.entry).plan (certificate_of accepted.entry))) }
+        ensures at_rest { IfOk result (λ network. StandsFor (traffic_value T.tid T.records network)
+            (at_rest (tables_of accepted.entry).plan (map (resting T.tid T.records) termini.items))) }
+        ensures stands { IfOk result (λ network. map (resting T.tid T.records) termini.items ≡ planned_termini (tables_of accepted.entry).plan (certificate_of accepted.entry)
+            → StandsFor (traffic_value T.tid T.records network) (at_start (tables_of accepted.entry).plan (certificate_of accepted.entry))) }
     {
         let router = Router::new(alloc, accepted)?;
         let flights = Flights::new(alloc)?;
@@ -180,8 +180,8 @@ impl<'a> Traffic<'a> {
     pub fn switch(&mut self, node: usize) -> Effect
         ensures checked { traffic_checked self.new ≡ traffic_checked self.old }
         ensures plays { Plays self.old.router.tables
-            (traffic_value (λ d. tid d.terminus) (λ d. records d.terminus) self.old) (Switch node) (effect_value result)
-            (traffic_value (λ d. tid d.terminus) (λ d. records d.terminus) self.new) }
+            (traffic_value T.tid T.records self.old) (Switch node) (effect_value result)
+            (traffic_value T.tid T.records self.new) }
     {
         if !self.has_node(node) {
             Effect::Refused(Refusal::NoNode)

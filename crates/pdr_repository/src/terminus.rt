@@ -25,3 +25,14 @@ pub trait Terminus: Drop {
         ensures silent { result ≡ false → out.new.items ≡ [] }
         ensures kept { records self.new ≡ records self.old };
 }
+
+/// A box of a terminus answers as what is in it.
+impl Terminus for Box<dyn Terminus> {
+    ghost tid = { λ b. (Terminus-box b).tid b.value };
+
+    ghost records = { λ b. (Terminus-box b).records b.value };
+
+    fn answer(&mut self, request: &[u8], out: &mut ArrayVec<u8, MAX_ANSWER>) -> bool {
+        (**self).answer(request, out)
+    }
+}

@@ -1,5 +1,5 @@
 -- What the end of `draw` tells of an answer.
-use Rattle.std.proofs.Common.{◌≡◌, ◌≢◌, ◌⊎◌, ℕ, List, [], Some, None, Result, Ok, Err, refl}
+use Rattle.std.proofs.Common.{◌≢◌, ℕ, List, [], Some, None, Result, Ok, Err, refl}
 use Rattle.std.specs.Prelude.{IfOk, IfErr}
 use Rattle.std.specs.Cow.{cow_str_bytes}
 use Rattle.std.specs.Io.KnownBytes.{Appends}
@@ -14,10 +14,9 @@ use Rattle.plan_commands.specs.declared.refused.Refused.{Refused}
 use Rattle.plan_commands.specs.declared.refused.Refused.TheVariants as refused
 use Rattle.plan_commands.specs.declared.status.Status.{Status}
 use Rattle.plan_commands.specs.declared.status.Status.TheVariants as status
-use Rattle.plan_commands.specs.Answers.{Stream, Fails, IsUnreadPlan, IsPlanUnread}
+use Rattle.plan_commands.specs.Answers.{Stream, Fails, Refuses, IsUnreadPlan, IsPlanUnread}
 use Rattle.plan_texts.specs.DrawingLines.{IsDrawing}
 use Rattle.plan_commands.specs.Drawing.{loop_nodes, owner_loop_nodes, IsPlanDrawing, DrawsSo, IsDrawAnswer, Draws}
-use Rattle.plan_commands.specs.Statuses.{status_of}
 use Rattle.plan_commands.specs.Told.{IsTold}
 use Rattle.plan_commands.proofs.Told.{ends_as, or_unwritten}
 
@@ -44,16 +43,16 @@ draw_answer plans status.Fault text h = absurd h
 draw_answer plans status.Unreadable text h = absurd h
 draw_answer plans status.NoMemory text h = absurd h
 
-pub draws_so : (plans output : Stream) (ended : Status) (answered : Result Answer Refused)
+pub draws_so : (plans output errors : Stream) (ended : Status) (answered : Result Answer Refused)
     → IfOk answered (λ (a : Answer). DrawsSo plans a.status (cow_str_bytes a.text)) → IfErr answered (λ why. IsPlanUnread why plans)
-    → IfOk answered (λ (a : Answer). IsTold a.status (cow_str_bytes a.text) ended output)
-    → IfErr answered (λ why. (ended ≡ status_of why) ⊎ (ended ≡ status.NoMemory)) → Draws ended plans output
-draws_so plans output ended answered answers unread told ends =
-    ends_as (DrawsSo plans) ended output (λ s. Draws s plans output) (λ why. IsPlanUnread why plans) answered answers unread told ends out
-    (λ why h is. (why, is, or_unwritten (λ unread cause. IsUnreadPlan unread cause plans) ⊥ ⊥ ⊥ (Fails output) why h))
-    (λ fails. (refused.Unwritten, refl, fails)) tt
+    → IfOk answered (λ (a : Answer). IsTold a.status (cow_str_bytes a.text) ended output errors)
+    → IfErr answered (λ why. Refuses why ended errors) → Draws ended plans output errors
+draws_so plans output errors ended answered answers unread told ends =
+    ends_as (DrawsSo plans) ended output errors (λ s. Draws s plans output errors) (λ why. IsPlanUnread why plans) answered answers unread told ends out
+    (λ why h is line. (why, is, or_unwritten (λ unread cause. IsUnreadPlan unread cause plans) ⊥ ⊥ ⊥ (Fails output) why h, line))
+    (λ fails line. (refused.Unwritten, refl, fails, line)) (λ line. line)
   where
-    out : (s : Status) (text : List ℕ) → DrawsSo plans s text → Appends output.before output.after text → Draws s plans output
+    out : (s : Status) (text : List ℕ) → DrawsSo plans s text → Appends output.before output.after text → Draws s plans output errors
     out status.Yes text (plan, given, drawn) written = (plan, text, given, drawn, written)
     out status.Fault text h written = absurd h
     out status.Unreadable text h written = absurd h

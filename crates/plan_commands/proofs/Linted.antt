@@ -1,5 +1,5 @@
 -- What the end of `lint` tells of an answer.
-use Rattle.std.proofs.Common.{◌≡◌, ◌⊎◌, ℕ, List, [], Result, inl, inr, refl, subst, arith}
+use Rattle.std.proofs.Common.{◌≡◌, ℕ, List, [], Result, inl, inr, refl, subst, arith}
 use Rattle.std.specs.Prelude.{IfOk, IfErr, Contains}
 use Rattle.std.specs.Cow.{cow_str_bytes}
 use Rattle.std.specs.Io.KnownBytes.{Appends}
@@ -11,9 +11,8 @@ use Rattle.plan_commands.specs.declared.refused.Refused.{Refused}
 use Rattle.plan_commands.specs.declared.refused.Refused.TheVariants as refused
 use Rattle.plan_commands.specs.declared.status.Status.{Status}
 use Rattle.plan_commands.specs.declared.status.Status.TheVariants as status
-use Rattle.plan_commands.specs.Answers.{Stream, Fails, IsUnreadPlan, IsPlanUnread}
+use Rattle.plan_commands.specs.Answers.{Stream, Fails, Refuses, IsUnreadPlan, IsPlanUnread}
 use Rattle.plan_commands.specs.Linting.{IsLintAnswer, LintsSo, Lints}
-use Rattle.plan_commands.specs.Statuses.{status_of}
 use Rattle.plan_commands.specs.Told.{IsTold}
 use Rattle.plan_commands.proofs.Told.{ends_as, or_unwritten}
 
@@ -29,16 +28,16 @@ lint_answer plans status.Fault text (plan, given, found) = (plan, given, inr fou
 lint_answer plans status.Unreadable text (plan, given, h) = absurd h
 lint_answer plans status.NoMemory text (plan, given, h) = absurd h
 
-pub lints_so : (plans output : Stream) (ended : Status) (answered : Result Answer Refused)
+pub lints_so : (plans output errors : Stream) (ended : Status) (answered : Result Answer Refused)
     → IfOk answered (λ (a : Answer). LintsSo plans a.status (cow_str_bytes a.text)) → IfErr answered (λ why. IsPlanUnread why plans)
-    → IfOk answered (λ (a : Answer). IsTold a.status (cow_str_bytes a.text) ended output)
-    → IfErr answered (λ why. (ended ≡ status_of why) ⊎ (ended ≡ status.NoMemory)) → Lints ended plans output
-lints_so plans output ended answered answers unread told ends =
-    ends_as (LintsSo plans) ended output (λ s. Lints s plans output) (λ why. IsPlanUnread why plans) answered answers unread told ends out
-    (λ why h is. (why, is, or_unwritten (λ unread cause. IsUnreadPlan unread cause plans) ⊥ ⊥ ⊥ (Fails output) why h))
-    (λ fails. (refused.Unwritten, refl, fails)) tt
+    → IfOk answered (λ (a : Answer). IsTold a.status (cow_str_bytes a.text) ended output errors)
+    → IfErr answered (λ why. Refuses why ended errors) → Lints ended plans output errors
+lints_so plans output errors ended answered answers unread told ends =
+    ends_as (LintsSo plans) ended output errors (λ s. Lints s plans output errors) (λ why. IsPlanUnread why plans) answered answers unread told ends out
+    (λ why h is line. (why, is, or_unwritten (λ unread cause. IsUnreadPlan unread cause plans) ⊥ ⊥ ⊥ (Fails output) why h, line))
+    (λ fails line. (refused.Unwritten, refl, fails, line)) (λ line. line)
   where
-    out : (s : Status) (text : List ℕ) → LintsSo plans s text → Appends output.before output.after text → Lints s plans output
+    out : (s : Status) (text : List ℕ) → LintsSo plans s text → Appends output.before output.after text → Lints s plans output errors
     out status.Yes text (plan, given, clean) written = (plan, text, given, clean, written)
     out status.Fault text (plan, given, found) written = (plan, text, given, found, written)
     out status.Unreadable text (plan, given, h) written = absurd h

@@ -1,9 +1,11 @@
 -- What the end of a run of `simmove` tells of the files that were given.
-use Rattle.std.proofs.Common.{◌≡◌, ◌⊎◌, List, length, Result, Ok, Err, refl, sym, subst, inl, inr}
+use Rattle.std.proofs.Common.{◌≡◌, ◌⊎◌, List, length, map, Result, Ok, Err, refl, sym, subst, inl, inr}
 use Rattle.std.specs.Prelude.{IfOk, IfErr}
 use Rattle.net_check.specs.declared.move_error.MoveError.{MoveError}
 use Rattle.net_check.specs.MoveFaults.{NamesFirstMoveFault}
 use Rattle.net_check.specs.MoveRules.{AcceptsMove}
+use Rattle.net_check.specs.TwoPlans.{moving}
+use Rattle.net_sim.specs.Outcomes.{event_value}
 use Rattle.net_plan.specs.declared.certificate.Certificate.{Certificate}
 use Rattle.net_plan.specs.declared.event.Event.{Event}
 use Rattle.net_plan.specs.declared.plan.Plan.{Plan}
@@ -17,7 +19,7 @@ use Rattle.plan_commands.specs.declared.status.Status.TheVariants as status
 use Rattle.plan_commands.specs.Answers.{Stream, Fails, BreaksOff, FailsToPrint}
 use Rattle.plan_commands.specs.Moving.{IsMoveGiven, IsMoveErrorText, PrintsMoveError, IsUnreadInMove, IsMoveUnread}
 use Rattle.plan_commands.specs.MoveSimulating.{IsPlayGiven, TellsMovedInPart, IsPlayAnswer, IsUnreadInPlay, IsPlayUnread, IsUnplayedFor, SimulatesMoveFiles}
-use Rattle.plan_commands.specs.Simulating.{EndsShowing, AreUnreadEvents, AreEventsUnread, AreLinesAtMost, ShowsOutcomes, ShowsAtMost}
+use Rattle.plan_commands.specs.Simulating.{EndsShowing, SimulatesBy, IsWalksText, AreUnreadEvents, AreEventsUnread, AreLinesAtMost, ShowsOutcomes, ShowsAtMost}
 use Rattle.plan_commands.proofs.Causes.{unread_also, unread_among, unwritten_among}
 use Rattle.plan_commands.proofs.Telling.{breaks_off_also, untouched_also}
 
@@ -80,6 +82,14 @@ module _ (before after : Plan) (certificate : Certificate) (befores afters certi
       untouched_also (IsMoveErrorText before error) (IsPlayAnswer befores afters certificates happenings) output Same result
       (λ text told. (before, after, certificate, events, given, inr (error, first, told))) left
 
+  -- the output failed in what came of the events
+  pub move_broken : (ended : Status) → AcceptsMove before after certificate → SimulatesBy (moving before after) certificate (map event_value events) ended output
+      → ended ≡ status.Unreadable → BreaksOff (IsPlayAnswer befores afters certificates happenings) output
+  move_broken ended accepted shown is =
+      let P : Status → Type 0 = λ s. SimulatesBy (moving before after) certificate (map event_value events) s output in
+      breaks_off_also (IsWalksText (moving before after) certificate (map event_value events)) (IsPlayAnswer befores afters certificates happenings) output
+      (λ text lines. (before, after, certificate, events, given, inl (accepted, lines))) (subst P is shown)
+
   module _ (ended : Status) (accepted : AcceptsMove before after certificate)
       (shown : EndsShowing ended (ShowsAtMost before (length events) output) (ShowsOutcomes before (length events) output) (AreLinesAtMost before (length events)) output) where
     abbrev ends : Status → Type 0
@@ -94,12 +104,6 @@ module _ (before after : Plan) (certificate : Certificate) (befores afters certi
         by status.Fault shown = absurd shown
         by status.Unreadable shown = (refused.Unwritten, refl, shown.fails)
         by status.NoMemory shown = tt
-
-    -- the output failed in what came of the events
-    pub move_broken : ended ≡ status.Unreadable → BreaksOff (IsPlayAnswer befores afters certificates happenings) output
-    move_broken is =
-        breaks_off_also (AreLinesAtMost before (length events)) (IsPlayAnswer befores afters certificates happenings) output
-        (λ text lines. (before, after, certificate, events, given, inl (accepted, lines))) (subst ends is shown)
 
     -- memory ran out in them
     pub move_begun : ended ≡ status.NoMemory → TellsMovedInPart befores afters certificates happenings output

@@ -3,7 +3,6 @@ use Rattle.std.proofs.Common.{◌≡◌, ℕ, zero, suc, ◌+◌, ◌<◌, ◌�
 use Rattle.std.specs.Prelude.{slice_get, option_map, ◌⊎◌, IfErr, OnOk, OnErr}
 use Rattle.std.specs.Io.KnownBytes.{Appends}
 use Rattle.std.proofs.KnownBytes.{Appends-nil}
-use Rattle.std.proofs.lemmas.List.Elements.{All-map}
 use Rattle.std.proofs.lemmas.List.{take-append-drop, length-map, length-take, length-take-le, take_more, take_all, take-map}
 use Rattle.std.proofs.lemmas.Option.{slice_get-map, slice_get-get_or, slice_get_within, get_or_from_slice_get}
 use Rattle.net_plan.specs.declared.event.Event.{Event}
@@ -14,10 +13,9 @@ use Rattle.plan_commands.proofs.Waiting.{added_after, begins_after, begins_at_en
 use Rattle.net_check.specs.WalkedRuns.{WalkedTurn, WalkedRunFrom}
 use Rattle.net_check.specs.Walkers.{WalkedState, WalkedEvent, WalkedOutcome, walked_at_start}
 use Rattle.net_check.specs.Termini.{TerminusState}
-use Rattle.net_check.specs.TwoPlans.{Tables}
-use Rattle.pdr_repository.specs.Records.{Entry}
+use Rattle.net_check.specs.TwoPlans.{Tables, one_plan}
 use Rattle.net_sim.specs.declared.outcome.Outcome.{Outcome}
-use Rattle.net_sim.specs.Dealing.{resting, planned_termini}
+use Rattle.net_sim.specs.Dealing.{planned_termini}
 use Rattle.net_sim.specs.Outcomes.{event_value, outcome_value}
 use Rattle.net_sim.specs.Played.{IsRunOf, StopsAfter}
 use Rattle.net_sim.specs.WalkedStanding.{NetworkValue, StandsForWalked}
@@ -42,7 +40,7 @@ use Rattle.net_plan.specs.PlanValues.{plan_value}
 use Rattle.net_plan.specs.TextFaults.{error_count}
 use Rattle.net_plan.specs.Unread.{GaveNoEvents}
 use Rattle.plan_texts.specs.OutcomeLines.{outcome_line, lines_from, outcome_lines}
-use Rattle.plan_commands.specs.Simulating.{IsRunText, ShowsRun, ShowsBeginning, ShowsWalks, ShowsBegunWalks, IsWalksText, ShowsAllOr, EndsShowing, AreFirstLines, AreIdle, SimulatesAtRest, AreLinesAtMost, ShowsLines, ShowsOutcomes, ShowsAtMost, GaveEvents, TellsBeginning, IsSimAnswer, AreUnreadEvents, AreEventsUnread, IsUnreadAmong, AreUnreadAmong, IsUnsimulatedFor, SimulatesFiles}
+use Rattle.plan_commands.specs.Simulating.{IsRunText, ShowsRun, ShowsBeginning, ShowsWalks, ShowsBegunWalks, IsWalksText, ShowsAllOr, EndsShowing, AreFirstLines, SimulatesBy, Simulates, AreLinesAtMost, ShowsLines, ShowsOutcomes, ShowsAtMost, GaveEvents, TellsBeginning, IsSimAnswer, AreUnreadEvents, AreEventsUnread, IsUnreadAmong, AreUnreadAmong, IsUnsimulatedFor, SimulatesFiles}
 
 -- ---- lines
 
@@ -312,29 +310,25 @@ pub lists_by : {T : Type 0} (plan plan' : Plan) (count : ℕ) (result : Result T
 lists_by plan plan' count result output same =
     subst (λ (p : Plan). ShowsAllOr result (ShowsAtMost p count output) (ShowsOutcomes p count output) (AreLinesAtMost p count) output) same
 
--- ---- some termini
+-- ---- the planned termini
 
--- as many boxes as were planned
-pub boxes_planned : {B : Type 0} (boxes : List B) (plan plan' : Plan) (cert cert' : Certificate) (count : ℕ) (planned : List TerminusState) → length boxes ≡ count
-    → count ≡ length planned → planned ≡ planned_termini plan' cert' → plan' ≡ plan → cert' ≡ cert → length boxes ≡ length (planned_termini plan cert)
-boxes_planned boxes plan plan' cert cert' count planned boxed all is same same_cert =
-    boxed ∙ (all ∙ (ap (λ ts. length ts) is
-    ∙ (ap (λ (p : Plan). length (planned_termini p cert')) same ∙ ap (λ (k : Certificate). length (planned_termini plan k)) same_cert)))
+-- termini that are as planned are as many
+pub many_planned : {T : Type 0} (see : T → TerminusState) (termini : List T) (planned : List TerminusState) → map see termini ≡ planned → length termini ≡ length planned
+many_planned see termini planned is = sym (length-map termini see) ∙ ap (λ ts. length ts) is
 
-pub idle_boxes : {B : Type 0} (tid : B → ℕ) (records : B → List Entry) (boxes : List B) (plan : Plan) (cert : Certificate)
-    → length boxes ≡ length (planned_termini plan cert) → AreIdle plan cert (map (resting tid records) boxes)
-idle_boxes tid records boxes plan cert all = record {
-  many = length-map boxes (resting tid records) ∙ all;
-  none_waits = All-map (λ (t : TerminusState). t.waiting ≡ []) (resting tid records) boxes (λ k d within. refl);
-}
+-- those of a plan by another name are its own
+pub planned_by : (termini : List TerminusState) (plan plan' : Plan) (cert cert' : Certificate) → termini ≡ planned_termini plan' cert' → plan' ≡ plan → cert' ≡ cert
+    → termini ≡ planned_termini plan cert
+planned_by termini plan plan' cert cert' is same same_cert =
+    is ∙ (ap (λ (p : Plan). planned_termini p cert') same ∙ ap (λ (k : Certificate). planned_termini plan k) same_cert)
 
-pub at_rest_in : (tables tables' : Tables) (cert cert' : Certificate) (events events' : List Event) (ended : Status) (output : Stream)
+pub simulates_in : (tables tables' : Tables) (cert cert' : Certificate) (events events' : List Event) (ended : Status) (output : Stream)
     → tables' ≡ tables → cert' ≡ cert → events' ≡ events
-    → SimulatesAtRest tables' cert' (map event_value events') ended output → SimulatesAtRest tables cert (map event_value events) ended output
-at_rest_in tables tables' cert cert' events events' ended output same same_cert listed shown =
-    let P : List Event → Type 0 = λ es. SimulatesAtRest tables cert (map event_value es) ended output in
-    let Q : Certificate → Type 0 = λ k. SimulatesAtRest tables k (map event_value events') ended output in
-    let R : Tables → Type 0 = λ t. SimulatesAtRest t cert' (map event_value events') ended output in
+    → SimulatesBy tables' cert' (map event_value events') ended output → SimulatesBy tables cert (map event_value events) ended output
+simulates_in tables tables' cert cert' events events' ended output same same_cert listed shown =
+    let P : List Event → Type 0 = λ es. SimulatesBy tables cert (map event_value es) ended output in
+    let Q : Certificate → Type 0 = λ k. SimulatesBy tables k (map event_value events') ended output in
+    let R : Tables → Type 0 = λ t. SimulatesBy t cert' (map event_value events') ended output in
     subst P listed (subst Q same_cert (subst R same shown))
 
 -- ---- files
@@ -389,6 +383,14 @@ module _ (plan : Plan) (cert : Certificate) (plans certificates happenings outpu
       answers (check_error.Fault fault) first text is = (plan, cert, events, given, gave, inr (fault, first, is))
       answers check_error.OutOfMemory first text is = absurd is
 
+  -- the output failed in what came of the events
+  pub files_broken : (ended : Status) → Accepts plan cert → Simulates plan cert (map event_value events) ended output → ended ≡ status.Unreadable
+      → BreaksOff (IsSimAnswer plans certificates happenings) output
+  files_broken ended accepted shown is =
+      let P : Status → Type 0 = λ s. Simulates plan cert (map event_value events) s output in
+      breaks_off_also (IsWalksText (one_plan plan) cert (map event_value events)) (IsSimAnswer plans certificates happenings) output
+      (λ text lines. (plan, cert, events, given, gave, inl (accepted, lines))) (subst P is shown)
+
   module _ (ended : Status) (accepted : Accepts plan cert)
       (shown : EndsShowing ended (ShowsAtMost plan (length events) output) (ShowsOutcomes plan (length events) output) (AreLinesAtMost plan (length events)) output) where
     pub files_played : SimulatesFiles ended plans certificates happenings output
@@ -403,12 +405,6 @@ module _ (plan : Plan) (cert : Certificate) (plans certificates happenings outpu
 
     abbrev ends : Status → Type 0
     ends s = EndsShowing s (ShowsAtMost plan (length events) output) (ShowsOutcomes plan (length events) output) (AreLinesAtMost plan (length events)) output
-
-    -- the output failed in what came of the events
-    pub files_broken : ended ≡ status.Unreadable → BreaksOff (IsSimAnswer plans certificates happenings) output
-    files_broken is =
-        breaks_off_also (AreLinesAtMost plan (length events)) (IsSimAnswer plans certificates happenings) output
-        (λ text lines. (plan, cert, events, given, gave, inl (accepted, lines))) (subst ends is shown)
 
     -- memory ran out in them
     pub files_begun : ended ≡ status.NoMemory → TellsBeginning plans certificates happenings output

@@ -18,24 +18,46 @@ use Rattle.plan_commands.specs.declared.refused.Refused.{Refused}
 use Rattle.plan_commands.specs.declared.refused.Refused.TheVariants as refused
 use Rattle.plan_commands.specs.declared.status.Status.{Status}
 use Rattle.plan_commands.specs.declared.status.Status.TheVariants as status
-use Rattle.plan_commands.specs.Answers.{Stream, Fails, BreaksOff, AreGiven, IsUnread, IsUnreadPlan, IsPlanUnread, AreUnread, IsAnswerOf, IsErrorText, Tells}
+use Rattle.plan_commands.specs.Answers.{Stream, Fails, IsReported, Refuses, BreaksOff, AreGiven, IsUnread, IsUnreadPlan, IsPlanUnread, AreUnread, IsAnswerOf, IsErrorText, Tells}
 use Rattle.plan_commands.specs.Certifying.{CertifiesSo, IsCertifyAnswer, Certifies}
 use Rattle.plan_commands.specs.Collecting.{EndsEarlyFor}
 use Rattle.plan_commands.specs.Moving.{IsUnreadInMove, IsMoveUnread, AnswersMoveSo, IsMoveAnswer, EndsMove}
-use Rattle.plan_commands.specs.Show.{IsNoHex, ShowsSo, IsShowAnswer, Shows}
-use Rattle.plan_commands.specs.Statuses.{status_of, HasCause}
+use Rattle.plan_commands.specs.Show.{IsNoHex, IsNotShown, ShowsSo, IsShowAnswer, Shows}
+use Rattle.plan_commands.specs.Statuses.{status_of, IsReportedFor, HasCause}
 use Rattle.plan_commands.specs.Told.{IsTold, AnswersSo}
 use Rattle.plan_commands.specs.Walking.{IsTerminusNamed, NamesNoTerminus, HasTooManyBytes, IsUnwalkedFor, WalksSo, IsWalkText, Walks}
 
--- a refusal ends a run with status 2, or 3 where memory lacks
-status_case : (Ends : Status → Type 0) (why : Refused) → (status_of why ≡ status.Unreadable → Ends status.Unreadable) → Ends status.NoMemory → Ends (status_of why)
-status_case Ends refused.Usage unread memory = unread refl
-status_case Ends (refused.Unreadable input cause) unread memory = unread refl
-status_case Ends refused.UnknownNode unread memory = unread refl
-status_case Ends refused.UnreadableHex unread memory = unread refl
-status_case Ends refused.TooMuch unread memory = unread refl
-status_case Ends refused.Unwritten unread memory = unread refl
-status_case Ends refused.NoMemory unread memory = memory
+module _ (Ends : Status → Type 0) (errors : Stream) where
+  -- a refusal ends a run with status 2, or 3 where memory lacks
+  status_case : (why : Refused) → (status_of why ≡ status.Unreadable → IsReported why errors → Ends status.Unreadable) → (IsReported refused.NoMemory errors → Ends status.NoMemory)
+      → IsReported why errors → Ends (status_of why)
+  status_case refused.Usage unread memory line = unread refl line
+  status_case (refused.Unreadable input cause) unread memory line = unread refl line
+  status_case refused.UnknownNode unread memory line = unread refl line
+  status_case refused.UnreadableHex unread memory line = unread refl line
+  status_case refused.TooMuch unread memory line = unread refl line
+  status_case refused.Unwritten unread memory line = unread refl line
+  status_case refused.NoMemory unread memory line = memory line
+
+  -- what is reported for a refusal is the refusal, or want of memory
+  itself_or_memory : (why reported : Refused) → IsReportedFor why reported → (reported ≡ why) ⊎ (reported ≡ refused.NoMemory)
+  itself_or_memory refused.Usage reported is = inl is
+  itself_or_memory (refused.Unreadable input cause) reported is = is
+  itself_or_memory refused.UnknownNode reported is = inl is
+  itself_or_memory refused.UnreadableHex reported is = inl is
+  itself_or_memory refused.TooMuch reported is = inl is
+  itself_or_memory refused.Unwritten reported is = inl is
+  itself_or_memory refused.NoMemory reported is = inl is
+
+  module _ (why : Refused) (unread : status_of why ≡ status.Unreadable → IsReported why errors → Ends status.Unreadable) (memory : IsReported refused.NoMemory errors → Ends status.NoMemory) where
+    reported_case : (reported : Refused) → (reported ≡ why) ⊎ (reported ≡ refused.NoMemory) → IsReported reported errors → Ends (status_of reported)
+    reported_case reported (inl is) line = subst (λ w. Ends (status_of w)) (sym is) (status_case why unread memory (subst (λ w. IsReported w errors) is line))
+    reported_case reported (inr is) line = subst (λ w. Ends (status_of w)) (sym is) (memory (subst (λ w. IsReported w errors) is line))
+
+    -- how a run ends for a refusal
+    pub refuses_so : (ended : Status) → Refuses why ended errors → Ends ended
+    refuses_so ended refuses =
+        subst Ends (sym refuses.ends) (reported_case refuses.reported (itself_or_memory why refuses.reported refuses.for_it) refuses.line)
 
 -- an output that failed is one cause more
 pub or_unwritten : (U : Input → PlanError → Type 0) (unknown no_hex too_much unwritten : Type 0) (why : Refused)
@@ -54,30 +76,29 @@ pub memory_lacks : {T : Type 0} (U : Input → PlanError → Type 0) (unknown no
 memory_lacks U unknown no_hex too_much unwritten (Ok done) h = tt
 memory_lacks U unknown no_hex too_much unwritten (Err why) h = subst (HasCause U unknown no_hex too_much unwritten) (sym h) tt
 
-module _ (IsAnswer : Status → List ℕ → Type 0) (ended : Status) (output : Stream) where
+module _ (IsAnswer : Status → List ℕ → Type 0) (ended : Status) (output errors : Stream) where
   -- what the end of a run says, by the answer or by why there is none
   pub ends_as : (Ends : Status → Type 0) (IsWhy : Refused → Type 0) (answered : Result Answer Refused)
       → IfOk answered (λ (a : Answer). IsAnswer a.status (cow_str_bytes a.text)) → IfErr answered IsWhy
-      → IfOk answered (λ (a : Answer). IsTold a.status (cow_str_bytes a.text) ended output)
-      → IfErr answered (λ why. (ended ≡ status_of why) ⊎ (ended ≡ status.NoMemory))
+      → IfOk answered (λ (a : Answer). IsTold a.status (cow_str_bytes a.text) ended output errors)
+      → IfErr answered (λ why. Refuses why ended errors)
       → ((s : Status) (text : List ℕ) → IsAnswer s text → Appends output.before output.after text → Ends s)
-      → ((why : Refused) → IsWhy why → status_of why ≡ status.Unreadable → Ends status.Unreadable)
-      → (Fails output → Ends status.Unreadable) → Ends status.NoMemory → Ends ended
+      → ((why : Refused) → IsWhy why → status_of why ≡ status.Unreadable → IsReported why errors → Ends status.Unreadable)
+      → (Fails output → IsReported refused.Unwritten errors → Ends status.Unreadable) → (IsReported refused.NoMemory errors → Ends status.NoMemory) → Ends ended
   ends_as Ends IsWhy (Ok a) answers unread (inl (is, written)) ends out why broken memory = subst Ends (sym is) (out a.status (cow_str_bytes a.text) answers written)
-  ends_as Ends IsWhy (Ok a) answers unread (inr (is, fails, part)) ends out why broken memory = subst Ends (sym is) (broken fails)
-  ends_as Ends IsWhy (Err reason) answers unread told (inl is) out why broken memory = subst Ends (sym is) (status_case Ends reason (why reason unread) memory)
-  ends_as Ends IsWhy (Err reason) answers unread told (inr is) out why broken memory = subst Ends (sym is) memory
+  ends_as Ends IsWhy (Ok a) answers unread (inr (is, fails, part, line)) ends out why broken memory = subst Ends (sym is) (broken fails line)
+  ends_as Ends IsWhy (Err reason) answers unread told refuses out why broken memory = refuses_so Ends errors reason (why reason unread) memory ended refuses
 
   -- an output that failed did so in an answer
   pub breaks_in_answer : (IsText : List ℕ → Type 0) (Same : Type 0) (answered : Result Answer Refused)
       → IfOk answered (λ (a : Answer). IsAnswer a.status (cow_str_bytes a.text))
-      → IfOk answered (λ (a : Answer). IsTold a.status (cow_str_bytes a.text) ended output) → OnErr answered Same
+      → IfOk answered (λ (a : Answer). IsTold a.status (cow_str_bytes a.text) ended output errors) → OnErr answered Same
       → ((s : Status) (text : List ℕ) → IsAnswer s text → IsText text) → ((text : List ℕ) → IsAnswer status.Unreadable text → ⊥)
       → ended ≡ status.Unreadable → Same ⊎ BreaksOff IsText output
   breaks_in_answer IsText Same (Ok a) answers (inl (is, written)) same also none unreadable =
       let A : Status → Type 0 = λ s. IsAnswer s (cow_str_bytes a.text) in
       absurd (none (cow_str_bytes a.text) (subst A unreadable (subst A (sym is) answers)))
-  breaks_in_answer IsText Same (Ok a) answers (inr (is, fails, part)) same also none unreadable =
+  breaks_in_answer IsText Same (Ok a) answers (inr (is, fails, part, line)) same also none unreadable =
       inr (record { text = cow_str_bytes a.text; answer = also a.status (cow_str_bytes a.text) answers; fails = fails; beginning = part })
   breaks_in_answer IsText Same (Err why) answers told same also none unreadable = inl same
 
@@ -90,17 +111,17 @@ module _ (T : Plan → Certificate → List ℕ → Type 0) (plans certificates 
   so_answers status.Unreadable text h = absurd h
   so_answers status.NoMemory text h = absurd h
 
-  pub tells_so : (output : Stream) (ended : Status) (answered : Result Answer Refused)
+  pub tells_so : (output errors : Stream) (ended : Status) (answered : Result Answer Refused)
       → IfOk answered (λ (a : Answer). AnswersSo T plans certificates a.status (cow_str_bytes a.text)) → IfErr answered (λ why. AreUnread why plans certificates)
-      → IfOk answered (λ (a : Answer). IsTold a.status (cow_str_bytes a.text) ended output)
-      → IfErr answered (λ why. (ended ≡ status_of why) ⊎ (ended ≡ status.NoMemory)) → Tells T ended plans certificates output
-  tells_so output ended answered answers unread told ends =
-      ends_as (AnswersSo T plans certificates) ended output (λ s. Tells T s plans certificates output) (λ why. AreUnread why plans certificates)
+      → IfOk answered (λ (a : Answer). IsTold a.status (cow_str_bytes a.text) ended output errors)
+      → IfErr answered (λ why. Refuses why ended errors) → Tells T ended plans certificates output errors
+  tells_so output errors ended answered answers unread told ends =
+      ends_as (AnswersSo T plans certificates) ended output errors (λ s. Tells T s plans certificates output errors) (λ why. AreUnread why plans certificates)
       answered answers unread told ends out
-      (λ why h is. (why, is, or_unwritten (λ unread cause. IsUnread unread cause plans certificates) ⊥ ⊥ ⊥ (Fails output) why h))
-      (λ fails. (refused.Unwritten, refl, fails)) tt
+      (λ why h is line. (why, is, or_unwritten (λ unread cause. IsUnread unread cause plans certificates) ⊥ ⊥ ⊥ (Fails output) why h, line))
+      (λ fails line. (refused.Unwritten, refl, fails, line)) (λ line. line)
     where
-      out : (s : Status) (text : List ℕ) → AnswersSo T plans certificates s text → Appends output.before output.after text → Tells T s plans certificates output
+      out : (s : Status) (text : List ℕ) → AnswersSo T plans certificates s text → Appends output.before output.after text → Tells T s plans certificates output errors
       out status.Yes text (plan, cert, given, accepted, told) written = (plan, cert, text, given, accepted, told, written)
       out status.Fault text (plan, cert, given, (fault, first, is)) written = (plan, cert, fault, given, first, subst (Appends output.before output.after) is written)
       out status.Unreadable text h written = absurd h
@@ -129,16 +150,16 @@ certifies_answer plans status.Fault text (plan, obstacle, given, ruled_out) = (p
 certifies_answer plans status.Unreadable text h = absurd h
 certifies_answer plans status.NoMemory text h = absurd h
 
-pub certifies_so : (plans output : Stream) (ended : Status) (answered : Result Answer Refused)
+pub certifies_so : (plans output errors : Stream) (ended : Status) (answered : Result Answer Refused)
     → IfOk answered (λ (a : Answer). CertifiesSo plans a.status (cow_str_bytes a.text)) → IfErr answered (λ why. IsPlanUnread why plans)
-    → IfOk answered (λ (a : Answer). IsTold a.status (cow_str_bytes a.text) ended output)
-    → IfErr answered (λ why. (ended ≡ status_of why) ⊎ (ended ≡ status.NoMemory)) → Certifies ended plans output
-certifies_so plans output ended answered answers unread told ends =
-    ends_as (CertifiesSo plans) ended output (λ s. Certifies s plans output) (λ why. IsPlanUnread why plans) answered answers unread told ends out
-    (λ why h is. (why, is, or_unwritten (λ unread cause. IsUnreadPlan unread cause plans) ⊥ ⊥ ⊥ (Fails output) why h))
-    (λ fails. (refused.Unwritten, refl, fails)) tt
+    → IfOk answered (λ (a : Answer). IsTold a.status (cow_str_bytes a.text) ended output errors)
+    → IfErr answered (λ why. Refuses why ended errors) → Certifies ended plans output errors
+certifies_so plans output errors ended answered answers unread told ends =
+    ends_as (CertifiesSo plans) ended output errors (λ s. Certifies s plans output errors) (λ why. IsPlanUnread why plans) answered answers unread told ends out
+    (λ why h is line. (why, is, or_unwritten (λ unread cause. IsUnreadPlan unread cause plans) ⊥ ⊥ ⊥ (Fails output) why h, line))
+    (λ fails line. (refused.Unwritten, refl, fails, line)) (λ line. line)
   where
-    out : (s : Status) (text : List ℕ) → CertifiesSo plans s text → Appends output.before output.after text → Certifies s plans output
+    out : (s : Status) (text : List ℕ) → CertifiesSo plans s text → Appends output.before output.after text → Certifies s plans output errors
     out status.Yes text (plan, cert, given, certified) written = (plan, cert, text, given, certified, written)
     out status.Fault text (plan, obstacle, given, ruled_out) written = (plan, obstacle, text, given, ruled_out, written)
     out status.Unreadable text h written = absurd h
@@ -153,19 +174,19 @@ module _ (befores afters certificates : Stream) where
   move_answer status.Unreadable text h = absurd h
   move_answer status.NoMemory text h = absurd h
 
-  pub moves_so : (output : Stream) (ended : Status) (answered : Result Answer Refused)
+  pub moves_so : (output errors : Stream) (ended : Status) (answered : Result Answer Refused)
       → IfOk answered (λ (a : Answer). AnswersMoveSo befores afters certificates a.status (cow_str_bytes a.text))
       → IfErr answered (λ why. IsMoveUnread why befores afters certificates)
-      → IfOk answered (λ (a : Answer). IsTold a.status (cow_str_bytes a.text) ended output)
-      → IfErr answered (λ why. (ended ≡ status_of why) ⊎ (ended ≡ status.NoMemory)) → EndsMove ended befores afters certificates output
-  moves_so output ended answered answers unread told ends =
-      ends_as (AnswersMoveSo befores afters certificates) ended output (λ s. EndsMove s befores afters certificates output)
+      → IfOk answered (λ (a : Answer). IsTold a.status (cow_str_bytes a.text) ended output errors)
+      → IfErr answered (λ why. Refuses why ended errors) → EndsMove ended befores afters certificates output errors
+  moves_so output errors ended answered answers unread told ends =
+      ends_as (AnswersMoveSo befores afters certificates) ended output errors (λ s. EndsMove s befores afters certificates output errors)
       (λ why. IsMoveUnread why befores afters certificates) answered answers unread told ends out
-      (λ why h is. (why, is, or_unwritten (λ unread cause. IsUnreadInMove unread cause befores afters certificates) ⊥ ⊥ ⊥ (Fails output) why h))
-      (λ fails. (refused.Unwritten, refl, fails)) tt
+      (λ why h is line. (why, is, or_unwritten (λ unread cause. IsUnreadInMove unread cause befores afters certificates) ⊥ ⊥ ⊥ (Fails output) why h, line))
+      (λ fails line. (refused.Unwritten, refl, fails, line)) (λ line. line)
     where
       out : (s : Status) (text : List ℕ) → AnswersMoveSo befores afters certificates s text → Appends output.before output.after text
-          → EndsMove s befores afters certificates output
+          → EndsMove s befores afters certificates output errors
       out status.Yes text (before, after, cert, given, accepted, is) written = (before, after, cert, given, accepted, subst (Appends output.before output.after) is written)
       out status.Fault text (before, after, cert, given, fault) written = (before, after, cert, text, given, fault, written)
       out status.Unreadable text h written = absurd h
@@ -180,24 +201,25 @@ module _ (name : List ℕ) (count : ℕ) (plans certificates : Stream) where
   walk_answer status.Unreadable text h = absurd h
   walk_answer status.NoMemory text h = absurd h
 
-  pub walks_so : (output : Stream) (ended : Status) (answered : Result Answer Refused)
+  pub walks_so : (output errors : Stream) (ended : Status) (answered : Result Answer Refused)
       → IfOk answered (λ (a : Answer). WalksSo name count plans certificates a.status (cow_str_bytes a.text))
       → IfErr answered (λ why. IsUnwalkedFor why name plans certificates)
-      → IfOk answered (λ (a : Answer). IsTold a.status (cow_str_bytes a.text) ended output)
-      → IfErr answered (λ why. (ended ≡ status_of why) ⊎ (ended ≡ status.NoMemory)) → Walks ended name count plans certificates output
-  walks_so output ended answered answers unread told ends =
-      ends_as (WalksSo name count plans certificates) ended output (λ s. Walks s name count plans certificates output)
+      → IfOk answered (λ (a : Answer). IsTold a.status (cow_str_bytes a.text) ended output errors)
+      → IfErr answered (λ why. Refuses why ended errors) → Walks ended name count plans certificates output errors
+  walks_so output errors ended answered answers unread told ends =
+      ends_as (WalksSo name count plans certificates) ended output errors (λ s. Walks s name count plans certificates output errors)
       (λ why. IsUnwalkedFor why name plans certificates) answered answers unread told ends out
-      (λ why h is. (
+      (λ why h is line. (
         why,
         is,
         or_unwritten (λ unread cause. IsUnread unread cause plans certificates) (NamesNoTerminus name plans certificates) ⊥
             (HasTooManyBytes name plans certificates) (Fails output) why h,
+        line,
       ))
-      (λ fails. (refused.Unwritten, refl, fails)) tt
+      (λ fails line. (refused.Unwritten, refl, fails, line)) (λ line. line)
     where
       out : (s : Status) (text : List ℕ) → WalksSo name count plans certificates s text → Appends output.before output.after text
-          → Walks s name count plans certificates output
+          → Walks s name count plans certificates output errors
       out status.Yes text (plan, cert, given, accepted, told) written = (plan, cert, text, given, accepted, told, written)
       out status.Fault text (plan, cert, given, named, (fault, first, is)) written =
           (plan, cert, fault, given, named, first, subst (Appends output.before output.after) is written)
@@ -234,21 +256,21 @@ module _ (kind : ShownKind) (hex : List ℕ) where
   pub nothing_shown : (text : List ℕ) → ShowsSo kind hex status.Unreadable text → ⊥
   nothing_shown text (bytes, decoded, shown) = shown
 
-  pub shows_so : (output : Stream) (ended : Status) (answered : Result Answer Refused)
+  pub shows_so : (output errors : Stream) (ended : Status) (answered : Result Answer Refused)
       → IfOk answered (λ (a : Answer). ShowsSo kind hex a.status (cow_str_bytes a.text))
       → IfErr answered (λ why. (why ≡ refused.NoMemory) ⊎ ((why ≡ refused.UnreadableHex) × IsNoHex hex))
-      → IfOk answered (λ (a : Answer). IsTold a.status (cow_str_bytes a.text) ended output)
-      → IfErr answered (λ why. (ended ≡ status_of why) ⊎ (ended ≡ status.NoMemory)) → Shows ended kind hex output
-  shows_so output ended answered answers unread told ends =
-      ends_as (ShowsSo kind hex) ended output (λ s. Shows s kind hex output) (λ why. (why ≡ refused.NoMemory) ⊎ ((why ≡ refused.UnreadableHex) × IsNoHex hex))
-      answered answers unread told ends out none (λ fails. inr fails) tt
+      → IfOk answered (λ (a : Answer). IsTold a.status (cow_str_bytes a.text) ended output errors)
+      → IfErr answered (λ why. Refuses why ended errors) → Shows ended kind hex output errors
+  shows_so output errors ended answered answers unread told ends =
+      ends_as (ShowsSo kind hex) ended output errors (λ s. Shows s kind hex output errors) (λ why. (why ≡ refused.NoMemory) ⊎ ((why ≡ refused.UnreadableHex) × IsNoHex hex))
+      answered answers unread told ends out (λ why none is line. (why, is, not_shown why none, line)) (λ fails line. (refused.Unwritten, refl, fails, line)) (λ line. line)
     where
-      out : (s : Status) (text : List ℕ) → ShowsSo kind hex s text → Appends output.before output.after text → Shows s kind hex output
+      out : (s : Status) (text : List ℕ) → ShowsSo kind hex s text → Appends output.before output.after text → Shows s kind hex output errors
       out status.Yes text (bytes, decoded, shown) written = (bytes, text, decoded, shown, written)
       out status.Fault text (bytes, decoded, shown) written = (bytes, text, decoded, shown, written)
       out status.Unreadable text (bytes, decoded, shown) written = absurd shown
       out status.NoMemory text (bytes, decoded, shown) written = absurd shown
 
-      none : (why : Refused) → (why ≡ refused.NoMemory) ⊎ ((why ≡ refused.UnreadableHex) × IsNoHex hex) → status_of why ≡ status.Unreadable → Shows status.Unreadable kind hex output
-      none why (inl memory) is = absurd (let h : status.NoMemory ≡ status.Unreadable = subst (λ w. status_of w ≡ status.Unreadable) memory is in cc)
-      none why (inr (no_hex, is_none)) is = inl is_none
+      not_shown : (why : Refused) → (why ≡ refused.NoMemory) ⊎ ((why ≡ refused.UnreadableHex) × IsNoHex hex) → IsNotShown why hex output
+      not_shown why (inl memory) = subst (λ w. IsNotShown w hex output) (sym memory) tt
+      not_shown why (inr (no_hex, is_none)) = subst (λ w. IsNotShown w hex output) (sym no_hex) is_none

@@ -1,5 +1,5 @@
 -- What the end of `trace` tells of an answer.
-use Rattle.std.proofs.Common.{◌≡◌, ◌⊎◌, ℕ, List, Result, Ok, Err, inl, inr, refl, sym, subst}
+use Rattle.std.proofs.Common.{◌≡◌, ℕ, List, Result, Ok, Err, inl, inr, refl, sym, subst}
 use Rattle.std.specs.Prelude.{IfOk, IfErr}
 use Rattle.std.specs.Cow.{cow_str_bytes}
 use Rattle.std.specs.Io.KnownBytes.{Appends}
@@ -14,8 +14,7 @@ use Rattle.plan_commands.specs.declared.refused.Refused.{Refused}
 use Rattle.plan_commands.specs.declared.refused.Refused.TheVariants as refused
 use Rattle.plan_commands.specs.declared.status.Status.{Status}
 use Rattle.plan_commands.specs.declared.status.Status.TheVariants as status
-use Rattle.plan_commands.specs.Answers.{Stream, Fails, AreGiven, IsUnread, IsAnswerOf, IsErrorText}
-use Rattle.plan_commands.specs.Statuses.{status_of}
+use Rattle.plan_commands.specs.Answers.{Stream, Fails, Refuses, AreGiven, IsUnread, IsAnswerOf, IsErrorText}
 use Rattle.plan_commands.specs.Told.{IsTold}
 use Rattle.plan_commands.specs.Tracing.{NameTheEnds, NamesNoEnds, IsTraceText, IsUntracedFor, TracesSo, Traces}
 use Rattle.plan_commands.proofs.Told.{ends_as, or_unwritten}
@@ -29,23 +28,24 @@ module _ (from to : List ℕ) (plans certificates : Stream) where
   trace_answer status.Unreadable text h = absurd h
   trace_answer status.NoMemory text h = absurd h
 
-  pub traces_so : (output : Stream) (ended : Status) (answered : Result Answer Refused)
+  pub traces_so : (output errors : Stream) (ended : Status) (answered : Result Answer Refused)
       → IfOk answered (λ (a : Answer). TracesSo from to plans certificates a.status (cow_str_bytes a.text))
       → IfErr answered (λ why. IsUntracedFor why from to plans certificates)
-      → IfOk answered (λ (a : Answer). IsTold a.status (cow_str_bytes a.text) ended output)
-      → IfErr answered (λ why. (ended ≡ status_of why) ⊎ (ended ≡ status.NoMemory)) → Traces ended from to plans certificates output
-  traces_so output ended answered answers unread told ends =
-      ends_as (TracesSo from to plans certificates) ended output (λ s. Traces s from to plans certificates output)
+      → IfOk answered (λ (a : Answer). IsTold a.status (cow_str_bytes a.text) ended output errors)
+      → IfErr answered (λ why. Refuses why ended errors) → Traces ended from to plans certificates output errors
+  traces_so output errors ended answered answers unread told ends =
+      ends_as (TracesSo from to plans certificates) ended output errors (λ s. Traces s from to plans certificates output errors)
       (λ why. IsUntracedFor why from to plans certificates) answered answers unread told ends out
-      (λ why h is. (
+      (λ why h is line. (
         why,
         is,
         or_unwritten (λ unread cause. IsUnread unread cause plans certificates) (NamesNoEnds from to plans certificates) ⊥ ⊥ (Fails output) why h,
+        line,
       ))
-      (λ fails. (refused.Unwritten, refl, fails)) tt
+      (λ fails line. (refused.Unwritten, refl, fails, line)) (λ line. line)
     where
       out : (s : Status) (text : List ℕ) → TracesSo from to plans certificates s text → Appends output.before output.after text
-          → Traces s from to plans certificates output
+          → Traces s from to plans certificates output errors
       out status.Yes text (plan, cert, given, accepted, told) written = (plan, cert, text, given, accepted, told, written)
       out status.Fault text (plan, cert, given, named, (fault, first, is)) written =
           (plan, cert, fault, given, named, first, subst (Appends output.before output.after) is written)

@@ -1,5 +1,5 @@
 -- What the end of a run of the program says of the bytes that it read and wrote.
-use Rattle.std.specs.Prelude.{◌≡◌, ℕ, ◌+◌, List, Option, ◌⊎◌, ⊤}
+use Rattle.std.specs.Prelude.{◌≡◌, ℕ, ◌+◌, List, Option, ◌⊎◌}
 use Rattle.std.specs.Io.KnownBytes.{Appends}
 use Rattle.net_check.specs.declared.check_error.CheckError.{CheckError}
 use Rattle.net_check.specs.declared.check_error.CheckError.TheVariants as check_error
@@ -23,7 +23,8 @@ use Rattle.plan_commands.specs.declared.refused.Refused.{Refused}
 use Rattle.plan_commands.specs.declared.status.Status.{Status}
 use Rattle.plan_commands.specs.declared.status.Status.TheVariants as status
 use Rattle.plan_texts.specs.Lines.{fault_text}
-use Rattle.plan_commands.specs.Statuses.{status_of, HasCause, yes_line}
+use Rattle.plan_commands.specs.declared.refused.Refused.TheVariants as refused
+use Rattle.plan_commands.specs.Statuses.{status_of, refusal_text, IsReportedFor, HasCause, yes_line}
 
 -- a stream before a call and after it: the bytes that a source has yet to give or a sink was given, and how often it
 -- failed
@@ -48,9 +49,30 @@ pub record BreaksOff (IsAnswer : List ℕ → Type 0) (output : Stream) : Type 0
   pub fails : Fails output
   pub beginning : AppendsBeginning output.before output.after text
 
+-- a refusal is reported: its line was written, whole, or a beginning of it where the stream failed
+abbrev pub IsReported : Refused → Stream → Type 0
+IsReported why errors = Appends errors.before errors.after (refusal_text why)
+    ⊎ (Fails errors × AppendsBeginning errors.before errors.after (refusal_text why))
+
+-- A run ends for a refusal: this refusal, or want of memory for its line, is reported, and the status is that of what
+-- is reported.
+pub record Refuses (why : Refused) (ended : Status) (errors : Stream) : Type 0 where
+  pub reported : Refused
+  pub for_it : IsReportedFor why reported
+  pub ends : ended ≡ status_of reported
+  pub line : IsReported reported errors
+
+-- A refusal with the status of what can't be read has its cause and is reported.
+abbrev pub SaysWhy : (Refused → Type 0) → Stream → Type 0
+SaysWhy IsWhy errors = (why : Refused) × (status_of why ≡ status.Unreadable) × IsWhy why × IsReported why errors
+
 -- the source gave the text of the plan
 abbrev pub GavePlan : Stream → Plan → Type 0
 GavePlan stream plan = Gave 16777216 stream.before stream.after (λ text. StandsFor IsPlanOf text (plan_value plan))
+
+-- the source gave the text of no plan
+abbrev pub IsWithoutPlan : Stream → Type 0
+IsWithoutPlan stream = (plan : Plan) → ¬ GavePlan stream plan
 
 -- the source gave the text of the plan's certificate
 abbrev pub GaveCertificate : Plan → Stream → Certificate → Type 0
@@ -152,11 +174,11 @@ abbrev pub IsRefusedFor : Refused → Stream → Stream → Stream → Type 0
 IsRefusedFor why plans certificates output =
     HasCause (λ unread cause. IsUnread unread cause plans certificates) ⊥ ⊥ ⊥ (Fails output) why
 
--- what the end of a run says of what the sources gave and what was written, where such a text is told of an accepted
--- plan
-abbrev pub Tells : (Plan → Certificate → List ℕ → Type 0) → Status → Stream → Stream → Stream → Type 0
-Tells IsTold status.Yes plans certificates output = TellsOf IsTold plans certificates output
-Tells IsTold status.Fault plans certificates output = TellsFault plans certificates output
-Tells IsTold status.Unreadable plans certificates output = (why : Refused) × (status_of why ≡ status.Unreadable)
-    × IsRefusedFor why plans certificates output
-Tells IsTold status.NoMemory plans certificates output = ⊤
+-- what the end of a run says of what the sources gave and what was written on both outputs, where such a text is told
+-- of an accepted plan
+abbrev pub Tells : (Plan → Certificate → List ℕ → Type 0) → Status → Stream → Stream → (output errors : Stream) → Type 0
+Tells IsTold status.Yes plans certificates output errors = TellsOf IsTold plans certificates output
+Tells IsTold status.Fault plans certificates output errors = TellsFault plans certificates output
+Tells IsTold status.Unreadable plans certificates output errors =
+    SaysWhy (λ why. IsRefusedFor why plans certificates output) errors
+Tells IsTold status.NoMemory plans certificates output errors = IsReported refused.NoMemory errors

@@ -1,5 +1,5 @@
 -- What the end of `certify` says of the plan that it read and of what it wrote.
-use Rattle.std.specs.Prelude.{◌≡◌, ◌≤◌, ℕ, List, length, Some, ◌⊎◌, ⊤}
+use Rattle.std.specs.Prelude.{◌≡◌, ◌≤◌, ℕ, List, length, Some, ◌⊎◌}
 use Rattle.std.specs.Io.KnownBytes.{Appends}
 use Rattle.net_plan.specs.declared.plan.Plan.{Plan}
 use Rattle.net_plan.specs.declared.certificate.Certificate.{Certificate}
@@ -15,9 +15,10 @@ use Rattle.net_check.specs.Rules.{Accepts}
 use Rattle.plan_commands.specs.declared.refused.Refused.{Refused}
 use Rattle.plan_commands.specs.declared.status.Status.{Status}
 use Rattle.plan_commands.specs.declared.status.Status.TheVariants as status
-use Rattle.plan_commands.specs.Answers.{Stream, GavePlan, IsUnreadPlan, Fails}
+use Rattle.plan_commands.specs.declared.refused.Refused.TheVariants as refused
+use Rattle.plan_commands.specs.Answers.{Stream, GavePlan, IsUnreadPlan, IsReported, SaysWhy, Fails}
 use Rattle.plan_texts.specs.Lines.{obstacle_text}
-use Rattle.plan_commands.specs.Statuses.{status_of, HasCause}
+use Rattle.plan_commands.specs.Statuses.{HasCause}
 
 -- Every rule holds of the plan and the certificate; the certificate gives each level, place and rank as
 -- the plan has them; and the text is the certificate's, read for the plan it stands for the
@@ -67,10 +68,9 @@ CertifiesSo plans status.NoMemory text = ⊥
 abbrev pub IsUncertifiedFor : Refused → Stream → Stream → Type 0
 IsUncertifiedFor why plans output = HasCause (λ unread cause. IsUnreadPlan unread cause plans) ⊥ ⊥ ⊥ (Fails output) why
 
--- what the end of a run says of what the source gave and what was written
-abbrev pub Certifies : Status → Stream → Stream → Type 0
-Certifies status.Yes plans output = TellsCertificate plans output
-Certifies status.Fault plans output = TellsObstacle plans output
-Certifies status.Unreadable plans output =
-    (why : Refused) × (status_of why ≡ status.Unreadable) × IsUncertifiedFor why plans output
-Certifies status.NoMemory plans output = ⊤
+-- what the end of a run says of what the source gave and what was written on both outputs
+abbrev pub Certifies : Status → Stream → (output errors : Stream) → Type 0
+Certifies status.Yes plans output errors = TellsCertificate plans output
+Certifies status.Fault plans output errors = TellsObstacle plans output
+Certifies status.Unreadable plans output errors = SaysWhy (λ why. IsUncertifiedFor why plans output) errors
+Certifies status.NoMemory plans output errors = IsReported refused.NoMemory errors

@@ -1,5 +1,5 @@
 -- What `draw` prints of a plan, in Graphviz' DOT language, and what the end of it says.
-use Rattle.std.specs.Prelude.{◌≡◌, ◌≢◌, ℕ, List, [], ⊤}
+use Rattle.std.specs.Prelude.{◌≢◌, ℕ, List, []}
 use Rattle.std.specs.Prelude.{Option, Some, None}
 use Rattle.net_check.specs.Certificates.{NamesObstacle, HasNoCertificate}
 use Rattle.net_check.specs.declared.certify_error.CertifyError.{CertifyError}
@@ -7,12 +7,11 @@ use Rattle.net_check.specs.declared.certify_error.CertifyError.TheVariants as er
 use Rattle.net_check.specs.Rules.{Accepts}
 use Rattle.net_plan.specs.declared.certificate.Certificate.{Certificate}
 use Rattle.net_plan.specs.declared.plan.Plan.{Plan}
-use Rattle.plan_commands.specs.declared.refused.Refused.{Refused}
+use Rattle.plan_commands.specs.declared.refused.Refused.TheVariants as refused
 use Rattle.plan_commands.specs.declared.status.Status.{Status}
 use Rattle.plan_commands.specs.declared.status.Status.TheVariants as status
-use Rattle.plan_commands.specs.Answers.{Stream, GavePlan}
+use Rattle.plan_commands.specs.Answers.{Stream, GavePlan, IsReported, SaysWhy}
 use Rattle.plan_commands.specs.Linting.{TellsOfPlan, IsPlanRefusedFor}
-use Rattle.plan_commands.specs.Statuses.{status_of}
 use Rattle.plan_texts.specs.DrawingLines.{IsDrawing}
 
 -- ---- drawings
@@ -56,10 +55,9 @@ DrawsSo plans status.Fault text = ⊥
 DrawsSo plans status.Unreadable text = ⊥
 DrawsSo plans status.NoMemory text = ⊥
 
--- what the end of a run says of what the source gave and what was written
-abbrev pub Draws : Status → Stream → Stream → Type 0
-Draws status.Yes plans output = TellsOfPlan IsPlanDrawing plans output
-Draws status.Fault plans output = ⊥
-Draws status.Unreadable plans output =
-    (why : Refused) × (status_of why ≡ status.Unreadable) × IsPlanRefusedFor why plans output
-Draws status.NoMemory plans output = ⊤
+-- what the end of a run says of what the source gave and what was written on both outputs
+abbrev pub Draws : Status → Stream → (output errors : Stream) → Type 0
+Draws status.Yes plans output errors = TellsOfPlan IsPlanDrawing plans output
+Draws status.Fault plans output errors = ⊥
+Draws status.Unreadable plans output errors = SaysWhy (λ why. IsPlanRefusedFor why plans output) errors
+Draws status.NoMemory plans output errors = IsReported refused.NoMemory errors

@@ -1,5 +1,5 @@
 -- What `explain` prints, and what the end of it says.
-use Rattle.std.specs.Prelude.{◌≡◌, ◌⊎◌, ℕ, List, ◌++◌, codes, ⊤}
+use Rattle.std.specs.Prelude.{◌≡◌, ◌⊎◌, ℕ, List, ◌++◌, codes}
 use Rattle.std.specs.Prelude.{Option, Some, None}
 use Rattle.std.specs.Io.KnownBytes.{Appends}
 use Rattle.net_check.specs.Certificates.{IsExact}
@@ -15,7 +15,8 @@ use Rattle.net_plan.specs.declared.certificate.Certificate.{Certificate}
 use Rattle.net_plan.specs.declared.plan.Plan.{Plan}
 use Rattle.plan_commands.specs.declared.status.Status.{Status}
 use Rattle.plan_commands.specs.declared.status.Status.TheVariants as status
-use Rattle.plan_commands.specs.Answers.{Stream, BreaksOff, GavePlan, GaveCertificate, AreGiven}
+use Rattle.plan_commands.specs.declared.refused.Refused.TheVariants as refused
+use Rattle.plan_commands.specs.Answers.{Stream, BreaksOff, GavePlan, GaveCertificate, AreGiven, IsReported}
 use Rattle.plan_commands.specs.Certifying.{IsRuledOutBy}
 use Rattle.plan_texts.specs.Lines.{fault_text}
 use Rattle.plan_commands.specs.Linting.{TellsOfPlan}
@@ -80,14 +81,14 @@ ExplainsSo plans ended text = ((plan : Plan) × GavePlan plans plan × IsExplain
 abbrev pub TellsUnreadPlan : Stream → Stream → Type 0
 TellsUnreadPlan plans output = (text : List ℕ) × IsUnreadText plans text × Appends output.before output.after text
 
--- What the end of a run says of what the source gave and what was written. Where the status is that of an input that
--- can't be read, this was told, or the output failed in the answer.
-abbrev pub Explains : Status → Stream → Stream → Type 0
-Explains status.Yes plans output = TellsOfPlan IsSoundText plans output
-Explains status.Fault plans output = TellsOfPlan IsObstacleText plans output
-Explains status.Unreadable plans output =
-    TellsUnreadPlan plans output ⊎ BreaksOff (IsExplainAnswer plans) output
-Explains status.NoMemory plans output = ⊤
+-- What the end of a run says of what the source gave and what was written on both outputs. Where the status is that of
+-- an input that can't be read, this was told, or the output failed in the answer, and this is reported.
+abbrev pub Explains : Status → Stream → (output errors : Stream) → Type 0
+Explains status.Yes plans output errors = TellsOfPlan IsSoundText plans output
+Explains status.Fault plans output errors = TellsOfPlan IsObstacleText plans output
+Explains status.Unreadable plans output errors = TellsUnreadPlan plans output
+    ⊎ (BreaksOff (IsExplainAnswer plans) output × IsReported refused.Unwritten errors)
+Explains status.NoMemory plans output errors = IsReported refused.NoMemory errors
 
 -- ---- a plan with a certificate
 
@@ -164,11 +165,11 @@ abbrev pub TellsUnread : Stream → Stream → Stream → Type 0
 TellsUnread plans certificates output =
     (text : List ℕ) × IsUnreadOfBoth plans certificates text × Appends output.before output.after text
 
--- What the end of a run says of what the sources gave and what was written. Where the status is that of an input that
--- can't be read, this was told, or the output failed in the answer.
-abbrev pub ExplainsWith : Status → Stream → Stream → Stream → Type 0
-ExplainsWith status.Yes plans certificates output = TellsOfBoth IsYesExplained plans certificates output
-ExplainsWith status.Fault plans certificates output = TellsOfBoth IsFaultExplained plans certificates output
-ExplainsWith status.Unreadable plans certificates output =
-    TellsUnread plans certificates output ⊎ BreaksOff (IsCertifiedAnswer plans certificates) output
-ExplainsWith status.NoMemory plans certificates output = ⊤
+-- What the end of a run says of what the sources gave and what was written on both outputs. Where the status is that of
+-- an input that can't be read, this was told, or the output failed in the answer, and this is reported.
+abbrev pub ExplainsWith : Status → Stream → Stream → (output errors : Stream) → Type 0
+ExplainsWith status.Yes plans certificates output errors = TellsOfBoth IsYesExplained plans certificates output
+ExplainsWith status.Fault plans certificates output errors = TellsOfBoth IsFaultExplained plans certificates output
+ExplainsWith status.Unreadable plans certificates output errors = TellsUnread plans certificates output
+    ⊎ (BreaksOff (IsCertifiedAnswer plans certificates) output × IsReported refused.Unwritten errors)
+ExplainsWith status.NoMemory plans certificates output errors = IsReported refused.NoMemory errors

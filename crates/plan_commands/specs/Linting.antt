@@ -1,5 +1,5 @@
 -- What the end of `lint` says of the plan that it read and of what it wrote.
-use Rattle.std.specs.Prelude.{◌≡◌, ◌≢◌, ◌⊎◌, ℕ, List, [], codes, ⊤}
+use Rattle.std.specs.Prelude.{◌≡◌, ◌≢◌, ◌⊎◌, ℕ, List, [], codes}
 use Rattle.std.specs.Io.KnownBytes.{Appends}
 use Rattle.net_plan.specs.declared.plan.Plan.{Plan}
 use Rattle.net_questions.specs.declared.finding.Finding.{Finding}
@@ -7,8 +7,9 @@ use Rattle.net_questions.specs.Findings.{AreFindings, IsSo}
 use Rattle.plan_commands.specs.declared.refused.Refused.{Refused}
 use Rattle.plan_commands.specs.declared.status.Status.{Status}
 use Rattle.plan_commands.specs.declared.status.Status.TheVariants as status
-use Rattle.plan_commands.specs.Answers.{Stream, GavePlan, IsUnreadPlan, Fails}
-use Rattle.plan_commands.specs.Statuses.{status_of, HasCause}
+use Rattle.plan_commands.specs.declared.refused.Refused.TheVariants as refused
+use Rattle.plan_commands.specs.Answers.{Stream, GavePlan, IsUnreadPlan, IsReported, SaysWhy, Fails}
+use Rattle.plan_commands.specs.Statuses.{HasCause}
 use Rattle.plan_texts.specs.FindingLines.{findings_text}
 
 -- the line that tells that nothing looks wrong
@@ -53,10 +54,9 @@ TellsOfPlan IsSaid plans output = (plan : Plan) × (text : List ℕ) × GavePlan
 abbrev pub IsPlanRefusedFor : Refused → Stream → Stream → Type 0
 IsPlanRefusedFor why plans output = HasCause (λ unread cause. IsUnreadPlan unread cause plans) ⊥ ⊥ ⊥ (Fails output) why
 
--- what the end of a run says of what the source gave and what was written
-abbrev pub Lints : Status → Stream → Stream → Type 0
-Lints status.Yes plans output = TellsOfPlan IsCleanText plans output
-Lints status.Fault plans output = TellsOfPlan IsFindingsText plans output
-Lints status.Unreadable plans output =
-    (why : Refused) × (status_of why ≡ status.Unreadable) × IsPlanRefusedFor why plans output
-Lints status.NoMemory plans output = ⊤
+-- what the end of a run says of what the source gave and what was written on both outputs
+abbrev pub Lints : Status → Stream → (output errors : Stream) → Type 0
+Lints status.Yes plans output errors = TellsOfPlan IsCleanText plans output
+Lints status.Fault plans output errors = TellsOfPlan IsFindingsText plans output
+Lints status.Unreadable plans output errors = SaysWhy (λ why. IsPlanRefusedFor why plans output) errors
+Lints status.NoMemory plans output errors = IsReported refused.NoMemory errors

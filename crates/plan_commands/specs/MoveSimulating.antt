@@ -3,6 +3,7 @@ use Rattle.std.specs.Prelude.{◌≡◌, ◌⊎◌, ℕ, List, length, map, ⊤}
 use Rattle.net_check.specs.MoveRules.{AcceptsMove}
 use Rattle.net_check.specs.TwoPlans.{moving}
 use Rattle.net_sim.specs.Outcomes.{event_value}
+use Rattle.net_sim.specs.Promised.{IsPromised}
 use Rattle.net_plan.specs.declared.plan.Plan.{Plan}
 use Rattle.net_plan.specs.declared.certificate.Certificate.{Certificate}
 use Rattle.net_plan.specs.declared.error.PlanError.{PlanError}
@@ -16,7 +17,7 @@ use Rattle.plan_commands.specs.declared.status.Status.{Status}
 use Rattle.plan_commands.specs.declared.status.Status.TheVariants as status
 use Rattle.plan_commands.specs.Answers.{Stream, Fails, GaveNothing}
 use Rattle.plan_commands.specs.Moving.{IsMoveGiven, IsMoveFaultText, IsUnreadInMove, TellsMoveFault}
-use Rattle.plan_commands.specs.Simulating.{SimulatesAtRest, AreLinesAtMost, ShowsOutcomes, ShowsAtMost, GaveEvents}
+use Rattle.plan_commands.specs.Simulating.{SimulatesBy, IsWalksText, ShowsOutcomes, ShowsAtMost, GaveEvents}
 use Rattle.plan_commands.specs.Statuses.{status_of, HasCause}
 
 -- the sources gave the plans, the certificate, and the events at the nodes of the plan before
@@ -40,22 +41,24 @@ TellsMovedInPart befores afters certificates happenings output =
     × IsPlayGiven befores afters certificates happenings before after certificate events
     × AcceptsMove before after certificate × ShowsAtMost before (length events) output
 
--- Every rule of a move holds of the plans and the certificate that were given, and what was written is what comes of
--- the events that were given, in runs of the move from rest over some termini.
+-- Every rule of a move holds of the plans and the certificate that were given, every run of the move is as promised,
+-- and what was written is what comes of the events that were given, in such runs, in which the walkers have walked.
 abbrev pub TellsMovedRun : Status → Stream → Stream → Stream → Stream → Stream → Type 0
 TellsMovedRun ended befores afters certificates happenings output =
     (before : Plan) × (after : Plan) × (certificate : Certificate) × (events : List Event)
     × IsPlayGiven befores afters certificates happenings before after certificate events
     × AcceptsMove before after certificate
-    × SimulatesAtRest (moving before after) certificate (map event_value events) ended output
+    × IsPromised (moving before after) certificate
+    × SimulatesBy (moving before after) certificate (map event_value events) ended output
 
--- The text answers for the files that were given: where every rule of a move holds it is an outcome's line for each
--- event of a beginning of them, else the line of the first fault.
+-- The text answers for the files that were given: where every rule of a move holds it is the lines of what comes of a
+-- beginning of the events, in a run of the move in which the walkers have walked, else the line of the first fault.
 abbrev pub IsPlayAnswer : Stream → Stream → Stream → Stream → List ℕ → Type 0
 IsPlayAnswer befores afters certificates happenings text =
     (before : Plan) × (after : Plan) × (certificate : Certificate) × (events : List Event)
     × IsPlayGiven befores afters certificates happenings before after certificate events
-    × ((AcceptsMove before after certificate × AreLinesAtMost before (length events) text)
+    × ((AcceptsMove before after certificate
+    × IsWalksText (moving before after) certificate (map event_value events) text)
     ⊎ IsMoveFaultText before after certificate text)
 
 -- why an input can't be read; each is read only where those before it were given

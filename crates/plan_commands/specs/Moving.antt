@@ -1,5 +1,5 @@
 -- What the end of `move` says of the plans and the certificate that it read, and of what it wrote.
-use Rattle.std.specs.Prelude.{◌≡◌, ◌⊎◌, ℕ, List, Some, ⊤}
+use Rattle.std.specs.Prelude.{◌≡◌, ◌⊎◌, ℕ, List, Some}
 use Rattle.std.specs.Io.KnownBytes.{Appends}
 use Rattle.net_check.specs.declared.move_error.MoveError.{MoveError}
 use Rattle.net_check.specs.MoveFaults.{NamesFirstMoveFault}
@@ -14,8 +14,9 @@ use Rattle.plan_commands.specs.declared.refused.Input.TheVariants as input
 use Rattle.plan_commands.specs.declared.refused.Refused.{Refused}
 use Rattle.plan_commands.specs.declared.status.Status.{Status}
 use Rattle.plan_commands.specs.declared.status.Status.TheVariants as status
-use Rattle.plan_commands.specs.Answers.{Stream, Fails, GavePlan, GaveCertificate, GaveNothing}
-use Rattle.plan_commands.specs.Statuses.{status_of, HasCause, yes_line}
+use Rattle.plan_commands.specs.declared.refused.Refused.TheVariants as refused
+use Rattle.plan_commands.specs.Answers.{Stream, Fails, GavePlan, GaveCertificate, GaveNothing, IsReported, SaysWhy}
+use Rattle.plan_commands.specs.Statuses.{HasCause, yes_line}
 use Rattle.plan_texts.specs.MoveLines.{move_error_text}
 
 -- one source gave the plan before, one the plan after, and one the certificate, which is read for the plan before
@@ -92,10 +93,10 @@ abbrev pub IsMoveRefusedFor : Refused → Stream → Stream → Stream → Strea
 IsMoveRefusedFor why befores afters certificates output =
     HasCause (λ unread cause. IsUnreadInMove unread cause befores afters certificates) ⊥ ⊥ ⊥ (Fails output) why
 
--- what the end of a run says of what the sources gave and what was written
-abbrev pub EndsMove : Status → Stream → Stream → Stream → Stream → Type 0
-EndsMove status.Yes befores afters certificates output = TellsMove befores afters certificates output
-EndsMove status.Fault befores afters certificates output = TellsMoveFault befores afters certificates output
-EndsMove status.Unreadable befores afters certificates output = (why : Refused) × (status_of why ≡ status.Unreadable)
-    × IsMoveRefusedFor why befores afters certificates output
-EndsMove status.NoMemory befores afters certificates output = ⊤
+-- what the end of a run says of what the sources gave and what was written on both outputs
+abbrev pub EndsMove : Status → Stream → Stream → Stream → (output errors : Stream) → Type 0
+EndsMove status.Yes befores afters certificates output errors = TellsMove befores afters certificates output
+EndsMove status.Fault befores afters certificates output errors = TellsMoveFault befores afters certificates output
+EndsMove status.Unreadable befores afters certificates output errors =
+    SaysWhy (λ why. IsMoveRefusedFor why befores afters certificates output) errors
+EndsMove status.NoMemory befores afters certificates output errors = IsReported refused.NoMemory errors

@@ -1,5 +1,5 @@
 -- What the end of `show` says of the bytes that it was given.
-use Rattle.std.specs.Prelude.{◌≡◌, ℕ, List, ◌⊎◌, Ok, Err, ⊤}
+use Rattle.std.specs.Prelude.{◌≡◌, ℕ, List, Ok, Err}
 use Rattle.std.specs.Io.KnownBytes.{Appends}
 use Rattle.hex.specs.Hex.{decode_of}
 use Rattle.hex.specs.declared.error.FromHexError.{FromHexError}
@@ -16,7 +16,8 @@ use Rattle.plan_commands.specs.declared.commands.show.ShownKind.TheVariants as k
 use Rattle.plan_commands.specs.declared.refused.Refused.{Refused}
 use Rattle.plan_commands.specs.declared.status.Status.{Status}
 use Rattle.plan_commands.specs.declared.status.Status.TheVariants as status
-use Rattle.plan_commands.specs.Answers.{Stream, Fails}
+use Rattle.plan_commands.specs.declared.refused.Refused.TheVariants as refused
+use Rattle.plan_commands.specs.Answers.{Stream, Fails, IsReported, SaysWhy}
 use Rattle.plan_commands.specs.Statuses.{HasCause}
 use Rattle.plan_texts.specs.Shown.{refused_bytes, packet_bytes, record_text_bytes}
 
@@ -62,13 +63,13 @@ TellsOf ended asked hex output =
     (bytes : List ℕ) × (text : List ℕ) × IsDecoded hex bytes × IsShown ended asked bytes text
     × Appends output.before output.after text
 
--- what the end of a run says of the hex text and of what was written
-abbrev pub Shows : Status → ShownKind → List ℕ → Stream → Type 0
-Shows status.Yes asked hex output = TellsOf status.Yes asked hex output
-Shows status.Fault asked hex output = TellsOf status.Fault asked hex output
-Shows status.Unreadable asked hex output = IsNoHex hex ⊎ Fails output
-Shows status.NoMemory asked hex output = ⊤
-
--- why nothing is shown
+-- why nothing is shown: the text is no hex, or the output failed
 abbrev pub IsNotShown : Refused → List ℕ → Stream → Type 0
 IsNotShown why hex output = HasCause (λ unread cause. ⊥) ⊥ (IsNoHex hex) ⊥ (Fails output) why
+
+-- what the end of a run says of the hex text and of what was written on both outputs
+abbrev pub Shows : Status → ShownKind → List ℕ → (output errors : Stream) → Type 0
+Shows status.Yes asked hex output errors = TellsOf status.Yes asked hex output
+Shows status.Fault asked hex output errors = TellsOf status.Fault asked hex output
+Shows status.Unreadable asked hex output errors = SaysWhy (λ why. IsNotShown why hex output) errors
+Shows status.NoMemory asked hex output errors = IsReported refused.NoMemory errors

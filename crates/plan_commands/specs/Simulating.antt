@@ -1,5 +1,5 @@
 -- What the end of `sim` says of the events that were played and of what was written.
-use Rattle.std.specs.Prelude.{◌≡◌, ◌≤◌, ◌⊎◌, ℕ, List, All, [], length, map, take, Result, Ok, Err, ⊤}
+use Rattle.std.specs.Prelude.{◌≡◌, ◌≤◌, ◌⊎◌, ℕ, List, length, map, take, Result, Ok, Err, ⊤}
 use Rattle.std.specs.Io.KnownBytes.{Appends}
 use Rattle.net_plan.specs.declared.plan.Plan.{Plan}
 use Rattle.net_plan.specs.declared.certificate.Certificate.{Certificate}
@@ -11,13 +11,11 @@ use Rattle.net_plan.specs.PlanValues.{plan_value}
 use Rattle.net_plan.specs.Texts.{Gave, StandsFor}
 use Rattle.net_plan.specs.Unread.{GaveNoEvents}
 use Rattle.net_check.specs.Rules.{Accepts}
-use Rattle.net_check.specs.Termini.{TerminusState}
 use Rattle.net_check.specs.TwoPlans.{Tables, one_plan}
 use Rattle.net_check.specs.WalkedRuns.{WalkedTurn, WalkedRunFrom}
 use Rattle.net_check.specs.Walkers.{WalkedState, WalkedEvent, WalkedOutcome, walked_at_start}
-use Rattle.net_sim.specs.Dealing.{at_rest, planned_termini}
 use Rattle.net_sim.specs.Outcomes.{event_value}
-use Rattle.net_sim.specs.WalkedStanding.{without_walkers}
+use Rattle.net_sim.specs.Promised.{IsPromised}
 use Rattle.net_sim.specs.Walks.{HaveWalked}
 use Rattle.plan_commands.specs.declared.refused.Input.{Input}
 use Rattle.plan_commands.specs.declared.refused.Input.TheVariants as input
@@ -93,16 +91,6 @@ SimulatesBy tables cert events ended output =
 abbrev pub Simulates : Plan → Certificate → List WalkedEvent → Status → Stream → Type 0
 Simulates plan cert events ended output = SimulatesBy (one_plan plan) cert events ended output
 
--- termini at which nothing waits, as many as are planned
-pub record AreIdle (plan : Plan) (cert : Certificate) (termini : List TerminusState) : Type 0 where
-  pub many : length termini ≡ length (planned_termini plan cert)
-  pub none_waits : All (λ (t : TerminusState). t.waiting ≡ []) termini
-
--- what the end of a run says of the events, in runs from rest over some such termini, and of what was written
-abbrev pub SimulatesAtRest : Tables → Certificate → List WalkedEvent → Status → Stream → Type 0
-SimulatesAtRest tables cert events ended output = (termini : List TerminusState) × AreIdle tables.plan cert termini
-    × SimulatesFrom tables (without_walkers (at_rest tables.plan termini)) events ended output
-
 -- the output was given the lines of so many of the outcomes
 abbrev pub ShowsLines : Plan → List WalkedOutcome → ℕ → Stream → Type 0
 ShowsLines plan outcomes count output = Appends output.before output.after (outcome_lines plan (take count outcomes))
@@ -147,20 +135,22 @@ TellsBeginning plans certificates happenings output =
     × AreGiven plans certificates plan certificate × GaveEvents plan happenings events × Accepts plan certificate
     × ShowsAtMost plan (length events) output
 
--- Every rule holds of the plan and the certificate that were given, and what was written is what comes of the events
--- that were given, in runs of the plan from rest over some termini.
+-- Every rule holds of the plan and the certificate that were given, every run of the plan's network is as promised, and
+-- what was written is what comes of the events that were given, in such runs, in which the walkers have walked.
 abbrev pub TellsRun : Status → Stream → Stream → Stream → Stream → Type 0
 TellsRun ended plans certificates happenings output =
     (plan : Plan) × (certificate : Certificate) × (events : List Event)
     × AreGiven plans certificates plan certificate × GaveEvents plan happenings events × Accepts plan certificate
-    × SimulatesAtRest (one_plan plan) certificate (map event_value events) ended output
+    × IsPromised (one_plan plan) certificate × Simulates plan certificate (map event_value events) ended output
 
--- The text answers for the plan, the certificate and the events that were given: where every rule holds it is an
--- outcome's line for each event of a beginning of them, else the line of the first fault.
+-- The text answers for the plan, the certificate and the events that were given: where every rule holds it is the lines
+-- of what comes of a beginning of the events, in a run of the plan's network in which the walkers have walked, else the
+-- line of the first fault.
 abbrev pub IsSimAnswer : Stream → Stream → Stream → List ℕ → Type 0
 IsSimAnswer plans certificates happenings text = (plan : Plan) × (certificate : Certificate) × (events : List Event)
     × AreGiven plans certificates plan certificate × GaveEvents plan happenings events
-    × ((Accepts plan certificate × AreLinesAtMost plan (length events) text) ⊎ IsFaultText plan certificate text)
+    × ((Accepts plan certificate × IsWalksText (one_plan plan) certificate (map event_value events) text)
+    ⊎ IsFaultText plan certificate text)
 
 -- why an input, which is the events at the nodes of the plan, can't be read
 abbrev pub AreUnreadEvents : Plan → Input → PlanError → Stream → Type 0

@@ -1,6 +1,5 @@
 -- What the end of `trace` says of the plan and the certificate that it read, and of what it wrote.
-use Rattle.std.specs.Prelude.{◌≡◌, ◌≤◌, ◌⊎◌, ℕ, List, length}
-use Rattle.std.specs.Prelude.{true, ⊤}
+use Rattle.std.specs.Prelude.{◌≡◌, ◌≤◌, ◌⊎◌, ℕ, List, length, true}
 use Rattle.std.specs.Io.KnownBytes.{Appends}
 use Rattle.std.specs.Char.{is_ascii_digit}
 use Rattle.std.specs.List.{list_all}
@@ -20,9 +19,10 @@ use Rattle.net_questions.specs.Ways.{IsWay}
 use Rattle.plan_commands.specs.declared.refused.Refused.{Refused}
 use Rattle.plan_commands.specs.declared.status.Status.{Status}
 use Rattle.plan_commands.specs.declared.status.Status.TheVariants as status
-use Rattle.plan_commands.specs.Answers.{Stream, AreGiven, IsUnread, IsFaultText, TellsOf, Fails}
+use Rattle.plan_commands.specs.declared.refused.Refused.TheVariants as refused
+use Rattle.plan_commands.specs.Answers.{Stream, AreGiven, IsUnread, IsFaultText, TellsOf, Fails, IsReported, SaysWhy}
 use Rattle.plan_texts.specs.Lines.{fault_text}
-use Rattle.plan_commands.specs.Statuses.{status_of, HasCause}
+use Rattle.plan_commands.specs.Statuses.{HasCause}
 use Rattle.plan_commands.specs.Walking.{IsFirstNamed}
 use Rattle.plan_texts.specs.WayLines.{trace_text}
 
@@ -89,10 +89,11 @@ IsNotTracedFor why from to plans certificates output =
     HasCause (λ unread cause. IsUnread unread cause plans certificates)
     (NamesNoEnds from to plans certificates) ⊥ ⊥ (Fails output) why
 
--- what the end of a run says of what the sources gave and what was written, for a node's name and a destination's word
-abbrev pub Traces : Status → List ℕ → List ℕ → Stream → Stream → Stream → Type 0
-Traces status.Yes from to plans certificates output = TellsOf (IsTraceText from to) plans certificates output
-Traces status.Fault from to plans certificates output = TellsTraceFault from to plans certificates output
-Traces status.Unreadable from to plans certificates output = (why : Refused) × (status_of why ≡ status.Unreadable)
-    × IsNotTracedFor why from to plans certificates output
-Traces status.NoMemory from to plans certificates output = ⊤
+-- what the end of a run says of what the sources gave and what was written on both outputs, for a node's name and a
+-- destination's word
+abbrev pub Traces : Status → List ℕ → List ℕ → Stream → Stream → (output errors : Stream) → Type 0
+Traces status.Yes from to plans certificates output errors = TellsOf (IsTraceText from to) plans certificates output
+Traces status.Fault from to plans certificates output errors = TellsTraceFault from to plans certificates output
+Traces status.Unreadable from to plans certificates output errors =
+    SaysWhy (λ why. IsNotTracedFor why from to plans certificates output) errors
+Traces status.NoMemory from to plans certificates output errors = IsReported refused.NoMemory errors

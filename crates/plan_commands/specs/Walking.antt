@@ -1,5 +1,5 @@
 -- What the end of `walk` says of the plan and the certificate that it read, and of what it wrote.
-use Rattle.std.specs.Prelude.{◌≡◌, ◌≢◌, ◌<◌, ℕ, List, ◌++◌, length, Some, None, sum_by, ⊤}
+use Rattle.std.specs.Prelude.{◌≡◌, ◌≢◌, ◌<◌, ℕ, List, ◌++◌, length, Some, None, sum_by}
 use Rattle.std.specs.Io.KnownBytes.{Appends}
 use Rattle.std.specs.List.{flat_map}
 use Rattle.net_check.specs.declared.fault.Fault.{Fault}
@@ -14,9 +14,10 @@ use Rattle.pdr_repository.specs.Walks.{exchanges}
 use Rattle.plan_commands.specs.declared.refused.Refused.{Refused}
 use Rattle.plan_commands.specs.declared.status.Status.{Status}
 use Rattle.plan_commands.specs.declared.status.Status.TheVariants as status
-use Rattle.plan_commands.specs.Answers.{Stream, AreGiven, IsUnread, IsFaultText, TellsOf, Fails}
+use Rattle.plan_commands.specs.declared.refused.Refused.TheVariants as refused
+use Rattle.plan_commands.specs.Answers.{Stream, AreGiven, IsUnread, IsFaultText, TellsOf, Fails, IsReported, SaysWhy}
 use Rattle.plan_texts.specs.Lines.{fault_text}
-use Rattle.plan_commands.specs.Statuses.{status_of, HasCause}
+use Rattle.plan_commands.specs.Statuses.{HasCause}
 use Rattle.plan_texts.specs.WalkLines.{record_line, count_line}
 
 -- n is the first node of the name
@@ -86,10 +87,11 @@ abbrev pub IsNotWalkedFor : Refused → List ℕ → Stream → Stream → Strea
 IsNotWalkedFor why name plans certificates output = HasCause (λ unread cause. IsUnread unread cause plans certificates)
     (NamesNoTerminus name plans certificates) ⊥ (HasTooManyBytes name plans certificates) (Fails output) why
 
--- what the end of a run says of what the sources gave and what was written, for a node's name and the bytes of a part
-abbrev pub Walks : Status → List ℕ → ℕ → Stream → Stream → Stream → Type 0
-Walks status.Yes name count plans certificates output = TellsOf (IsWalkText name count) plans certificates output
-Walks status.Fault name count plans certificates output = TellsWalkFault name plans certificates output
-Walks status.Unreadable name count plans certificates output = (why : Refused) × (status_of why ≡ status.Unreadable)
-    × IsNotWalkedFor why name plans certificates output
-Walks status.NoMemory name count plans certificates output = ⊤
+-- what the end of a run says of what the sources gave and what was written on both outputs, for a node's name and the
+-- bytes of a part
+abbrev pub Walks : Status → List ℕ → ℕ → Stream → Stream → (output errors : Stream) → Type 0
+Walks status.Yes name count plans certificates output errors = TellsOf (IsWalkText name count) plans certificates output
+Walks status.Fault name count plans certificates output errors = TellsWalkFault name plans certificates output
+Walks status.Unreadable name count plans certificates output errors =
+    SaysWhy (λ why. IsNotWalkedFor why name plans certificates output) errors
+Walks status.NoMemory name count plans certificates output errors = IsReported refused.NoMemory errors

@@ -1,5 +1,7 @@
 //! Files that are opened only once they are read.
 ghost use Rattle.std.specs.Io.{ReadsAtMost};
+ghost use Rattle.std.specs.Io.KnownBytes.{ReadConsumes};
+ghost use Rattle.std.specs.Option.{option_and_then};
 ghost use Rattle.std.specs.Prelude.{◌<◌, ◌^◌, ◌-◌};
 
 use net_plan::{Sink, write_whole};
@@ -44,6 +46,9 @@ impl<'a, R: Files> FileAtPath<'a, R> {
 }
 
 impl<R: Files> Read for FileAtPath<'_, R> {
+    // The bytes of a file are known, if at all, once it is open.
+    ghost remaining = { λ s. option_and_then (λ file. R.File.remaining file) s.opened };
+
     fn read(&mut self, buf: &mut [u8]) -> io::Result<usize> {
         let read = read_opened(self, buf);
         if let Err(error) = read {
@@ -55,15 +60,15 @@ impl<R: Files> Read for FileAtPath<'_, R> {
 
 /// Reads from a file, which is opened first where it isn't open yet.
 fn read_opened<R: Files>(file: &mut FileAtPath<'_, R>, buf: &mut [u8]) -> io::Result<usize>
-    ensures { ReadsAtMost result buf.new }
+    ensures bound { ReadsAtMost result buf.new }
+    ensures bytes { let left_in = option_and_then (λ file. R.File.remaining file) in
+        ReadConsumes (left_in file.old.opened) (left_in file.new.opened) result buf.new }
 {
-    match &mut file.opened {
-        Some(opened) => opened.read(buf),
-        None => {
-            let mut opened = File::open(file.rt, file.path)?;
-            let count = opened.read(buf)?;
-            file.opened = Some(opened);
-            Ok(count)
-        }
-    }
+    let mut opened = match file.opened.take() {
+        Some(opened) => opened,
+        None => File::open(file.rt, file.path)?,
+    };
+    let read = opened.read(buf);
+    file.opened = Some(opened);
+    read
 }

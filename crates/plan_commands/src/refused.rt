@@ -1,6 +1,7 @@
 //! Why the program gives no answer.
-ghost use Rattle.std.specs.Prelude.{◌≡◌, IsOk};
-ghost use Rattle.plan_commands.specs.declared.refused.Refused.TheVariants.{Unwritten};
+ghost use Rattle.std.specs.Prelude.{◌≡◌, IfOk, IfErr};
+ghost use Rattle.std.specs.Cow.{cow_str_bytes};
+ghost use Rattle.plan_commands.specs.Statuses.{refusal_text, IsReportedFor};
 
 use crate::status::Status;
 use clap::error::ErrorKind;
@@ -99,9 +100,10 @@ impl From<io::Error> for Refused {
 /// What is said where there is too little memory, also too little for any other line.
 pub const NO_MEMORY: &str = "no memory\n";
 
-/// Why there is no answer.
+/// Why there is no answer. Only the line of an input that can't be read takes memory.
 pub fn refusal_line(alloc: Global, refused: Refused) -> Result<CowStr<'static>, AllocError>
-    ensures { refused ≡ Unwritten → IsOk result }
+    ensures line { IfOk result (λ line. cow_str_bytes line ≡ refusal_text refused) }
+    ensures lacks { IfErr result (λ _. IsReportedFor refused Refused.NoMemory) }
 {
     match refused {
         Refused::Usage => Ok(CowStr::Borrowed("usage\n")),

@@ -1,5 +1,5 @@
 -- What is told of a text that doesn't read.
-use Rattle.std.proofs.Common.{◌≡◌, ◌≤◌, ◌<◌, ◌+◌, ◌++◌, ◌||◌, ℕ, zero, suc, List, [], ◌∷◌, map, length, get_or, take, drop, Bool, true, false, cond, not, is_some, true≢false, append_assoc, option_and_then, Vec, Global, Option, Some, None, option_map, Result, Ok, Err, Bor, encode_utf8_all, refl, sym, ◌∙◌, ap, subst, arith}
+use Rattle.std.proofs.Common.{◌≡◌, ◌≢◌, ◌≤◌, ◌<◌, ◌+◌, ◌++◌, ◌||◌, ℕ, zero, suc, List, [], ◌∷◌, map, length, get_or, take, drop, Bool, true, false, cond, not, is_some, true≢false, append_assoc, option_and_then, Vec, Global, Option, Some, None, option_map, Result, Ok, Err, Bor, refl, sym, ◌∙◌, ap, subst, arith}
 use Rattle.std.specs.Prelude.{IfOk, IfSome, codes}
 use Rattle.std.specs.List.{flat_map, list_any, slice_get}
 use Rattle.std.specs.Slice.{IsItemAt}
@@ -31,10 +31,11 @@ use Rattle.net_plan.specs.CertificateReading.{certificate}
 use Rattle.net_plan.specs.PlanReading.{plan}
 use Rattle.net_plan.specs.SingleKeys.{unless_doubled}
 use Rattle.net_plan.specs.declared.error.ValueFault.{ValueFault}
+use Rattle.net_plan.specs.declared.error.ValueFault.TheVariants as fault
 use Rattle.net_pointers.specs.Doubles.{item_at, member_at, part_at, part_after}
 use Rattle.net_pointers.specs.PlanShapes.{fields_view}
 use Rattle.net_pointers.specs.Pointers.{Located, Step, value_at, value_after}
-use Rattle.net_pointers.specs.Shapes.{keys_of, fields_of}
+use Rattle.net_pointers.specs.Shapes.{Fields, keys_of, fields_of}
 use Rattle.net_pointers.specs.TextTroubles.{IsJsonOf, IsToldOfPlanText, IsToldOfCertificateText}
 use Rattle.net_pointers.specs.Views.{step_value}
 use Rattle.net_pointers.specs.declared.found.PointerStep.{PointerStep}
@@ -42,8 +43,8 @@ use Rattle.net_pointers.specs.declared.part.Field.{Field}
 use Rattle.net_pointers.specs.declared.ranges.Overlap.{Overlap}
 use Rattle.net_pointers.specs.declared.texts.TextTrouble.{TextTrouble}
 use Rattle.plan_texts.specs.ReadingLines.{key_words, keys_words}
-use Rattle.plan_texts.specs.Standing.{IsShownLength, IsShownOf, IsShown, dots_after}
-use Rattle.plan_texts.specs.TroubleLines.{StandsAt, rest_of, IsWrongTold, IsLineOf, IsValueTold, value_line, AreOffsets, AreApart, AreTwoTold, two_lines, IsOverlapTold, range_line, next_range_line, range_pointer}
+use Rattle.plan_texts.specs.Standing.{IsShownLength, IsShownOf, IsShown, dots_after, printed}
+use Rattle.plan_texts.specs.TroubleLines.{StandsAt, rest_of, IsStandingTold, IsWrongTold, IsLineOf, IsValueTold, value_line, AreOffsets, AreApart, AreTwoTold, two_lines, IsOverlapTold, range_line, next_range_line, range_pointer}
 use Rattle.plan_texts.specs.TroubleLines.{key_at, part_step, path_text, AreTroubleLines, IsPlanTextTold, IsCertificateTextTold}
 
 -- ---- a text of which nothing is told is read
@@ -113,7 +114,7 @@ key_among_members (m ∷ ms) (suc i) = key_among_members ms i
 -- ---- what is told, as an 'exists'
 
 pub shown_told : {A E : Type 0} (bytes : A → List ℕ) (cs : List ℕ) (k : ℕ) (r : Result A E) → IsShownLength cs k
-    → IfOk r (λ t. bytes t ≡ encode_utf8_all (take k cs) ++ dots_after cs k) → IfOk r (λ t. IsShownOf cs (bytes t))
+    → IfOk r (λ t. bytes t ≡ printed (take k cs) ++ dots_after cs k) → IfOk r (λ t. IsShownOf cs (bytes t))
 shown_told bytes cs k (Ok t) fits is = (k, fits, is)
 shown_told bytes cs k (Err e) fits is = tt
 
@@ -121,6 +122,20 @@ pub standing_told : {A E : Type 0} (bytes : A → List ℕ) (rest shown : List �
     → IfOk r (λ t. bytes t ≡ codes "is " ++ shown) → IfOk r (λ t. (s : List ℕ) × IsShown rest s × (bytes t ≡ codes "is " ++ s))
 standing_told bytes rest shown (Ok t) fits is = (shown, fits, is)
 standing_told bytes rest shown (Err e) fits is = tt
+
+-- of a fault that isn't of a key or a length, what stands there is told
+pub wrong_told : {A E : Type 0} (bytes : A → List ℕ) (fs : Fields) (f : ValueFault) (d : Data) (rest : Option (List ℕ)) (r : Result A E)
+    → f ≢ fault.MissingKey → f ≢ fault.UnknownKey → f ≢ fault.OverLimit
+    → IfOk r (λ t. IsStandingTold f rest (bytes t)) → IfOk r (λ t. IsWrongTold fs f d rest (bytes t))
+wrong_told bytes fs fault.MissingKey d rest r missing unknown over told = absurd (missing refl)
+wrong_told bytes fs fault.UnknownKey d rest r missing unknown over told = absurd (unknown refl)
+wrong_told bytes fs fault.OverLimit d rest r missing unknown over told = absurd (over refl)
+wrong_told bytes fs fault.WrongKind d rest r missing unknown over told = told
+wrong_told bytes fs fault.OutOfRange d rest r missing unknown over told = told
+wrong_told bytes fs fault.UnknownName d rest r missing unknown over told = told
+wrong_told bytes fs fault.BadHex d rest r missing unknown over told = told
+wrong_told bytes fs fault.Doubled d rest r missing unknown over told = told
+wrong_told bytes fs fault.OutOfMemory d rest r missing unknown over told = told
 
 pub line_told : {A E : Type 0} (bytes : A → List ℕ) (text : List ℕ) (l : Located) (d : Data) (offset : Option ℕ) (rest : Option (List ℕ)) (words : List ℕ) (r : Result A E)
     → IsWrongTold (fields_of l.shape) l.fault d rest words → IfOk r (λ t. bytes t ≡ value_line text offset l words) → IfOk r (λ t. IsLineOf text l d offset rest (bytes t))

@@ -13,9 +13,10 @@ use crate::effect::Effect;
 use crate::network::Network;
 use crate::outcome::Outcome;
 use net_plan::Event;
+use pdr_repository::Terminus;
 use std::alloc::AllocError;
 
-impl<'a> Network<'a> {
+impl<'a, T: Terminus> Network<'a, T> {
     ghost use Rattle.net_sim.specs.Outcomes.{event_value};
     ghost use Rattle.net_sim.specs.WalkedStanding.{WalkedPlays, WalkedWants};
     ghost use Rattle.net_sim.specs.Networks.{network_value, checked_of};
@@ -25,11 +26,11 @@ impl<'a> Network<'a> {
         ensures checked { checked_of self.new ≡ checked_of self.old }
         ensures plays { MatchResult result
             (λ outcome. WalkedPlays (checked_of self.old).0
-            (network_value (λ d. tid d.terminus) (λ d. records d.terminus) self.old) (event_value event.now) (outcome_value outcome)
-            (network_value (λ d. tid d.terminus) (λ d. records d.terminus) self.new))
+            (network_value T.tid T.records self.old) (event_value event.now) (outcome_value outcome)
+            (network_value T.tid T.records self.new))
             (λ _. WalkedWants (checked_of self.old).0
-            (network_value (λ d. tid d.terminus) (λ d. records d.terminus) self.old) (event_value event.now)
-            (network_value (λ d. tid d.terminus) (λ d. records d.terminus) self.new)) }
+            (network_value T.tid T.records self.old) (event_value event.now)
+            (network_value T.tid T.records self.new)) }
     {
         match event {
             Event::Put { node, bytes } => Ok(happened(self.traffic.put(*node, bytes)?)),

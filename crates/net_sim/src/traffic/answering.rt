@@ -12,9 +12,10 @@ use crate::refusal::Refusal;
 use crate::terminus_queue::{answer_at, idle_at};
 use arrayvec::ArrayVec;
 use mctp_transport::{Key, Packets, Seq};
+use pdr_repository::Terminus;
 use std::alloc::AllocError;
 
-impl<'a> Traffic<'a> {
+impl<'a, T: Terminus> Traffic<'a, T> {
     ghost use Rattle.net_check.specs.Events.{most_flights, AnswerAt};
     ghost use Rattle.net_sim.specs.Effects.{effect_value};
     ghost use Rattle.net_sim.specs.Standing.{Plays, Wants};
@@ -26,11 +27,11 @@ impl<'a> Traffic<'a> {
         ensures router { self.new.router ≡ self.old.router }
         ensures plays { MatchResult result
             (λ outcome. Plays self.old.router.tables
-            (traffic_value (λ d. tid d.terminus) (λ d. records d.terminus) self.old) (AnswerAt node) (effect_value outcome)
-            (traffic_value (λ d. tid d.terminus) (λ d. records d.terminus) self.new))
+            (traffic_value T.tid T.records self.old) (AnswerAt node) (effect_value outcome)
+            (traffic_value T.tid T.records self.new))
             (λ _. Wants self.old.router.tables
-            (traffic_value (λ d. tid d.terminus) (λ d. records d.terminus) self.old) (AnswerAt node)
-            (traffic_value (λ d. tid d.terminus) (λ d. records d.terminus) self.new)) }
+            (traffic_value T.tid T.records self.old) (AnswerAt node)
+            (traffic_value T.tid T.records self.new)) }
     {
         if !self.has_node(node) {
             return Ok(Effect::Refused(Refusal::NoNode));

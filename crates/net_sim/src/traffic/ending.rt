@@ -6,8 +6,9 @@ use super::Traffic;
 use crate::effect::Effect;
 use crate::refusal::Refusal;
 use mctp_transport::Key;
+use pdr_repository::Terminus;
 
-impl<'a> Traffic<'a> {
+impl<'a, T: Terminus> Traffic<'a, T> {
     ghost use Rattle.net_check.specs.Events.{Lose, Expire};
     ghost use Rattle.net_sim.specs.Effects.{effect_value};
     ghost use Rattle.net_sim.specs.Standing.{Plays};
@@ -17,8 +18,8 @@ impl<'a> Traffic<'a> {
     pub fn lose(&mut self, number: u32) -> Effect
         ensures router { self.new.router ≡ self.old.router }
         ensures plays { Plays self.old.router.tables
-            (traffic_value (λ d. tid d.terminus) (λ d. records d.terminus) self.old) (Lose number) (effect_value result)
-            (traffic_value (λ d. tid d.terminus) (λ d. records d.terminus) self.new) }
+            (traffic_value T.tid T.records self.old) (Lose number) (effect_value result)
+            (traffic_value T.tid T.records self.new) }
     {
         if !self.flights.has(number) {
             return Effect::Refused(Refusal::NoFlight);
@@ -31,8 +32,8 @@ impl<'a> Traffic<'a> {
     pub fn expire(&mut self, node: usize, key: Key) -> Effect
         ensures router { self.new.router ≡ self.old.router }
         ensures plays { Plays self.old.router.tables
-            (traffic_value (λ d. tid d.terminus) (λ d. records d.terminus) self.old) (Expire node (key_value key)) (effect_value result)
-            (traffic_value (λ d. tid d.terminus) (λ d. records d.terminus) self.new) }
+            (traffic_value T.tid T.records self.old) (Expire node (key_value key)) (effect_value result)
+            (traffic_value T.tid T.records self.new) }
     {
         if !self.has_node(node) {
             return Effect::Refused(Refusal::NoNode);

@@ -13,6 +13,7 @@ use crate::refusal::Refusal;
 use crate::terminus_queue::{reserve_at, wait_at};
 use mctp_bridge::Decision;
 use mctp_transport::{Header, Key};
+use pdr_repository::Terminus;
 use std::alloc::AllocError;
 
 /// Room for a message that is told, and for the same message that waits.
@@ -22,7 +23,7 @@ struct Room {
     kept: Vec<u8>,
 }
 
-impl<'a> Traffic<'a> {
+impl<'a, T: Terminus> Traffic<'a, T> {
     ghost use Rattle.net_check.specs.Events.{Move};
     ghost use Rattle.net_sim.specs.Effects.{effect_value};
     ghost use Rattle.net_sim.specs.Standing.{StandsFor, Plays, Wants, Receives};
@@ -36,11 +37,11 @@ impl<'a> Traffic<'a> {
         ensures router { self.new.router ≡ self.old.router }
         ensures plays { MatchResult result
             (λ outcome. Plays self.old.router.tables
-            (traffic_value (λ d. tid d.terminus) (λ d. records d.terminus) self.old) (Move number keep) (effect_value outcome)
-            (traffic_value (λ d. tid d.terminus) (λ d. records d.terminus) self.new))
+            (traffic_value T.tid T.records self.old) (Move number keep) (effect_value outcome)
+            (traffic_value T.tid T.records self.new))
             (λ _. Wants self.old.router.tables
-            (traffic_value (λ d. tid d.terminus) (λ d. records d.terminus) self.old) (Move number keep)
-            (traffic_value (λ d. tid d.terminus) (λ d. records d.terminus) self.new)) }
+            (traffic_value T.tid T.records self.old) (Move number keep)
+            (traffic_value T.tid T.records self.new)) }
     {
         if keep {
             self.move_copy(number)
@@ -54,11 +55,11 @@ impl<'a> Traffic<'a> {
         ensures router { self.new.router ≡ self.old.router }
         ensures plays { MatchResult result
             (λ outcome. Plays self.old.router.tables
-            (traffic_value (λ d. tid d.terminus) (λ d. records d.terminus) self.old) (Move number false) (effect_value outcome)
-            (traffic_value (λ d. tid d.terminus) (λ d. records d.terminus) self.new))
+            (traffic_value T.tid T.records self.old) (Move number false) (effect_value outcome)
+            (traffic_value T.tid T.records self.new))
             (λ _. Wants self.old.router.tables
-            (traffic_value (λ d. tid d.terminus) (λ d. records d.terminus) self.old) (Move number false)
-            (traffic_value (λ d. tid d.terminus) (λ d. records d.terminus) self.new)) }
+            (traffic_value T.tid T.records self.old) (Move number false)
+            (traffic_value T.tid T.records self.new)) }
     {
         let Some(flight) = self.flights.get(number) else {
             return Ok(Effect::Refused(Refusal::NoFlight));
@@ -93,11 +94,11 @@ impl<'a> Traffic<'a> {
         ensures router { self.new.router ≡ self.old.router }
         ensures plays { MatchResult result
             (λ outcome. Plays self.old.router.tables
-            (traffic_value (λ d. tid d.terminus) (λ d. records d.terminus) self.old) (Move number true) (effect_value outcome)
-            (traffic_value (λ d. tid d.terminus) (λ d. records d.terminus) self.new))
+            (traffic_value T.tid T.records self.old) (Move number true) (effect_value outcome)
+            (traffic_value T.tid T.records self.new))
             (λ _. Wants self.old.router.tables
-            (traffic_value (λ d. tid d.terminus) (λ d. records d.terminus) self.old) (Move number true)
-            (traffic_value (λ d. tid d.terminus) (λ d. records d.terminus) self.new)) }
+            (traffic_value T.tid T.records self.old) (Move number true)
+            (traffic_value T.tid T.records self.new)) }
     {
         let Some(flight) = self.flights.get(number) else {
             return Ok(Effect::Refused(Refusal::NoFlight));
@@ -141,8 +142,8 @@ impl<'a> Traffic<'a> {
         ensures room { room_of self.new.flights ≡ room_of self.old.flights }
         ensures router { self.new.router ≡ self.old.router }
         ensures assemblers { self.new.assemblers.items ≡ self.old.assemblers.items }
-        ensures termini { (traffic_value (λ d. tid d.terminus) (λ d. records d.terminus) self.new).termini
-            ≡ (traffic_value (λ d. tid d.terminus) (λ d. records d.terminus) self.old).termini }
+        ensures termini { (traffic_value T.tid T.records self.new).termini
+            ≡ (traffic_value T.tid T.records self.old).termini }
         ensures told { IfOk result (λ room. (room.told.items ≡ []) × HasRoomAfter header room.told) }
         ensures kept { IfOk result (λ room. (room.kept.items ≡ []) × HasRoomAfter header room.kept) }
         ensures queue { OnOk result (HasRoomAt self.new node) }
@@ -160,9 +161,9 @@ impl<'a> Traffic<'a> {
         requires kept { (room.kept.items ≡ []) × HasRoomAfter flight.now.packet.header room.kept }
         requires queue { HasRoomAt self.old flight.now.node }
         ensures router { self.new.router ≡ self.old.router }
-        ensures receives { Receives (traffic_value (λ d. tid d.terminus) (λ d. records d.terminus) self.old) number
+        ensures receives { Receives (traffic_value T.tid T.records self.old) number
             (flight_value flight.now) (effect_value result)
-            (traffic_value (λ d. tid d.terminus) (λ d. records d.terminus) self.new) }
+            (traffic_value T.tid T.records self.new) }
     {
         let node = flight.node;
         let key = flight.packet.view().key();
@@ -189,7 +190,7 @@ impl<'a> Traffic<'a> {
     /// The node into which the move of a flight brings its packet, and the packet's key. None where it is refused, or the
     /// flight goes on or ends on its way.
     pub fn arrival(&self, number: u32, keep: bool) -> Option<(usize, Key)>
-        ensures { (w : NetworkState) → StandsFor (traffic_value (λ d. tid d.terminus) (λ d. records d.terminus) self.now) w
+        ensures { (w : NetworkState) → StandsFor (traffic_value T.tid T.records self.now) w
             → MatchOption result ((node : ℕ) (key : KeyValue) → ¬ Arrives self.now.router.tables w number keep node key)
             (λ at. Arrives self.now.router.tables w number keep at.0 (key_value at.1)) }
     {

@@ -11,9 +11,10 @@ use crate::flights::Flight;
 use crate::payload::take_room;
 use crate::refusal::Refusal;
 use mctp_transport::{Eid, Key, PacketView, Packets, Seq};
+use pdr_repository::Terminus;
 use std::alloc::AllocError;
 
-impl<'a> Traffic<'a> {
+impl<'a, T: Terminus> Traffic<'a, T> {
     ghost use Rattle.net_check.specs.Events.{most_flights, Put};
     ghost use Rattle.mctp_transport.specs.PacketsLeft.{frames_left};
     ghost use Rattle.net_sim.specs.Effects.{effect_value};
@@ -26,11 +27,11 @@ impl<'a> Traffic<'a> {
         ensures router { self.new.router ≡ self.old.router }
         ensures plays { MatchResult result
             (λ outcome. Plays self.old.router.tables
-            (traffic_value (λ d. tid d.terminus) (λ d. records d.terminus) self.old) (Put node bytes.now) (effect_value outcome)
-            (traffic_value (λ d. tid d.terminus) (λ d. records d.terminus) self.new))
+            (traffic_value T.tid T.records self.old) (Put node bytes.now) (effect_value outcome)
+            (traffic_value T.tid T.records self.new))
             (λ _. Wants self.old.router.tables
-            (traffic_value (λ d. tid d.terminus) (λ d. records d.terminus) self.old) (Put node bytes.now)
-            (traffic_value (λ d. tid d.terminus) (λ d. records d.terminus) self.new)) }
+            (traffic_value T.tid T.records self.old) (Put node bytes.now)
+            (traffic_value T.tid T.records self.new)) }
     {
         if !self.has_node(node) {
             return Ok(Effect::Refused(Refusal::NoNode));
@@ -73,9 +74,9 @@ impl<'a> Traffic<'a> {
         requires some { 0 < length message.now }
         requires most { length message.now ≤ 64 }
         ensures router { self.new.router ≡ self.old.router }
-        ensures puts { PutsOne self.old.router.tables (traffic_value (λ d. tid d.terminus) (λ d. records d.terminus) self.old)
+        ensures puts { PutsOne self.old.router.tables (traffic_value T.tid T.records self.old)
             node message.now destination.value (key_value key) result
-            (traffic_value (λ d. tid d.terminus) (λ d. records d.terminus) self.new) }
+            (traffic_value T.tid T.records self.new) }
     {
         let number = self.flights.next_number() as u32;
         let packets = Packets::within(self.unit(), message, destination, key, Seq::new(0));

@@ -5,9 +5,9 @@ ghost use Rattle.std.specs.Io.KnownBytes.{Appends};
 ghost use Rattle.net_plan.specs.Stream.{AppendsBeginning};
 ghost use Rattle.plan_commands.specs.declared.refused.Refused.TheVariants.{Unwritten};
 ghost use Rattle.plan_commands.specs.declared.status.Status.TheVariants.{Yes, Fault, Unreadable, NoMemory};
-ghost use Rattle.plan_commands.specs.Answers.{stream};
+ghost use Rattle.plan_commands.specs.Answers.{stream, Refuses};
 ghost use Rattle.plan_commands.specs.Linting.{clean_line};
-ghost use Rattle.plan_commands.specs.Statuses.{status_of, yes_line};
+ghost use Rattle.plan_commands.specs.Statuses.{status_of, refusal_text, IsReportedFor, yes_line};
 ghost use Rattle.plan_commands.specs.Told.{IsTold};
 
 use crate::refused::{NO_MEMORY, Refused, refusal_line};
@@ -103,14 +103,24 @@ pub fn refuse<E: Sink>(alloc: Global, refused: Refused, errors: &mut E) -> Statu
     requires { E.failures errors.old < 2 ^ 64 - 1 }
     ensures status { (result ≡ status_of refused) ⊎ (result ≡ NoMemory) }
     ensures unwritten { refused ≡ Unwritten → result ≡ Unreadable }
+    ensures refuses { let said = stream (E.contents errors.old) (E.failures errors.old) (E.contents errors.new) (E.failures errors.new) in
+        Refuses refused result said }
 {
-    let (line, status) = match refusal_line(alloc, refused) {
-        Ok(line) => (line, refused.status()),
-        Err(AllocError) => (CowStr::Borrowed(NO_MEMORY), Status::NoMemory),
-    };
+    let (reported, line) = report_of(alloc, refused);
     // Where standard error fails as well, only the status is left to tell it.
     let _ = write_whole(errors, line.as_bytes());
-    status
+    reported.status()
+}
+
+/// What is reported for a refusal, and its line. Where there is no memory for the line, this is reported.
+fn report_of(alloc: Global, refused: Refused) -> (Refused, CowStr<'static>)
+    ensures reported { IsReportedFor refused result.0 }
+    ensures line { cow_str_bytes result.1 ≡ refusal_text result.0 }
+{
+    match refusal_line(alloc, refused) {
+        Ok(line) => (refused, line),
+        Err(AllocError) => (Refused::NoMemory, CowStr::Borrowed(NO_MEMORY)),
+    }
 }
 
 /// Writes the line of an answer.
@@ -135,8 +145,10 @@ pub fn tell<O: Sink, E: Sink>(
     requires output { O.failures output.old < 2 ^ 64 - 1 }
     requires errors { E.failures errors.old < 2 ^ 64 - 1 }
     ensures told { let outputs = stream (O.contents output.old) (O.failures output.old) (O.contents output.new) (O.failures output.new) in
-        IfOk answered (λ answer. IsTold answer.status (cow_str_bytes answer.text) result outputs) }
-    ensures ends { IfErr answered (λ why. (result ≡ status_of why) ⊎ (result ≡ NoMemory)) }
+        let said = stream (E.contents errors.old) (E.failures errors.old) (E.contents errors.new) (E.failures errors.new) in
+        IfOk answered (λ answer. IsTold answer.status (cow_str_bytes answer.text) result outputs said) }
+    ensures refuses { let said = stream (E.contents errors.old) (E.failures errors.old) (E.contents errors.new) (E.failures errors.new) in
+        IfErr answered (λ why. Refuses why result said) }
     ensures untouched { OnErr answered (output.new ≡ output.old) }
     ensures silent { (result ≡ Yes) ⊎ (result ≡ Fault) → errors.new ≡ errors.old }
     ensures quiet { IfOk answered (λ _. O.failures output.new ≡ O.failures output.old → errors.new ≡ errors.old) }

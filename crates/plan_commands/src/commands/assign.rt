@@ -3,7 +3,7 @@ ghost use Rattle.std.specs.Prelude.{◌≡◌, ◌⊎◌, ◌<◌, ◌^◌, ◌-
 ghost use Rattle.plan_commands.specs.declared.status.Status.TheVariants.{Yes, Fault, Unreadable, NoMemory};
 ghost use Rattle.std.specs.Cow.{cow_str_bytes};
 ghost use Rattle.plan_commands.specs.Told.{AnswersSo};
-ghost use Rattle.plan_commands.specs.Answers.{stream, AreUnread, BreaksOff, IsAnswerOf, Tells};
+ghost use Rattle.plan_commands.specs.Answers.{stream, IsWithoutPlan, AreUnread, BreaksOff, IsAnswerOf, Tells};
 ghost use Rattle.plan_commands.specs.Assigning.{IsAssignmentText};
 
 use crate::commands::answer::{Answer, tell};
@@ -34,7 +34,8 @@ pub fn run_assign<P: Source, C: Source, O: Sink, E: Sink>(
         let certificates = stream (C.remaining certificate.old) (C.failures certificate.old)
         (C.remaining certificate.new) (C.failures certificate.new) in
         let outputs = stream (O.contents output.old) (O.failures output.old) (O.contents output.new) (O.failures output.new) in
-        Tells IsAssignmentText result plans certificates outputs }
+        let said = stream (E.contents errors.old) (E.failures errors.old) (E.contents errors.new) (E.failures errors.new) in
+        Tells IsAssignmentText result plans certificates outputs said }
     ensures silent { (result ≡ Yes) ⊎ (result ≡ Fault) → errors.new ≡ errors.old }
     ensures unwritten { let plans = stream (P.remaining plan.old) (P.failures plan.old) (P.remaining plan.new) (P.failures plan.new) in
         let certificates = stream (C.remaining certificate.old) (C.failures certificate.old)
@@ -42,6 +43,8 @@ pub fn run_assign<P: Source, C: Source, O: Sink, E: Sink>(
         let outputs = stream (O.contents output.old) (O.failures output.old) (O.contents output.new) (O.failures output.new) in
         result ≡ Unreadable → (output.new ≡ output.old) ⊎ BreaksOff (IsAnswerOf IsAssignmentText plans certificates) outputs }
     ensures no_memory { result ≡ NoMemory → output.new ≡ output.old }
+    ensures in_order { let plans = stream (P.remaining plan.old) (P.failures plan.old) (P.remaining plan.new) (P.failures plan.new) in
+        IsWithoutPlan plans → certificate.new ≡ certificate.old }
 {
     let answered = answer_assign(alloc, plan, certificate);
     tell(alloc, answered, output, errors)
@@ -62,6 +65,8 @@ fn answer_assign<P: Source, C: Source>(
         let certificates = stream (C.remaining certificate.old) (C.failures certificate.old)
         (C.remaining certificate.new) (C.failures certificate.new) in
         IfErr result (λ why. AreUnread why plans certificates) }
+    ensures in_order { let plans = stream (P.remaining plan.old) (P.failures plan.old) (P.remaining plan.new) (P.failures plan.new) in
+        IsWithoutPlan plans → certificate.new ≡ certificate.old }
 {
     let (plan, certificate) = read_inputs(alloc, plan, certificate)?;
     match check(alloc, &plan, &certificate) {

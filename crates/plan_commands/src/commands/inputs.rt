@@ -1,6 +1,6 @@
 //! The files that commands read.
 ghost use Rattle.std.specs.Prelude.{◌≡◌, ◌<◌, ◌^◌, ◌-◌, IfOk, IfErr};
-ghost use Rattle.plan_commands.specs.Answers.{stream, GavePlan, GaveCertificate, IsPlanUnread, IsCertificateUnread, AreGiven, AreUnread};
+ghost use Rattle.plan_commands.specs.Answers.{stream, IsWithoutPlan, GavePlan, GaveCertificate, IsPlanUnread, IsCertificateUnread, AreGiven, AreUnread};
 ghost use Rattle.net_plan.specs.CertificateText.{IsCertificateOf};
 ghost use Rattle.net_plan.specs.CertificateValues.{certificate_value};
 ghost use Rattle.net_plan.specs.PlanText.{IsPlanOf};
@@ -170,6 +170,8 @@ pub fn read_inputs<P: Source, C: Source>(
         let certificates = stream (C.remaining certificate.old) (C.failures certificate.old)
         (C.remaining certificate.new) (C.failures certificate.new) in
         IfErr result (λ refused. AreUnread refused plans certificates) }
+    ensures in_order { let plans = stream (P.remaining plan.old) (P.failures plan.old) (P.remaining plan.new) (P.failures plan.new) in
+        IsWithoutPlan plans → certificate.new ≡ certificate.old }
 {
     let plan = given_plan(alloc, plan)?;
     let certificate = given_certificate(alloc, &plan, certificate)?;
@@ -198,6 +200,10 @@ pub fn read_move<P: Source, Q: Source, C: Source>(
         let certificates = stream (C.remaining certificate.old) (C.failures certificate.old)
         (C.remaining certificate.new) (C.failures certificate.new) in
         IfErr result (λ refused. IsMoveUnread refused befores afters certificates) }
+    ensures in_order { let befores = stream (P.remaining before.old) (P.failures before.old) (P.remaining before.new) (P.failures before.new) in
+        IsWithoutPlan befores → (after.new ≡ after.old) × (certificate.new ≡ certificate.old) }
+    ensures after_in_order { let afters = stream (Q.remaining after.old) (Q.failures after.old) (Q.remaining after.new) (Q.failures after.new) in
+        IsWithoutPlan afters → certificate.new ≡ certificate.old }
 {
     let before = given_plan(alloc, before)?;
     let after = given_plan(alloc, after)?;

@@ -19,7 +19,8 @@ pub fn run_known<O: Sink, E: Sink>(
     requires output { O.failures output.old < 2 ^ 64 - 1 }
     requires errors { E.failures errors.old < 2 ^ 64 - 1 }
     ensures told { let outputs = stream (O.contents output.old) (O.failures output.old) (O.contents output.new) (O.failures output.new) in
-        IsTold Yes text.now result outputs }
+        let said = stream (E.contents errors.old) (E.failures errors.old) (E.contents errors.new) (E.failures errors.new) in
+        IsTold Yes text.now result outputs said }
     ensures silent { result ≡ Yes → errors.new ≡ errors.old }
 {
     tell(alloc, Ok(Answer::known(text)), output, errors)

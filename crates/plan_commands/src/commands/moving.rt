@@ -3,7 +3,7 @@ ghost use Rattle.std.specs.Prelude.{◌≡◌, ◌⊎◌, ◌<◌, ◌^◌, ◌-
 ghost use Rattle.plan_commands.specs.declared.refused.Refused.TheVariants.{Unwritten};
 ghost use Rattle.std.specs.Cow.{cow_str_bytes};
 ghost use Rattle.plan_commands.specs.declared.status.Status.TheVariants.{Yes, Fault, Unreadable, NoMemory};
-ghost use Rattle.plan_commands.specs.Answers.{stream, BreaksOff, FailsToPrint};
+ghost use Rattle.plan_commands.specs.Answers.{stream, IsWithoutPlan, BreaksOff, FailsToPrint};
 ghost use Rattle.plan_commands.specs.Moving.{AnswersMoveSo, IsMoveAnswer, IsMoveErrorText, PrintsMoveError, IsMoveUnread, EndsMove};
 
 use crate::commands::answer::{Answer, print, tell};
@@ -36,7 +36,8 @@ pub fn run_move<P: Source, Q: Source, C: Source, O: Sink, E: Sink>(
         let certificates = stream (C.remaining certificate.old) (C.failures certificate.old)
         (C.remaining certificate.new) (C.failures certificate.new) in
         let outputs = stream (O.contents output.old) (O.failures output.old) (O.contents output.new) (O.failures output.new) in
-        EndsMove result befores afters certificates outputs }
+        let said = stream (E.contents errors.old) (E.failures errors.old) (E.contents errors.new) (E.failures errors.new) in
+        EndsMove result befores afters certificates outputs said }
     ensures silent { (result ≡ Yes) ⊎ (result ≡ Fault) → errors.new ≡ errors.old }
     ensures unwritten { let befores = stream (P.remaining before.old) (P.failures before.old) (P.remaining before.new) (P.failures before.new) in
         let afters = stream (Q.remaining after.old) (Q.failures after.old) (Q.remaining after.new) (Q.failures after.new) in
@@ -45,6 +46,10 @@ pub fn run_move<P: Source, Q: Source, C: Source, O: Sink, E: Sink>(
         let outputs = stream (O.contents output.old) (O.failures output.old) (O.contents output.new) (O.failures output.new) in
         result ≡ Unreadable → (output.new ≡ output.old) ⊎ BreaksOff (IsMoveAnswer befores afters certificates) outputs }
     ensures no_memory { result ≡ NoMemory → output.new ≡ output.old }
+    ensures in_order { let befores = stream (P.remaining before.old) (P.failures before.old) (P.remaining before.new) (P.failures before.new) in
+        IsWithoutPlan befores → (after.new ≡ after.old) × (certificate.new ≡ certificate.old) }
+    ensures after_in_order { let afters = stream (Q.remaining after.old) (Q.failures after.old) (Q.remaining after.new) (Q.failures after.new) in
+        IsWithoutPlan afters → certificate.new ≡ certificate.old }
 {
     let answered = answer_move(alloc, before, after, certificate);
     tell(alloc, answered, output, errors)
@@ -69,6 +74,10 @@ fn answer_move<P: Source, Q: Source, C: Source>(
         let certificates = stream (C.remaining certificate.old) (C.failures certificate.old)
         (C.remaining certificate.new) (C.failures certificate.new) in
         IfErr result (λ why. IsMoveUnread why befores afters certificates) }
+    ensures in_order { let befores = stream (P.remaining before.old) (P.failures before.old) (P.remaining before.new) (P.failures before.new) in
+        IsWithoutPlan befores → (after.new ≡ after.old) × (certificate.new ≡ certificate.old) }
+    ensures after_in_order { let afters = stream (Q.remaining after.old) (Q.failures after.old) (Q.remaining after.new) (Q.failures after.new) in
+        IsWithoutPlan afters → certificate.new ≡ certificate.old }
 {
     let (before, after, certificate) = read_move(alloc, before, after, certificate)?;
     match check_move(alloc, &before, &after, &certificate) {

@@ -34,7 +34,8 @@ pub fn run_show<O: Sink, E: Sink>(
     requires output { O.failures output.old < 2 ^ 64 - 1 }
     requires errors { E.failures errors.old < 2 ^ 64 - 1 }
     ensures shows { let outputs = stream (O.contents output.old) (O.failures output.old) (O.contents output.new) (O.failures output.new) in
-        Shows result kind hex.now outputs }
+        let said = stream (E.contents errors.old) (E.failures errors.old) (E.contents errors.new) (E.failures errors.new) in
+        Shows result kind hex.now outputs said }
     ensures silent { (result ≡ Yes) ⊎ (result ≡ Fault) → errors.new ≡ errors.old }
     ensures unwritten { let outputs = stream (O.contents output.old) (O.failures output.old) (O.contents output.new) (O.failures output.new) in
         result ≡ Unreadable → (output.new ≡ output.old) ⊎ BreaksOff (IsShowAnswer kind hex.now) outputs }

@@ -7,6 +7,7 @@ ghost use Rattle.net_check.specs.Walkers.{WalkedState, WalkedEvent, walked_at_st
 ghost use Rattle.net_sim.specs.Dealing.{resting, at_rest, planned_termini};
 ghost use Rattle.net_sim.specs.Outcomes.{event_value, outcome_value};
 ghost use Rattle.net_sim.specs.Played.{IsRunOf};
+ghost use Rattle.net_sim.specs.Promised.{IsPromised};
 ghost use Rattle.net_sim.specs.WalkedStanding.{NetworkValue, without_walkers};
 ghost use Rattle.net_sim.specs.Walks.{HaveWalked};
 ghost use Rattle.plan_commands.specs.Answers.{stream};
@@ -33,10 +34,10 @@ use std::alloc::Global;
 /// are those of a run from rest over these termini. Where the termini are as planned, it is a run from the start. In it
 /// a walker collects the planned records, where nobody else puts packets in under its keys. Where memory runs out, the
 /// lines of what was played before are out, and `errors` says so.
-pub fn run_sim<O: Sink, E: Sink>(
+pub fn run_sim<T: Terminus, O: Sink, E: Sink>(
     alloc: Global,
     checked: Checked,
-    termini: Vec<Box<dyn Terminus>>,
+    termini: Vec<T>,
     events: &[Event],
     output: &mut O,
     errors: &mut E,
@@ -45,14 +46,16 @@ pub fn run_sim<O: Sink, E: Sink>(
     requires errors { E.failures errors.old < 2 ^ 64 - 1 }
     requires termini { length termini.items ≡ length (planned_termini checked.0 checked.1) }
     ensures plays { let outputs = stream (O.contents output.old) (O.failures output.old) (O.contents output.new) (O.failures output.new) in
-        map (resting (λ b. tid b) (λ b. records b)) termini.items ≡ planned_termini checked.entry.0 checked.entry.1
+        map (resting T.tid T.records) termini.items ≡ planned_termini checked.entry.0 checked.entry.1
         → Simulates checked.entry.0 checked.entry.1 (map event_value events.now) result outputs }
     ensures rests { let outputs = stream (O.contents output.old) (O.failures output.old) (O.contents output.new) (O.failures output.new) in
-        SimulatesFrom (one_plan checked.entry.0) (without_walkers (at_rest checked.entry.0 (map (resting (λ b. tid b) (λ b. records b)) termini.items)))
+        SimulatesFrom (one_plan checked.entry.0) (without_walkers (at_rest checked.entry.0 (map (resting T.tid T.records) termini.items)))
         (map event_value events.now) result outputs }
     ensures lists { let outputs = stream (O.contents output.old) (O.failures output.old) (O.contents output.new) (O.failures output.new) in
         EndsShowing result (ShowsAtMost checked.entry.0 (length events.now) outputs) (ShowsOutcomes checked.entry.0 (length events.now) outputs)
         (AreLinesAtMost checked.entry.0 (length events.now)) outputs }
+    // Every run of the network with its walkers keeps the headline, and what is promised of deliveries.
+    ensures promises { IsPromised (one_plan checked.entry.0) checked.entry.1 }
     ensures silent { result ≡ Yes → errors.new ≡ errors.old }
 {
     match answer_sim(alloc, checked, termini, events, output) {
@@ -61,28 +64,29 @@ pub fn run_sim<O: Sink, E: Sink>(
     }
 }
 
-fn answer_sim<O: Sink>(
+fn answer_sim<T: Terminus, O: Sink>(
     alloc: Global,
     checked: Checked,
-    termini: Vec<Box<dyn Terminus>>,
+    termini: Vec<T>,
     events: &[Event],
     output: &mut O,
 ) -> Result<(), Refused>
     requires output { O.failures output.old < 2 ^ 64 - 1 }
     requires termini { length termini.items ≡ length (planned_termini checked.0 checked.1) }
     ensures plays { let outputs = stream (O.contents output.old) (O.failures output.old) (O.contents output.new) (O.failures output.new) in
-        map (resting (λ b. tid b) (λ b. records b)) termini.items ≡ planned_termini checked.entry.0 checked.entry.1
+        map (resting T.tid T.records) termini.items ≡ planned_termini checked.entry.0 checked.entry.1
         → ShowsAllOr result (ShowsBegunWalks (one_plan checked.entry.0) checked.entry.1 (map event_value events.now) outputs)
         (ShowsWalks (one_plan checked.entry.0) checked.entry.1 (map event_value events.now) outputs)
         (IsWalksText (one_plan checked.entry.0) checked.entry.1 (map event_value events.now)) outputs }
     ensures rests { let outputs = stream (O.contents output.old) (O.failures output.old) (O.contents output.new) (O.failures output.new) in
-        let start = without_walkers (at_rest checked.entry.0 (map (resting (λ b. tid b) (λ b. records b)) termini.items)) in
+        let start = without_walkers (at_rest checked.entry.0 (map (resting T.tid T.records) termini.items)) in
         ShowsAllOr result (ShowsBeginning (one_plan checked.entry.0) start (map event_value events.now) outputs)
         (ShowsRun (one_plan checked.entry.0) start (map event_value events.now) outputs)
         (IsRunText (one_plan checked.entry.0) start (map event_value events.now)) outputs }
     ensures lists { let outputs = stream (O.contents output.old) (O.failures output.old) (O.contents output.new) (O.failures output.new) in
         ShowsAllOr result (ShowsAtMost checked.entry.0 (length events.now) outputs) (ShowsOutcomes checked.entry.0 (length events.now) outputs)
         (AreLinesAtMost checked.entry.0 (length events.now)) outputs }
+    ensures promises { IsPromised (one_plan checked.entry.0) checked.entry.1 }
 {
     let plan = checked.plan();
     let mut network = Network::new(alloc, checked, termini)?;
@@ -96,10 +100,10 @@ fn answer_sim<O: Sink>(
 /// run from rest over these termini. Where the termini are as planned, it is a run from the start. In it a walker
 /// collects the planned records, where nobody else puts packets in under its keys. Where memory runs out, the lines of
 /// what was played before are out, and `errors` says so.
-pub fn run_simmove<O: Sink, E: Sink>(
+pub fn run_simmove<T: Terminus, O: Sink, E: Sink>(
     alloc: Global,
     checked: CheckedMove,
-    termini: Vec<Box<dyn Terminus>>,
+    termini: Vec<T>,
     events: &[Event],
     output: &mut O,
     errors: &mut E,
@@ -108,14 +112,16 @@ pub fn run_simmove<O: Sink, E: Sink>(
     requires errors { E.failures errors.old < 2 ^ 64 - 1 }
     requires termini { length termini.items ≡ length (planned_termini checked.0 checked.2) }
     ensures plays { let outputs = stream (O.contents output.old) (O.failures output.old) (O.contents output.new) (O.failures output.new) in
-        map (resting (λ b. tid b) (λ b. records b)) termini.items ≡ planned_termini checked.entry.0 checked.entry.2
+        map (resting T.tid T.records) termini.items ≡ planned_termini checked.entry.0 checked.entry.2
         → SimulatesBy (moving checked.entry.0 checked.entry.1) checked.entry.2 (map event_value events.now) result outputs }
     ensures rests { let outputs = stream (O.contents output.old) (O.failures output.old) (O.contents output.new) (O.failures output.new) in
-        SimulatesFrom (moving checked.entry.0 checked.entry.1) (without_walkers (at_rest checked.entry.0 (map (resting (λ b. tid b) (λ b. records b)) termini.items)))
+        SimulatesFrom (moving checked.entry.0 checked.entry.1) (without_walkers (at_rest checked.entry.0 (map (resting T.tid T.records) termini.items)))
         (map event_value events.now) result outputs }
     ensures lists { let outputs = stream (O.contents output.old) (O.failures output.old) (O.contents output.new) (O.failures output.new) in
         EndsShowing result (ShowsAtMost checked.entry.0 (length events.now) outputs) (ShowsOutcomes checked.entry.0 (length events.now) outputs)
         (AreLinesAtMost checked.entry.0 (length events.now)) outputs }
+    // Every run of the network with its walkers keeps the headline, and what is promised of deliveries.
+    ensures promises { IsPromised (moving checked.entry.0 checked.entry.1) checked.entry.2 }
     ensures silent { result ≡ Yes → errors.new ≡ errors.old }
 {
     match answer_simmove(alloc, checked, termini, events, output) {
@@ -124,28 +130,29 @@ pub fn run_simmove<O: Sink, E: Sink>(
     }
 }
 
-fn answer_simmove<O: Sink>(
+fn answer_simmove<T: Terminus, O: Sink>(
     alloc: Global,
     checked: CheckedMove,
-    termini: Vec<Box<dyn Terminus>>,
+    termini: Vec<T>,
     events: &[Event],
     output: &mut O,
 ) -> Result<(), Refused>
     requires output { O.failures output.old < 2 ^ 64 - 1 }
     requires termini { length termini.items ≡ length (planned_termini checked.0 checked.2) }
     ensures plays { let outputs = stream (O.contents output.old) (O.failures output.old) (O.contents output.new) (O.failures output.new) in
-        map (resting (λ b. tid b) (λ b. records b)) termini.items ≡ planned_termini checked.entry.0 checked.entry.2
+        map (resting T.tid T.records) termini.items ≡ planned_termini checked.entry.0 checked.entry.2
         → ShowsAllOr result (ShowsBegunWalks (moving checked.entry.0 checked.entry.1) checked.entry.2 (map event_value events.now) outputs)
         (ShowsWalks (moving checked.entry.0 checked.entry.1) checked.entry.2 (map event_value events.now) outputs)
         (IsWalksText (moving checked.entry.0 checked.entry.1) checked.entry.2 (map event_value events.now)) outputs }
     ensures rests { let outputs = stream (O.contents output.old) (O.failures output.old) (O.contents output.new) (O.failures output.new) in
-        let start = without_walkers (at_rest checked.entry.0 (map (resting (λ b. tid b) (λ b. records b)) termini.items)) in
+        let start = without_walkers (at_rest checked.entry.0 (map (resting T.tid T.records) termini.items)) in
         ShowsAllOr result (ShowsBeginning (moving checked.entry.0 checked.entry.1) start (map event_value events.now) outputs)
         (ShowsRun (moving checked.entry.0 checked.entry.1) start (map event_value events.now) outputs)
         (IsRunText (moving checked.entry.0 checked.entry.1) start (map event_value events.now)) outputs }
     ensures lists { let outputs = stream (O.contents output.old) (O.failures output.old) (O.contents output.new) (O.failures output.new) in
         ShowsAllOr result (ShowsAtMost checked.entry.0 (length events.now) outputs) (ShowsOutcomes checked.entry.0 (length events.now) outputs)
         (AreLinesAtMost checked.entry.0 (length events.now)) outputs }
+    ensures promises { IsPromised (moving checked.entry.0 checked.entry.1) checked.entry.2 }
 {
     let before = checked.before();
     let mut network = Network::new_move(alloc, checked, termini)?;

@@ -2,7 +2,7 @@
 ghost use Rattle.std.specs.Prelude.{◌≡◌, ◌⊎◌, ◌<◌, ◌^◌, ◌-◌, IfOk, IfErr, string_bytes};
 ghost use Rattle.std.specs.Cow.{cow_str_bytes};
 ghost use Rattle.plan_commands.specs.declared.status.Status.TheVariants.{Yes, Fault, Unreadable, NoMemory};
-ghost use Rattle.plan_commands.specs.Answers.{stream, BreaksOff, IsAnswerOf};
+ghost use Rattle.plan_commands.specs.Answers.{stream, IsWithoutPlan, BreaksOff, IsAnswerOf};
 ghost use Rattle.plan_commands.specs.Tracing.{TracesSo, IsWayText, IsTraceText, IsUntracedFor, Traces};
 
 mod ends;
@@ -40,7 +40,8 @@ pub fn run_trace<P: Source, C: Source, O: Sink, E: Sink>(
         let certificates = stream (C.remaining certificate.old) (C.failures certificate.old)
         (C.remaining certificate.new) (C.failures certificate.new) in
         let outputs = stream (O.contents output.old) (O.failures output.old) (O.contents output.new) (O.failures output.new) in
-        Traces result from.now to.now plans certificates outputs }
+        let said = stream (E.contents errors.old) (E.failures errors.old) (E.contents errors.new) (E.failures errors.new) in
+        Traces result from.now to.now plans certificates outputs said }
     ensures silent { (result ≡ Yes) ⊎ (result ≡ Fault) → errors.new ≡ errors.old }
     ensures unwritten { let plans = stream (P.remaining plan.old) (P.failures plan.old) (P.remaining plan.new) (P.failures plan.new) in
         let certificates = stream (C.remaining certificate.old) (C.failures certificate.old)
@@ -48,6 +49,8 @@ pub fn run_trace<P: Source, C: Source, O: Sink, E: Sink>(
         let outputs = stream (O.contents output.old) (O.failures output.old) (O.contents output.new) (O.failures output.new) in
         result ≡ Unreadable → (output.new ≡ output.old) ⊎ BreaksOff (IsAnswerOf (IsTraceText from.now to.now) plans certificates) outputs }
     ensures no_memory { result ≡ NoMemory → output.new ≡ output.old }
+    ensures in_order { let plans = stream (P.remaining plan.old) (P.failures plan.old) (P.remaining plan.new) (P.failures plan.new) in
+        IsWithoutPlan plans → certificate.new ≡ certificate.old }
 {
     let answered = answer_trace(alloc, plan, certificate, from, to);
     tell(alloc, answered, output, errors)
@@ -70,6 +73,8 @@ fn answer_trace<P: Source, C: Source>(
         let certificates = stream (C.remaining certificate.old) (C.failures certificate.old)
         (C.remaining certificate.new) (C.failures certificate.new) in
         IfErr result (λ why. IsUntracedFor why from.now to.now plans certificates) }
+    ensures in_order { let plans = stream (P.remaining plan.old) (P.failures plan.old) (P.remaining plan.new) (P.failures plan.new) in
+        IsWithoutPlan plans → certificate.new ≡ certificate.old }
 {
     let (plan, certificate) = read_inputs(alloc, plan, certificate)?;
     let Some((sender, destination)) = named_ends(&plan, from, to) else {

@@ -4,7 +4,7 @@ ghost use Rattle.net_check.specs.Repositories.{terminus_of, records_by_place};
 ghost use Rattle.net_check.specs.Rules.{Accepts};
 ghost use Rattle.std.specs.Cow.{cow_str_bytes};
 ghost use Rattle.plan_commands.specs.declared.status.Status.TheVariants.{Yes, Fault, Unreadable, NoMemory};
-ghost use Rattle.plan_commands.specs.Answers.{stream, BreaksOff, IsAnswerOf};
+ghost use Rattle.plan_commands.specs.Answers.{stream, IsWithoutPlan, BreaksOff, IsAnswerOf};
 ghost use Rattle.plan_commands.specs.Collecting.{EndsEarlyFor};
 ghost use Rattle.plan_commands.specs.Walking.{walk_text, WalksSo, IsWalkText, IsUnwalkedFor, Walks};
 
@@ -65,7 +65,8 @@ pub fn run_walk<P: Source, C: Source, O: Sink, E: Sink>(
         let certificates = stream (C.remaining certificate.old) (C.failures certificate.old)
         (C.remaining certificate.new) (C.failures certificate.new) in
         let outputs = stream (O.contents output.old) (O.failures output.old) (O.contents output.new) (O.failures output.new) in
-        Walks result node.now part.bytes plans certificates outputs }
+        let said = stream (E.contents errors.old) (E.failures errors.old) (E.contents errors.new) (E.failures errors.new) in
+        Walks result node.now part.bytes plans certificates outputs said }
     ensures silent { (result ≡ Yes) ⊎ (result ≡ Fault) → errors.new ≡ errors.old }
     ensures unwritten { let plans = stream (P.remaining plan.old) (P.failures plan.old) (P.remaining plan.new) (P.failures plan.new) in
         let certificates = stream (C.remaining certificate.old) (C.failures certificate.old)
@@ -73,6 +74,8 @@ pub fn run_walk<P: Source, C: Source, O: Sink, E: Sink>(
         let outputs = stream (O.contents output.old) (O.failures output.old) (O.contents output.new) (O.failures output.new) in
         result ≡ Unreadable → (output.new ≡ output.old) ⊎ BreaksOff (IsAnswerOf (IsWalkText node.now part.bytes) plans certificates) outputs }
     ensures no_memory { result ≡ NoMemory → output.new ≡ output.old }
+    ensures in_order { let plans = stream (P.remaining plan.old) (P.failures plan.old) (P.remaining plan.new) (P.failures plan.new) in
+        IsWithoutPlan plans → certificate.new ≡ certificate.old }
 {
     let answered = answer_walk(alloc, plan, certificate, node, part);
     tell(alloc, answered, output, errors)
@@ -95,6 +98,8 @@ fn answer_walk<P: Source, C: Source>(
         let certificates = stream (C.remaining certificate.old) (C.failures certificate.old)
         (C.remaining certificate.new) (C.failures certificate.new) in
         IfErr result (λ why. IsUnwalkedFor why node.now plans certificates) }
+    ensures in_order { let plans = stream (P.remaining plan.old) (P.failures plan.old) (P.remaining plan.new) (P.failures plan.new) in
+        IsWithoutPlan plans → certificate.new ≡ certificate.old }
 {
     let (plan, certificate) = read_inputs(alloc, plan, certificate)?;
     let Some((index, terminus)) = named_terminus(&plan, node) else {

@@ -15,9 +15,10 @@ use crate::outcome::Outcome;
 use crate::refusal::Refusal;
 use crate::traffic::Traffic;
 use crate::walk_refusal::WalkRefusal;
+use pdr_repository::Terminus;
 use std::alloc::AllocError;
 
-impl<'a> Network<'a> {
+impl<'a, T: Terminus> Network<'a, T> {
     ghost use Rattle.net_check.specs.Walkers.{Ask};
     ghost use Rattle.net_sim.specs.Outcomes.{outcome_value};
     ghost use Rattle.net_sim.specs.WalkedStanding.{WalkedPlays, WalkedWants};
@@ -28,11 +29,11 @@ impl<'a> Network<'a> {
         ensures checked { checked_of self.new ≡ checked_of self.old }
         ensures plays { MatchResult result
             (λ outcome. WalkedPlays (checked_of self.old).0
-            (network_value (λ d. tid d.terminus) (λ d. records d.terminus) self.old) (Ask number) (outcome_value outcome)
-            (network_value (λ d. tid d.terminus) (λ d. records d.terminus) self.new))
+            (network_value T.tid T.records self.old) (Ask number) (outcome_value outcome)
+            (network_value T.tid T.records self.new))
             (λ _. WalkedWants (checked_of self.old).0
-            (network_value (λ d. tid d.terminus) (λ d. records d.terminus) self.old) (Ask number)
-            (network_value (λ d. tid d.terminus) (λ d. records d.terminus) self.new)) }
+            (network_value T.tid T.records self.old) (Ask number)
+            (network_value T.tid T.records self.new)) }
     {
         if self.traffic.left() < 1 {
             return Ok(Outcome::Refused(WalkRefusal::Shared(Refusal::NoNumbers)));
@@ -55,9 +56,9 @@ impl<'a> Network<'a> {
 }
 
 /// Why the walker can't ask, if so: its walk is over, or a new request of it has to wait.
-fn why_not_ask(traffic: &Traffic, walker: &NetworkWalker) -> Option<WalkRefusal>
+fn why_not_ask<T: Terminus>(traffic: &Traffic<T>, walker: &NetworkWalker) -> Option<WalkRefusal>
     requires { (walker_value walker.now).node < length (traffic_checked traffic.now).0.plan.nodes.items }
-    ensures { (w : NetworkState) → StandsFor (traffic_value (λ d. tid d.terminus) (λ d. records d.terminus) traffic.now) w
+    ensures { (w : NetworkState) → StandsFor (traffic_value T.tid T.records traffic.now) w
         → MatchOption result (MayAsk (traffic_checked traffic.now).0.plan w (walker_value walker.now))
         (λ why. MayNotAsk (traffic_checked traffic.now).0.plan w (walker_value walker.now) (walk_refusal_value why)) }
 {
@@ -71,9 +72,9 @@ fn why_not_ask(traffic: &Traffic, walker: &NetworkWalker) -> Option<WalkRefusal>
 }
 
 /// Whether the keys of the walker's requests and of their answers are settled.
-fn are_settled(traffic: &Traffic, walker: &NetworkWalker) -> bool
+fn are_settled<T: Terminus>(traffic: &Traffic<T>, walker: &NetworkWalker) -> bool
     requires { (walker_value walker.now).node < length (traffic_checked traffic.now).0.plan.nodes.items }
-    ensures { (w : NetworkState) (own : ℕ) → StandsFor (traffic_value (λ d. tid d.terminus) (λ d. records d.terminus) traffic.now) w
+    ensures { (w : NetworkState) (own : ℕ) → StandsFor (traffic_value T.tid T.records traffic.now) w
         → Holds (traffic_checked traffic.now).0.plan (walker_value walker.now).node own
         → IsTrue result ↔ AreSettled (traffic_checked traffic.now).0.plan w own (walker_value walker.now) }
 {
@@ -83,15 +84,15 @@ fn are_settled(traffic: &Traffic, walker: &NetworkWalker) -> bool
 }
 
 /// Puts the walker's request in at its node, under the number that is told. None where its walk is over.
-fn put_request(traffic: &mut Traffic, walker: &mut NetworkWalker) -> Option<u32>
+fn put_request<T: Terminus>(traffic: &mut Traffic<T>, walker: &mut NetworkWalker) -> Option<u32>
     requires node { (walker_value walker.old).node < length (traffic_checked traffic.old).0.plan.nodes.items }
     requires room { HasNumberAndRoom traffic.old }
     ensures checked { traffic_checked traffic.new ≡ traffic_checked traffic.old }
     ensures puts { MatchOption result
         (IsOver (walker_value walker.old) × (walker_value walker.new ≡ walker_value walker.old)
-        × (traffic_value (λ d. tid d.terminus) (λ d. records d.terminus) traffic.new ≡ traffic_value (λ d. tid d.terminus) (λ d. records d.terminus) traffic.old))
-        (λ number. PutsRequest (traffic_checked traffic.old).0 (traffic_value (λ d. tid d.terminus) (λ d. records d.terminus) traffic.old) (walker_value walker.old) number
-        (traffic_value (λ d. tid d.terminus) (λ d. records d.terminus) traffic.new) (walker_value walker.new)) }
+        × (traffic_value T.tid T.records traffic.new ≡ traffic_value T.tid T.records traffic.old))
+        (λ number. PutsRequest (traffic_checked traffic.old).0 (traffic_value T.tid T.records traffic.old) (walker_value walker.old) number
+        (traffic_value T.tid T.records traffic.new) (walker_value walker.new)) }
 {
     let own = traffic.eid_at(walker.node());
     let request = walker.next_request()?;

@@ -7,13 +7,13 @@ use crate::outcome::Outcome;
 use crate::refusal::Refusal;
 use crate::walk_refusal::WalkRefusal;
 use mctp_transport::{Eid, Tag};
-use pdr_repository::five_packets;
+use pdr_repository::{Terminus, five_packets};
 use std::alloc::AllocError;
 
 /// The fewest bytes that a request may ask for.
 const LEAST_COUNT: u16 = 8;
 
-impl<'a> Network<'a> {
+impl<'a, T: Terminus> Network<'a, T> {
     ghost use Rattle.net_check.specs.Walkers.{WalkedState, BeginWalk};
     ghost use Rattle.net_sim.specs.Requests.{WhyNot};
     ghost use Rattle.net_sim.specs.Outcomes.{outcome_value, walk_refusal_value};
@@ -32,11 +32,11 @@ impl<'a> Network<'a> {
         ensures checked { checked_of self.new ≡ checked_of self.old }
         ensures plays { MatchResult result
             (λ outcome. WalkedPlays (checked_of self.old).0
-            (network_value (λ d. tid d.terminus) (λ d. records d.terminus) self.old) (BeginWalk node eid.value tag.value count) (outcome_value outcome)
-            (network_value (λ d. tid d.terminus) (λ d. records d.terminus) self.new))
+            (network_value T.tid T.records self.old) (BeginWalk node eid.value tag.value count) (outcome_value outcome)
+            (network_value T.tid T.records self.new))
             (λ _. WalkedWants (checked_of self.old).0
-            (network_value (λ d. tid d.terminus) (λ d. records d.terminus) self.old) (BeginWalk node eid.value tag.value count)
-            (network_value (λ d. tid d.terminus) (λ d. records d.terminus) self.new)) }
+            (network_value T.tid T.records self.old) (BeginWalk node eid.value tag.value count)
+            (network_value T.tid T.records self.new)) }
     {
         if let Some(why) = self.why_not_begin(node, eid, tag, count) {
             return Ok(Outcome::Refused(why));
@@ -51,7 +51,7 @@ impl<'a> Network<'a> {
 
     /// Why no such walk can begin, if so.
     fn why_not_begin(&self, node: usize, eid: Eid, tag: Tag, count: u16) -> Option<WalkRefusal>
-        ensures first { (w : WalkedState) → StandsForWalked (network_value (λ d. tid d.terminus) (λ d. records d.terminus) self.now) w
+        ensures first { (w : WalkedState) → StandsForWalked (network_value T.tid T.records self.now) w
             → WhyNot (checked_of self.now).0.plan w (BeginWalk node eid.value tag.value count) (option_map walk_refusal_value result) }
         ensures node { IfNone result (node < length (checked_of self.now).0.plan.nodes.items) }
         ensures count { IfNone result ((8 ≤ count) × (count ≤ 4079)) }

@@ -10,9 +10,10 @@ use crate::network::Network;
 use crate::network_walker::NetworkWalker;
 use crate::outcome::Outcome;
 use mctp_transport::Key;
+use pdr_repository::Terminus;
 use std::alloc::AllocError;
 
-impl<'a> Network<'a> {
+impl<'a, T: Terminus> Network<'a, T> {
     ghost use Rattle.mctp_transport.specs.Packets.{key_value};
     ghost use Rattle.mctp_transport.specs.Frames.{KeyValue};
     ghost use Rattle.net_check.specs.Events.{Move};
@@ -29,11 +30,11 @@ impl<'a> Network<'a> {
         ensures checked { checked_of self.new ≡ checked_of self.old }
         ensures plays { MatchResult result
             (λ outcome. WalkedPlays (checked_of self.old).0
-            (network_value (λ d. tid d.terminus) (λ d. records d.terminus) self.old) (Happening (Move number keep)) (outcome_value outcome)
-            (network_value (λ d. tid d.terminus) (λ d. records d.terminus) self.new))
+            (network_value T.tid T.records self.old) (Happening (Move number keep)) (outcome_value outcome)
+            (network_value T.tid T.records self.new))
             (λ _. WalkedWants (checked_of self.old).0
-            (network_value (λ d. tid d.terminus) (λ d. records d.terminus) self.old) (Happening (Move number keep))
-            (network_value (λ d. tid d.terminus) (λ d. records d.terminus) self.new)) }
+            (network_value T.tid T.records self.old) (Happening (Move number keep))
+            (network_value T.tid T.records self.new)) }
     {
         let Some(index) = self.listener(number, keep) else {
             let effect = self.traffic.move_flight(number, keep)?;
@@ -50,11 +51,11 @@ impl<'a> Network<'a> {
 
     /// The index of the first walker for which a message is that comes with the move, if it brings a packet in at a node.
     fn listener(&self, number: u32, keep: bool) -> Option<usize>
-        ensures index { (w : WalkedState) → StandsForWalked (network_value (λ d. tid d.terminus) (λ d. records d.terminus) self.now) w
+        ensures index { (w : WalkedState) → StandsForWalked (network_value T.tid T.records self.now) w
             → MatchOption result
             ((node : ℕ) (key : KeyValue) (k : ℕ) (walker : WalkerValue) → Arrives (checked_of self.now).0 w.network number keep node key
-            → slice_get (network_value (λ d. tid d.terminus) (λ d. records d.terminus) self.now).walkers k ≡ Some walker → ¬ Listens node key walker)
-            (λ index. (walker : WalkerValue) × (slice_get (network_value (λ d. tid d.terminus) (λ d. records d.terminus) self.now).walkers index ≡ Some walker)
+            → slice_get (network_value T.tid T.records self.now).walkers k ≡ Some walker → ¬ Listens node key walker)
+            (λ index. (walker : WalkerValue) × (slice_get (network_value T.tid T.records self.now).walkers index ≡ Some walker)
             × Arrives (checked_of self.now).0 w.network number keep walker.node (answering_key walker)) }
         ensures within { IfSome result (λ index. index < length self.now.walkers.items) }
     {

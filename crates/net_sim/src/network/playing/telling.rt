@@ -4,8 +4,9 @@ ghost use Rattle.std.specs.Prelude.{◌≡◌, ◌+◌, ◌<◌, ◌⊎◌, leng
 use crate::network::Network;
 use crate::outcome::Outcome;
 use crate::walk_refusal::WalkRefusal;
+use pdr_repository::Terminus;
 
-impl<'a> Network<'a> {
+impl<'a, T: Terminus> Network<'a, T> {
     ghost use Rattle.net_check.specs.Walkers.{TellWalk};
     ghost use Rattle.net_sim.specs.Outcomes.{outcome_value};
     ghost use Rattle.net_sim.specs.WalkedStanding.{WalkedPlays};
@@ -14,8 +15,8 @@ impl<'a> Network<'a> {
     /// Tells how many records the walker of this number has collected, and how its walk stands.
     pub(super) fn tell(&self, number: u32) -> Outcome
         ensures { WalkedPlays (checked_of self.now).0
-            (network_value (λ d. tid d.terminus) (λ d. records d.terminus) self.now) (TellWalk number) (outcome_value result)
-            (network_value (λ d. tid d.terminus) (λ d. records d.terminus) self.now) }
+            (network_value T.tid T.records self.now) (TellWalk number) (outcome_value result)
+            (network_value T.tid T.records self.now) }
     {
         let Some(index) = self.index_of(number) else {
             return Outcome::Refused(WalkRefusal::NoWalker);

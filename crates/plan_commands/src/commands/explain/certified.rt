@@ -5,7 +5,7 @@ ghost use Rattle.net_check.specs.Errors.{NamesFirstFault};
 ghost use Rattle.net_check.specs.Faults.{IsFirstFault, site_of};
 ghost use Rattle.plan_commands.specs.declared.refused.Refused.TheVariants as refused;
 ghost use Rattle.plan_commands.specs.declared.status.Status.TheVariants as status;
-ghost use Rattle.plan_commands.specs.Answers.{stream};
+ghost use Rattle.plan_commands.specs.Answers.{stream, IsWithoutPlan};
 ghost use Rattle.plan_commands.specs.Explaining.{IsFaultExplained, IsFaultTold, IsRemedyTold, IsCertificateTold, IsBothExplained, IsExplainedWith, ExplainsWithSo, ExplainsWith};
 
 use super::unread::{unread_certificate, unread_plan};
@@ -37,10 +37,13 @@ pub fn run_explain_certified<P: Source, C: Source, O: Sink, E: Sink>(
         let certificates = stream (C.remaining certificate.old) (C.failures certificate.old)
         (C.remaining certificate.new) (C.failures certificate.new) in
         let outputs = stream (O.contents output.old) (O.failures output.old) (O.contents output.new) (O.failures output.new) in
-        ExplainsWith result plans certificates outputs }
+        let said = stream (E.contents errors.old) (E.failures errors.old) (E.contents errors.new) (E.failures errors.new) in
+        ExplainsWith result plans certificates outputs said }
     ensures silent { (result ≡ status.Yes) ⊎ (result ≡ status.Fault) → errors.new ≡ errors.old }
     ensures quiet { result ≢ status.NoMemory → O.failures output.new ≡ O.failures output.old → errors.new ≡ errors.old }
     ensures no_memory { result ≡ status.NoMemory → output.new ≡ output.old }
+    ensures in_order { let plans = stream (P.remaining plan.old) (P.failures plan.old) (P.remaining plan.new) (P.failures plan.new) in
+        IsWithoutPlan plans → certificate.new ≡ certificate.old }
 {
     let answered = answer_explain_certified(alloc, plan, certificate);
     tell(alloc, answered, output, errors)
@@ -58,6 +61,8 @@ fn answer_explain_certified<P: Source, C: Source>(
         (C.remaining certificate.new) (C.failures certificate.new) in
         IfOk result (λ answer. ExplainsWithSo plans certificates answer.status (cow_str_bytes answer.text)) }
     ensures refused { IfErr result (λ why. why ≡ refused.NoMemory) }
+    ensures in_order { let plans = stream (P.remaining plan.old) (P.failures plan.old) (P.remaining plan.new) (P.failures plan.new) in
+        IsWithoutPlan plans → certificate.new ≡ certificate.old }
 {
     match plan_or_text(alloc, plan) {
         Ok(plan) => answer_of_certificate(alloc, &plan, certificate),

@@ -2,10 +2,9 @@
 ghost use Rattle.std.specs.Prelude.{◌≡◌, ◌⊎◌, ◌<◌, ◌^◌, ◌-◌, IfOk, IfErr, OnErr, length, map};
 ghost use Rattle.plan_commands.specs.declared.status.Status.TheVariants.{Yes, Fault, Unreadable, NoMemory};
 ghost use Rattle.plan_commands.specs.declared.refused.Refused.TheVariants.{Unwritten};
-ghost use Rattle.net_check.specs.TwoPlans.{one_plan};
 ghost use Rattle.net_sim.specs.Outcomes.{event_value};
 ghost use Rattle.plan_commands.specs.Answers.{stream, BreaksOff, AreGiven};
-ghost use Rattle.plan_commands.specs.Simulating.{EndsShowing, SimulatesAtRest, AreLinesAtMost, ShowsAtMost, ShowsOutcomes, GaveEvents, TellsBeginning, TellsRun, IsSimAnswer, AreUnreadAmong, IsUnsimulatedFor, SimulatesFiles};
+ghost use Rattle.plan_commands.specs.Simulating.{EndsShowing, Simulates, AreLinesAtMost, ShowsAtMost, ShowsOutcomes, GaveEvents, TellsBeginning, TellsRun, IsSimAnswer, AreUnreadAmong, IsUnsimulatedFor, SimulatesFiles};
 
 use crate::commands::answer::refuse;
 use crate::commands::faults::print_fault;
@@ -16,7 +15,6 @@ use crate::refused::Refused;
 use crate::status::Status;
 use net_check::{Checked, check};
 use net_plan::{Certificate, Event, Plan, Sink, Source};
-use pdr_repository::Terminus;
 use std::alloc::{AllocError, Global};
 
 /// Gives on `output` what comes of the events of a file in the network of a plan with its certificate, or the fault for
@@ -178,15 +176,12 @@ fn play<O: Sink, E: Sink>(
     ensures lists { let outputs = stream (O.contents output.old) (O.failures output.old) (O.contents output.new) (O.failures output.new) in
         IfOk result (λ status. EndsShowing status (ShowsAtMost checked.entry.0 (length events.now) outputs)
         (ShowsOutcomes checked.entry.0 (length events.now) outputs) (AreLinesAtMost checked.entry.0 (length events.now)) outputs) }
-    ensures rests { let outputs = stream (O.contents output.old) (O.failures output.old) (O.contents output.new) (O.failures output.new) in
-        IfOk result (λ status. SimulatesAtRest (one_plan checked.entry.0) checked.entry.1 (map event_value events.now) status outputs) }
+    ensures plays { let outputs = stream (O.contents output.old) (O.failures output.old) (O.contents output.new) (O.failures output.new) in
+        IfOk result (λ status. Simulates checked.entry.0 checked.entry.1 (map event_value events.now) status outputs) }
     ensures untouched { OnErr result (output.new ≡ output.old) }
     ensures silent { IfOk result (λ status. status ≡ Yes → errors.new ≡ errors.old) }
     ensures unsaid { OnErr result (errors.new ≡ errors.old) }
 {
-    let mut termini: Vec<Box<dyn Terminus>> = Vec::new(alloc);
-    for terminus in planned_termini(alloc, checked.plan(), checked.certificate())? {
-        termini.push(Box::new(alloc, terminus)?)?;
-    }
+    let termini = planned_termini(alloc, checked.plan(), checked.certificate())?;
     Ok(run_sim(alloc, checked, termini, events, output, errors))
 }

@@ -6,7 +6,7 @@ ghost use Rattle.net_check.specs.TwoPlans.{moving};
 ghost use Rattle.net_sim.specs.Outcomes.{event_value};
 ghost use Rattle.plan_commands.specs.Answers.{stream, BreaksOff};
 ghost use Rattle.plan_commands.specs.MoveSimulating.{IsPlayGiven, TellsMovedInPart, TellsMovedRun, IsPlayAnswer, IsPlayUnread, IsUnplayedFor, SimulatesMoveFiles};
-ghost use Rattle.plan_commands.specs.Simulating.{EndsShowing, SimulatesAtRest, AreLinesAtMost, ShowsAtMost, ShowsOutcomes};
+ghost use Rattle.plan_commands.specs.Simulating.{EndsShowing, SimulatesBy, AreLinesAtMost, ShowsAtMost, ShowsOutcomes};
 
 use crate::commands::answer::refuse;
 use crate::commands::inputs::{given_events, read_move};
@@ -17,7 +17,6 @@ use crate::refused::Refused;
 use crate::status::Status;
 use net_check::{CheckedMove, check_move};
 use net_plan::{Certificate, Event, Plan, Sink, Source};
-use pdr_repository::Terminus;
 use std::alloc::{AllocError, Global};
 
 /// Gives on `output` what comes of the events of a file in the network of the plan before, whose nodes may switch to
@@ -207,16 +206,13 @@ fn play_move<O: Sink, E: Sink>(
     ensures lists { let outputs = stream (O.contents output.old) (O.failures output.old) (O.contents output.new) (O.failures output.new) in
         IfOk result (λ status. EndsShowing status (ShowsAtMost checked.entry.0 (length events.now) outputs)
         (ShowsOutcomes checked.entry.0 (length events.now) outputs) (AreLinesAtMost checked.entry.0 (length events.now)) outputs) }
-    ensures rests { let outputs = stream (O.contents output.old) (O.failures output.old) (O.contents output.new) (O.failures output.new) in
-        IfOk result (λ status. SimulatesAtRest (moving checked.entry.0 checked.entry.1) checked.entry.2 (map event_value events.now) status outputs) }
+    ensures plays { let outputs = stream (O.contents output.old) (O.failures output.old) (O.contents output.new) (O.failures output.new) in
+        IfOk result (λ status. SimulatesBy (moving checked.entry.0 checked.entry.1) checked.entry.2 (map event_value events.now) status outputs) }
     ensures untouched { OnErr result (output.new ≡ output.old) }
     ensures silent { IfOk result (λ status. status ≡ Yes → errors.new ≡ errors.old) }
     ensures unsaid { OnErr result (errors.new ≡ errors.old) }
 {
     let plan = checked.before();
-    let mut termini: Vec<Box<dyn Terminus>> = Vec::new(alloc);
-    for terminus in planned_termini(alloc, plan, checked.certificate())? {
-        termini.push(Box::new(alloc, terminus)?)?;
-    }
+    let termini = planned_termini(alloc, plan, checked.certificate())?;
     Ok(run_simmove(alloc, checked, termini, events, output, errors))
 }

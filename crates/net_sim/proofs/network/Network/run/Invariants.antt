@@ -7,7 +7,7 @@ abbrev pub invariant-loop-event : goal.invariant-loop-event
 invariant-loop-event g l =
     (checked_of l.self ≡ checked_of l.initial.self)
     × HasPlayed (checked_of l.initial.self).0
-    (network_value (λ d. (goal.Terminus-dyn g (d.terminus.vtable, d.terminus.value)).tid d.terminus.value) (λ d. (goal.Terminus-dyn g (d.terminus.vtable, d.terminus.value)).records d.terminus.value) l.initial.self)
+    (network_value g.T.Terminus.tid g.T.Terminus.records l.initial.self)
     l.events l.event-index l.outcomes.items
-    (network_value (λ d. (goal.Terminus-dyn g (d.terminus.vtable, d.terminus.value)).tid d.terminus.value) (λ d. (goal.Terminus-dyn g (d.terminus.vtable, d.terminus.value)).records d.terminus.value) l.self)
+    (network_value g.T.Terminus.tid g.T.Terminus.records l.self)
     × (length l.events ≤ vec_capacity l.outcomes)

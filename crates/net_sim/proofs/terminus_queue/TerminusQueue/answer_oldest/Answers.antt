@@ -4,4 +4,4 @@ use Rattle.net_sim.proofs.terminus_queue.TerminusQueue.answer_oldest.Goals as go
 pub returns-clause-asked : goal.returns-clause-asked
 returns-clause-asked g c =
     answers_oldest _ _ _ c.args.self.now.waiting.items c.pop_front.new.self.items c.in_ok-oldest.oldest c.deref.result.now _ _ c.in_ok-oldest.ensures.items
-    c.ask-answered.ensures.kept c.deref.ensures.value c.ask-answered.ensures.answered
+    c.answer-answered.ensures.kept c.deref.ensures.value c.answer-answered.ensures.answered

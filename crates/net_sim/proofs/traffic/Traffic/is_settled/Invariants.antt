@@ -9,5 +9,5 @@ use Rattle.net_sim.proofs.traffic.Traffic.is_settled.Given as goal
 
 abbrev pub invariant-loop-node : goal.invariant-loop-node
 invariant-loop-node g l = (w : NetworkState)
-    → StandsFor (traffic_value (λ d. (goal.Terminus-dyn g (d.terminus.vtable, d.terminus.value)).tid d.terminus.value) (λ d. (goal.Terminus-dyn g (d.terminus.vtable, d.terminus.value)).records d.terminus.value) l.self) w
+    → StandsFor (traffic_value g.T.Terminus.tid g.T.Terminus.records l.self) w
     → (n : ℕ) → n < l.node → Holds l.self.router.tables.plan n l.eid.value → IsClearAt w (key_value l.key) n

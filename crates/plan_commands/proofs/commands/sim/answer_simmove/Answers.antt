@@ -5,6 +5,7 @@ use Rattle.net_sim.specs.Networks.{checked_of}
 use Rattle.net_sim.specs.Outcomes.{event_value}
 use Rattle.plan_commands.specs.declared.refused.Refused.TheVariants as refused
 use Rattle.plan_commands.specs.Answers.{stream}
+use Rattle.net_sim.proofs.PlayedWalks.{promised}
 use Rattle.plan_commands.proofs.Simulated.{shows_nothing, shows_no_walks, walks_in, lists_nothing, few_outcomes, shows_by, lists_by}
 use Rattle.plan_commands.proofs.commands.sim.answer_simmove.Goals as goal
 
@@ -65,3 +66,12 @@ returns-clause-rests g c =
     shows_by (moving c.args.checked.0 c.args.checked.1) tables _ events c.tell_played.result output (ap (λ r. r.0) c.in_ok-network.ensures.checked)
     (c.tell_played.ensures.tells tables _ events _ (c.before-before.ensures.plan ∙ sym (ap (λ r. r.0.plan) c.in_ok-network.ensures.checked))
     (λ all. played.whole all ∙ sym (length-map c.args.events.now event_value)) (played.plays _ c.in_ok-network.ensures.at_rest))
+
+pub returns-in_err-network-clause-promises : goal.returns-in_err-network-clause-promises
+returns-in_err-network-clause-promises g c = promised (moving c.args.checked.0 c.args.checked.1) c.args.checked.2 c.before-before.ensures.accepted
+
+pub returns-in_err-played-clause-promises : goal.returns-in_err-played-clause-promises
+returns-in_err-played-clause-promises g c = promised (moving c.args.checked.0 c.args.checked.1) c.args.checked.2 c.before-before.ensures.accepted
+
+pub returns-clause-promises : goal.returns-clause-promises
+returns-clause-promises g c = promised (moving c.args.checked.0 c.args.checked.1) c.args.checked.2 c.before-before.ensures.accepted

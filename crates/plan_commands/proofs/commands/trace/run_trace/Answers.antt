@@ -10,8 +10,8 @@ returns-clause-traces g c =
     let plans = stream (g.P.Source.remaining c.args.plan.now) (g.P.Source.failures c.args.plan.now) (g.P.Source.remaining c.answer_trace-answered.new.plan) (g.P.Source.failures c.answer_trace-answered.new.plan) in
     let certificates = stream (g.C.Source.remaining c.args.certificate.now) (g.C.Source.failures c.args.certificate.now) (g.C.Source.remaining c.answer_trace-answered.new.certificate) (g.C.Source.failures c.answer_trace-answered.new.certificate) in
     let output = stream (g.O.Sink.contents c.args.output.now) (g.O.Sink.failures c.args.output.now) (g.O.Sink.contents c.tell.new.output) (g.O.Sink.failures c.tell.new.output) in
-    traces_so c.args.from.now c.args.to.now plans certificates output c.tell.result answered.result answered.ensures.answers answered.ensures.untraced
-    c.tell.ensures.told c.tell.ensures.ends
+    traces_so c.args.from.now c.args.to.now plans certificates output _ c.tell.result answered.result answered.ensures.answers answered.ensures.untraced
+    c.tell.ensures.told c.tell.ensures.refuses
 
 pub returns-clause-unwritten : goal.returns-clause-unwritten
 returns-clause-unwritten g c =
@@ -19,5 +19,5 @@ returns-clause-unwritten g c =
     let plans = stream (g.P.Source.remaining c.args.plan.now) (g.P.Source.failures c.args.plan.now) (g.P.Source.remaining c.answer_trace-answered.new.plan) (g.P.Source.failures c.answer_trace-answered.new.plan) in
     let certificates = stream (g.C.Source.remaining c.args.certificate.now) (g.C.Source.failures c.args.certificate.now) (g.C.Source.remaining c.answer_trace-answered.new.certificate) (g.C.Source.failures c.answer_trace-answered.new.certificate) in
     let output = stream (g.O.Sink.contents c.args.output.now) (g.O.Sink.failures c.args.output.now) (g.O.Sink.contents c.tell.new.output) (g.O.Sink.failures c.tell.new.output) in
-    breaks_in_answer (TracesSo c.args.from.now c.args.to.now plans certificates) c.tell.result output (IsAnswerOf (IsTraceText c.args.from.now c.args.to.now) plans certificates) _
+    breaks_in_answer (TracesSo c.args.from.now c.args.to.now plans certificates) c.tell.result output _ (IsAnswerOf (IsTraceText c.args.from.now c.args.to.now) plans certificates) _
     answered.result answered.ensures.answers c.tell.ensures.told c.tell.ensures.untouched (trace_answer c.args.from.now c.args.to.now plans certificates) (λ text h. h)

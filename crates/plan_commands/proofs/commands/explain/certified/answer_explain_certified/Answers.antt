@@ -6,3 +6,6 @@ returns-in-Ok-clause-answers g c = of_both _ _ c.in-Ok.plan c.answer_of_certific
 
 pub returns-in-Err-clause-answers : goal.returns-in-Err-clause-answers
 returns-in-Err-clause-answers g c = of_neither _ _ c.in-Err.unread c.unread_plan.result c.in-Err.ensures.unread c.unread_plan.ensures.answers
+
+pub returns-in-Ok-clause-in_order : goal.returns-in-Ok-clause-in_order
+returns-in-Ok-clause-in_order g c = λ without. absurd (without c.in-Ok.plan c.in-Ok.ensures.given)

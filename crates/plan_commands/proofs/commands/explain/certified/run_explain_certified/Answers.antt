@@ -4,9 +4,9 @@ use Rattle.plan_commands.proofs.commands.explain.certified.run_explain_certified
 pub returns-clause-explains : goal.returns-clause-explains
 returns-clause-explains g c =
     let answered = c.answer_explain_certified-answered in
-    explains_with_so _ _ _ c.tell.result answered.result answered.ensures.answers answered.ensures.refused c.tell.ensures.told c.tell.ensures.ends
+    explains_with_so _ _ _ _ c.tell.result answered.result answered.ensures.answers answered.ensures.refused c.tell.ensures.told c.tell.ensures.refuses
 
 pub returns-clause-quiet : goal.returns-clause-quiet
 returns-clause-quiet g c =
     let answered = c.answer_explain_certified-answered in
-    quiet_told _ _ c.tell.result answered.result answered.ensures.refused c.tell.ensures.quiet c.tell.ensures.ends
+    quiet_told _ _ c.tell.result _ answered.result answered.ensures.refused c.tell.ensures.quiet c.tell.ensures.refuses

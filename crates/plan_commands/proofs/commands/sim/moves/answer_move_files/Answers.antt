@@ -2,7 +2,8 @@ use Rattle.std.proofs.Common.{length, ap}
 use Rattle.net_check.specs.TwoPlans.{moving}
 use Rattle.plan_commands.specs.Answers.{stream}
 use Rattle.plan_commands.proofs.MovePlayed.{tells_play_fault_in, play_fault_broken, move_played, move_broken, move_begun}
-use Rattle.plan_commands.proofs.Simulated.{shown_in, at_rest_in}
+use Rattle.net_sim.proofs.PlayedWalks.{promised}
+use Rattle.plan_commands.proofs.Simulated.{shown_in, simulates_in}
 use Rattle.plan_commands.proofs.commands.sim.moves.answer_move_files.Goals as goal
 
 pub returns-in-Ok-clause-simulates : goal.returns-in-Ok-clause-simulates
@@ -28,8 +29,9 @@ returns-in-Ok-clause-broken g c =
     let happenings = stream (g.V.Source.remaining c.args.events.now) (g.V.Source.failures c.args.events.now) (g.V.Source.remaining c.read_move_files.new.events) (g.V.Source.failures c.read_move_files.new.events) in
     let output = stream (g.O.Sink.contents c.args.output.now) (g.O.Sink.failures c.args.output.now) (g.O.Sink.contents c.play_move.new.output) (g.O.Sink.failures c.play_move.new.output) in
     move_broken files.before files.after files.certificate befores afters certificates happenings output files.events.items files.ensures.given ended.field-0
-    c.in-Ok.ensures.accepted (shown_in files.before c.in-Ok.checked.0 (length files.events.items) (length c.deref.result.now) ended.field-0 output
-    (ap (λ r. r.0) c.in-Ok.ensures.checked) (ap (λ es. length es) c.deref.ensures.value) ended.ensures.lists)
+    c.in-Ok.ensures.accepted (simulates_in (moving files.before files.after) (moving c.in-Ok.checked.0 c.in-Ok.checked.1) files.certificate c.in-Ok.checked.2
+    files.events.items c.deref.result.now ended.field-0 output (ap (λ r. moving r.0 r.1) c.in-Ok.ensures.checked) (ap (λ r. r.2) c.in-Ok.ensures.checked)
+    c.deref.ensures.value ended.ensures.plays)
 
 pub returns-in-Ok-clause-beginning : goal.returns-in-Ok-clause-beginning
 returns-in-Ok-clause-beginning g c =
@@ -77,8 +79,9 @@ returns-in-Ok-clause-runs g c = λ is.
       files.events.items,
       files.ensures.given,
       c.in-Ok.ensures.accepted,
-      at_rest_in (moving files.before files.after) (moving c.in-Ok.checked.0 c.in-Ok.checked.1) files.certificate c.in-Ok.checked.2 files.events.items c.deref.result.now
-          ended.field-0 output (ap (λ r. moving r.0 r.1) c.in-Ok.ensures.checked) (ap (λ r. r.2) c.in-Ok.ensures.checked) c.deref.ensures.value ended.ensures.rests,
+      promised (moving files.before files.after) files.certificate c.in-Ok.ensures.accepted,
+      simulates_in (moving files.before files.after) (moving c.in-Ok.checked.0 c.in-Ok.checked.1) files.certificate c.in-Ok.checked.2 files.events.items c.deref.result.now
+          ended.field-0 output (ap (λ r. moving r.0 r.1) c.in-Ok.ensures.checked) (ap (λ r. r.2) c.in-Ok.ensures.checked) c.deref.ensures.value ended.ensures.plays,
     )
 
 pub returns-in-Ok-clause-partly_runs : goal.returns-in-Ok-clause-partly_runs
@@ -92,6 +95,7 @@ returns-in-Ok-clause-partly_runs g c = λ is.
       files.events.items,
       files.ensures.given,
       c.in-Ok.ensures.accepted,
-      at_rest_in (moving files.before files.after) (moving c.in-Ok.checked.0 c.in-Ok.checked.1) files.certificate c.in-Ok.checked.2 files.events.items c.deref.result.now
-          ended.field-0 output (ap (λ r. moving r.0 r.1) c.in-Ok.ensures.checked) (ap (λ r. r.2) c.in-Ok.ensures.checked) c.deref.ensures.value ended.ensures.rests,
+      promised (moving files.before files.after) files.certificate c.in-Ok.ensures.accepted,
+      simulates_in (moving files.before files.after) (moving c.in-Ok.checked.0 c.in-Ok.checked.1) files.certificate c.in-Ok.checked.2 files.events.items c.deref.result.now
+          ended.field-0 output (ap (λ r. moving r.0 r.1) c.in-Ok.ensures.checked) (ap (λ r. r.2) c.in-Ok.ensures.checked) c.deref.ensures.value ended.ensures.plays,
     )

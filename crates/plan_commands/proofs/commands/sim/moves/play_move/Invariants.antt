@@ -1,5 +1,0 @@
-use Rattle.std.proofs.Common.{◌≡◌, length}
-use Rattle.plan_commands.proofs.commands.sim.moves.play_move.Given as goal
-
-abbrev pub invariant-loop-terminus : goal.invariant-loop-terminus
-invariant-loop-terminus g l = length l.termini.items ≡ length l.yielded
