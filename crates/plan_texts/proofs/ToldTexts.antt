@@ -1,28 +1,25 @@
 -- What is told of a text that doesn't read.
-use Rattle.std.proofs.Common.{◌≡◌, ◌≢◌, ◌≤◌, ◌<◌, ◌+◌, ◌++◌, ◌||◌, ℕ, zero, suc, List, [], ◌∷◌, map, length, get_or, take, drop, Bool, true, false, cond, not, is_some, true≢false, append_assoc, option_and_then, Vec, Global, Option, Some, None, option_map, Result, Ok, Err, Bor, refl, sym, ◌∙◌, ap, subst, arith}
+use Rattle.std.proofs.Common.{◌≡◌, ◌≢◌, ◌≤◌, ◌<◌, ◌+◌, ◌++◌, ◌||◌, ℕ, zero, suc, List, [], ◌∷◌, map, length, get_or, take, drop, Bool, append_assoc, option_and_then, Option, Some, None, option_map, Result, Ok, Err, Bor, refl, sym, ◌∙◌, ap, subst, arith}
 use Rattle.std.specs.Prelude.{IfOk, IfSome, codes}
 use Rattle.std.specs.List.{flat_map, list_any, slice_get}
 use Rattle.std.specs.Slice.{IsItemAt}
 use Rattle.std.specs.Str.{bytes_eq}
 use Rattle.std.proofs.lemmas.List.{at_drop_more}
 use Rattle.std.proofs.lemmas.Option.{slice_get_read, slice_get_past}
-use Rattle.std.proofs.lemmas.Slice.Eq.{bytes_eq-Decides}
 use Rattle.json.specs.Find.{later_or}
 use Rattle.json.specs.Find as find
-use Rattle.json.specs.Json as json
 use Rattle.json.specs.Json.{Json}
 use Rattle.json.specs.Strict.{keys}
 use Rattle.json.specs.Value as seen
 use Rattle.serde_json.specs.Data.{Data}
-use Rattle.serde_json.specs.Find.{get_item, get_member}
+use Rattle.serde_json.specs.Find.{get, get_item}
 use Rattle.net_plan.specs.CertificateText.{IsCertificateOf}
 use Rattle.net_plan.specs.CertificateValues.{CertificateValue}
-use Rattle.net_plan.specs.Json.{is_among, items_count, has_unknown_key}
+use Rattle.net_plan.specs.Json.{is_among, items_count}
 use Rattle.net_plan.specs.PlanText.{IsPlanOf}
 use Rattle.net_plan.specs.PlanValues.{PlanValue, node_names}
 use Rattle.net_plan.specs.Texts.{IsJson, IsTree, StandsFor}
-use Rattle.net_plan.specs.Trees.{Tree, view, items_view, members_view, data_of}
-use Rattle.net_plan.proofs.Keys.{unknown_members}
+use Rattle.net_plan.specs.Trees.{Tree, view, items_view, data_of}
 use Rattle.net_plan.proofs.Trees.{get_of}
 use Rattle.net_plan.proofs.PlanLaw.{plan_tells}
 use Rattle.net_plan.proofs.CertificateLaw.{certificate_tells}
@@ -44,7 +41,7 @@ use Rattle.net_pointers.specs.declared.ranges.Overlap.{Overlap}
 use Rattle.net_pointers.specs.declared.texts.TextTrouble.{TextTrouble}
 use Rattle.plan_texts.specs.ReadingLines.{key_words, keys_words}
 use Rattle.plan_texts.specs.Standing.{IsShownLength, IsShownOf, IsShown, dots_after, printed}
-use Rattle.plan_texts.specs.TroubleLines.{StandsAt, rest_of, IsStandingTold, IsWrongTold, IsLineOf, IsValueTold, value_line, AreOffsets, AreApart, AreTwoTold, two_lines, IsOverlapTold, range_line, next_range_line, range_pointer}
+use Rattle.plan_texts.specs.TroubleLines.{StandsAt, rest_of, IsStandingTold, IsWrongTold, IsLineOf, IsValueTold, value_line, AreOffsets, AreApart, AreTwoTold, two_lines, tree_at, IsOverlapTold, range_line, next_range_line, range_pointer}
 use Rattle.plan_texts.specs.TroubleLines.{key_at, part_step, path_text, AreTroubleLines, IsPlanTextTold, IsCertificateTextTold}
 
 -- ---- a text of which nothing is told is read
@@ -82,6 +79,23 @@ item_of_view (v ∷ vs) (suc i) = item_of_view vs i
 pub item_given : (vs : List Tree) (i : ℕ) (r : Option (Bor Tree)) → IsItemAt vs i r → option_map (λ (v : Bor Tree). view v.now) r ≡ get_item i (items_view vs)
 item_given vs i (Some v) h = sym (item_of_view vs i ∙ ap (option_map view) (slice_get_read vs (length vs) i v.now refl h.3.0 h.1))
 item_given vs i None h = sym (item_of_view vs i ∙ ap (option_map view) (slice_get_past vs i h.3))
+
+tree_of_view : (vs : List Tree) (i : ℕ) → find.get_item i (seen.items_view vs) ≡ option_map seen.value_view (slice_get vs i)
+tree_of_view [] i = refl
+tree_of_view (v ∷ vs) zero = refl
+tree_of_view (v ∷ vs) (suc i) = tree_of_view vs i
+
+pub tree_given : (vs : List Tree) (i : ℕ) (r : Option (Bor Tree)) → IsItemAt vs i r → option_map (λ (v : Bor Tree). seen.value_view v.now) r ≡ find.get_item i (seen.items_view vs)
+tree_given vs i (Some v) h = sym (tree_of_view vs i ∙ ap (option_map seen.value_view) (slice_get_read vs (length vs) i v.now refl h.3.0 h.1))
+tree_given vs i None h = sym (tree_of_view vs i ∙ ap (option_map seen.value_view) (slice_get_past vs i h.3))
+
+seen_twice : (r : Option (Bor Tree)) → option_map (λ (v : Bor Tree). view v.now) r ≡ option_map data_of (option_map (λ (v : Bor Tree). seen.value_view v.now) r)
+seen_twice (Some v) = refl
+seen_twice None = refl
+
+-- what a key leads to, as data
+pub data_given : (key : List ℕ) (j : Json) (r : Option (Bor Tree)) → option_map (λ (v : Bor Tree). seen.value_view v.now) r ≡ find.get key j → option_map (λ (v : Bor Tree). view v.now) r ≡ get key (data_of j)
+data_given key j r is = seen_twice r ∙ (ap (option_map data_of) is ∙ sym (get_of key j))
 
 pub items_counted : (vs : List Tree) → items_count (items_view vs) ≡ length vs
 items_counted [] = refl
@@ -124,7 +138,7 @@ standing_told bytes rest shown (Ok t) fits is = (shown, fits, is)
 standing_told bytes rest shown (Err e) fits is = tt
 
 -- of a fault that isn't of a key or a length, what stands there is told
-pub wrong_told : {A E : Type 0} (bytes : A → List ℕ) (fs : Fields) (f : ValueFault) (d : Data) (rest : Option (List ℕ)) (r : Result A E)
+pub wrong_told : {A E : Type 0} (bytes : A → List ℕ) (fs : Fields) (f : ValueFault) (d : Json) (rest : Option (List ℕ)) (r : Result A E)
     → f ≢ fault.MissingKey → f ≢ fault.UnknownKey → f ≢ fault.OverLimit
     → IfOk r (λ t. IsStandingTold f rest (bytes t)) → IfOk r (λ t. IsWrongTold fs f d rest (bytes t))
 wrong_told bytes fs fault.MissingKey d rest r missing unknown over told = absurd (missing refl)
@@ -137,17 +151,17 @@ wrong_told bytes fs fault.BadHex d rest r missing unknown over told = told
 wrong_told bytes fs fault.Doubled d rest r missing unknown over told = told
 wrong_told bytes fs fault.OutOfMemory d rest r missing unknown over told = told
 
-pub line_told : {A E : Type 0} (bytes : A → List ℕ) (text : List ℕ) (l : Located) (d : Data) (offset : Option ℕ) (rest : Option (List ℕ)) (words : List ℕ) (r : Result A E)
+pub line_told : {A E : Type 0} (bytes : A → List ℕ) (text : List ℕ) (l : Located) (d : Json) (offset : Option ℕ) (rest : Option (List ℕ)) (words : List ℕ) (r : Result A E)
     → IsWrongTold (fields_of l.shape) l.fault d rest words → IfOk r (λ t. bytes t ≡ value_line text offset l words) → IfOk r (λ t. IsLineOf text l d offset rest (bytes t))
 line_told bytes text l d offset rest words (Ok t) wrong is = (words, wrong, is)
 line_told bytes text l d offset rest words (Err e) wrong is = tt
 
-pub value_told : {A E : Type 0} (bytes : A → List ℕ) (text : List ℕ) (d stands : Data) (l : Located) (offset : Option ℕ) (rest : Option (List ℕ)) (r : Result A E)
-    → StandsAt text offset l → value_at l.pointer d ≡ Some stands → rest ≡ rest_of text offset
-    → IfOk r (λ t. IsLineOf text l stands offset rest (bytes t)) → IfOk r (λ t. IsValueTold text d l (bytes t))
-value_told bytes text d stands l offset rest (Ok t) at leads same is =
-    record { offset = offset; stands = stands; at = at; leads = leads; written = subst (λ (o : Option (List ℕ)). IsLineOf text l stands offset o (bytes t)) same is }
-value_told bytes text d stands l offset rest (Err e) at leads same is = tt
+pub value_told : {A E : Type 0} (bytes : A → List ℕ) (text : List ℕ) (j stands : Json) (l : Located) (offset : Option ℕ) (rest : Option (List ℕ)) (r : Result A E)
+    → StandsAt text offset l → tree_at l.pointer j ≡ Some stands → value_at l.pointer (data_of j) ≡ Some (data_of stands) → rest ≡ rest_of text offset
+    → IfOk r (λ t. IsLineOf text l stands offset rest (bytes t)) → IfOk r (λ t. IsValueTold text j l (bytes t))
+value_told bytes text j stands l offset rest (Ok t) at tree leads same is =
+    record { offset = offset; stands = stands; at = at; tree = tree; leads = leads; written = subst (λ (o : Option (List ℕ)). IsLineOf text l stands offset o (bytes t)) same is }
+value_told bytes text j stands l offset rest (Err e) at tree leads same is = tt
 
 pub two_told : {A E : Type 0} (bytes : A → List ℕ) (text s : List ℕ) (first second : ℕ → Type 0) (one other : List ℕ) (offsets : Option (ℕ × ℕ)) (r : Result A E) → AreOffsets text s first second offsets
     → IfOk r (λ t. bytes t ≡ two_lines text offsets one other) → IfOk r (λ t. AreTwoTold text s first second one other (bytes t))
@@ -230,48 +244,3 @@ path_more ps i x j o text root within is some before =
 pub no_path : (ps : List ℕ) → path_text ps None ≡ []
 no_path [] = refl
 no_path (p ∷ ps) = refl
-
--- ---- unknown keys
-
-pub member_there : (ms : List (Bor (List ℕ) × Tree)) (i : ℕ) (m : Bor (List ℕ) × Tree) → i < length ms → m ≡ get_or ms i m → is_some (find.get_member m.0.now (seen.members_view ms)) ≡ true
-member_there [] i m within is = absurd (omega arith)
-member_there (n ∷ ms) zero m within is = there (find.get_member m.0.now (seen.members_view ms)) (seen.value_view n.1) (bytes_eq n.0.now m.0.now) ((bytes_eq-Decides n.0.now m.0.now).1 (ap (λ (x : Bor (List ℕ) × Tree). x.0.now) (sym is)))
-  where
-    there : (o : Option Json) (j : Json) (b : Bool) → b ≡ true → is_some (later_or o (cond b (Some j) None)) ≡ true
-    there (Some k) j b e = refl
-    there None j true e = refl
-    there None j false e = absurd (true≢false (sym e))
-member_there (n ∷ ms) (suc i) m within is = later (find.get_member m.0.now (seen.members_view ms)) _ (member_there ms i m (omega arith) is)
-  where
-    later : (o p : Option Json) → is_some o ≡ true → is_some (later_or o p) ≡ true
-    later (Some k) p e = refl
-    later None p e = absurd (true≢false (sym e))
-
-mapped_some : {A B : Type 0} (f : A → B) (o : Option A) → is_some (option_map f o) ≡ is_some o
-mapped_some f (Some a) = refl
-mapped_some f None = refl
-
--- a member of the object as it is written is one of its value
-pub member_known : (v : Vec (Bor (List ℕ) × Tree) Global) (i : ℕ) (m : Bor (List ℕ) × Tree) → i < length v.items → m ≡ get_or v.items i m
-    → is_some (get_member m.0.now (members_view v.items)) ≡ true
-member_known v i m within is =
-    ap (λ (o : Option Data). is_some o) (get_of m.0.now (json.object (seen.members_view v.items))) ∙ (mapped_some data_of _ ∙ member_there v.items i m within is)
-
--- the keys of the table, as the reader has them
-keys_mapped : (fs : List Field) → keys_of (fields_view fs) ≡ map (λ (k : Bor (List ℕ)). k.now) (map (λ (f : Field). f.key) fs)
-keys_mapped [] = refl
-keys_mapped (f ∷ fs) = ap (λ ks. f.key.now ∷ ks) (keys_mapped fs)
-
-among_mapped : (fs : List Field) (key : List ℕ) → list_any (λ (other : Bor (List ℕ)). bytes_eq key other.now) (map (λ (f : Field). f.key) fs) ≡ is_among (keys_of (fields_view fs)) key
-among_mapped [] key = refl
-among_mapped (f ∷ fs) key = ap (λ b. bytes_eq key f.key.now || b) (among_mapped fs key)
-
-any_unknown : (fs : List Field) (ms : List (Bor (List ℕ) × Tree)) → list_any (λ m. not (list_any (λ (other : Bor (List ℕ)). bytes_eq m.0.now other.now) (map (λ (f : Field). f.key) fs))) ms
-    ≡ list_any (λ m. not (is_among (keys_of (fields_view fs)) m.0.now)) ms
-any_unknown fs [] = refl
-any_unknown fs (m ∷ ms) = rw (among_mapped fs m.0.now, any_unknown fs ms) refl
-
--- whether an object has an unknown key is seen in its members as they are written
-pub unknown_keys : (fs : List Field) (ms : List (Bor (List ℕ) × Tree)) → has_unknown_key (keys_of (fields_view fs)) (members_view ms)
-    ≡ list_any (λ m. not (is_among (keys_of (fields_view fs)) m.0.now)) ms
-unknown_keys fs ms = ap (λ ks. has_unknown_key ks (members_view ms)) (keys_mapped fs) ∙ (unknown_members (map (λ (f : Field). f.key) fs) ms ∙ any_unknown fs ms)

@@ -1,31 +1,31 @@
 -- The lines that tell what is wrong with a text, and where.
-use Rattle.std.specs.Prelude.{◌≡◌, ◌<◌, ◌≤◌, ◌+◌, ◌⊎◌, ⊤, ℕ, zero, suc, true, false, not, codes, is_some, get_or}
-use Rattle.std.specs.Prelude.{List, [], ◌∷◌, ◌++◌, length, drop, Option, Some, None, option_map}
+use Rattle.std.specs.Prelude.{◌≡◌, ◌<◌, ◌≤◌, ◌+◌, ⊤, ℕ, zero, suc, not, codes, is_some, get_or}
+use Rattle.std.specs.Prelude.{List, [], ◌∷◌, ◌++◌, length, drop, Option, Some, None, option_map, option_and_then}
 use Rattle.std.specs.Fmt.{decimal}
 use Rattle.std.specs.List.{find}
-use Rattle.json.specs.Json.{Json, null, boolean, number, string, array, object, Members, no_members, member}
+use Rattle.json.specs.Json.{Json, object, Members, no_members, member}
+use Rattle.json.specs.Find as written
 use Rattle.json.specs.Lex.{tokens}
 use Rattle.json.specs.Strict.{keys}
 use Rattle.json.specs.Token.{Token}
 use Rattle.json.specs.Token as token
 use Rattle.serde_json.specs.Data.{Data}
 use Rattle.serde_json.specs.Data as tree
-use Rattle.serde_json.specs.Find.{get, get_member}
-use Rattle.net_plan.specs.Json.{is_among, items_count, has_unknown_key}
+use Rattle.serde_json.specs.Find.{get}
+use Rattle.net_plan.specs.Json.{is_among, items_count}
 use Rattle.net_plan.specs.Names.{text_found}
 use Rattle.net_plan.specs.Trees.{data_of}
 use Rattle.net_plan.specs.declared.error.ValueFault.{ValueFault}
 use Rattle.net_plan.specs.declared.error.ValueFault.TheVariants as fault
-use Rattle.net_pointers.specs.CertificateTroubles.{list_key, nodes_at, known_nodes}
+use Rattle.net_pointers.specs.CertificateTroubles.{list_key, known_nodes}
 use Rattle.net_pointers.specs.Doubles.{part_at, part_after}
-use Rattle.net_pointers.specs.KnownNames.{Known, known_in, names_at}
+use Rattle.net_pointers.specs.KnownNames.{Known, known_in}
 use Rattle.net_pointers.specs.Nearest.{IsNearest}
 use Rattle.net_pointers.specs.Offsets.{BeginsThere, LeadsTo, LeadsToKey}
 use Rattle.net_pointers.specs.Pointers.{Located, value_at, key, index, Step}
 use Rattle.net_pointers.specs.Shapes.{Fields, fields_of, keys_of}
 use Rattle.net_pointers.specs.TextTroubles.{IsJsonOf, IsToldOfPlanText, IsToldOfCertificateText}
 use Rattle.net_pointers.specs.Views.{located, located_among}
-use Rattle.net_pointers.specs.declared.certificates.CertificateList.{CertificateList}
 use Rattle.net_pointers.specs.declared.certificates.CertificateTrouble.{CertificateTrouble}
 use Rattle.net_pointers.specs.declared.certificates.CertificateTrouble.TheVariants as of_certificate
 use Rattle.net_pointers.specs.declared.doubled.DoubledKey.{DoubledKey}
@@ -74,6 +74,16 @@ json_line text (Unreadable offset w) = syntax_line (position_text text (Some off
 
 -- ---- a value that is wrong in itself
 
+-- the part of a tree to which a step leads: of a key that stands twice, the last one
+abbrev pub tree_after : Step → Json → Option Json
+tree_after (key k) j = written.get k j
+tree_after (index i) j = written.at i j
+
+-- the part of a tree to which a pointer leads
+abbrev pub tree_at : List Step → Json → Option Json
+tree_at [] j = Some j
+tree_at (s ∷ ss) j = option_and_then (tree_at ss) (tree_after s j)
+
 -- the pointer leads to what begins at the offset, and that is a value with this fault, where the offset is known
 abbrev pub StandsAt : List ℕ → Option ℕ → Located → Type 0
 StandsAt text None l = ⊤
@@ -100,15 +110,13 @@ abbrev pub unknown_words : Option (List ℕ) → List ℕ
 unknown_words (Some k) = codes "has the key " ++ shown_key k
 unknown_words None = fault_words fault.UnknownKey
 
--- a key of the object that is none of those that may stand there, where it has such a key
-abbrev pub IsUnknownKey : Fields → tree.Members → Option (List ℕ) → Type 0
-IsUnknownKey fs ms (Some k) = (is_some (get_member k ms) ≡ true) × (is_among (keys_of fs) k ≡ false)
-IsUnknownKey fs ms None = has_unknown_key (keys_of fs) ms ≡ false
+-- the first key of an object, as it is written, that is none of those that may stand there
+abbrev pub first_unknown : Fields → Members → Option (List ℕ)
+first_unknown fs ms = find (λ k. not (is_among (keys_of fs) k)) (keys ms)
 
-abbrev pub IsUnknownKeyTold : Fields → Data → List ℕ → Type 0
-IsUnknownKeyTold fs (tree.object ms) words =
-    (k : Option (List ℕ)) × IsUnknownKey fs ms k × (words ≡ unknown_words k)
-IsUnknownKeyTold fs _ words = words ≡ fault_words fault.UnknownKey
+abbrev pub unknown_key_words : Fields → Json → List ℕ
+unknown_key_words fs (object ms) = unknown_words (first_unknown fs ms)
+unknown_key_words fs _ = fault_words fault.UnknownKey
 
 -- how long a list is; of anything else what stands there
 abbrev pub IsLengthTold : Data → Option (List ℕ) → List ℕ → Type 0
@@ -116,11 +124,11 @@ IsLengthTold (tree.array ds) rest words = words ≡ codes "is a list of " ++ (de
 IsLengthTold _ rest words = IsStandingTold fault.OverLimit rest words
 
 -- what is wrong with a value: the key that it lacks or that doesn't belong there, its length, or what stands there
-abbrev pub IsWrongTold : Fields → ValueFault → Data → Option (List ℕ) → List ℕ → Type 0
-IsWrongTold fs fault.MissingKey d rest words = words ≡ lack_words (lacked_key fs d)
-IsWrongTold fs fault.UnknownKey d rest words = IsUnknownKeyTold fs d words
-IsWrongTold fs fault.OverLimit d rest words = IsLengthTold d rest words
-IsWrongTold fs f d rest words = IsStandingTold f rest words
+abbrev pub IsWrongTold : Fields → ValueFault → Json → Option (List ℕ) → List ℕ → Type 0
+IsWrongTold fs fault.MissingKey j rest words = words ≡ lack_words (lacked_key fs (data_of j))
+IsWrongTold fs fault.UnknownKey j rest words = words ≡ unknown_key_words fs j
+IsWrongTold fs fault.OverLimit j rest words = IsLengthTold (data_of j) rest words
+IsWrongTold fs f j rest words = IsStandingTold f rest words
 
 -- where the value is, what is wrong with it, and what may stand there
 abbrev pub value_line : List ℕ → Option ℕ → Located → List ℕ → List ℕ
@@ -129,16 +137,17 @@ value_line text offset l words =
     (shape_words (number_noun l.pointer) l.shape)
 
 -- the line of a value, with what is wrong with it
-abbrev pub IsLineOf : List ℕ → Located → Data → Option ℕ → Option (List ℕ) → List ℕ → Type 0
-IsLineOf text l d offset rest line = (words : List ℕ) × IsWrongTold (fields_of l.shape) l.fault d rest words
+abbrev pub IsLineOf : List ℕ → Located → Json → Option ℕ → Option (List ℕ) → List ℕ → Type 0
+IsLineOf text l j offset rest line = (words : List ℕ) × IsWrongTold (fields_of l.shape) l.fault j rest words
     × (line ≡ value_line text offset l words)
 
--- The line tells of a value of the data that has a fault: where it is, what is wrong with it, and what may stand there.
-pub record IsValueTold (text : List ℕ) (d : Data) (l : Located) (line : List ℕ) : Type 0 where
+-- The line tells of a value of the tree that has a fault: where it is, what is wrong with it, and what may stand there.
+pub record IsValueTold (text : List ℕ) (j : Json) (l : Located) (line : List ℕ) : Type 0 where
   pub offset : Option ℕ
-  pub stands : Data
+  pub stands : Json
   pub at : StandsAt text offset l
-  pub leads : value_at l.pointer d ≡ Some stands
+  pub tree : tree_at l.pointer j ≡ Some stands
+  pub leads : value_at l.pointer (data_of j) ≡ Some (data_of stands)
   pub written : IsLineOf text l stands offset (rest_of text offset) line
 
 -- ---- a name that nothing has
@@ -319,7 +328,7 @@ IsOverlapTold text o lines = (offsets : Option (ℕ × ℕ))
 
 -- the lines tell of what is wrong with the plan that a tree is
 abbrev pub ArePlanLines : List ℕ → Json → PlanTrouble → List ℕ → Type 0
-ArePlanLines text j (of_plan.Value found) lines = IsValueTold text (data_of j) (located found) lines
+ArePlanLines text j (of_plan.Value found) lines = IsValueTold text j (located found) lines
 ArePlanLines text j (of_plan.DoubledBus indices) lines =
     IsDoubledNameTold text (data_of j) (codes "buses") (codes "name") one_bus indices lines
 ArePlanLines text j (of_plan.DoubledKey doubled) lines = IsDoubledKeyTold text j doubled lines
@@ -330,7 +339,7 @@ ArePlanLines text j (of_plan.UnknownName found) lines = let known = known_in (da
 -- the lines tell of what is wrong with the certificate that a tree is, among nodes of these names
 abbrev pub AreCertificateLines : List (List ℕ) → List ℕ → Json → CertificateTrouble → List ℕ → Type 0
 AreCertificateLines nodes text j (of_certificate.Value found) lines =
-    IsValueTold text (data_of j) (located found) lines
+    IsValueTold text j (located found) lines
 AreCertificateLines nodes text j (of_certificate.DoubledNode list indices) lines =
     IsDoubledNameTold text (data_of j) (list_key list) (codes "node") one_entry indices lines
 AreCertificateLines nodes text j (of_certificate.Overlap overlap) lines = IsOverlapTold text overlap lines

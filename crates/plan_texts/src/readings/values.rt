@@ -5,13 +5,16 @@ ghost use Rattle.std.specs.Str.{bytes_eq};
 ghost use Rattle.serde_json.specs.Find.{at, get_item};
 ghost use Rattle.net_plan.specs.Json.{is_among};
 ghost use Rattle.net_plan.specs.Names.{text_found};
-ghost use Rattle.net_plan.specs.Trees.{view, items_view, members_view};
+ghost use Rattle.json.specs.Find as written;
+ghost use Rattle.json.specs.Value.{value_view, members_view};
+ghost use Rattle.json.specs.Value.{items_view as tree_items};
+ghost use Rattle.net_plan.specs.Trees.{view, items_view};
 ghost use Rattle.net_pointers.specs.PlanShapes.{shape, fields_view};
 ghost use Rattle.net_pointers.specs.Pointers.{value_at, value_after};
 ghost use Rattle.net_pointers.specs.Shapes.{fields_of, keys_of};
 ghost use Rattle.net_pointers.specs.Views.{located, step_value};
 ghost use Rattle.plan_texts.specs.Standing.{IsShown};
-ghost use Rattle.plan_texts.specs.TroubleLines.{StandsAt, IsStandingTold, IsUnknownKey, IsUnknownKeyTold, IsLengthTold, IsWrongTold, IsLineOf, IsValueTold, lacked_key, lack_words, unknown_words, value_line};
+ghost use Rattle.plan_texts.specs.TroubleLines.{StandsAt, IsStandingTold, first_unknown, unknown_key_words, tree_at, tree_after, IsLengthTold, IsWrongTold, IsLineOf, IsValueTold, lacked_key, lack_words, unknown_words, value_line};
 
 use super::joined::joined;
 use super::positions::{pointer_text, position_text};
@@ -30,7 +33,7 @@ pub fn value_line(
     found: &Found,
 ) -> Result<String, AllocError>
     requires { is_some (value_at (located found.now).pointer (view value.now)) ≡ true }
-    ensures { IfOk result (λ line. IsValueTold text.now (view value.now) (located found.now) (string_bytes line)) }
+    ensures { IfOk result (λ line. IsValueTold text.now (value_view value.now) (located found.now) (string_bytes line)) }
 {
     let Some(stands) = value_at(value, found.pointer.as_slice()) else {
         unreachable!();
@@ -60,7 +63,7 @@ fn line_of(
     rest: Option<&str>,
 ) -> Result<String, AllocError>
     requires { IfSome offset (λ at. at ≤ length text.now) }
-    ensures { IfOk result (λ line. IsLineOf text.now (located found.now) (view stands.now) offset (option_map (λ r. r.now) rest.entry) (string_bytes line)) }
+    ensures { IfOk result (λ line. IsLineOf text.now (located found.now) (value_view stands.now) offset (option_map (λ r. r.now) rest.entry) (string_bytes line)) }
 {
     let words = wrong_words(alloc, found, stands, rest)?;
     value_text(alloc, text, found, offset, &words)
@@ -91,7 +94,7 @@ fn wrong_words(
     stands: &Value<'_>,
     rest: Option<&str>,
 ) -> Result<String, AllocError>
-    ensures { IfOk result (λ words. IsWrongTold (fields_of (shape found.now.part)) found.now.fault (view stands.now)
+    ensures { IfOk result (λ words. IsWrongTold (fields_of (shape found.now.part)) found.now.fault (value_view stands.now)
         (option_map (λ r. r.now) rest.entry) (string_bytes words)) }
 {
     match found.fault {
@@ -157,13 +160,13 @@ fn lack_words(alloc: Global, key: Option<&str>) -> Result<String, AllocError>
     }
 }
 
-/// A key of an object that doesn't belong there.
+/// The first key of an object that doesn't belong there.
 fn unknown_key_words(
     alloc: Global,
     fields: &[Field],
     stands: &Value<'_>,
 ) -> Result<String, AllocError>
-    ensures { IfOk result (λ words. IsUnknownKeyTold (fields_view fields.now) (view stands.now) (string_bytes words)) }
+    ensures { IfOk result (λ words. string_bytes words ≡ unknown_key_words (fields_view fields.now) (value_view stands.now)) }
 {
     match stands {
         Value::Object(members) => key_words_of(alloc, unknown_key(fields, members)),
@@ -185,7 +188,7 @@ fn key_words_of(alloc: Global, key: Option<&str>) -> Result<String, AllocError>
 
 /// The first key of an object that is none of a table.
 fn unknown_key<'t>(fields: &[Field], members: &Vec<(&'t str, Value<'t>)>) -> Option<&'t str>
-    ensures { IsUnknownKey (fields_view fields.now) (members_view members.now.items) (option_map (λ k. k.now) result) }
+    ensures { option_map (λ k. k.now) result ≡ first_unknown (fields_view fields.now) (members_view members.now.items) }
 {
     for member in members {
         if !is_among(fields, member.0) {
@@ -210,7 +213,8 @@ fn is_one_of(fields: &[Field], key: &str) -> bool
 
 /// The value that a pointer leads to.
 pub fn value_at<'v, 't>(value: &'v Value<'t>, pointer: &[PointerStep]) -> Option<&'v Value<'t>>
-    ensures { option_map (λ v. view v.now) result ≡ value_at (map step_value pointer.now) (view value.now) }
+    ensures data { option_map (λ v. view v.now) result ≡ value_at (map step_value pointer.now) (view value.now) }
+    ensures tree { option_map (λ v. value_view v.now) result ≡ tree_at (map step_value pointer.now) (value_view value.now) }
 {
     let mut part = Some(value);
     for step in pointer {
@@ -223,16 +227,18 @@ pub fn value_at<'v, 't>(value: &'v Value<'t>, pointer: &[PointerStep]) -> Option
 }
 
 fn value_after<'v, 't>(value: &'v Value<'t>, step: PointerStep) -> Option<&'v Value<'t>>
-    ensures { option_map (λ v. view v.now) result ≡ value_after (step_value step) (view value.now) }
+    ensures data { option_map (λ v. view v.now) result ≡ value_after (step_value step) (view value.now) }
+    ensures tree { option_map (λ v. value_view v.now) result ≡ tree_after (step_value step) (value_view value.now) }
 {
     match step {
-        PointerStep::Key(key) => at(value, key),
+        PointerStep::Key(key) => value.get(key),
         PointerStep::Index(index) => item_at(value, index),
     }
 }
 
 fn item_at<'v, 't>(value: &'v Value<'t>, index: usize) -> Option<&'v Value<'t>>
-    ensures { option_map (λ v. view v.now) result ≡ at index (view value.now) }
+    ensures data { option_map (λ v. view v.now) result ≡ at index (view value.now) }
+    ensures tree { option_map (λ v. value_view v.now) result ≡ written.at index (value_view value.now) }
 {
     match value {
         Value::Array(items) => item_of(items.as_slice(), index),
@@ -241,7 +247,8 @@ fn item_at<'v, 't>(value: &'v Value<'t>, index: usize) -> Option<&'v Value<'t>>
 }
 
 fn item_of<'v, 't>(items: &'v [Value<'t>], index: usize) -> Option<&'v Value<'t>>
-    ensures { option_map (λ v. view v.now) result ≡ get_item index (items_view items.now) }
+    ensures data { option_map (λ v. view v.now) result ≡ get_item index (items_view items.now) }
+    ensures tree { option_map (λ v. value_view v.now) result ≡ written.get_item index (tree_items items.now) }
 {
     items.get(index)
 }
