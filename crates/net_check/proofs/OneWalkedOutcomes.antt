@@ -8,7 +8,9 @@ use Rattle.mctp_transport.specs.Cutting.{ArePacketsOf}
 use Rattle.mctp_transport.specs.Hearing.{Whole}
 use Rattle.mctp_transport.proofs.PacketLists.{same_packets}
 use Rattle.pldm_message.specs.InstanceIds.{IdSet, Gives, TakesBack}
+use Rattle.pldm_message.proofs.OneInstanceIds.{gives_one, takes_back_one}
 use Rattle.pdr_repository.specs.Walkers.{Asks, Takes}
+use Rattle.pdr_repository.proofs.OneTakings.{takes_one, asks_one}
 use Rattle.pdr_repository.specs.declared.walk_fault.Step.{Step}
 use Rattle.pdr_repository.specs.declared.walk_fault.WalkFault.{WalkFault}
 use Rattle.net_plan.specs.declared.plan.Plan.{Plan}
@@ -25,7 +27,6 @@ use Rattle.net_check.specs.Walkers.{WalkerValue, WalkedState, WalkedEvent, Happe
 use Rattle.net_check.specs.WalkedRuns.{IsAsking, IsHanded, WalkedHappens, WalkedStep, walked_reached}
 use Rattle.net_check.proofs.Below.{runs_below}
 use Rattle.net_check.proofs.OneOutcomes.{runs_have_one_outcome, moves_have_one_outcome}
-use Rattle.net_check.proofs.OneTakings.{takes_one, asks_one, gives_one, takes_back_one}
 use Rattle.net_check.proofs.Soundness.{AreApart, run_sound, start_sound}
 
 -- ---- refusals

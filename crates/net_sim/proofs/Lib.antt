@@ -1,40 +1,40 @@
 -- assignments
-pub mod AssignSteps
-pub mod AssignPools
-pub mod AssignReplies
-pub mod AssignOne
-pub mod AssignGiven
-pub mod AssignRuns
-pub mod AssignLaw
+mod AssignSteps
+mod AssignPools
+mod AssignReplies
+mod AssignOne
+mod AssignGiven
+mod AssignRuns
+mod AssignLaw
 -- the network
-pub mod Deciding
-pub mod Tabled
-pub mod Slots
-pub mod Keeping
-pub mod Rooms
-pub mod Changes
-pub mod Losing
-pub mod Switching
-pub mod Putting
-pub mod Expiring
-pub mod Entering
-pub mod Moving
-pub mod Packing
-pub mod Asking
+mod Deciding
+mod Tabled
+mod Slots
+mod Keeping
+mod Rooms
+mod Changes
+mod Losing
+mod Switching
+mod Putting
+mod Expiring
+mod Entering
+mod Moving
+mod Packing
+mod Asking
 pub mod PlayedRuns
 pub mod PlayedWalks
-pub mod PutInBefore
-pub mod AsSent
-pub mod SentRequests
-pub mod Dealt
-pub mod Counted
-pub mod Settled
-pub mod Handing
-pub mod Arriving
-pub mod Walking
-pub mod Requesting
-pub mod Finding
-pub mod Telling
-pub mod Asks
-pub mod Begins
-pub mod Hands
+mod PutInBefore
+mod AsSent
+mod SentRequests
+mod Dealt
+mod Counted
+mod Settled
+mod Handing
+mod Arriving
+mod Walking
+mod Requesting
+mod Finding
+mod Telling
+mod Asks
+mod Begins
+mod Hands

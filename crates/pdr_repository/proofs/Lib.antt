@@ -28,3 +28,4 @@ pub mod AnswersRead
 pub mod CheckBytes
 pub mod Takings
 pub mod SomeTakings
+pub mod OneTakings

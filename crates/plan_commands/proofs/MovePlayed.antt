@@ -19,7 +19,7 @@ use Rattle.plan_commands.specs.declared.status.Status.TheVariants as status
 use Rattle.plan_commands.specs.Answers.{Stream, Fails, BreaksOff, FailsToPrint}
 use Rattle.plan_commands.specs.Moving.{IsMoveGiven, IsMoveErrorText, PrintsMoveError, IsUnreadInMove, IsMoveUnread}
 use Rattle.plan_commands.specs.MoveSimulating.{IsPlayGiven, TellsMovedInPart, IsPlayAnswer, IsUnreadInPlay, IsPlayUnread, IsUnplayedFor, SimulatesMoveFiles}
-use Rattle.plan_commands.specs.Simulating.{EndsShowing, SimulatesBy, IsWalksText, AreUnreadEvents, AreEventsUnread, AreLinesAtMost, ShowsOutcomes, ShowsAtMost}
+use Rattle.plan_commands.specs.Simulating.{EndsShowing, ReportsPlay, SimulatesBy, IsWalksText, AreUnreadEvents, AreEventsUnread, AreLinesAtMost, ShowsOutcomes, ShowsAtMost}
 use Rattle.plan_commands.proofs.Causes.{unread_also, unread_among, unwritten_among}
 use Rattle.plan_commands.proofs.Telling.{breaks_off_also, untouched_also}
 
@@ -64,15 +64,16 @@ module _ (before after : Plan) (certificate : Certificate) (befores afters certi
     (given : IsPlayGiven befores afters certificates happenings before after certificate events) where
   -- the printed error is what the run tells
   pub tells_play_fault : (error : MoveError) (ended : Status) → NamesFirstMoveFault before after certificate error
-      → PrintsMoveError before error ended output → SimulatesMoveFiles ended befores afters certificates happenings output
-  tells_play_fault error ended first (is, (text, told, written)) =
-      subst (λ s. SimulatesMoveFiles s befores afters certificates happenings output) (sym is)
+      → PrintsMoveError before error ended output → (errors : Stream) → SimulatesMoveFiles ended befores afters certificates happenings output errors
+  tells_play_fault error ended first (is, (text, told, written)) errors =
+      subst (λ s. SimulatesMoveFiles s befores afters certificates happenings output errors) (sym is)
       (before, after, certificate, text, given.inputs, (error, first, told), written)
 
   pub tells_play_fault_in : (error : MoveError) (result : Result Status Refused) → NamesFirstMoveFault before after certificate error
-      → IfOk result (λ ended. PrintsMoveError before error ended output) → IfOk result (λ ended. SimulatesMoveFiles ended befores afters certificates happenings output)
-  tells_play_fault_in error (Ok ended) first printed = tells_play_fault error ended first printed
-  tells_play_fault_in error (Err why) first printed = tt
+      → IfOk result (λ ended. PrintsMoveError before error ended output) → (errors : Stream)
+      → IfOk result (λ ended. SimulatesMoveFiles ended befores afters certificates happenings output errors)
+  tells_play_fault_in error (Ok ended) first printed errors = tells_play_fault error ended first printed errors
+  tells_play_fault_in error (Err why) first printed errors = tt
 
   -- so an output that failed in it failed in an answer
   pub play_fault_broken : (error : MoveError) (Same : Type 0) (result : Result Status Refused) → NamesFirstMoveFault before after certificate error
@@ -95,15 +96,15 @@ module _ (before after : Plan) (certificate : Certificate) (befores afters certi
     abbrev ends : Status → Type 0
     ends s = EndsShowing s (ShowsAtMost before (length events) output) (ShowsOutcomes before (length events) output) (AreLinesAtMost before (length events)) output
 
-    pub move_played : SimulatesMoveFiles ended befores afters certificates happenings output
-    move_played = by ended shown
+    pub move_played : (errors : Stream) → ReportsPlay ended errors → SimulatesMoveFiles ended befores afters certificates happenings output errors
+    move_played errors reports = by ended shown reports
       where
         by : (s : Status) → EndsShowing s (ShowsAtMost before (length events) output) (ShowsOutcomes before (length events) output) (AreLinesAtMost before (length events)) output
-            → SimulatesMoveFiles s befores afters certificates happenings output
-        by status.Yes shown = (before, after, certificate, events, given, accepted, shown)
-        by status.Fault shown = absurd shown
-        by status.Unreadable shown = (refused.Unwritten, refl, shown.fails)
-        by status.NoMemory shown = tt
+            → ReportsPlay s errors → SimulatesMoveFiles s befores afters certificates happenings output errors
+        by status.Yes shown line = (before, after, certificate, events, given, accepted, shown)
+        by status.Fault shown line = absurd shown
+        by status.Unreadable shown line = (refused.Unwritten, refl, shown.fails, line)
+        by status.NoMemory shown line = line
 
     -- memory ran out in them
     pub move_begun : ended ≡ status.NoMemory → TellsMovedInPart befores afters certificates happenings output

@@ -40,7 +40,7 @@ use Rattle.net_plan.specs.PlanValues.{plan_value}
 use Rattle.net_plan.specs.TextFaults.{error_count}
 use Rattle.net_plan.specs.Unread.{GaveNoEvents}
 use Rattle.plan_texts.specs.OutcomeLines.{outcome_line, lines_from, outcome_lines}
-use Rattle.plan_commands.specs.Simulating.{IsRunText, ShowsRun, ShowsBeginning, ShowsWalks, ShowsBegunWalks, IsWalksText, ShowsAllOr, EndsShowing, AreFirstLines, SimulatesBy, Simulates, AreLinesAtMost, ShowsLines, ShowsOutcomes, ShowsAtMost, GaveEvents, TellsBeginning, IsSimAnswer, AreUnreadEvents, AreEventsUnread, IsUnreadAmong, AreUnreadAmong, IsUnsimulatedFor, SimulatesFiles}
+use Rattle.plan_commands.specs.Simulating.{IsRunText, ReportsPlay, ShowsRun, ShowsBeginning, ShowsWalks, ShowsBegunWalks, IsWalksText, ShowsAllOr, EndsShowing, AreFirstLines, SimulatesBy, Simulates, AreLinesAtMost, ShowsLines, ShowsOutcomes, ShowsAtMost, GaveEvents, TellsBeginning, IsSimAnswer, AreUnreadEvents, AreEventsUnread, IsUnreadAmong, AreUnreadAmong, IsUnsimulatedFor, SimulatesFiles}
 
 -- ---- lines
 
@@ -362,12 +362,12 @@ pub files_unwritten : (why : Refused) (plans certificates happenings output : St
 files_unwritten why plans certificates happenings output h =
     unwritten_among (λ unread cause. IsUnreadAmong unread cause plans certificates happenings) ⊥ ⊥ ⊥ (Fails output) why h
 
-pub files_fault : (plan : Plan) (cert : Certificate) (plans certificates happenings output : Stream) (fault : CheckError) (ended : Status)
+pub files_fault : (plan : Plan) (cert : Certificate) (plans certificates happenings output errors : Stream) (fault : CheckError) (ended : Status)
     → AreGiven plans certificates plan cert → NamesFirstFault plan cert fault → PrintsFault plan fault ended output
-    → SimulatesFiles ended plans certificates happenings output
-files_fault plan cert plans certificates happenings output (check_error.Fault fault) ended given first (is, written) =
-    subst (λ s. SimulatesFiles s plans certificates happenings output) (sym is) (plan, cert, fault, given, first, written)
-files_fault plan cert plans certificates happenings output check_error.OutOfMemory ended given first printed = absurd printed
+    → SimulatesFiles ended plans certificates happenings output errors
+files_fault plan cert plans certificates happenings output errors (check_error.Fault fault) ended given first (is, written) =
+    subst (λ s. SimulatesFiles s plans certificates happenings output errors) (sym is) (plan, cert, fault, given, first, written)
+files_fault plan cert plans certificates happenings output errors check_error.OutOfMemory ended given first printed = absurd printed
 
 module _ (plan : Plan) (cert : Certificate) (plans certificates happenings output : Stream) (events : List Event)
     (given : AreGiven plans certificates plan cert) (gave : GaveEvents plan happenings events) where
@@ -393,15 +393,15 @@ module _ (plan : Plan) (cert : Certificate) (plans certificates happenings outpu
 
   module _ (ended : Status) (accepted : Accepts plan cert)
       (shown : EndsShowing ended (ShowsAtMost plan (length events) output) (ShowsOutcomes plan (length events) output) (AreLinesAtMost plan (length events)) output) where
-    pub files_played : SimulatesFiles ended plans certificates happenings output
-    files_played = by ended shown
+    pub files_played : (errors : Stream) → ReportsPlay ended errors → SimulatesFiles ended plans certificates happenings output errors
+    files_played errors reports = by ended shown reports
       where
         by : (ended : Status) → EndsShowing ended (ShowsAtMost plan (length events) output) (ShowsOutcomes plan (length events) output) (AreLinesAtMost plan (length events)) output
-            → SimulatesFiles ended plans certificates happenings output
-        by status.Yes shown = (plan, cert, events, given, gave, accepted, shown)
-        by status.Fault shown = absurd shown
-        by status.Unreadable shown = (refused.Unwritten, refl, shown.fails)
-        by status.NoMemory shown = tt
+            → ReportsPlay ended errors → SimulatesFiles ended plans certificates happenings output errors
+        by status.Yes shown line = (plan, cert, events, given, gave, accepted, shown)
+        by status.Fault shown line = absurd shown
+        by status.Unreadable shown line = (refused.Unwritten, refl, shown.fails, line)
+        by status.NoMemory shown line = line
 
     abbrev ends : Status → Type 0
     ends s = EndsShowing s (ShowsAtMost plan (length events) output) (ShowsOutcomes plan (length events) output) (AreLinesAtMost plan (length events)) output

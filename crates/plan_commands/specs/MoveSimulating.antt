@@ -13,12 +13,13 @@ use Rattle.net_plan.specs.Unread.{GaveNoEvents}
 use Rattle.plan_commands.specs.declared.refused.Input.{Input}
 use Rattle.plan_commands.specs.declared.refused.Input.TheVariants as input
 use Rattle.plan_commands.specs.declared.refused.Refused.{Refused}
+use Rattle.plan_commands.specs.declared.refused.Refused.TheVariants as refused
 use Rattle.plan_commands.specs.declared.status.Status.{Status}
 use Rattle.plan_commands.specs.declared.status.Status.TheVariants as status
-use Rattle.plan_commands.specs.Answers.{Stream, Fails, GaveNothing}
+use Rattle.plan_commands.specs.Answers.{Stream, Fails, GaveNothing, IsReported, SaysWhy}
 use Rattle.plan_commands.specs.Moving.{IsMoveGiven, IsMoveFaultText, IsUnreadInMove, TellsMoveFault}
 use Rattle.plan_commands.specs.Simulating.{SimulatesBy, IsWalksText, ShowsOutcomes, ShowsAtMost, GaveEvents}
-use Rattle.plan_commands.specs.Statuses.{status_of, HasCause}
+use Rattle.plan_commands.specs.Statuses.{HasCause}
 
 -- the sources gave the plans, the certificate, and the events at the nodes of the plan before
 pub record IsPlayGiven (befores afters certificates happenings : Stream) (before after : Plan)
@@ -83,13 +84,13 @@ IsUnplayedFor why befores afters certificates happenings output =
     HasCause (λ unread cause. IsUnreadInPlay unread cause befores afters certificates happenings) ⊥ ⊥ ⊥
     (Fails output) why
 
--- what the end of a run says of what the sources gave and what was written
-abbrev pub SimulatesMoveFiles : Status → Stream → Stream → Stream → Stream → Stream → Type 0
-SimulatesMoveFiles status.Yes befores afters certificates happenings output =
+-- what the end of a run says of what the sources gave and what was written on both outputs
+abbrev pub SimulatesMoveFiles : Status → Stream → Stream → Stream → Stream → (output errors : Stream) → Type 0
+SimulatesMoveFiles status.Yes befores afters certificates happenings output errors =
     TellsMoved befores afters certificates happenings output
-SimulatesMoveFiles status.Fault befores afters certificates happenings output =
+SimulatesMoveFiles status.Fault befores afters certificates happenings output errors =
     TellsMoveFault befores afters certificates output
-SimulatesMoveFiles status.Unreadable befores afters certificates happenings output =
-    (why : Refused) × (status_of why ≡ status.Unreadable)
-    × IsUnplayedFor why befores afters certificates happenings output
-SimulatesMoveFiles status.NoMemory befores afters certificates happenings output = ⊤
+SimulatesMoveFiles status.Unreadable befores afters certificates happenings output errors =
+    SaysWhy (λ why. IsUnplayedFor why befores afters certificates happenings output) errors
+SimulatesMoveFiles status.NoMemory befores afters certificates happenings output errors =
+    IsReported refused.NoMemory errors

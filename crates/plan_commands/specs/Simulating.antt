@@ -24,9 +24,9 @@ use Rattle.plan_commands.specs.declared.refused.Refused.TheVariants as refused
 use Rattle.plan_commands.specs.declared.status.Status.{Status}
 use Rattle.plan_commands.specs.declared.status.Status.TheVariants as status
 use Rattle.plan_commands.specs.Answers.{Stream, Fails, BreaksOff, AreGiven}
-use Rattle.plan_commands.specs.Answers.{GaveNothing, IsUnread, IsFaultText, TellsFault}
+use Rattle.plan_commands.specs.Answers.{GaveNothing, IsUnread, IsFaultText, TellsFault, IsReported, SaysWhy}
 use Rattle.plan_texts.specs.OutcomeLines.{outcome_lines}
-use Rattle.plan_commands.specs.Statuses.{status_of, HasCause}
+use Rattle.plan_commands.specs.Statuses.{HasCause}
 
 -- The events are those of a run from the state, and the output was given the lines of what came of them.
 pub record ShowsRun (tables : Tables) (w : WalkedState) (events : List WalkedEvent) (output : Stream) : Type 0 where
@@ -90,6 +90,13 @@ SimulatesBy tables cert events ended output =
 -- so it is at a checked plan
 abbrev pub Simulates : Plan → Certificate → List WalkedEvent → Status → Stream → Type 0
 Simulates plan cert events ended output = SimulatesBy (one_plan plan) cert events ended output
+
+-- where the lines of outcomes are not all out, it is reported that the output failed, or want of memory
+abbrev pub ReportsPlay : Status → Stream → Type 0
+ReportsPlay status.Yes errors = ⊤
+ReportsPlay status.Fault errors = ⊤
+ReportsPlay status.Unreadable errors = IsReported refused.Unwritten errors
+ReportsPlay status.NoMemory errors = IsReported refused.NoMemory errors
 
 -- the output was given the lines of so many of the outcomes
 abbrev pub ShowsLines : Plan → List WalkedOutcome → ℕ → Stream → Type 0
@@ -181,10 +188,11 @@ abbrev pub IsUnsimulatedFor : Refused → Stream → Stream → Stream → Strea
 IsUnsimulatedFor why plans certificates happenings output =
     HasCause (λ unread cause. IsUnreadAmong unread cause plans certificates happenings) ⊥ ⊥ ⊥ (Fails output) why
 
--- what the end of a run says of what the sources gave and what was written
-abbrev pub SimulatesFiles : Status → Stream → Stream → Stream → Stream → Type 0
-SimulatesFiles status.Yes plans certificates happenings output = TellsOutcomes plans certificates happenings output
-SimulatesFiles status.Fault plans certificates happenings output = TellsFault plans certificates output
-SimulatesFiles status.Unreadable plans certificates happenings output =
-    (why : Refused) × (status_of why ≡ status.Unreadable) × IsUnsimulatedFor why plans certificates happenings output
-SimulatesFiles status.NoMemory plans certificates happenings output = ⊤
+-- what the end of a run says of what the sources gave and what was written on both outputs
+abbrev pub SimulatesFiles : Status → Stream → Stream → Stream → (output errors : Stream) → Type 0
+SimulatesFiles status.Yes plans certificates happenings output errors =
+    TellsOutcomes plans certificates happenings output
+SimulatesFiles status.Fault plans certificates happenings output errors = TellsFault plans certificates output
+SimulatesFiles status.Unreadable plans certificates happenings output errors =
+    SaysWhy (λ why. IsUnsimulatedFor why plans certificates happenings output) errors
+SimulatesFiles status.NoMemory plans certificates happenings output errors = IsReported refused.NoMemory errors

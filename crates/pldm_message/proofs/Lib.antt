@@ -1,3 +1,4 @@
 pub mod FirstFaults
 pub mod Writing
 pub mod Turns
+pub mod OneInstanceIds

@@ -11,7 +11,7 @@ ghost use Rattle.net_sim.specs.Promised.{IsPromised};
 ghost use Rattle.net_sim.specs.WalkedStanding.{NetworkValue, without_walkers};
 ghost use Rattle.net_sim.specs.Walks.{HaveWalked};
 ghost use Rattle.plan_commands.specs.Answers.{stream};
-ghost use Rattle.plan_commands.specs.Simulating.{IsRunText, ShowsRun, ShowsBeginning, ShowsWalks, ShowsBegunWalks, IsWalksText, ShowsAllOr, EndsShowing, SimulatesFrom, SimulatesBy, Simulates, AreFirstLines, AreLinesAtMost, ShowsLines, ShowsOutcomes, ShowsAtMost};
+ghost use Rattle.plan_commands.specs.Simulating.{IsRunText, ShowsRun, ShowsBeginning, ShowsWalks, ShowsBegunWalks, IsWalksText, ShowsAllOr, EndsShowing, ReportsPlay, SimulatesFrom, SimulatesBy, Simulates, AreFirstLines, AreLinesAtMost, ShowsLines, ShowsOutcomes, ShowsAtMost};
 
 pub mod files;
 pub mod moves;
@@ -57,6 +57,9 @@ pub fn run_sim<T: Terminus, O: Sink, E: Sink>(
     // Every run of the network with its walkers keeps the headline, and what is promised of deliveries.
     ensures promises { IsPromised (one_plan checked.entry.0) checked.entry.1 }
     ensures silent { result ≡ Yes → errors.new ≡ errors.old }
+    // Where not all lines are out, standard error has the line that says why.
+    ensures reports { let said = stream (E.contents errors.old) (E.failures errors.old) (E.contents errors.new) (E.failures errors.new) in
+        ReportsPlay result said }
 {
     match answer_sim(alloc, checked, termini, events, output) {
         Ok(()) => Status::Yes,
@@ -123,6 +126,9 @@ pub fn run_simmove<T: Terminus, O: Sink, E: Sink>(
     // Every run of the network with its walkers keeps the headline, and what is promised of deliveries.
     ensures promises { IsPromised (moving checked.entry.0 checked.entry.1) checked.entry.2 }
     ensures silent { result ≡ Yes → errors.new ≡ errors.old }
+    // Where not all lines are out, standard error has the line that says why.
+    ensures reports { let said = stream (E.contents errors.old) (E.failures errors.old) (E.contents errors.new) (E.failures errors.new) in
+        ReportsPlay result said }
 {
     match answer_simmove(alloc, checked, termini, events, output) {
         Ok(()) => Status::Yes,

@@ -4,7 +4,7 @@ ghost use Rattle.plan_commands.specs.declared.status.Status.TheVariants.{Yes, Fa
 ghost use Rattle.plan_commands.specs.declared.refused.Refused.TheVariants.{Unwritten};
 ghost use Rattle.net_sim.specs.Outcomes.{event_value};
 ghost use Rattle.plan_commands.specs.Answers.{stream, BreaksOff, AreGiven};
-ghost use Rattle.plan_commands.specs.Simulating.{EndsShowing, Simulates, AreLinesAtMost, ShowsAtMost, ShowsOutcomes, GaveEvents, TellsBeginning, TellsRun, IsSimAnswer, AreUnreadAmong, IsUnsimulatedFor, SimulatesFiles};
+ghost use Rattle.plan_commands.specs.Simulating.{EndsShowing, Simulates, ReportsPlay, AreLinesAtMost, ShowsAtMost, ShowsOutcomes, GaveEvents, TellsBeginning, TellsRun, IsSimAnswer, AreUnreadAmong, IsUnsimulatedFor, SimulatesFiles};
 
 use crate::commands::answer::refuse;
 use crate::commands::faults::print_fault;
@@ -37,7 +37,8 @@ pub fn simulate<P: Source, C: Source, V: Source, O: Sink, E: Sink>(
         (C.remaining certificate.new) (C.failures certificate.new) in
         let happenings = stream (V.remaining events.old) (V.failures events.old) (V.remaining events.new) (V.failures events.new) in
         let outputs = stream (O.contents output.old) (O.failures output.old) (O.contents output.new) (O.failures output.new) in
-        SimulatesFiles result plans certificates happenings outputs }
+        let said = stream (E.contents errors.old) (E.failures errors.old) (E.contents errors.new) (E.failures errors.new) in
+        SimulatesFiles result plans certificates happenings outputs said }
     ensures unwritten { let plans = stream (P.remaining plan.old) (P.failures plan.old) (P.remaining plan.new) (P.failures plan.new) in
         let certificates = stream (C.remaining certificate.old) (C.failures certificate.old)
         (C.remaining certificate.new) (C.failures certificate.new) in
@@ -89,7 +90,8 @@ fn answer_files<P: Source, C: Source, V: Source, O: Sink, E: Sink>(
         (C.remaining certificate.new) (C.failures certificate.new) in
         let happenings = stream (V.remaining events.old) (V.failures events.old) (V.remaining events.new) (V.failures events.new) in
         let outputs = stream (O.contents output.old) (O.failures output.old) (O.contents output.new) (O.failures output.new) in
-        IfOk result (λ status. SimulatesFiles status plans certificates happenings outputs) }
+        let said = stream (E.contents errors.old) (E.failures errors.old) (E.contents errors.new) (E.failures errors.new) in
+        IfOk result (λ status. SimulatesFiles status plans certificates happenings outputs said) }
     ensures refused { let plans = stream (P.remaining plan.old) (P.failures plan.old) (P.remaining plan.new) (P.failures plan.new) in
         let certificates = stream (C.remaining certificate.old) (C.failures certificate.old)
         (C.remaining certificate.new) (C.failures certificate.new) in
@@ -178,6 +180,8 @@ fn play<O: Sink, E: Sink>(
         (ShowsOutcomes checked.entry.0 (length events.now) outputs) (AreLinesAtMost checked.entry.0 (length events.now)) outputs) }
     ensures plays { let outputs = stream (O.contents output.old) (O.failures output.old) (O.contents output.new) (O.failures output.new) in
         IfOk result (λ status. Simulates checked.entry.0 checked.entry.1 (map event_value events.now) status outputs) }
+    ensures reports { let said = stream (E.contents errors.old) (E.failures errors.old) (E.contents errors.new) (E.failures errors.new) in
+        IfOk result (λ status. ReportsPlay status said) }
     ensures untouched { OnErr result (output.new ≡ output.old) }
     ensures silent { IfOk result (λ status. status ≡ Yes → errors.new ≡ errors.old) }
     ensures unsaid { OnErr result (errors.new ≡ errors.old) }

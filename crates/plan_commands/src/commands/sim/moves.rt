@@ -6,7 +6,7 @@ ghost use Rattle.net_check.specs.TwoPlans.{moving};
 ghost use Rattle.net_sim.specs.Outcomes.{event_value};
 ghost use Rattle.plan_commands.specs.Answers.{stream, BreaksOff};
 ghost use Rattle.plan_commands.specs.MoveSimulating.{IsPlayGiven, TellsMovedInPart, TellsMovedRun, IsPlayAnswer, IsPlayUnread, IsUnplayedFor, SimulatesMoveFiles};
-ghost use Rattle.plan_commands.specs.Simulating.{EndsShowing, SimulatesBy, AreLinesAtMost, ShowsAtMost, ShowsOutcomes};
+ghost use Rattle.plan_commands.specs.Simulating.{EndsShowing, ReportsPlay, SimulatesBy, AreLinesAtMost, ShowsAtMost, ShowsOutcomes};
 
 use crate::commands::answer::refuse;
 use crate::commands::inputs::{given_events, read_move};
@@ -43,7 +43,8 @@ pub fn simulate_move<P: Source, Q: Source, C: Source, V: Source, O: Sink, E: Sin
         (C.remaining certificate.new) (C.failures certificate.new) in
         let happenings = stream (V.remaining events.old) (V.failures events.old) (V.remaining events.new) (V.failures events.new) in
         let outputs = stream (O.contents output.old) (O.failures output.old) (O.contents output.new) (O.failures output.new) in
-        SimulatesMoveFiles result befores afters certificates happenings outputs }
+        let said = stream (E.contents errors.old) (E.failures errors.old) (E.contents errors.new) (E.failures errors.new) in
+        SimulatesMoveFiles result befores afters certificates happenings outputs said }
     ensures unwritten { let befores = stream (P.remaining before.old) (P.failures before.old) (P.remaining before.new) (P.failures before.new) in
         let afters = stream (Q.remaining after.old) (Q.failures after.old) (Q.remaining after.new) (Q.failures after.new) in
         let certificates = stream (C.remaining certificate.old) (C.failures certificate.old)
@@ -102,7 +103,8 @@ fn answer_move_files<P: Source, Q: Source, C: Source, V: Source, O: Sink, E: Sin
         (C.remaining certificate.new) (C.failures certificate.new) in
         let happenings = stream (V.remaining events.old) (V.failures events.old) (V.remaining events.new) (V.failures events.new) in
         let outputs = stream (O.contents output.old) (O.failures output.old) (O.contents output.new) (O.failures output.new) in
-        IfOk result (λ status. SimulatesMoveFiles status befores afters certificates happenings outputs) }
+        let said = stream (E.contents errors.old) (E.failures errors.old) (E.contents errors.new) (E.failures errors.new) in
+        IfOk result (λ status. SimulatesMoveFiles status befores afters certificates happenings outputs said) }
     ensures refused { let befores = stream (P.remaining before.old) (P.failures before.old) (P.remaining before.new) (P.failures before.new) in
         let afters = stream (Q.remaining after.old) (Q.failures after.old) (Q.remaining after.new) (Q.failures after.new) in
         let certificates = stream (C.remaining certificate.old) (C.failures certificate.old)
@@ -208,6 +210,8 @@ fn play_move<O: Sink, E: Sink>(
         (ShowsOutcomes checked.entry.0 (length events.now) outputs) (AreLinesAtMost checked.entry.0 (length events.now)) outputs) }
     ensures plays { let outputs = stream (O.contents output.old) (O.failures output.old) (O.contents output.new) (O.failures output.new) in
         IfOk result (λ status. SimulatesBy (moving checked.entry.0 checked.entry.1) checked.entry.2 (map event_value events.now) status outputs) }
+    ensures reports { let said = stream (E.contents errors.old) (E.failures errors.old) (E.contents errors.new) (E.failures errors.new) in
+        IfOk result (λ status. ReportsPlay status said) }
     ensures untouched { OnErr result (output.new ≡ output.old) }
     ensures silent { IfOk result (λ status. status ≡ Yes → errors.new ≡ errors.old) }
     ensures unsaid { OnErr result (errors.new ≡ errors.old) }

@@ -12,7 +12,7 @@ returns-in-Ok-clause-simulates g c =
     let output = stream (g.O.Sink.contents c.args.output.now) (g.O.Sink.failures c.args.output.now) (g.O.Sink.contents c.play.new.output) (g.O.Sink.failures c.play.new.output) in
     files_played files.plan files.certificate _ _ _ output files.events.items files.ensures.given files.ensures.events ended.field-0 c.in-Ok.ensures.accepted
     (shown_in files.plan c.in-Ok.checked.0 (length files.events.items) (length c.deref.result.now) ended.field-0 output
-    (ap (λ r. r.0) c.in-Ok.ensures.checked) (ap (λ es. length es) c.deref.ensures.value) ended.ensures.lists)
+    (ap (λ r. r.0) c.in-Ok.ensures.checked) (ap (λ es. length es) c.deref.ensures.value) ended.ensures.lists) _ ended.ensures.reports
 
 pub returns-in-Ok-clause-broken : goal.returns-in-Ok-clause-broken
 returns-in-Ok-clause-broken g c =

@@ -17,7 +17,7 @@ returns-in-Ok-clause-simulates g c =
     let output = stream (g.O.Sink.contents c.args.output.now) (g.O.Sink.failures c.args.output.now) (g.O.Sink.contents c.play_move.new.output) (g.O.Sink.failures c.play_move.new.output) in
     move_played files.before files.after files.certificate befores afters certificates happenings output files.events.items files.ensures.given ended.field-0
     c.in-Ok.ensures.accepted (shown_in files.before c.in-Ok.checked.0 (length files.events.items) (length c.deref.result.now) ended.field-0 output
-    (ap (λ r. r.0) c.in-Ok.ensures.checked) (ap (λ es. length es) c.deref.ensures.value) ended.ensures.lists)
+    (ap (λ r. r.0) c.in-Ok.ensures.checked) (ap (λ es. length es) c.deref.ensures.value) ended.ensures.lists) _ ended.ensures.reports
 
 pub returns-in-Ok-clause-broken : goal.returns-in-Ok-clause-broken
 returns-in-Ok-clause-broken g c =
@@ -66,7 +66,7 @@ returns-clause-simulates g c =
     let happenings = stream (g.V.Source.remaining c.args.events.now) (g.V.Source.failures c.args.events.now) (g.V.Source.remaining c.read_move_files.new.events) (g.V.Source.failures c.read_move_files.new.events) in
     let output = stream (g.O.Sink.contents c.args.output.now) (g.O.Sink.failures c.args.output.now) (g.O.Sink.contents c.print_move_error.new.output) (g.O.Sink.failures c.print_move_error.new.output) in
     tells_play_fault_in files.before files.after files.certificate befores afters certificates happenings output files.events.items files.ensures.given
-    c.in-Err.error c.print_move_error.result c.in-Err.ensures.first_fault c.print_move_error.ensures.written
+    c.in-Err.error c.print_move_error.result c.in-Err.ensures.first_fault c.print_move_error.ensures.written _
 
 pub returns-in-Ok-clause-runs : goal.returns-in-Ok-clause-runs
 returns-in-Ok-clause-runs g c = λ is.
