@@ -6,12 +6,12 @@ _mctpplan() {
     local files=0
     COMPREPLY=()
     if [ "$place" -eq 1 ]; then
-        mapfile -t COMPREPLY < <(compgen -W 'check certify move assign sim simmove walk reach trace draw explain lint show code guide' -- "$current")
+        mapfile -t COMPREPLY < <(compgen -W 'check certify move assign sim simmove walk reach trace draw explain faults lint show code guide' -- "$current")
         return
     fi
     case $command in
         certify | lint) files=1 ;;
-        check | assign | walk | reach | trace | draw | explain) files=2 ;;
+        check | assign | walk | reach | trace | draw | explain | faults) files=2 ;;
         move | sim) files=3 ;;
         simmove) files=4 ;;
         show)

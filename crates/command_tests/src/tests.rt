@@ -1,5 +1,7 @@
 use net_plan::{Counted, PlanError};
-use plan_commands::{FileAtPath, Input, Refused, Status, refuse, run_certify, run_check};
+use plan_commands::{
+    FileAtPath, Input, PlanQuestion, Question, Refused, Status, refuse, run_certified, run_planned,
+};
 use std::alloc::{AllocError, Global};
 use std::io::{self, ErrorKind, Read, Write};
 use std::process::Abort;
@@ -8,64 +10,14 @@ use std::test::Fail;
 mod assign;
 mod bridges;
 mod moves;
-mod network_walks;
-mod paths;
 mod riser;
-mod show;
 mod sim;
 mod walk;
 mod words;
 
-/// A plan of two endpoints on one bus, up to a's rows.
-const TO_ROWS: &str =
-    r#"{"format": 1, "buses": [{"name": "b", "binding": 1, "media": 4}], "nodes": [
-    {"name": "a", "kind": "endpoint", "eid": 8, "owner": null, "pool": null,
-     "ports": [{"bus": "b", "address": "10"}], "rows": ["#;
-
-/// From there up to z's endpoint ID.
-const TO_EID: &str = r#"], "terminus": null},
-    {"name": "z", "kind": "endpoint", "eid": "#;
-
-/// From there up to a third node.
-const TO_FURTHER: &str = r#", "owner": null, "pool": null,
-     "ports": [{"bus": "b", "address": "12"}],
-     "rows": [{"first": 8, "size": 1, "port": 0, "next": "a"}], "terminus": null}"#;
-
-const ROW: &str = r#"{"first": 254, "size": 1, "port": 0, "next": "z"}"#;
-
-const TWO_ROWS: &str = r#"{"first": 254, "size": 1, "port": 0, "next": "z"},
-    {"first": 254, "size": 1, "port": 0, "next": "z"}"#;
-
-const ROW_PAST_254: &str = r#"{"first": 254, "size": 2, "port": 0, "next": "z"}"#;
-
-const EMPTY_ROW: &str = r#"{"first": 254, "size": 0, "port": 0, "next": "z"}"#;
-
-const ROW_OF_TWO: &str = r#"{"first": 253, "size": 2, "port": 0, "next": "z"}"#;
-
-const ANOTHER_A: &str = r#",
-    {"name": "a", "kind": "endpoint", "eid": 9, "owner": null, "pool": null,
-     "ports": [{"bus": "b", "address": "14"}], "rows": [], "terminus": null}"#;
-
-const RANKS: &str = r#"{"format": 1, "levels": [], "places": [], "ranks": [
-    {"node": "a", "ranges": [{"first": 254, "rank": 1, "size": 1}]},
-    {"node": "z", "ranges": [{"first": 8, "rank": 1, "size": 1}]}]}"#;
-
 const NO_RANKS: &str = r#"{"format": 1, "levels": [], "places": [], "ranks": []}"#;
 
-/// As they are written.
-const RANKS_IN_A_LINE: &str =
-    r#"{"format":1,"levels":[],"places":[],"ranks":[{"node":"a","ranges":[{"first":254,"rank":1,"size":1}]},{"node":"z","ranges":[{"first":8,"rank":1,"size":1}]}]}
-"#;
-
-const NO_RANKS_IN_A_LINE: &str = r#"{"format":1,"levels":[],"places":[],"ranks":[]}
-"#;
-
 const NO_NODES: &str = r#"{"format": 1, "buses": [], "nodes": []}"#;
-
-/// The plan of two nodes with these rows of a, this endpoint ID of z, and further nodes.
-fn plan_of(alloc: Global, rows: &str, eid: &str, further: &str) -> Result<String, AllocError> {
-    format!(in alloc; "{TO_ROWS}{rows}{TO_EID}{eid}{TO_FURTHER}{further}]}}")
-}
 
 /// Wants a run to have ended with this status and this text: an answer on standard output, anything else on standard
 /// error.
@@ -89,8 +41,9 @@ fn expect_check<P: Read + Drop, C: Read + Drop>(
 ) {
     let mut output = Counted::new(Vec::new(rt.alloc()));
     let mut errors = Counted::new(Vec::new(rt.alloc()));
-    let ended = run_check(
+    let ended = run_certified(
         rt.alloc(),
+        &Question::Check,
         &mut Counted::new(plan),
         &mut Counted::new(certificate),
         &mut output,
@@ -108,8 +61,9 @@ fn expect_certify<P: Read + Drop>(
 ) {
     let mut output = Counted::new(Vec::new(rt.alloc()));
     let mut errors = Counted::new(Vec::new(rt.alloc()));
-    let ended = run_certify(
+    let ended = run_planned(
         rt.alloc(),
+        PlanQuestion::Certify,
         &mut Counted::new(plan),
         &mut output,
         &mut errors,
@@ -125,77 +79,6 @@ fn expect_unreadable<P: Read + Drop, C: Read + Drop>(
     text: &str,
 ) {
     expect_check(rt, plan, certificate, Status::Unreadable, text);
-}
-
-#[test]
-fn answers_by_the_ranks(rt: HostRuntime) -> Result<(), Fail> {
-    let two_nodes = plan_of(rt.alloc(), ROW, "254", "")?;
-    let fault = "fault C10 node a entry 0 eid 254\n";
-    let rows = [
-        (two_nodes.as_str(), RANKS, Status::Yes, "yes\n"),
-        (two_nodes.as_str(), NO_RANKS, Status::Fault, fault),
-        (NO_NODES, NO_RANKS, Status::Yes, "yes\n"),
-    ];
-    for (plan, certificate, status, text) in rows {
-        expect_check(&rt, plan.as_bytes(), certificate.as_bytes(), status, text);
-    }
-    Ok(())
-}
-
-#[test]
-fn answers_the_fault_of_a_plan(rt: HostRuntime) -> Result<(), Fail> {
-    let rows = [
-        (ROW, "8", "", "C03 node z entry - eid 8"),
-        (ROW, "7", "", "C02 node z entry - eid 7"),
-        (ROW_PAST_254, "254", "", "C04 node a entry 0 eid -"),
-        (EMPTY_ROW, "254", "", "C04 node a entry 0 eid -"),
-        (ROW_OF_TWO, "254", "", "C06 node a entry 0 eid -"),
-        (TWO_ROWS, "254", "", "C05 node a entry 1 eid -"),
-        (ROW, "254", ANOTHER_A, "C01 node a entry - eid -"),
-    ];
-    for (row, eid, further, fault) in rows {
-        let plan = plan_of(rt.alloc(), row, eid, further)?;
-        let line = format!(in rt.alloc(); "fault {fault}\n")?;
-        expect_check(&rt, plan.as_bytes(), RANKS.as_bytes(), Status::Fault, &line);
-    }
-    Ok(())
-}
-
-#[test]
-fn tells_texts_that_do_not_read(rt: HostRuntime) {
-    let rows = [
-        ("", NO_RANKS, "unreadable plan: J01\n"),
-        ("[]", NO_RANKS, "unreadable plan: J02\n"),
-        ("[]", "[]", "unreadable plan: J02\n"),
-        (NO_NODES, "", "unreadable certificate: J01\n"),
-        (NO_NODES, "[]", "unreadable certificate: J02\n"),
-    ];
-    for (plan, certificate, text) in rows {
-        expect_unreadable(&rt, plan.as_bytes(), certificate.as_bytes(), text);
-    }
-}
-
-#[test]
-fn gives_certificates(rt: HostRuntime) -> Result<(), Fail> {
-    let two_nodes = plan_of(rt.alloc(), ROW, "254", "")?;
-    let rows = [
-        (two_nodes.as_str(), RANKS_IN_A_LINE),
-        (NO_NODES, NO_RANKS_IN_A_LINE),
-    ];
-    for (plan, certificate) in rows {
-        let plan = plan.as_bytes();
-        expect_certify(&rt, plan, Status::Yes, certificate);
-        expect_check(&rt, plan, certificate.as_bytes(), Status::Yes, "yes\n");
-    }
-    let cut = CutOff { rest: b"[]" };
-    expect_certify(
-        &rt,
-        b"[]".as_slice(),
-        Status::Unreadable,
-        "unreadable plan: J02\n",
-    );
-    expect_certify(&rt, cut, Status::Unreadable, "unreadable plan: file\n");
-    Ok(())
 }
 
 /// A reader that gives its bytes and then fails, where it should end.
@@ -260,7 +143,7 @@ fn tells_files_that_fail(rt: HostRuntime) {
     expect_unreadable(&rt, plan, cut, "unreadable certificate: file\n");
     expect_unreadable(&rt, missing(), missing(), "unreadable plan: file\n");
     expect_unreadable(&rt, plan, missing(), "unreadable certificate: file\n");
-    expect_unreadable(&rt, b"[]".as_slice(), missing(), "unreadable plan: J02\n");
+    expect_certify(&rt, cut, Status::Unreadable, "unreadable plan: file\n");
 }
 
 #[test]
@@ -274,8 +157,9 @@ fn tells_an_output_that_fails(rt: HostRuntime) {
         let kept = Vec::new(rt.alloc());
         let mut output = Counted::new(Narrow { kept, room });
         let mut errors = Counted::new(Vec::new(rt.alloc()));
-        let ended = run_check(
+        let ended = run_certified(
             rt.alloc(),
+            &Question::Check,
             &mut Counted::new(NO_NODES.as_bytes()),
             &mut Counted::new(NO_RANKS.as_bytes()),
             &mut output,

@@ -1,12 +1,8 @@
-pub mod Apart
-pub mod Halving
-pub mod Fronts
-pub mod EntryRows
-pub mod Readings
-pub mod ReaderLaws
-pub mod Replying
-pub mod PieceSteps
-pub mod PieceChains
-pub mod PieceWholes
+mod Apart
+mod Halving
+mod Fronts
+mod PieceSteps
+mod PieceChains
+mod PieceWholes
 pub mod PieceLoops
-pub mod OnePieces
+mod OnePieces

@@ -3,8 +3,8 @@ use Rattle.std.specs.Prelude.{◌≡◌, ◌⊎◌, ℕ, List, codes}
 use Rattle.mctp_transport.specs.Frames.{IsAssignable}
 use Rattle.mctp_bridge.specs.declared.row.TableRow.{TableRow}
 use Rattle.mctp_bridge.specs.declared.row.Hop.{Hop}
-use Rattle.mctp_control.specs.declared.device.DeviceKind.{DeviceKind}
-use Rattle.mctp_control.specs.declared.device.DeviceKind.TheVariants.{Bridge}
+use Rattle.mctp_bridge.specs.declared.device_kind.DeviceKind.{DeviceKind}
+use Rattle.mctp_bridge.specs.declared.device_kind.DeviceKind.TheVariants.{Bridge}
 use Rattle.mctp_bridge.specs.declared.decision.Progress.{Progress}
 use Rattle.mctp_bridge.specs.declared.decision.Progress.TheVariants.{AtOrigin}
 use Rattle.mctp_bridge.specs.declared.decision.Obstacle.{Obstacle}

@@ -3,8 +3,3 @@ pub mod Pieces
 pub mod PiecesLeft
 pub mod RowFaults
 pub mod Decisions
-pub mod Entries
-pub mod ReadFaults
-pub mod Parts
-pub mod Readers
-pub mod Reads

@@ -2,9 +2,9 @@
 ghost use Rattle.std.specs.Prelude.{◌≡◌, ◌↔◌, IsTrue};
 ghost use Rattle.mctp_bridge.specs.Decisions.{Forwards, IsDecided};
 
+use crate::device_kind::DeviceKind;
 use crate::range_table::RangeTable;
 use crate::row::Hop;
-use mctp_control::DeviceKind;
 use mctp_transport::{Eid, Header};
 
 /// A node as its decisions see it.

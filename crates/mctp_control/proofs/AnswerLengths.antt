@@ -1,5 +1,5 @@
 -- How many bytes an answer has.
-use Rattle.std.proofs.Common.{ℕ, ◌≤◌, length, arith}
+use Rattle.std.proofs.Common.{◌≤◌, length, arith}
 use Rattle.mctp_control.specs.Responses.{AnswerValue, EidSet, EidTold, PoolTold, EntriesTold, Failed, IsAnswer, answer_bytes}
 use Rattle.mctp_control.specs.EntryLists.{entries_bytes}
 

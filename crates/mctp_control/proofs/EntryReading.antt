@@ -16,9 +16,6 @@ pub record HasRead (bytes : List ℕ) (count i : ℕ) (items : List RouteEntry) 
   pub left : (es : List EntryValue) → SpellsEntries es bytes → length es ≡ count
       → (more : List EntryValue) × SpellsEntries more rest × (es ≡ values_of items ++ more)
 
-pub none_read : (bytes : List ℕ) (count : ℕ) → HasRead bytes count 0 [] bytes
-none_read bytes count = record { counted = refl; each = tt; read = refl; left = λ es s n. (es, s, refl) }
-
 -- an entry has at least six bytes
 pub six_each : (es : List EntryValue) → 6 * length es ≤ length (entries_bytes es)
 six_each [] = omega arith
@@ -83,17 +80,3 @@ must_follow bytes count i items rest h l never es s c =
     let w = h.left es s c in
     let f = next_left count i items rest es w.0 h.counted l c w.1 w.2 in
     never f.0 (entries_bytes f.1) f.3 f.5
-
--- once all are read, they are the entries, and nothing is left
-all_read_by : (items : List RouteEntry) (rest : List ℕ) (es more : List EntryValue) → length es ≡ length items → SpellsEntries more rest
-    → es ≡ values_of items ++ more → (rest ≡ []) × (es ≡ values_of items)
-all_read_by items rest es [] n s e = (s.whole, e ∙ append-nil (values_of items))
-all_read_by items rest es (m ∷ ms) n s e =
-    absurd (let a = ap length e ∙ length-append (values_of items) (m ∷ ms) in omega (arith, a, length_values items))
-
-pub all_read : (bytes : List ℕ) (count i : ℕ) (items : List RouteEntry) (rest : List ℕ) → HasRead bytes count i items rest → count ≤ i → i ≤ count
-    → (es : List EntryValue) → SpellsEntries es bytes → length es ≡ count → (rest ≡ []) × (es ≡ values_of items)
-all_read bytes count i items rest h a b es s c =
-    let w = h.left es s c in
-    let k = h.counted in
-    all_read_by items rest es w.0 (omega arith) w.1 w.2

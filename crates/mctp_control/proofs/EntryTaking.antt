@@ -1,12 +1,10 @@
 -- The entries so far, and one more.
 use Rattle.std.proofs.Common.{◌≡◌, ℕ, ◌+◌, ◌<◌, ◌≤◌, List, [], ◌∷◌, ◌++◌, length, get_or, take, drop, ap, sym, ◌∙◌, append-nil, length-append, arith}
-use Rattle.std.specs.List.{AllByRecursion}
 use Rattle.std.proofs.lemmas.List.{map-append, take_more, take-append-drop}
 use Rattle.std.proofs.lemmas.Grind.{flat_map-append}
-use Rattle.mctp_control.specs.RouteEntries.{IsEntry, entry_value, entry_bytes}
+use Rattle.mctp_control.specs.RouteEntries.{entry_value, entry_bytes}
 use Rattle.mctp_control.specs.EntryLists.{entries_bytes, values_of}
 use Rattle.mctp_control.specs.declared.route_entry.RouteEntry.{RouteEntry}
-use Rattle.mctp_control.proofs.EntryReading.{each_more}
 
 -- the bytes of one entry more
 pub bytes_more : (es : List RouteEntry) (i : ℕ) (e : RouteEntry) → i < length es → e ≡ get_or es i e
@@ -16,11 +14,6 @@ bytes_more es i e h s =
     ∙ ap entries_bytes (map-append entry_value (take i es) (e ∷ []))
     ∙ flat_map-append entry_bytes (values_of (take i es)) (entry_value e ∷ [])
     ∙ ap (λ x. entries_bytes (values_of (take i es)) ++ x) (append-nil (entry_bytes (entry_value e)))
-
-pub each_taken : (es : List RouteEntry) (i : ℕ) (e : RouteEntry) → i < length es → e ≡ get_or es i e → AllByRecursion IsEntry (values_of (take i es))
-    → IsEntry (entry_value e) → AllByRecursion IsEntry (values_of (take (i + 1) es))
-each_taken es i e h s a l =
-    rw (take_more es i e h, ← s, map-append entry_value (take i es) (e ∷ [])) (each_more (values_of (take i es)) (entry_value e) a l)
 
 -- the bytes of the first entries, and then those of the others
 pub bytes_split : (es : List RouteEntry) (n : ℕ)

@@ -1,9 +1,13 @@
-pub mod EntryReading
-pub mod EntryTaking
-pub mod CommandNumbers
-pub mod AnswerLengths
-pub mod PoolLaws
-pub mod EntryFitting
-pub mod Deciding
-pub mod OneReply
-pub mod Asked
+mod EntryReading
+mod EntryTaking
+mod CommandNumbers
+mod AnswerLengths
+mod PoolLaws
+mod EntryFitting
+mod Deciding
+mod OneReply
+mod Asked
+mod EntryRows
+mod Readings
+mod ReaderLaws
+mod Replying

@@ -90,10 +90,3 @@ run_found p count first eid h free whole within = record {
       | inl lt ↦ h.free e a lt
       | inr ge ↦ (let here : e ≡ eid = omega arith in rw here free)
     ]
-
--- at the end there is none
-pub none_found : (p : PoolValue) (count first end : ℕ) → 0 < count → IsRunSoFar p count first end → p.first + p.size ≤ end → (e : ℕ) → ¬ IsFreeRun p count e
-none_found p count first end some h all e run = elim (cases_lt e first) [
-  | inl lt ↦ h.before e lt run
-  | inr ge ↦ (let last = (run (count - 1) (omega arith)).0.1 in absurd (omega (arith, h.short)))
-]

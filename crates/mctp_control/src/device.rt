@@ -5,6 +5,7 @@ ghost use Rattle.mctp_control.specs.Replies.{reply_bytes};
 ghost use Rattle.mctp_control.specs.Outcomes.{content_of, content_bytes};
 ghost use Rattle.mctp_control.specs.Responses.{answer_value};
 
+use crate::command_number::CommandNumber;
 use crate::eid_range::EidRange;
 use crate::operations::{AllocateOperation, SetOperation};
 use crate::replies::{MAX_BODY, Refusal, concluded, framed, tell_entries};
@@ -15,14 +16,8 @@ use crate::statuses::{
     Acceptance, Allocation, EidType, EndpointStatus, EndpointType, PoolStatus, SetStatus,
 };
 use arrayvec::ArrayVec;
+use mctp_bridge::DeviceKind;
 use mctp_transport::{Eid, Wire};
-
-/// What a device is.
-#[derive(Clone, Copy, Debug, PartialEq, Eq)]
-pub enum DeviceKind {
-    Endpoint,
-    Bridge,
-}
 
 /// An EID that is held, and the bus that gave it; None where the device was configured with it.
 #[derive(Clone, Copy, Debug, PartialEq, Eq)]
@@ -264,12 +259,10 @@ impl Device {
     fn supports(&self, number: u8) -> bool
         ensures { IsTrue result ↔ Supports self.now.kind number }
     {
-        match self.kind {
-            DeviceKind::Endpoint => number == 0x01 || number == 0x02,
-            DeviceKind::Bridge => number == 0x01
-                || number == 0x02
-                || number == 0x08
-                || number == 0x0a,
+        match CommandNumber::of(number) {
+            Some(CommandNumber::SetEndpointId | CommandNumber::GetEndpointId) => true,
+            Some(_) => self.kind == DeviceKind::Bridge,
+            None => false,
         }
     }
 

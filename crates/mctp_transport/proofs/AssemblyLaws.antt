@@ -24,7 +24,7 @@ use Rattle.mctp_transport.proofs.Clearing.{found_key}
 use Rattle.mctp_transport.proofs.Standing.{moved_is, pick_true, found_open, expired_stands, nothing_stands, open_count}
 use Rattle.mctp_transport.proofs.Slots.{position-some}
 use Rattle.std.proofs.lemmas.Option.{same_Some, none-some}
-use Rattle.std.specs.Prelude.{◌↔◌, is_some, is_none, count_by, fold, ◌++◌, All}
+use Rattle.std.specs.Prelude.{◌↔◌, is_some, count_by, fold, ◌++◌, All}
 use Rattle.std.proofs.lemmas.List.Elements.{All-head, All-tail}
 
 -- the index among the slots is the index in the table
@@ -52,17 +52,9 @@ pub count_rows : (test : Option Partial → Bool) (open_test : Option OpenMessag
     → ((o : Option OpenMessage) (bytes : List ℕ) → test (partial_of o bytes) ≡ open_test o) → count_by test (rows partial_of size block i os) ≡ count_by open_test os
 count_rows test open_test size block i os same = count_rows_from test open_test size block i 0 os same
 
-pub none_same : (o : Option OpenMessage) (bytes : List ℕ) → is_none (partial_of o bytes) ≡ is_none o
-none_same None bytes = refl
-none_same (Some o) bytes = refl
-
 pub some_same : (o : Option OpenMessage) (bytes : List ℕ) → is_some (partial_of o bytes) ≡ is_some o
 some_same None bytes = refl
 some_same (Some o) bytes = refl
-
-pub at_same : (key : KeyValue) (o : Option OpenMessage) (bytes : List ℕ) → is_at key (partial_of o bytes) ≡ is_at key (partial_of o [])
-at_same key None bytes = refl
-at_same key (Some o) bytes = refl
 
 -- what the table does, the assembler does
 pub takes_feeds : (old : Assembler) (p : Frame) (answer : Answer) (new : Assembler) → Takes old p answer new → Feeds old p answer new

@@ -1,7 +1,7 @@
 -- What it means of the packets since the start that a packet goes on from a held message, or not.
-use Rattle.std.proofs.Common.{◌≡◌, ℕ, ◌+◌, ◌%◌, ◌<◌, ◌≤◌, Bool, true, false, not, ◌&&◌, ◌||◌, List, length, Option, Some, None, refl, sym, ap, ◌∙◌, arith, inl, inr}
+use Rattle.std.proofs.Common.{◌≡◌, ℕ, ◌+◌, ◌%◌, ◌<◌, ◌≤◌, true, false, not, ◌&&◌, ◌||◌, List, length, Option, Some, None, sym, ap, ◌∙◌, arith, inl, inr}
 use Rattle.std.specs.Prelude.{nat_lt, nat_eq}
-use Rattle.std.proofs.lemmas.Bool.{true≢false, cases_Bool, eqb-true, eqb-false, ltb-true, ltb-false, or_cases, and_parts, not-true}
+use Rattle.std.proofs.lemmas.Bool.{cases_Bool, eqb-true, eqb-false, ltb-true, ltb-false, or_cases, and_parts, not-true, or_parts}
 use Rattle.mctp_transport.specs.Frames.{Frame}
 use Rattle.mctp_transport.specs.Messages.{payloads_of, NumberFollows, LengthFits}
 use Rattle.mctp_transport.specs.Histories.{History}
@@ -20,10 +20,6 @@ Means limit ps p (Some drop_cause.Limit) = NumberFollows ps p × LengthFits ps p
 Means limit ps p (Some drop_cause.NotOpen) = ⊥
 Means limit ps p (Some drop_cause.Full) = ⊥
 
-neither : (x y : Bool) → (x || y) ≡ false → (x ≡ false) × (y ≡ false)
-neither true y e = absurd (true≢false e)
-neither false y e = (refl, e)
-
 number_yes : (history : History) (q : Partial) (h : HoldsLast history q) (p : Frame) → nat_eq p.number ((q.number + 1) % 4) ≡ true → NumberFollows h.packets p
 number_yes history q h p e = λ i r at a. eqb-true p.number ((q.number + 1) % 4) e ∙ ap (λ n. (n + 1) % 4) (h.number i r at a)
 
@@ -35,7 +31,7 @@ number_no history q h p some e follows =
 length_yes : (history : History) (q : Partial) (h : HoldsLast history q) (p : Frame)
     → (nat_lt q.unit (length p.payload) || (not p.eom && nat_lt (length p.payload) q.unit)) ≡ false → LengthFits h.packets p
 length_yes history q h p e =
-    let n = neither (nat_lt q.unit (length p.payload)) (not p.eom && nat_lt (length p.payload) q.unit) e in
+    let n = or_parts (nat_lt q.unit (length p.payload)) (not p.eom && nat_lt (length p.payload) q.unit) e in
     let most = ltb-false q.unit (length p.payload) n.0 in
     λ f a.
     let unit = h.unit f a in

@@ -1,8 +1,8 @@
 -- Packets that join to a message and come in order, with nothing before: the message comes with the last.
-use Rattle.std.proofs.Common.{◌≡◌, ℕ, suc, ◌<◌, ◌≤◌, true, false, nat_eq, List, [], ◌∷◌, ◌++◌, length, map, slice_get, Some, sym, refl, ap, ◌∙◌, subst, inl, inr, arith}
+use Rattle.std.proofs.Common.{◌≡◌, ℕ, suc, ◌<◌, ◌≤◌, true, false, List, [], ◌∷◌, ◌++◌, length, map, slice_get, Some, sym, refl, ap, ◌∙◌, subst, inl, inr, arith}
+use Rattle.std.proofs.lemmas.Bool.{ne_eqb}
 use Rattle.std.specs.List.{AllByRecursion}
 use Rattle.std.proofs.lemmas.List.{map-append}
-use Rattle.std.proofs.lemmas.Bool.Decides.{nat_tests}
 use Rattle.std.proofs.lemmas.List.Elements.{All-head}
 use Rattle.mctp_transport.specs.Frames.{Frame, KeyValue, key_of}
 use Rattle.mctp_transport.specs.Messages.{Joined, EachPacket}
@@ -48,12 +48,9 @@ pub all_front : (P : Frame → Type 0) (ps qs : List Frame) → AllByRecursion P
 all_front P [] qs all = tt
 all_front P (p ∷ ps) qs all = (all.0, all_front P ps qs all.1)
 
-not_first : (i : ℕ) → nat_eq (suc i) 0 ≡ false
-not_first i = grind (arith, nat_tests)
-
 -- the packets after the first start nothing
 later_ones : (p : Frame) (ps : List Frame) (whole : List ℕ) → Joined (p ∷ ps) whole → AllByRecursion (IsLater (key_of p)) ps
-later_ones p ps whole joined = all_from (IsLater (key_of p)) ps (λ i q at. (joined.start (suc i) q at ∙ not_first i, joined.one_key (suc i) p q refl at))
+later_ones p ps whole joined = all_from (IsLater (key_of p)) ps (λ i q at. (joined.start (suc i) q at ∙ ne_eqb (suc i) 0 (λ e. omega arith), joined.one_key (suc i) p q refl at))
 
 none_open : (slots limit : ℕ) (key : KeyValue) → 0 < slots → FewerThan slots (IsOtherOpen slots limit [] key)
 none_open slots limit key some [] apart all = some

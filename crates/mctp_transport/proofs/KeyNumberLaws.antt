@@ -1,8 +1,8 @@
 -- A slot is found by its number.
-use Rattle.std.proofs.Common.{◌≡◌, ◌≢◌, ◌⊎◌, ℕ, zero, suc, ◌+◌, ◌*◌, ◌<◌, ◌≤◌, Bool, true, false, not, cond, nat_eq, nat_lt, get_or, List, [], ◌∷◌, length, take, map, set, replicate, slice_set, position, Option, Some, None, is_none, refl, sym, ap, ◌∙◌, arith, inl, inr}
+use Rattle.std.proofs.Common.{◌≡◌, ℕ, zero, suc, ◌+◌, ◌*◌, ◌<◌, ◌≤◌, Bool, true, false, not, cond, nat_eq, nat_lt, get_or, List, [], ◌∷◌, length, take, map, set, replicate, position, Option, Some, None, is_none, refl, sym, ap, ◌∙◌, arith, inl, inr}
 use Rattle.std.specs.Prelude.{All}
 use Rattle.std.specs.List.{position_or_len}
-use Rattle.std.proofs.lemmas.Bool.{cases_Bool, eqb-true, eq-eqb, true≢false, false≢true, lt-ltb, le-ltb}
+use Rattle.std.proofs.lemmas.Bool.{eq-eqb, true≢false, false≢true, lt-ltb, le-ltb, ne_eqb}
 use Rattle.std.proofs.lemmas.List.Sums.{position_or_len_is}
 use Rattle.std.proofs.lemmas.List.{map-set, length-set}
 use Rattle.std.proofs.lemmas.List.Elements.{All-head, All-tail}
@@ -11,7 +11,6 @@ use Rattle.mctp_transport.specs.declared.address.Key.{Key}
 use Rattle.mctp_transport.specs.declared.assembler.open_message.OpenMessage.{OpenMessage}
 use Rattle.mctp_transport.specs.Frames.{KeyValue, bit}
 use Rattle.mctp_transport.specs.Bits.{bit_most, bit_one}
-use Rattle.mctp_transport.specs.Histories.{same_key}
 use Rattle.mctp_transport.specs.Packets.{key_value}
 use Rattle.mctp_transport.specs.Tables.{is_at}
 use Rattle.mctp_transport.specs.Assembly.{partial_of}
@@ -41,24 +40,18 @@ one_number a b e = ap (λ (k : KeyValue). 16 * k.source + 8 * bit k.owner + k.ta
 small_number : (k : Key) → key_number k < 4096
 small_number k = let o = bit_most k.owner in omega (arith, k.source.in_range, k.tag.in_range)
 
-apart_numbers : (m n : ℕ) → m ≢ n → nat_eq m n ≡ false
-apart_numbers m n apart = elim (cases_Bool (nat_eq m n)) [
-  | inl same ↦ absurd (apart (eqb-true m n same))
-  | inr other ↦ other
-]
-
 -- the key's message is in the slots of its number
 pub at_number : (key : Key) (o : Option OpenMessage) (bytes : List ℕ) → is_at (key_value key) (partial_of o bytes) ≡ nat_eq (slot_number o) (key_number key)
-at_number key None bytes = sym (apart_numbers 4096 (key_number key) (λ (e : 4096 ≡ key_number key). omega (arith, small_number key)))
+at_number key None bytes = sym (ne_eqb 4096 (key_number key) (λ (e : 4096 ≡ key_number key). omega (arith, small_number key)))
 at_number key (Some m) bytes = elim (key_cases (key_value m.key) (key_value key)) [
   | inl h ↦ h.0 ∙ sym (eq-eqb (key_number m.key) (key_number key) (one_number m.key key h.1))
-  | inr h ↦ h.0 ∙ sym (apart_numbers (key_number m.key) (key_number key) (λ e. h.1 (one_key m.key key e)))
+  | inr h ↦ h.0 ∙ sym (ne_eqb (key_number m.key) (key_number key) (λ e. h.1 (one_key m.key key e)))
 ]
 
 -- and nothing in those of the number that no key has
 pub free_number : (o : Option OpenMessage) (bytes : List ℕ) → is_none (partial_of o bytes) ≡ nat_eq (slot_number o) 4096
 free_number None bytes = refl
-free_number (Some m) bytes = sym (apart_numbers (key_number m.key) 4096 (λ (e : key_number m.key ≡ 4096). omega (arith, small_number m.key)))
+free_number (Some m) bytes = sym (ne_eqb (key_number m.key) 4096 (λ (e : key_number m.key ≡ 4096). omega (arith, small_number m.key)))
 
 -- a slot and its number are set
 pub number_set : (os : List (Option OpenMessage)) (ns : List ℕ) (i : ℕ) (o : Option OpenMessage) (n : ℕ) → take (length os) ns ≡ map slot_number os → i < length os → n ≡ slot_number o

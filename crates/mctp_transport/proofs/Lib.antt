@@ -1,5 +1,5 @@
-pub mod PacketsLeftLaws
-pub mod Cuts
+mod PacketsLeftLaws
+mod Cuts
 pub mod PacketLists
 pub mod FirstIndexes
 pub mod Joining
@@ -7,16 +7,15 @@ pub mod LastStarts
 pub mod Openness
 pub mod Verdicts
 pub mod Slots
-pub mod Clearing
-pub mod Faults
-pub mod Standing
-pub mod Parts
-pub mod KeyNumberLaws
-pub mod AssemblyLaws
+mod Clearing
+mod Faults
+mod Standing
+mod Parts
+mod KeyNumberLaws
+mod AssemblyLaws
 pub mod Arrivals
 pub mod Collecting
 pub mod InOrder
-pub mod Answered
 pub mod Sending
 pub mod Heard
 pub mod Spellings

@@ -1,7 +1,7 @@
 -- The packets of a message: there is one list of them, they join to the message, and the iterator gives them.
 use Rattle.std.proofs.Common.{◌≡◌, ◌⊎◌, ℕ, zero, suc, ◌+◌, ◌%◌, ◌<◌, ◌≤◌, Bool, true, false, cond, nat_eq, nat_le, List, [], ◌∷◌, ◌++◌, length, take, drop, map, slice_get, Some, refl, sym, ap, ◌∙◌, arith, subst, inl, inr}
 use Rattle.std.specs.List.{concat}
-use Rattle.std.proofs.lemmas.Bool.{cases_lt}
+use Rattle.std.proofs.lemmas.Bool.{cases_lt, ne_eqb}
 use Rattle.std.proofs.lemmas.Bool.Decides.{nat_tests}
 use Rattle.std.proofs.lemmas.Option.{same_Some, none-some, slice_get_within}
 use Rattle.std.proofs.lemmas.List.{length-map, length-take, length-drop, take-append-drop}
@@ -156,10 +156,7 @@ cond_same true = refl
 cond_same false = refl
 
 later_start : (i : ℕ) (b : Bool) → false ≡ cond (nat_eq (suc i) 0) b false
-later_start i b = rw (not_zero i) refl
-  where
-    not_zero : (i : ℕ) → nat_eq (suc i) 0 ≡ false
-    not_zero i = grind (arith, nat_tests)
+later_start i b = rw (ne_eqb (suc i) 0 (λ e. omega arith)) refl
 
 later_end : (i n : ℕ) → nat_eq (i + 1) n ≡ nat_eq (suc i + 1) (suc n)
 later_end i n = grind (arith, nat_tests)

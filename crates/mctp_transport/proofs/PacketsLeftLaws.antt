@@ -1,6 +1,6 @@
 -- What an iterator over packets gives next, and what is left then.
 use Rattle.std.proofs.Common.{◌≡◌, ℕ, zero, suc, ◌<◌, ◌≤◌, ◌+◌, ◌%◌, min, Bool, true, false, nat_eq, nat_le, cond, List, [], ◌∷◌, length, take, drop, refl, sym, ap, ◌∙◌, arith, inl, inr, ◌⊎◌}
-use Rattle.std.proofs.lemmas.Bool.{cond-false, cond-true}
+use Rattle.std.proofs.lemmas.Bool.{cond-false, cond-true, ne_eqb}
 use Rattle.std.proofs.lemmas.Bool.Decides.{nat_tests}
 use Rattle.std.proofs.lemmas.List.{length-drop, take_all, drop_all}
 use Rattle.mctp_transport.specs.Frames.{Frame}
@@ -12,9 +12,6 @@ pick false x y z h = h refl
 
 not_empty : (n : ℕ) → nat_eq n 0 ≡ false → 0 < n
 not_empty n h = grind (arith, nat_tests)
-
-some_is : (n : ℕ) → 0 < n → nat_eq n 0 ≡ false
-some_is n h = grind (arith, nat_tests)
 
 -- the first packet, and the frame of what is left
 abbrev pub first_of : ℕ → Frame → Frame
@@ -42,7 +39,7 @@ pub cut-some : (unit : ℕ) (f : Frame) → 0 < unit → 0 < length f.payload
 unfolding cut
 cut-some unit f u some =
     cut-fuel unit (length f.payload) (suc (length f.payload)) f u (omega arith) (omega arith)
-    ∙ cond-false (nat_eq (length f.payload) 0) [] _ (some_is (length f.payload) some)
+    ∙ cond-false (nat_eq (length f.payload) 0) [] _ (ne_eqb (length f.payload) 0 (λ e. omega arith))
     ∙ ap (λ fs. first_of unit f ∷ fs) (cut-fuel unit (length f.payload) (length (drop unit f.payload)) (later_of unit f) u (omega (arith, length-drop unit f.payload)) (omega arith))
 
 le-or-lt : (n k : ℕ) → (n ≤ k) ⊎ (k < n)

@@ -1,8 +1,7 @@
 -- What joins packets of one message, of five packets at most, is that message.
-use Rattle.std.proofs.Common.{◌≡◌, ◌≢◌, ℕ, zero, suc, ◌+◌, ◌*◌, ◌%◌, ◌<◌, ◌≤◌, true, false, nat_eq, List, [], ◌∷◌, length, map, slice_get, Some, sym, refl, ap, ◌∙◌, subst, arith, inl, inr, length-append, suc-mul, zero-mul}
+use Rattle.std.proofs.Common.{◌≡◌, ◌≢◌, ℕ, zero, suc, ◌+◌, ◌*◌, ◌%◌, ◌<◌, ◌≤◌, true, nat_eq, List, [], ◌∷◌, length, map, slice_get, Some, sym, refl, ap, ◌∙◌, subst, arith, inl, inr, length-append, suc-mul, zero-mul}
 use Rattle.std.specs.List.{AllByRecursion, concat}
-use Rattle.std.proofs.lemmas.Bool.{true≢false, eqb-true, eq-eqb}
-use Rattle.std.proofs.lemmas.Bool.Decides.{nat_tests}
+use Rattle.std.proofs.lemmas.Bool.{true≢false, eqb-true, eq-eqb, ne_eqb}
 use Rattle.std.proofs.lemmas.List.{length-map}
 use Rattle.std.proofs.lemmas.Option.{same_Some, none-some, slice_get_within, slice_get_cases}
 use Rattle.mctp_transport.specs.Frames.{Frame, KeyValue, key_of}
@@ -32,9 +31,6 @@ few_packets unit n message d key start ps are most =
 next_place : (s i j : ℕ) → 1 ≤ i → i ≤ 4 → j + 1 ≤ 4 → (s + i) % 4 ≡ ((s + j) % 4 + 1) % 4 → i ≡ j + 1
 next_place s i j least most most' e = omega arith
 
-not_same : (m n : ℕ) → m ≢ n → nat_eq m n ≡ false
-not_same m n other = grind (arith, nat_tests, other)
-
 -- what joins packets of the list stands in it index by index
 stands : (unit : ℕ) (message whole : List ℕ) (d : ℕ) (key : KeyValue) (s : ℕ) (qs ps : List Frame) → ArePacketsOf unit message d key s qs → length qs ≤ 5 → Joined ps whole
     → ((j : ℕ) (p : Frame) → slice_get ps j ≡ Some p → (i : ℕ) × (slice_get qs i ≡ Some p)) → (j : ℕ) (p : Frame) → slice_get ps j ≡ Some p → slice_get qs j ≡ Some p
@@ -54,10 +50,10 @@ stands unit message whole d key s qs ps are few joined placed (suc j) p at =
         let more : suc j < length ps = slice_get_within ps (suc j) p at in
         let here = earlier q there in
         let inside = slice_get_within qs j q here in
-        let goes_on : j + 1 ≢ length qs = λ ends. true≢false (sym (eq-eqb (j + 1) (length qs) ends) ∙ sym (are.eom j q here) ∙ joined.finish j q there ∙ not_same (j + 1) (length ps) (λ e. omega arith)) in
+        let goes_on : j + 1 ≢ length qs = λ ends. true≢false (sym (eq-eqb (j + 1) (length qs) ends) ∙ sym (are.eom j q here) ∙ joined.finish j q there ∙ ne_eqb (j + 1) (length ps) (λ e. omega arith)) in
         let (i, is) = placed (suc j) p at in
         let within = slice_get_within qs i p is in
-        let no_start : i ≢ 0 = λ e. true≢false (sym (eq-eqb i 0 e) ∙ sym (are.som i p is) ∙ joined.start (suc j) p at ∙ not_same (suc j) 0 (λ z. omega arith)) in
+        let no_start : i ≢ 0 = λ e. true≢false (sym (eq-eqb i 0 e) ∙ sym (are.som i p is) ∙ joined.start (suc j) p at ∙ ne_eqb (suc j) 0 (λ z. omega arith)) in
         let same_spot : suc j ≡ j + 1 = omega arith in
         let P : ℕ → Type 0 = λ k. slice_get ps k ≡ Some p in
         let step : p.number ≡ (q.number + 1) % 4 = joined.numbers j q p there (subst P same_spot at) in

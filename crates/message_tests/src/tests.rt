@@ -14,6 +14,7 @@ mod pieces;
 mod pldm;
 mod readers;
 mod records;
+mod refused;
 mod refused_walks;
 mod repositories;
 mod spelling;

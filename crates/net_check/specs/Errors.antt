@@ -3,7 +3,7 @@ use Rattle.net_plan.specs.declared.plan.Plan.{Plan}
 use Rattle.net_plan.specs.declared.certificate.Certificate.{Certificate}
 use Rattle.net_check.specs.declared.check_error.CheckError.{CheckError}
 use Rattle.net_check.specs.declared.check_error.CheckError.TheVariants as error
-use Rattle.net_check.specs.Faults.{IsFirstFault, site_of}
+use Rattle.net_rules.specs.Faults.{IsFirstFault, site_of}
 
 -- unless memory ran out, the error names the first fault
 abbrev pub NamesFirstFault : Plan → Certificate → CheckError → Type 0

@@ -1,6 +1,6 @@
 //! Why a plan and a certificate are not accepted.
 
-use crate::fault::Fault;
+use net_rules::Fault;
 use std::alloc::AllocError;
 
 /// Why a plan and a certificate are not accepted.

@@ -1,18 +1,18 @@
 //! `check`, and what it answers.
 ghost use Rattle.std.specs.Prelude.{◌≡◌, ℕ, IfOk, OnOk, IfErr};
-ghost use Rattle.net_check.specs.Rules.{Accepts};
+ghost use Rattle.net_rules.specs.Rules.{Accepts};
 ghost use Rattle.net_check.specs.Errors.{NamesFirstFault};
-ghost use Rattle.net_check.specs.Promises.{EndsWithinRank};
+ghost use Rattle.net_rules.specs.Promises.{EndsWithinRank};
 ghost use Rattle.mctp_transport.specs.Frames.{KeyValue};
-ghost use Rattle.net_check.specs.States.{NetworkState, unit_of};
-ghost use Rattle.net_check.specs.Headline.{Headline};
-ghost use Rattle.net_check.specs.Deliveries.{Delivers};
-ghost use Rattle.net_check.specs.ExactMessages.{RunsAsSent};
-ghost use Rattle.net_check.specs.NetworkWalks.{WalksOverNetworks};
+ghost use Rattle.net_runs.specs.States.{NetworkState, unit_of};
+ghost use Rattle.net_runs.specs.Headline.{Headline};
+ghost use Rattle.net_runs.specs.Deliveries.{Delivers};
+ghost use Rattle.net_runs.specs.ExactMessages.{RunsAsSent};
+ghost use Rattle.net_runs.specs.NetworkWalks.{WalksOverNetworks};
 
 use crate::check_error::CheckError;
-use crate::first_fault::first_of_all;
 use net_plan::{Certificate, Plan};
+use net_rules::first_of_all;
 use std::alloc::Global;
 use std::marker::Model;
 
@@ -26,7 +26,7 @@ pub struct Checked<'a> {
 impl<'a> Model for Checked<'a> {
     ghost use Rattle.net_plan.specs.declared.plan.Plan.{Plan};
     ghost use Rattle.net_plan.specs.declared.certificate.Certificate.{Certificate};
-    ghost use Rattle.net_check.specs.Rules.{Accepts};
+    ghost use Rattle.net_rules.specs.Rules.{Accepts};
 
     ghost Value = { Plan × Certificate };
 
@@ -55,7 +55,7 @@ impl<'a> Checked<'a> {
 
 /// Whether each rule holds of the plan and the certificate. Otherwise the error is the first fault, or out of memory:
 /// it takes lists with an entry for each node, and sets of the handles and places of one terminus after the other.
-#[tactic(auto, using(crate::proofs::Ends::ends_within_rank, crate::proofs::Whole::whole_headline, crate::proofs::Whole::accepted_delivers, crate::proofs::Exact::runs_as_sent, crate::proofs::WalksOver::walks_over_networks))]
+#[tactic(auto, using(net_rules::proofs::Ends::ends_within_rank, crate::proofs::Whole::whole_headline, crate::proofs::Whole::accepted_delivers, net_runs::proofs::Exact::runs_as_sent, crate::proofs::Whole::walks_over_networks))]
 pub fn check<'a>(
     alloc: Global,
     plan: &'a Plan,

@@ -7,10 +7,10 @@ use Rattle.std.proofs.lemmas.List.Sums.{fails_before_first}
 use Rattle.std.proofs.lemmas.List.Quantifiers.{position-Some}
 use Rattle.std.proofs.lemmas.Option.{none-some, slice_get-map, slice_get-get_or, get_or_from_slice_get, slice_get_within}
 use Rattle.net_plan.specs.declared.terminus.PlannedRecord.{PlannedRecord}
-use Rattle.net_check.specs.Circles.{MovesBy, IsOnCircle, IsLoopFrom, next_in}
-use Rattle.net_check.specs.RecordChains.{IsFollowedBy, HaveNewHandles}
-use Rattle.net_check.proofs.ChainLaws.{one_follows}
-use Rattle.net_check.proofs.SameMoves.{Leads-same}
+use Rattle.net_rules.specs.Circles.{MovesBy, IsOnCircle, IsLoopFrom, next_in}
+use Rattle.net_rules.specs.RecordChains.{IsFollowedBy, HaveNewHandles}
+use Rattle.net_rules.proofs.ChainLaws.{one_follows}
+use Rattle.net_rules.proofs.SameMoves.{Leads-same}
 use Rattle.net_explained.specs.Followers.{record_of_handle, followers}
 
 -- an item that passes has a first one

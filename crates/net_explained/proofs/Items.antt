@@ -2,7 +2,7 @@
 use Rattle.std.proofs.Common.{◌≡◌, ℕ, List, Bool, IsTrue, Some, None, sym, ◌∙◌, subst}
 use Rattle.std.specs.Prelude.{◌↔◌, slice_get}
 use Rattle.std.proofs.lemmas.Option.{same_Some, none-some}
-use Rattle.net_check.specs.Routing.{OfItem}
+use Rattle.net_tables.specs.Routing.{OfItem}
 
 pub of_item : {A : Type 0} (items : List A) (i : ℕ) (P : A → Type 0) (x : A) → Some x ≡ slice_get items i → P x → OfItem items i P
 of_item items i P x is p = λ y at. subst P (same_Some x y (is ∙ at)) p

@@ -4,10 +4,10 @@ use Rattle.std.proofs.lemmas.Bool.{cases_lt}
 use Rattle.std.proofs.lemmas.Option.{same_Some}
 use Rattle.net_plan.specs.declared.plan.Plan.{Plan}
 use Rattle.net_plan.specs.declared.nodes.Pool.{Pool}
-use Rattle.net_check.specs.Routing.{IsBridge}
-use Rattle.net_check.specs.Owners.{owner_of, IsOwnedBy}
-use Rattle.net_check.specs.Pools.{pool_of, IsInPool, IsInPoolOf, IsPoolInRange, LiesInOwnersPool, LiesApartFromEarlierPools, IsLawfulPool, HasLawfulPool}
-use Rattle.net_check.proofs.PoolsOf.{in_pool_of, in_no_pool}
+use Rattle.net_tables.specs.Routing.{IsBridge}
+use Rattle.net_tables.specs.Ownership.{owner_of, IsOwnedBy, pool_of, IsInPool, IsInPoolOf}
+use Rattle.net_rules.specs.Pools.{IsPoolInRange, LiesInOwnersPool, LiesApartFromEarlierPools, IsLawfulPool, HasLawfulPool}
+use Rattle.net_tables.proofs.PoolsOf.{in_pool_of, in_no_pool}
 
 -- whether an endpoint ID lies in a pool is decided
 in_pool : (pool : Pool) (e : ℕ) → ¬ ¬ IsInPool pool e → IsInPool pool e

@@ -4,8 +4,8 @@ use Rattle.std.proofs.lemmas.Bool.{cases_lt}
 use Rattle.std.proofs.lemmas.Option.{none-some, slice_get_past, slice_get_within}
 use Rattle.net_plan.specs.declared.plan.Plan.{Plan}
 use Rattle.net_plan.specs.declared.nodes.Row.{Row}
-use Rattle.net_check.specs.Routing.{rows_of, ports_of, IsBridge}
-use Rattle.net_check.specs.Rows.{IsJoined, NamesNeighbor}
+use Rattle.net_tables.specs.Routing.{rows_of, ports_of, IsBridge}
+use Rattle.net_tables.specs.Rows.{IsJoined, NamesNeighbor}
 use Rattle.net_explained.specs.Searches.{IsFirst}
 use Rattle.net_explained.specs.Rows.{CoversAt, IsFittingPort}
 use Rattle.net_explained.specs.Rests.{IsOnlyIn}

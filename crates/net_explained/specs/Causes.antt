@@ -2,25 +2,28 @@
 use Rattle.std.specs.Prelude.{◌≡◌, ◌≢◌, ℕ, ◌<◌, ◌≤◌, List, [], ◌∷◌, length, Option, Some, None, slice_get}
 use Rattle.std.specs.Option.{IsSomeAnd}
 use Rattle.mctp_transport.specs.Frames.{IsAssignable}
+use Rattle.pdr_record.specs.Faults.{IsFault}
 use Rattle.pdr_record.specs.Records.{RecordValue, Spelled}
+use Rattle.pdr_record.specs.declared.record_error.RecordError.{RecordError}
 use Rattle.pdr_repository.specs.Records.{IsRecordOf}
 use Rattle.net_plan.specs.declared.plan.Plan.{Plan}
 use Rattle.net_plan.specs.declared.nodes.Pool.{Pool}
 use Rattle.net_plan.specs.declared.nodes.Row.{Row}
 use Rattle.net_plan.specs.declared.terminus.PlannedRecord.{PlannedRecord}
-use Rattle.net_check.specs.declared.rule.Rule.TheVariants.{C01, C02, C03, C04, C05, C06, C07, C08}
-use Rattle.net_check.specs.declared.rule.Rule.TheVariants.{C09, C11, C12, C13, C15}
-use Rattle.net_check.specs.Routing.{Holds, Covers, HasRow, IsBridge}
-use Rattle.net_check.specs.Names.{HaveOneName}
-use Rattle.net_check.specs.Rows.{IsInRange, IsOnBus, bus_of}
-use Rattle.net_check.specs.Owners.{IsOwnedBy, owner_of, ShareBus}
-use Rattle.net_check.specs.Pools.{pool_of, IsInPoolOf, IsPoolInRange}
-use Rattle.net_check.specs.Repositories.{terminus_of, records_of}
-use Rattle.net_check.specs.Locators.{IsEidLocator, IsHeldByTerminus}
-use Rattle.net_check.specs.Faults.{FaultSite}
-use Rattle.net_check.specs.PlanFaults.{IsMetByPlan}
+use Rattle.net_rules.specs.declared.rule.Rule.TheVariants.{C01, C02, C03, C04, C05, C06, C07, C08}
+use Rattle.net_rules.specs.declared.rule.Rule.TheVariants.{C09, C11, C12, C13, C15}
+use Rattle.net_tables.specs.Routing.{Holds, Covers, HasRow, IsBridge}
+use Rattle.net_rules.specs.Names.{HaveOneName}
+use Rattle.net_tables.specs.Rows.{IsInRange, IsOnBus, bus_of}
+use Rattle.net_tables.specs.Ownership.{IsOwnedBy, owner_of, pool_of, IsInPoolOf}
+use Rattle.net_rules.specs.Owners.{ShareBus}
+use Rattle.net_rules.specs.Pools.{IsPoolInRange}
+use Rattle.net_tables.specs.Repositories.{terminus_of, records_of}
+use Rattle.net_rules.specs.Locators.{IsEidLocator, IsHeldByTerminus}
+use Rattle.net_rules.specs.Faults.{FaultSite}
+use Rattle.net_rules.specs.PlanFaults.{IsMetByPlan}
 use Rattle.net_explained.specs.Rests.{IsRest}
-use Rattle.net_explained.specs.Rows.{HasRowThat, CoversAt, IsFittingPort}
+use Rattle.net_explained.specs.Rows.{HasRowThat, CoversAt, IsFittingPort, IsFittingNext}
 use Rattle.net_explained.specs.declared.cause.Cause.{Cause}
 use Rattle.net_explained.specs.declared.cause.Cause.TheVariants.{SharedName, UnassignableEid, SharedEid}
 use Rattle.net_explained.specs.declared.cause.Cause.TheVariants.{RowOutOfRange, OverlappedRow}
@@ -59,10 +62,14 @@ Overlaps plan n i e r = (i < r) × CoversAt plan n i e × CoversAt plan n r e
 abbrev pub LeadsNowhere : Plan → ℕ → Option ℕ → Row → Type 0
 LeadsNowhere plan n fitting row = (bus_of plan n row.port ≡ None) × IsFittingPort plan n row fitting
 
--- the row's port is on the bus, and its next node has no port there; this is the first port that would fit
-abbrev pub LeadsOffBus : Plan → ℕ → ℕ → Option ℕ → Row → Type 0
-LeadsOffBus plan n bus fitting row =
-    (bus_of plan n row.port ≡ Some bus) × (¬ IsOnBus plan row.next bus) × IsFittingPort plan n row fitting
+-- the row's port is on the bus, and its next node has no port there; these are the first port and node that would fit
+abbrev pub LeadsOffBus : Plan → ℕ → ℕ → (fitting next : Option ℕ) → Row → Type 0
+LeadsOffBus plan n bus fitting next row = (bus_of plan n row.port ≡ Some bus) × (¬ IsOnBus plan row.next bus)
+    × IsFittingPort plan n row fitting × IsFittingNext plan n row next
+
+-- the row covers several endpoint IDs and leads to an endpoint; this is the first node that would fit
+abbrev pub LeadsSeveral : Plan → ℕ → Option ℕ → Row → Type 0
+LeadsSeveral plan n next row = (2 ≤ row.size) × (¬ IsBridge plan row.next) × IsFittingNext plan n row next
 
 -- n's row r covers e, which the holder, another node than n, holds, and which the row's next node doesn't hold
 abbrev pub LeadsPast : Plan → ℕ → ℕ → ℕ → ℕ → (ℕ → Type 0) → Type 0
@@ -111,6 +118,10 @@ SharesHandle plan n i j =
 abbrev pub AreNoRecord : List ℕ → Type 0
 AreNoRecord bytes = (whole : RecordValue) → ¬ Spelled whole bytes
 
+-- and this is why
+abbrev pub AreNoRecordFor : RecordError → List ℕ → Type 0
+AreNoRecordFor why bytes = AreNoRecord bytes × IsFault why bytes
+
 -- n's record j is a terminus locator of the TID whose value is not one byte long
 abbrev pub LocatesNoEid : Plan → ℕ → ℕ → ℕ → Type 0
 LocatesNoEid plan n tid j = HasRecordThat plan n j (λ r.
@@ -141,17 +152,20 @@ IsCause plan p UnassignableEid = (p.rule ≡ C02) × IsSomeAnd p.eid (HoldsUnass
 IsCause plan p (SharedEid m) = (p.rule ≡ C03) × IsSomeAnd p.eid (SharesEid plan p.node m)
 IsCause plan p RowOutOfRange =
     (p.rule ≡ C04) × IsSomeAnd p.entry (λ r. HasRowThat plan p.node r (λ row. ¬ IsInRange row))
-IsCause plan p (OverlappedRow i eid rest) =
-    (p.rule ≡ C05) × IsSomeAnd p.entry (λ r. Overlaps plan p.node i eid.value r × IsRest plan p.node r rest)
-IsCause plan p NextIsItself =
-    (p.rule ≡ C06) × IsSomeAnd p.entry (λ r. HasRowThat plan p.node r (λ row. row.next ≡ p.node))
+IsCause plan p (OverlappedRow i eid rest earlier_rest) =
+    (p.rule ≡ C05)
+    × IsSomeAnd p.entry (λ r.
+    Overlaps plan p.node i eid.value r × IsRest plan p.node r rest × IsRest plan p.node i earlier_rest)
+IsCause plan p (NextIsItself next) =
+    (p.rule ≡ C06)
+    × IsSomeAnd p.entry (λ r.
+    HasRowThat plan p.node r (λ row. (row.next ≡ p.node) × IsFittingNext plan p.node row next))
 IsCause plan p (NoSuchPort fitting) =
     (p.rule ≡ C06) × IsSomeAnd p.entry (λ r. HasRowThat plan p.node r (LeadsNowhere plan p.node fitting))
-IsCause plan p (NextNotOnBus bus fitting) =
-    (p.rule ≡ C06) × IsSomeAnd p.entry (λ r. HasRowThat plan p.node r (LeadsOffBus plan p.node bus fitting))
-IsCause plan p EndpointForSeveral =
-    (p.rule ≡ C06)
-    × IsSomeAnd p.entry (λ r. HasRowThat plan p.node r (λ row. (2 ≤ row.size) × ¬ IsBridge plan row.next))
+IsCause plan p (NextNotOnBus bus fitting next) =
+    (p.rule ≡ C06) × IsSomeAnd p.entry (λ r. HasRowThat plan p.node r (LeadsOffBus plan p.node bus fitting next))
+IsCause plan p (EndpointForSeveral next) =
+    (p.rule ≡ C06) × IsSomeAnd p.entry (λ r. HasRowThat plan p.node r (LeadsSeveral plan p.node next))
 IsCause plan p (OwnerIsEndpoint owner) = (p.rule ≡ C07) × IsOwnedBy plan p.node owner × ¬ IsBridge plan owner
 IsCause plan p (OwnerSharesNoBus owner) = (p.rule ≡ C07) × IsOwnedBy plan p.node owner × ¬ ShareBus plan p.node owner
 IsCause plan p (OutsideOwnersPool owner) = (p.rule ≡ C08) × IsSomeAnd p.eid (LiesOutside plan p.node owner)
@@ -169,8 +183,8 @@ IsCause plan p NoRecords = (p.rule ≡ C12) × IsEmptyTerminus plan p.node
 IsCause plan p HandleIsZero =
     (p.rule ≡ C12) × IsSomeAnd p.entry (λ j. HasRecordThat plan p.node j (λ r. r.handle ≡ 0))
 IsCause plan p (SharedHandle i) = (p.rule ≡ C12) × IsSomeAnd p.entry (SharesHandle plan p.node i)
-IsCause plan p UnreadableRecord =
-    (p.rule ≡ C13) × IsSomeAnd p.entry (λ j. HasRecordThat plan p.node j (λ r. AreNoRecord r.bytes.items))
+IsCause plan p (UnreadableRecord why) =
+    (p.rule ≡ C13) × IsSomeAnd p.entry (λ j. HasRecordThat plan p.node j (λ r. AreNoRecordFor why r.bytes.items))
 IsCause plan p (OtherHandle handle) = (p.rule ≡ C13)
     × IsSomeAnd p.entry (λ j. HasRecordThat plan p.node j (λ r. (r.handle ≢ handle) × IsRecordOf handle r.bytes.items))
 IsCause plan p (LongLocator tid) = (p.rule ≡ C15) × IsSomeAnd p.entry (LocatesNoEid plan p.node tid)

@@ -1,7 +1,7 @@
 -- Between which nodes a certificate allows most hops.
 use Rattle.std.specs.Prelude.{◌≡◌, ◌⊎◌, ℕ, ◌<◌, ◌≤◌, length, Option, Some, None, IfSome, option_map, unwrap_or}
-use Rattle.net_check.specs.Ranks.{rank}
-use Rattle.net_check.specs.Routing.{eid_of}
+use Rattle.net_tables.specs.Ranks.{rank}
+use Rattle.net_tables.specs.Routing.{eid_of}
 use Rattle.net_plan.specs.declared.certificate.Certificate.{Certificate}
 use Rattle.net_plan.specs.declared.plan.Plan.{Plan}
 use Rattle.net_explained.specs.declared.hops.MostHops.{MostHops}

@@ -1,6 +1,7 @@
 //! Why a plan breaks a rule at an index.
 use crate::rest::Stretch;
 use mctp_transport::Eid;
+use pdr_record::RecordError;
 
 /// Why a plan breaks a rule at an index, and who else is involved. A node is told by its index in the plan's list; a row
 /// or a record by its index in its node's list.
@@ -18,26 +19,33 @@ pub enum Cause {
     },
     /// C04: the row covers nothing, or more than can be assigned.
     RowOutOfRange,
-    /// C05: an earlier row of the node covers one of the row's endpoint IDs. The first stretch of them that no other row
-    /// covers, if there is one.
+    /// C05: an earlier row of the node covers one of the row's endpoint IDs. Of each of the two the first stretch that no
+    /// other row covers, if there is one.
     OverlappedRow {
         earlier: usize,
         eid: Eid,
         rest: Option<Stretch>,
+        earlier_rest: Option<Stretch>,
     },
-    /// C06: the row leads back to its own node.
-    NextIsItself,
+    /// C06: the row leads back to its own node. The first node that would fit in its place, if there is one.
+    NextIsItself {
+        next: Option<usize>,
+    },
     /// C06: the node has no such port. The first port by which the row would name a neighbor, if there is one.
     NoSuchPort {
         fitting: Option<usize>,
     },
-    /// C06: the next node has no port on the bus of the row's port. The first port that would fit, if there is one.
+    /// C06: the next node has no port on the bus of the row's port. The first port that would fit, if there is one, and
+    /// the first node that would.
     NextNotOnBus {
         bus: usize,
         fitting: Option<usize>,
+        next: Option<usize>,
     },
-    /// C06: the row covers several endpoint IDs and leads to an endpoint.
-    EndpointForSeveral,
+    /// C06: the row covers several endpoint IDs and leads to an endpoint. The first node that would fit, if there is one.
+    EndpointForSeveral {
+        next: Option<usize>,
+    },
     /// C07: the owner is no bridge.
     OwnerIsEndpoint {
         owner: usize,
@@ -84,8 +92,10 @@ pub enum Cause {
     SharedHandle {
         earlier: usize,
     },
-    /// C13: the bytes are not those of a record.
-    UnreadableRecord,
+    /// C13: the bytes are not those of a record, and why.
+    UnreadableRecord {
+        why: RecordError,
+    },
     /// C13: the bytes are those of a record with another handle in its header.
     OtherHandle {
         handle: u32,

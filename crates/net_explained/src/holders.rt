@@ -1,10 +1,10 @@
 //! The holder of an endpoint ID among the first nodes of a plan.
-ghost use Rattle.net_check.specs.Routing.{Holds};
+ghost use Rattle.net_tables.specs.Routing.{Holds};
 ghost use Rattle.net_explained.specs.Searches.{IsFirstBelow};
 
 use mctp_transport::Eid;
-use net_check::lookup::holds;
 use net_plan::Plan;
+use net_tables::lookup::holds;
 
 /// The first node before the end that holds the endpoint ID.
 pub fn holder_before(plan: &Plan, end: usize, eid: Eid) -> Option<usize>

@@ -1,11 +1,11 @@
 //! Between which nodes a certificate allows most hops.
 ghost use Rattle.std.specs.Prelude.{◌≡◌, ◌<◌, ◌≤◌, length};
-ghost use Rattle.net_check.specs.Ranks.{rank};
+ghost use Rattle.net_tables.specs.Ranks.{rank};
 ghost use Rattle.net_explained.specs.Hops.{IsMostHops, IsFirstOfMost, certified_hops, hops_of};
 
 use mctp_transport::Eid;
-use net_check::lookup::{eid_at, ranges_at, rank_in_ranges};
 use net_plan::{Certificate, Plan};
+use net_tables::lookup::{eid_at, ranges_at, rank_in_ranges};
 
 /// Two nodes, by their indexes in the plan's list, and how many hops a certificate allows a packet from the one to the
 /// other, 1 to 255.

@@ -19,7 +19,7 @@ use Rattle.net_plan.proofs.Telling.{no_value, then_Ok, demanded}
 pub among_Contains : (keys : List (List ℕ)) (k : List ℕ) → is_among keys k ≡ true → Contains keys k
 among_Contains keys k e = Contains-from_any (λ x y. (bytes_eq-Decides x y).0) k keys e
 
-or_true : (a b : Bool) → b ≡ true → (a || b) ≡ true
+pub or_true : (a b : Bool) → b ≡ true → (a || b) ≡ true
 or_true true b e = refl
 or_true false b e = e
 
@@ -28,7 +28,7 @@ any_at p [] i x within is e = absurd (omega arith)
 any_at p (y ∷ ys) zero x within is e = ap (λ b. b || list_any p ys) (ap p is ∙ e)
 any_at p (y ∷ ys) (suc i) x within is e = or_true (p y) (list_any p ys) (any_at p ys i x (omega arith) is e)
 
-Contains_among : (keys : List (List ℕ)) (k : List ℕ) → Contains keys k → is_among keys k ≡ true
+pub Contains_among : (keys : List (List ℕ)) (k : List ℕ) → Contains keys k → is_among keys k ≡ true
 Contains_among keys k h = any_at (bytes_eq k) keys h.0 k h.1 h.2 ((bytes_eq-Decides k k).1 refl)
 
 same_text : (k : List ℕ) → slice_cmp nat_cmp k k ≡ Equal

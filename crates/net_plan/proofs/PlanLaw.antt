@@ -90,7 +90,7 @@ kind_whole : (d : Data) (k : Kind) → IsKindOf d k → kind_text d ≡ Ok k
 kind_whole d Bridge h = ap kind_text h
 kind_whole d Endpoint h = ap kind_text h
 
-kind_tells : Tells kind_text any IsKindOf
+pub kind_tells : Tells kind_text any IsKindOf
 kind_tells = record { sound = λ d k e pass. kind_sound d k e; whole = kind_whole; passes = λ d k h. refl }
 
 -- ---- places

@@ -1,8 +1,8 @@
 //! Where the bytes of a text come from, and where they go.
-ghost use Rattle.std.specs.Prelude.{◌≡◌, ◌≢◌, ℕ, ◌+◌, ◌^◌, ◌-◌, ◌<◌, ◌≤◌, List, length, take, drop, Option, IfOk, IfErr, OnOk, OnErr, vec_len, vec_capacity};
+ghost use Rattle.std.specs.Prelude.{◌≡◌, ◌≢◌, ◌+◌, ◌<◌, ◌≤◌, length, take, drop, IfOk, IfErr, OnOk, OnErr, vec_len, vec_capacity};
 ghost use Rattle.std.specs.Io.{ReadsAtMost, WritesAtMost};
 ghost use Rattle.std.specs.Io.KnownBytes.{Keeps, ReadConsumes, WriteAppends, Consumes, Appends, IsAtEnd};
-ghost use Rattle.net_plan.specs.Stream.{failure_count, TakesMoreThan, AppendsBeginning};
+ghost use Rattle.net_plan.specs.Stream.{Account, HasRoom, HasFailed, failure_count, TakesMoreThan, AppendsBeginning};
 ghost use Rattle.net_plan.specs.Taken.{TakesAtMost};
 ghost use Rattle.net_plan.specs.TextFaults.{device_count};
 
@@ -15,35 +15,29 @@ pub struct Failed;
 
 /// Gives bytes, piece by piece.
 pub trait Source {
-    // The bytes that pulls will give from here on, where they are known.
-    ghost remaining: { Self → Option (List ℕ) };
-
-    // How many pulls have failed.
-    ghost failures: { Self → ℕ };
+    // The bytes that pulls will give from here on, where they are known, and how many pulls have failed.
+    ghost account: { Self → Account };
 
     /// Fills the beginning of `buf`, and tells how many bytes it filled; 0 where the bytes have ended.
     fn pull(&mut self, buf: &mut [u8]) -> Result<usize, Failed>
-        requires { failures self.old < 2 ^ 64 - 1 }
+        requires { HasRoom (account self.old) }
         ensures bound { ReadsAtMost result buf.new }
-        ensures bytes { ReadConsumes (remaining self.old) (remaining self.new) result buf.new }
-        ensures counts { failures self.new ≡ failures self.old + failure_count result };
+        ensures bytes { ReadConsumes (account self.old).bytes (account self.new).bytes result buf.new }
+        ensures counts { HasFailed (account self.old) (account self.new) (failure_count result) };
 }
 
 /// Takes bytes, piece by piece.
 pub trait Sink {
-    // The bytes that were taken so far, where they are known.
-    ghost contents: { Self → Option (List ℕ) };
-
-    // How many pushes have failed.
-    ghost failures: { Self → ℕ };
+    // The bytes that were taken so far, where they are known, and how many pushes have failed.
+    ghost account: { Self → Account };
 
     /// Takes the beginning of a piece, and tells how many bytes it took: at least one, unless the piece is empty.
     fn push(&mut self, piece: &[u8]) -> Result<usize, Failed>
-        requires { failures self.old < 2 ^ 64 - 1 }
+        requires { HasRoom (account self.old) }
         ensures bound { WritesAtMost result piece.now }
         ensures some { IfOk result (λ n. 0 < length piece.now → 0 < n) }
-        ensures bytes { WriteAppends (contents self.old) (contents self.new) result piece.now }
-        ensures counts { failures self.new ≡ failures self.old + failure_count result };
+        ensures bytes { WriteAppends (account self.old).bytes (account self.new).bytes result piece.now }
+        ensures counts { HasFailed (account self.old) (account self.new) (failure_count result) };
 }
 
 /// One of std's readers or writers, with its failures counted.
@@ -71,9 +65,7 @@ impl<T> Counted<T> {
 }
 
 impl<R: Read> Source for Counted<R> {
-    ghost remaining = { λ s. R.remaining s.inner };
-
-    ghost failures = { λ s. s.failures };
+    ghost account = { λ s. record { bytes = R.remaining s.inner; failures = s.failures } };
 
     /// Fills the beginning of `buf`, and tells how many bytes it filled; 0 where the bytes have ended.
     fn pull(&mut self, buf: &mut [u8]) -> Result<usize, Failed> {
@@ -88,9 +80,7 @@ impl<R: Read> Source for Counted<R> {
 }
 
 impl<W: Write> Sink for Counted<W> {
-    ghost contents = { λ s. W.contents s.inner };
-
-    ghost failures = { λ s. s.failures };
+    ghost account = { λ s. record { bytes = W.contents s.inner; failures = s.failures } };
 
     fn push(&mut self, piece: &[u8]) -> Result<usize, Failed> {
         match self.inner.write(piece) {
@@ -143,15 +133,15 @@ pub fn read_within<S: Source>(
     source: &mut S,
     limit: usize,
 ) -> Result<Vec<u8>, TextFault>
-    requires { S.failures source.old < 2 ^ 64 - 1 }
-    ensures all { IfOk result (λ text. Consumes (S.remaining source.old) (S.remaining source.new) text.items) }
-    ensures end { OnOk result (IsAtEnd (S.remaining source.new)) }
+    requires { HasRoom (S.account source.old) }
+    ensures all { IfOk result (λ text. Consumes (S.account source.old).bytes (S.account source.new).bytes text.items) }
+    ensures end { OnOk result (IsAtEnd (S.account source.new).bytes) }
     ensures within { IfOk result (λ text. length text.items ≤ limit) }
     ensures too_long { IfErr result (λ e. e ≡ TextFault.TooLong
-        → TakesMoreThan limit (S.remaining source.old) (S.remaining source.new)) }
+        → TakesMoreThan limit (S.account source.old).bytes (S.account source.new).bytes) }
     ensures stands { IfErr result (λ e. e ≢ TextFault.TooLong
-        → TakesAtMost limit (S.remaining source.old) (S.remaining source.new)) }
-    ensures counts { S.failures source.new ≡ S.failures source.old + device_count result }
+        → TakesAtMost limit (S.account source.old).bytes (S.account source.new).bytes) }
+    ensures counts { HasFailed (S.account source.old) (S.account source.new) (device_count result) }
 {
     let mut text = Vec::new(alloc);
     let mut filled = 0;
@@ -195,38 +185,38 @@ fn make_room(text: &mut Vec<u8>, filled: usize, limit: usize) -> Result<(), Allo
 
 /// One pull, into a text's own memory from an index on. `pull_at` says of a slice what this says of the text.
 fn pull_into<S: Source>(source: &mut S, text: &mut Vec<u8>, at: usize) -> Result<usize, Failed>
-    requires failures { S.failures source.old < 2 ^ 64 - 1 }
+    requires failures { HasRoom (S.account source.old) }
     requires room { at < vec_len text.old }
     ensures front { take at text.new.items ≡ take at text.old.items }
     ensures fits { IfOk result (λ count. at + count ≤ vec_len text.new) }
-    ensures bytes { IfOk result (λ count. Consumes (S.remaining source.old) (S.remaining source.new) (take count (drop at text.new.items))) }
-    ensures end { IfOk result (λ count. count ≡ 0 → IsAtEnd (S.remaining source.new)) }
-    ensures stands { OnErr result (Keeps (S.remaining source.old) (S.remaining source.new)) }
-    ensures counts { S.failures source.new ≡ S.failures source.old + failure_count result }
+    ensures bytes { IfOk result (λ count. Consumes (S.account source.old).bytes (S.account source.new).bytes (take count (drop at text.new.items))) }
+    ensures end { IfOk result (λ count. count ≡ 0 → IsAtEnd (S.account source.new).bytes) }
+    ensures stands { OnErr result (Keeps (S.account source.old).bytes (S.account source.new).bytes) }
+    ensures counts { HasFailed (S.account source.old) (S.account source.new) (failure_count result) }
 {
     pull_at(source, text.as_mut_slice(), at)
 }
 
 /// One pull, into some bytes from an index on.
 fn pull_at<S: Source>(source: &mut S, text: &mut [u8], at: usize) -> Result<usize, Failed>
-    requires failures { S.failures source.old < 2 ^ 64 - 1 }
+    requires failures { HasRoom (S.account source.old) }
     requires room { at < length text.old }
     ensures front { take at text.new ≡ take at text.old }
     ensures fits { IfOk result (λ count. at + count ≤ length text.new) }
-    ensures bytes { IfOk result (λ count. Consumes (S.remaining source.old) (S.remaining source.new) (take count (drop at text.new))) }
-    ensures end { IfOk result (λ count. count ≡ 0 → IsAtEnd (S.remaining source.new)) }
-    ensures stands { OnErr result (Keeps (S.remaining source.old) (S.remaining source.new)) }
-    ensures counts { S.failures source.new ≡ S.failures source.old + failure_count result }
+    ensures bytes { IfOk result (λ count. Consumes (S.account source.old).bytes (S.account source.new).bytes (take count (drop at text.new))) }
+    ensures end { IfOk result (λ count. count ≡ 0 → IsAtEnd (S.account source.new).bytes) }
+    ensures stands { OnErr result (Keeps (S.account source.old).bytes (S.account source.new).bytes) }
+    ensures counts { HasFailed (S.account source.old) (S.account source.new) (failure_count result) }
 {
     source.pull(&mut text[at..])
 }
 
 /// Gives all bytes to a sink. No write is tried again once it has failed; the sink has then taken a beginning of the bytes.
 pub fn write_whole<S: Sink>(sink: &mut S, bytes: &[u8]) -> Result<(), Failed>
-    requires { S.failures sink.old < 2 ^ 64 - 1 }
-    ensures all { OnOk result (Appends (S.contents sink.old) (S.contents sink.new) bytes.now) }
-    ensures beginning { OnErr result (AppendsBeginning (S.contents sink.old) (S.contents sink.new) bytes.now) }
-    ensures counts { S.failures sink.new ≡ S.failures sink.old + failure_count result }
+    requires { HasRoom (S.account sink.old) }
+    ensures all { OnOk result (Appends (S.account sink.old).bytes (S.account sink.new).bytes bytes.now) }
+    ensures beginning { OnErr result (AppendsBeginning (S.account sink.old).bytes (S.account sink.new).bytes bytes.now) }
+    ensures counts { HasFailed (S.account sink.old) (S.account sink.new) (failure_count result) }
 {
     let mut at = 0;
     while at < bytes.len() {

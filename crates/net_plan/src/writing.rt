@@ -10,7 +10,7 @@ ghost use Rattle.net_plan.specs.CertificateText.{IsCertificateOf};
 ghost use Rattle.net_plan.specs.Texts.{StandsFor, HasSingleKeys};
 ghost use Rattle.net_plan.specs.ShortText.{HasFewPlaces};
 ghost use Rattle.net_plan.specs.WellFormed.{IsWellFormed};
-ghost use Rattle.net_plan.specs.Stream.{AppendsBeginning};
+ghost use Rattle.net_plan.specs.Stream.{HasRoom, HasFailed, AppendsBeginning};
 ghost use Rattle.net_plan.specs.TextFaults.{failed_count};
 
 use crate::certificate::Certificate;
@@ -60,16 +60,16 @@ pub fn write_certificate<S: Sink>(
     certificate: &Certificate,
     sink: &mut S,
 ) -> Result<(), PlanError>
-    requires { S.failures sink.old < 2 ^ 64 - 1 }
-    ensures written { OnOk result (Appends (S.contents sink.old) (S.contents sink.new)
+    requires { HasRoom (S.account sink.old) }
+    ensures written { OnOk result (Appends (S.account sink.old).bytes (S.account sink.new).bytes
         (certificate_text (node_names (plan_value plan.now).nodes) (certificate_value certificate.now))) }
     ensures reads_back { OnOk result (IsWellFormed (plan_value plan.now) (certificate_value certificate.now)
         → StandsFor (IsCertificateOf (plan_value plan.now)) (certificate_text (node_names (plan_value plan.now).nodes) (certificate_value certificate.now))
         (certificate_value certificate.now)) }
     ensures no_memory { IfErr result (λ e. (e ≡ PlanError.Device) ⊎ ((e ≡ PlanError.OutOfMemory) × (sink.new ≡ sink.old))) }
-    ensures beginning { IfErr result (λ e. e ≡ PlanError.Device → AppendsBeginning (S.contents sink.old) (S.contents sink.new)
+    ensures beginning { IfErr result (λ e. e ≡ PlanError.Device → AppendsBeginning (S.account sink.old).bytes (S.account sink.new).bytes
         (certificate_text (node_names (plan_value plan.now).nodes) (certificate_value certificate.now))) }
-    ensures counts { S.failures sink.new ≡ S.failures sink.old + failed_count result }
+    ensures counts { HasFailed (S.account sink.old) (S.account sink.new) (failed_count result) }
 {
     let Ok(text) = text_of_certificate(alloc, plan, certificate) else {
         return Err(PlanError::OutOfMemory);

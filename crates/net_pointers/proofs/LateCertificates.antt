@@ -17,57 +17,27 @@ use Rattle.net_plan.specs.declared.error.ValueFault.{ValueFault}
 use Rattle.net_plan.specs.declared.error.ValueFault.TheVariants.{OutOfRange, UnknownName, Doubled}
 use Rattle.net_plan.proofs.Telling.{then_Ok, same_Ok, no_value}
 use Rattle.net_pointers.specs.Ascending.{ranges_ascend, list_ascends, entries_ascend, ranks_ascend}
-use Rattle.net_pointers.specs.CertificateShapes.{a_level, a_node_places, a_range_of_ranks, a_node_ranks, a_certificate}
-use Rattle.net_pointers.specs.CertificateTroubles.{known_nodes, nodes_in, nodes_at, number_or_zero, first_in, end_in, IsFaultOfCertificate}
-use Rattle.net_pointers.specs.KnownNames.{Known}
-use Rattle.net_pointers.specs.Pointers.{Located, key, under, in_fields, first_fault}
-use Rattle.net_pointers.specs.Shapes.{Shape, a_number, a_name, a_name_of, any_list, an_object}
-use Rattle.net_pointers.specs.Shapes.{Fields, no_fields, field, fields_of, keys_of, fault_of, is_late, ends_late}
-use Rattle.net_pointers.proofs.Agrees.{code, code_or, code_under, code_whole, or_none, Agrees, given_keys_there, number_agrees, reference_agrees, each_agrees, object_agrees, after_then, told}
-use Rattle.net_pointers.specs.CertificateTroubles.{list_key}
+use Rattle.net_plan.specs.Finding.{fault_of, is_late, range_end, passes, Located, key, under, in_fields, first_fault}
+use Rattle.net_plan.specs.Grammar.{Grammar, a_list, Fields, no_fields, field, fields_of, keys_of, Known}
+use Rattle.net_plan.specs.Tables.{a_number, a_node_name, object_of, a_level, a_node_places, a_range, a_node_ranks, a_certificate}
+use Rattle.net_plan.specs.declared.shape.Named.TheVariants.{Nodes}
+use Rattle.net_plan.specs.declared.shape.Rule.TheVariants as rule
+use Rattle.net_plan.proofs.Fitting.{no_fault}
+use Rattle.net_pointers.specs.CertificateTroubles.{known_nodes, nodes_in, nodes_at, list_key, number_or_zero, first_in, end_in, IsFaultOfCertificate}
 use Rattle.net_pointers.specs.declared.certificates.CertificateList.{CertificateList}
 use Rattle.net_pointers.specs.declared.certificates.CertificateList.TheVariants.{Levels, Places, Ranks}
-use Rattle.net_pointers.proofs.LatePlans.{was_read, at_stands, unknown_fault, known_all}
+use Rattle.net_pointers.proofs.Agrees.{code, code_or, code_under, code_whole, or_none, Agrees, given_keys_there, number_agrees, reference_agrees, each_agrees, object_agrees, after_then, told}
+use Rattle.net_pointers.proofs.LatePlans.{at_stands, unknown_fault, known_all}
 use Rattle.net_pointers.proofs.Leads.{leads}
 use Rattle.net_pointers.proofs.NamesTold.{unknown, unknown_three, always, Tells, plain_tells, all_tells, reference_tells, at_is, at_tells, object_tells}
 
 -- ---- what is read of the parts
-
-at_code : {A : Type 0} (k : List ℕ) (f : Data → Result A ValueFault) (s : Shape) (fs : Fields) (d : Data) → Agrees f s → IsSome (get k d) → code (in_fields (field k s fs) d) ≡ option_or (fault_of (at_key k f d)) (code (in_fields fs d))
-at_code k f s fs d h there = by (get k d) there
-  where
-    by : (o : Option Data) → IsSome o → code (option_or (under (key k) (option_and_then (first_fault s) o)) (in_fields fs d)) ≡ option_or (fault_of (then_with (found o) f)) (code (in_fields fs d))
-    by None there = absurd (true≢false (sym there))
-    by (Some v) there = code_or (under (key k) (first_fault s v)) (in_fields fs d) ∙ ap (λ o. option_or o (code (in_fields fs d))) (code_under (key k) (first_fault s v) ∙ sym (h v))
-
-all_agrees : {A : Type 0} (f : Data → Result A ValueFault) (s : Shape) → Agrees f s → Agrees (all_of f) (any_list s)
-all_agrees f s h null = refl
-all_agrees f s h (boolean b) = refl
-all_agrees f s h (number n) = refl
-all_agrees f s h (string t) = refl
-all_agrees f s h (object ms) = refl
-all_agrees f s h (array ds) = each_agrees f s h 0 ds ∙ sym (code_whole (any_list s) (array ds))
 
 -- two values, one after the other
 two : {A B C : Type 0} (r : Result A ValueFault) (q : Result B ValueFault) (make : A → B → C) → fault_of (then_with r (λ a. then_with q (λ b. Ok (make a b)))) ≡ option_or (fault_of r) (option_or (fault_of q) None)
 two (Err f) q make = refl
 two (Ok a) (Err f) make = refl
 two (Ok a) (Ok b) make = refl
-
--- an object of two keys
-pair_agrees : {A B C : Type 0} (k l : List ℕ) (f : Data → Result A ValueFault) (g : Data → Result B ValueFault) (s t : Shape) (make : A → B → C) → Agrees f s → Agrees g t
-    → Agrees (λ d. then_with (keyed (k ∷ l ∷ []) d) (λ _. then_with (at_key k f d) (λ a. then_with (at_key l g d) (λ b. Ok (make a b))))) (an_object (field k s (field l t no_fields)))
-pair_agrees {A} {B} {C} k l f g s t make hs ht d = object_agrees {B = C} (field k s (field l t no_fields)) d (then_with (at_key k f d) (λ a. then_with (at_key l g d) (λ b. Ok (make a b)))) (λ there.
-    two (at_key k f d) (at_key l g d) make ∙ sym (at_code k f s (field l t no_fields) d hs there.0 ∙ ap (option_or (fault_of (at_key k f d))) (at_code l g t no_fields d ht there.1.0)))
-
-level_agrees : (find : List ℕ → ℕ) → Agrees (level find) (a_level None)
-level_agrees find = pair_agrees (codes "level") (codes "node") (whole_number 1 63) (reference find) (a_number 1 63) a_name (λ (l n : ℕ). record { level = l; node = n }) (number_agrees 1 63) (reference_agrees find)
-
-places_agrees : Agrees (all_of (whole_number 0 4095)) (any_list (a_number 0 4095))
-places_agrees = all_agrees (whole_number 0 4095) (a_number 0 4095) (number_agrees 0 4095)
-
-node_places_agrees : (find : List ℕ → ℕ) → Agrees (node_places find) (a_node_places None)
-node_places_agrees find = pair_agrees (codes "node") (codes "places") (reference find) (all_of (whole_number 0 4095)) a_name (any_list (a_number 0 4095)) (λ (n : ℕ) (ps : List ℕ). record { node = n; places = ps }) (reference_agrees find) places_agrees
 
 within_end : (n : ℕ) → not (nat_lt 256 n) ≡ nat_le n 256
 within_end n = by (nat_le n 256) refl
@@ -96,24 +66,55 @@ abbrev make_range : ℕ → ℕ → ℕ → RangeValue
 make_range f r s = record { first = f; rank = r; size = s }
 
 abbrev range_fields : Fields
-range_fields = fields_of a_range_of_ranks
+range_fields = fields_of a_range
 
-range_agrees : Agrees range a_range_of_ranks
-range_agrees d = by (keyed (keys_of range_fields) d) refl ∙ sym (code_whole a_range_of_ranks d)
-  where
-    by : (r : Result ⊤ ValueFault) → keyed (keys_of range_fields) d ≡ r
-        → fault_of (then_with r (λ _. then_with (at_key (codes "first") byte d) (λ f. then_with (at_key (codes "rank") (whole_number 1 255) d) (λ k. then_with (at_key (codes "size") (whole_number 1 255) d) (λ s. then_with (demand OutOfRange (nat_le (f + s) 256)) (λ _. Ok (make_range f k s)))))))
-        ≡ option_or (fault_of (then_with r (λ _. demand OutOfRange (not (ends_late d))))) (code (in_fields range_fields d))
-    by (Err f) e = refl
-    by (Ok u) e =
-        let there = given_keys_there range_fields d (ap fault_of e) in
-        ranged make_range (at_key (codes "first") byte d) (at_key (codes "rank") (whole_number 1 255) d) (at_key (codes "size") (whole_number 1 255) d)
-        ∙ sym (ap (option_or (fault_of (demand OutOfRange (not (ends_late d))))) (at_code (codes "first") byte (a_number 0 255) (field (codes "rank") (a_number 1 255) (field (codes "size") (a_number 1 255) no_fields)) d (number_agrees 0 255) there.0
-        ∙ ap (option_or (fault_of (at_key (codes "first") byte d))) (at_code (codes "rank") (whole_number 1 255) (a_number 1 255) (field (codes "size") (a_number 1 255) no_fields) d (number_agrees 1 255) there.1.0
-        ∙ ap (option_or (fault_of (at_key (codes "rank") (whole_number 1 255) d))) (at_code (codes "size") (whole_number 1 255) (a_number 1 255) no_fields d (number_agrees 1 255) there.1.1.0))))
+module _ (known : Option Known) where
+  at_code : {A : Type 0} (k : List ℕ) (f : Data → Result A ValueFault) (s : Grammar) (fs : Fields) (d : Data) → Agrees known f s → IsSome (get k d) → code (in_fields known (field k s fs) d) ≡ option_or (fault_of (at_key k f d)) (code (in_fields known fs d))
+  at_code k f s fs d h there = by (get k d) there
+    where
+      by : (o : Option Data) → IsSome o → code (option_or (under (key k) (option_and_then (first_fault known s) o)) (in_fields known fs d)) ≡ option_or (fault_of (then_with (found o) f)) (code (in_fields known fs d))
+      by None there = absurd (true≢false (sym there))
+      by (Some v) there = code_or (under (key k) (first_fault known s v)) (in_fields known fs d) ∙ ap (λ o. option_or o (code (in_fields known fs d))) (code_under (key k) (first_fault known s v) ∙ sym (h v))
 
-node_ranks_agrees : (find : List ℕ → ℕ) → Agrees (node_ranks find) (a_node_ranks None)
-node_ranks_agrees find = pair_agrees (codes "node") (codes "ranges") (reference find) (all_of range) a_name (any_list a_range_of_ranks) (λ (n : ℕ) (rs : List RangeValue). record { node = n; ranges = rs }) (reference_agrees find) (all_agrees range a_range_of_ranks range_agrees)
+  all_agrees : {A : Type 0} (f : Data → Result A ValueFault) (s : Grammar) → Agrees known f s → Agrees known (all_of f) (a_list None s)
+  all_agrees f s h null = refl
+  all_agrees f s h (boolean b) = refl
+  all_agrees f s h (number n) = refl
+  all_agrees f s h (string t) = refl
+  all_agrees f s h (object ms) = refl
+  all_agrees f s h (array ds) = each_agrees known f s h 0 ds ∙ sym (code_whole known (a_list None s) (array ds))
+
+  places_agrees : Agrees known (all_of (whole_number 0 4095)) (a_list None (a_number 0 4095))
+  places_agrees = all_agrees (whole_number 0 4095) (a_number 0 4095) (number_agrees known 0 4095)
+
+  range_agrees : Agrees known range a_range
+  range_agrees d = by (keyed (keys_of range_fields) d) refl ∙ sym (code_whole known a_range d)
+    where
+      by : (r : Result ⊤ ValueFault) → keyed (keys_of range_fields) d ≡ r
+          → fault_of (then_with r (λ _. then_with (at_key (codes "first") byte d) (λ f. then_with (at_key (codes "rank") (whole_number 1 255) d) (λ k. then_with (at_key (codes "size") (whole_number 1 255) d) (λ s. then_with (demand OutOfRange (nat_le (f + s) 256)) (λ _. Ok (make_range f k s)))))))
+          ≡ option_or (fault_of (then_with r (λ _. demand OutOfRange (not (is_late (range_end d)))))) (code (in_fields known range_fields d))
+      by (Err f) e = refl
+      by (Ok u) e =
+          let there = given_keys_there range_fields d (ap fault_of e) in
+          ranged make_range (at_key (codes "first") byte d) (at_key (codes "rank") (whole_number 1 255) d) (at_key (codes "size") (whole_number 1 255) d)
+          ∙ sym (ap (option_or (fault_of (demand OutOfRange (not (is_late (range_end d)))))) (at_code (codes "first") byte (a_number 0 255) (field (codes "rank") (a_number 1 255) (field (codes "size") (a_number 1 255) no_fields)) d (number_agrees known 0 255) there.0
+          ∙ ap (option_or (fault_of (at_key (codes "first") byte d))) (at_code (codes "rank") (whole_number 1 255) (a_number 1 255) (field (codes "size") (a_number 1 255) no_fields) d (number_agrees known 1 255) there.1.0
+          ∙ ap (option_or (fault_of (at_key (codes "rank") (whole_number 1 255) d))) (at_code (codes "size") (whole_number 1 255) (a_number 1 255) no_fields d (number_agrees known 1 255) there.1.1.0))))
+
+-- an object of two keys
+pair_agrees : {A B C : Type 0} (k l : List ℕ) (f : Data → Result A ValueFault) (g : Data → Result B ValueFault) (s t : Grammar) (make : A → B → C) → Agrees None f s → Agrees None g t
+    → Agrees None (λ d. then_with (keyed (k ∷ l ∷ []) d) (λ _. then_with (at_key k f d) (λ a. then_with (at_key l g d) (λ b. Ok (make a b))))) (object_of (field k s (field l t no_fields)))
+pair_agrees {A} {B} {C} k l f g s t make hs ht d = object_agrees None {B = C} (field k s (field l t no_fields)) d (then_with (at_key k f d) (λ a. then_with (at_key l g d) (λ b. Ok (make a b)))) (λ there.
+    two (at_key k f d) (at_key l g d) make ∙ sym (at_code None k f s (field l t no_fields) d hs there.0 ∙ ap (option_or (fault_of (at_key k f d))) (at_code None l g t no_fields d ht there.1.0)))
+
+level_agrees : (find : List ℕ → ℕ) → Agrees None (level find) a_level
+level_agrees find = pair_agrees (codes "level") (codes "node") (whole_number 1 63) (reference find) (a_number 1 63) a_node_name (λ (l n : ℕ). record { level = l; node = n }) (number_agrees None 1 63) (reference_agrees Nodes find)
+
+node_places_agrees : (find : List ℕ → ℕ) → Agrees None (node_places find) a_node_places
+node_places_agrees find = pair_agrees (codes "node") (codes "places") (reference find) (all_of (whole_number 0 4095)) a_node_name (a_list None (a_number 0 4095)) (λ (n : ℕ) (ps : List ℕ). record { node = n; places = ps }) (reference_agrees Nodes find) (places_agrees None)
+
+node_ranks_agrees : (find : List ℕ → ℕ) → Agrees None (node_ranks find) a_node_ranks
+node_ranks_agrees find = pair_agrees (codes "node") (codes "ranges") (reference find) (all_of range) a_node_name (a_list None a_range) (λ (n : ℕ) (rs : List RangeValue). record { node = n; ranges = rs }) (reference_agrees Nodes find) (all_agrees None range a_range (range_agrees None))
 
 -- ---- what is told of names
 
@@ -126,22 +127,22 @@ are_places_known n p = nat_lt p.node n
 abbrev are_ranks_known : ℕ → NodeRanksValue → Bool
 are_ranks_known n r = nat_lt r.node n
 
-level_tells : (known : Known) → Tells (level (index_among known.nodes)) (is_level_known (length known.nodes)) (a_level (Some known))
-level_tells known d x e = object_tells {B = LevelValue} (fields_of (a_level (Some known))) d (then_with (at_key (codes "level") (whole_number 1 63) d) (λ l. then_with (at_key (codes "node") (reference (index_among known.nodes)) d) (λ n. Ok (record { level = l; node = n })))) x (unknown (is_level_known (length known.nodes) x)) e (λ e0.
-    at_tells {B = LevelValue} (codes "level") (whole_number 1 63) always (a_number 1 63) (λ l. then_with (at_key (codes "node") (reference (index_among known.nodes)) d) (λ n. Ok (record { level = l; node = n }))) (field (codes "node") (a_name_of known.nodes) no_fields) d x (λ o. o) (unknown (is_level_known (length known.nodes) x)) (plain_tells (whole_number 1 63) (a_number 1 63) (number_agrees 1 63)) e0 (λ l e1.
-    at_tells {B = LevelValue} (codes "node") (reference (index_among known.nodes)) (λ (p : ℕ). nat_lt p (length known.nodes)) (a_name_of known.nodes) (λ n. Ok (record { level = l; node = n })) no_fields d x (λ o. o) (unknown (is_level_known (length known.nodes) x)) (reference_tells known.nodes) e1 (λ n e2.
+level_tells : (known : Known) → Tells known (level (index_among known.nodes)) (is_level_known (length known.nodes)) a_level
+level_tells known d x e = object_tells known {B = LevelValue} (fields_of a_level) d (then_with (at_key (codes "level") (whole_number 1 63) d) (λ l. then_with (at_key (codes "node") (reference (index_among known.nodes)) d) (λ n. Ok (record { level = l; node = n })))) x (unknown (is_level_known (length known.nodes) x)) e (λ e0.
+    at_tells known {B = LevelValue} (codes "level") (whole_number 1 63) always (a_number 1 63) (λ l. then_with (at_key (codes "node") (reference (index_among known.nodes)) d) (λ n. Ok (record { level = l; node = n }))) (field (codes "node") a_node_name no_fields) d x (λ o. o) (unknown (is_level_known (length known.nodes) x)) (plain_tells known (whole_number 1 63) (a_number 1 63) (number_agrees (Some known) 1 63)) e0 (λ l e1.
+    at_tells known {B = LevelValue} (codes "node") (reference (index_among known.nodes)) (λ (p : ℕ). nat_lt p (length known.nodes)) a_node_name (λ n. Ok (record { level = l; node = n })) no_fields d x (λ o. o) (unknown (is_level_known (length known.nodes) x)) (reference_tells known Nodes) e1 (λ n e2.
     sym (or_none _) ∙ ap (λ (y : LevelValue). unknown (is_level_known (length known.nodes) y)) (same_Ok e2))))
 
-node_places_tells : (known : Known) → Tells (node_places (index_among known.nodes)) (are_places_known (length known.nodes)) (a_node_places (Some known))
-node_places_tells known d x e = object_tells {B = PlacesValue} (fields_of (a_node_places (Some known))) d (then_with (at_key (codes "node") (reference (index_among known.nodes)) d) (λ n. then_with (at_key (codes "places") (all_of (whole_number 0 4095)) d) (λ ps. Ok (record { node = n; places = ps })))) x (unknown (are_places_known (length known.nodes) x)) e (λ e0.
-    at_tells {B = PlacesValue} (codes "node") (reference (index_among known.nodes)) (λ (p : ℕ). nat_lt p (length known.nodes)) (a_name_of known.nodes) (λ n. then_with (at_key (codes "places") (all_of (whole_number 0 4095)) d) (λ ps. Ok (record { node = n; places = ps }))) (field (codes "places") (any_list (a_number 0 4095)) no_fields) d x (λ o. o) (unknown (are_places_known (length known.nodes) x)) (reference_tells known.nodes) e0 (λ n e1.
-    at_tells {B = PlacesValue} (codes "places") (all_of (whole_number 0 4095)) always (any_list (a_number 0 4095)) (λ ps. Ok (record { node = n; places = ps })) no_fields d x (λ o. option_or (unknown (nat_lt n (length known.nodes))) (o)) (unknown (are_places_known (length known.nodes) x)) (plain_tells (all_of (whole_number 0 4095)) (any_list (a_number 0 4095)) places_agrees) e1 (λ ps e2.
+node_places_tells : (known : Known) → Tells known (node_places (index_among known.nodes)) (are_places_known (length known.nodes)) a_node_places
+node_places_tells known d x e = object_tells known {B = PlacesValue} (fields_of a_node_places) d (then_with (at_key (codes "node") (reference (index_among known.nodes)) d) (λ n. then_with (at_key (codes "places") (all_of (whole_number 0 4095)) d) (λ ps. Ok (record { node = n; places = ps })))) x (unknown (are_places_known (length known.nodes) x)) e (λ e0.
+    at_tells known {B = PlacesValue} (codes "node") (reference (index_among known.nodes)) (λ (p : ℕ). nat_lt p (length known.nodes)) a_node_name (λ n. then_with (at_key (codes "places") (all_of (whole_number 0 4095)) d) (λ ps. Ok (record { node = n; places = ps }))) (field (codes "places") (a_list None (a_number 0 4095)) no_fields) d x (λ o. o) (unknown (are_places_known (length known.nodes) x)) (reference_tells known Nodes) e0 (λ n e1.
+    at_tells known {B = PlacesValue} (codes "places") (all_of (whole_number 0 4095)) always (a_list None (a_number 0 4095)) (λ ps. Ok (record { node = n; places = ps })) no_fields d x (λ o. option_or (unknown (nat_lt n (length known.nodes))) (o)) (unknown (are_places_known (length known.nodes) x)) (plain_tells known (all_of (whole_number 0 4095)) (a_list None (a_number 0 4095)) (places_agrees (Some known))) e1 (λ ps e2.
     sym (or_none _) ∙ ap (λ (y : PlacesValue). unknown (are_places_known (length known.nodes) y)) (same_Ok e2))))
 
-node_ranks_tells : (known : Known) → Tells (node_ranks (index_among known.nodes)) (are_ranks_known (length known.nodes)) (a_node_ranks (Some known))
-node_ranks_tells known d x e = object_tells {B = NodeRanksValue} (fields_of (a_node_ranks (Some known))) d (then_with (at_key (codes "node") (reference (index_among known.nodes)) d) (λ n. then_with (at_key (codes "ranges") (all_of range) d) (λ rs. Ok (record { node = n; ranges = rs })))) x (unknown (are_ranks_known (length known.nodes) x)) e (λ e0.
-    at_tells {B = NodeRanksValue} (codes "node") (reference (index_among known.nodes)) (λ (p : ℕ). nat_lt p (length known.nodes)) (a_name_of known.nodes) (λ n. then_with (at_key (codes "ranges") (all_of range) d) (λ rs. Ok (record { node = n; ranges = rs }))) (field (codes "ranges") (any_list a_range_of_ranks) no_fields) d x (λ o. o) (unknown (are_ranks_known (length known.nodes) x)) (reference_tells known.nodes) e0 (λ n e1.
-    at_tells {B = NodeRanksValue} (codes "ranges") (all_of range) always (any_list a_range_of_ranks) (λ rs. Ok (record { node = n; ranges = rs })) no_fields d x (λ o. option_or (unknown (nat_lt n (length known.nodes))) (o)) (unknown (are_ranks_known (length known.nodes) x)) (plain_tells (all_of range) (any_list a_range_of_ranks) (all_agrees range a_range_of_ranks range_agrees)) e1 (λ rs e2.
+node_ranks_tells : (known : Known) → Tells known (node_ranks (index_among known.nodes)) (are_ranks_known (length known.nodes)) a_node_ranks
+node_ranks_tells known d x e = object_tells known {B = NodeRanksValue} (fields_of a_node_ranks) d (then_with (at_key (codes "node") (reference (index_among known.nodes)) d) (λ n. then_with (at_key (codes "ranges") (all_of range) d) (λ rs. Ok (record { node = n; ranges = rs })))) x (unknown (are_ranks_known (length known.nodes) x)) e (λ e0.
+    at_tells known {B = NodeRanksValue} (codes "node") (reference (index_among known.nodes)) (λ (p : ℕ). nat_lt p (length known.nodes)) a_node_name (λ n. then_with (at_key (codes "ranges") (all_of range) d) (λ rs. Ok (record { node = n; ranges = rs }))) (field (codes "ranges") (a_list None a_range) no_fields) d x (λ o. o) (unknown (are_ranks_known (length known.nodes) x)) (reference_tells known Nodes) e0 (λ n e1.
+    at_tells known {B = NodeRanksValue} (codes "ranges") (all_of range) always (a_list None a_range) (λ rs. Ok (record { node = n; ranges = rs })) no_fields d x (λ o. option_or (unknown (nat_lt n (length known.nodes))) (o)) (unknown (are_ranks_known (length known.nodes) x)) (plain_tells known (all_of range) (a_list None a_range) (all_agrees (Some known) range a_range (range_agrees (Some known)))) e1 (λ rs e2.
     sym (or_none _) ∙ ap (λ (y : NodeRanksValue). unknown (are_ranks_known (length known.nodes) y)) (same_Ok e2))))
 
 -- ---- a whole certificate
@@ -174,20 +175,20 @@ module _ (nodes : List (List ℕ)) where
   four (Ok a) (Ok b) (Ok c) (Err f) make = refl
   four (Ok a) (Ok b) (Ok c) (Ok d) make = refl
 
-  front_agrees : (d : Data) → fault_of (front d) ≡ code (first_fault (a_certificate None) d)
+  front_agrees : (d : Data) → fault_of (front d) ≡ code (first_fault None a_certificate d)
   unfolding entries
-  front_agrees d = object_agrees {B = CertificateValue} (fields_of (a_certificate None)) d (then_with (at_key (codes "format") (whole_number 1 1) d) (λ _. entries find d)) (λ there.
+  front_agrees d = object_agrees None {B = CertificateValue} (fields_of a_certificate) d (then_with (at_key (codes "format") (whole_number 1 1) d) (λ _. entries find d)) (λ there.
       four (at_key (codes "format") (whole_number 1 1) d) (at_key (codes "levels") (all_of (level find)) d) (at_key (codes "places") (all_of (node_places find)) d) (at_key (codes "ranks") (all_of (node_ranks find)) d) (λ (ls : List LevelValue) (ps : List PlacesValue) (rs : List NodeRanksValue). record { levels = ls; places = ps; ranks = rs })
-      ∙ sym (at_code (codes "format") (whole_number 1 1) (a_number 1 1) (field (codes "levels") (any_list (a_level None)) (field (codes "places") (any_list (a_node_places None)) (field (codes "ranks") (any_list (a_node_ranks None)) no_fields))) d (number_agrees 1 1) there.0
-      ∙ ap (option_or (fault_of (at_key (codes "format") (whole_number 1 1) d))) (at_code (codes "levels") (all_of (level find)) (any_list (a_level None)) (field (codes "places") (any_list (a_node_places None)) (field (codes "ranks") (any_list (a_node_ranks None)) no_fields)) d (all_agrees (level find) (a_level None) (level_agrees find)) there.1.0
-      ∙ ap (option_or (fault_of (at_key (codes "levels") (all_of (level find)) d))) (at_code (codes "places") (all_of (node_places find)) (any_list (a_node_places None)) (field (codes "ranks") (any_list (a_node_ranks None)) no_fields) d (all_agrees (node_places find) (a_node_places None) (node_places_agrees find)) there.1.1.0
-      ∙ ap (option_or (fault_of (at_key (codes "places") (all_of (node_places find)) d))) (at_code (codes "ranks") (all_of (node_ranks find)) (any_list (a_node_ranks None)) no_fields d (all_agrees (node_ranks find) (a_node_ranks None) (node_ranks_agrees find)) there.1.1.1.0)))))
+      ∙ sym (at_code None (codes "format") (whole_number 1 1) (a_number 1 1) (field (codes "levels") (a_list None a_level) (field (codes "places") (a_list None a_node_places) (field (codes "ranks") (a_list None a_node_ranks) no_fields))) d (number_agrees None 1 1) there.0
+      ∙ ap (option_or (fault_of (at_key (codes "format") (whole_number 1 1) d))) (at_code None (codes "levels") (all_of (level find)) (a_list None a_level) (field (codes "places") (a_list None a_node_places) (field (codes "ranks") (a_list None a_node_ranks) no_fields)) d (all_agrees None (level find) a_level (level_agrees find)) there.1.0
+      ∙ ap (option_or (fault_of (at_key (codes "levels") (all_of (level find)) d))) (at_code None (codes "places") (all_of (node_places find)) (a_list None a_node_places) (field (codes "ranks") (a_list None a_node_ranks) no_fields) d (all_agrees None (node_places find) a_node_places (node_places_agrees find)) there.1.1.0
+      ∙ ap (option_or (fault_of (at_key (codes "places") (all_of (node_places find)) d))) (at_code None (codes "ranks") (all_of (node_ranks find)) (a_list None a_node_ranks) no_fields d (all_agrees None (node_ranks find) a_node_ranks (node_ranks_agrees find)) there.1.1.1.0)))))
 
   -- the value that is found has the fault for which the certificate is refused
-  pub found_in_certificate : (d : Data) (l : Located) → first_fault (a_certificate None) d ≡ Some l → IsFaultOfCertificate nodes d l
+  pub found_in_certificate : (d : Data) (l : Located) → first_fault None a_certificate d ≡ Some l → IsFaultOfCertificate nodes d l
   found_in_certificate d l e =
       let first : front d ≡ Err l.fault = told (front d) l.fault (front_agrees d ∙ ap code e) in
-      (certificate_is d ∙ ap (λ r. then_with r (behind d)) first, leads (a_certificate None) d l e, e)
+      (certificate_is d ∙ ap (λ r. then_with r (behind d)) first, leads None a_certificate d l e, e)
 
 -- ---- what the tests of the whole say
 
@@ -258,14 +259,14 @@ pub record LateOf (nodes : List (List ℕ)) (d : Data) : Type 0 where
   pub entries : entries_differ d ≡ then_with (demand Doubled (names_differ (nodes_at (codes "levels") d))) (λ _.
       then_with (demand Doubled (names_differ (nodes_at (codes "places") d))) (λ _. demand Doubled (names_differ (nodes_at (codes "ranks") d))))
   pub ascend : list_all (λ r. ascends 0 r.ranges) given.ranks ≡ ranks_ascend (get (codes "ranks") d)
-  pub told : code (first_fault (a_certificate (Some (known_nodes nodes))) d) ≡ unknown (are_known (length nodes) given)
+  pub told : code (first_fault (Some (known_nodes nodes)) a_certificate d) ≡ unknown (are_known (length nodes) given)
 
-pub late_of : (nodes : List (List ℕ)) (d : Data) → first_fault (a_certificate None) d ≡ None → LateOf nodes d
+pub late_of : (nodes : List (List ℕ)) (d : Data) → first_fault None a_certificate d ≡ None → LateOf nodes d
 unfolding entries entries_differ
 late_of nodes d none =
     let find = index_among nodes in
     let known = known_nodes nodes in
-    let whole = was_read (front nodes d) (front_agrees nodes d ∙ ap code none) in
+    let whole = no_fault (front nodes d) (front_agrees nodes d ∙ ap code none) in
     let keys = then_Ok (keyed certificate_keys d) (λ _. then_with (at_key (codes "format") (whole_number 1 1) d) (λ _. entries find d)) whole.0 whole.1 in
     let format = then_Ok (at_key (codes "format") (whole_number 1 1) d) (λ _. entries find d) whole.0 keys.2 in
     let ls = then_Ok (at_key (codes "levels") (all_of (level find)) d) (λ ls. then_with (at_key (codes "places") (all_of (node_places find)) d) (λ ps. then_with (at_key (codes "ranks") (all_of (node_ranks find)) d) (λ rs. Ok (made ls ps rs)))) whole.0 format.2 in
@@ -274,9 +275,9 @@ late_of nodes d none =
     let list = at_stands (codes "ranks") (all_of (node_ranks find)) d rs.0 rs.1 in
     let items = all_stand (node_ranks find) list.0 rs.0 list.2 in
     let is : made ls.0 ps.0 rs.0 ≡ whole.0 = same_Ok rs.2 in
-    let ranks_field = field (codes "ranks") (any_list (a_node_ranks (Some known))) no_fields in
-    let places_field = field (codes "places") (any_list (a_node_places (Some known))) ranks_field in
-    let levels_field = field (codes "levels") (any_list (a_level (Some known))) places_field in
+    let ranks_field = field (codes "ranks") (a_list None a_node_ranks) no_fields in
+    let places_field = field (codes "places") (a_list None a_node_places) ranks_field in
+    let levels_field = field (codes "levels") (a_list None a_level) places_field in
     let fs = field (codes "format") (a_number 1 1) levels_field in
     record {
       given = whole.0;
@@ -287,11 +288,11 @@ late_of nodes d none =
           ∙ ap (λ r. then_with (demand Doubled (names_differ (nodes_at (codes "levels") d))) (λ _. then_with (demand Doubled (names_differ (nodes_at (codes "places") d))) (λ _. r))) (differ_at (codes "ranks") (all_of (node_ranks find)) d rs.0 rs.1);
       ascend = ap (λ (c : CertificateValue). list_all (λ r. ascends 0 r.ranges) c.ranks) (sym is) ∙ sym (entries_read find items.0 rs.0 items.2) ∙ ap ranks_ascend (sym (list.1 ∙ ap Some items.1));
       told =
-          code_whole (an_object fs) d ∙ ap (λ o. option_or o (code (in_fields fs d))) (ap fault_of keys.1)
-          ∙ at_is (codes "format") (whole_number 1 1) always (a_number 1 1) levels_field d format.0 (plain_tells (whole_number 1 1) (a_number 1 1) (number_agrees 1 1)) format.1
-          ∙ at_is (codes "levels") (all_of (level find)) (list_all (is_level_known (length nodes))) (any_list (a_level (Some known))) places_field d ls.0 (all_tells (level find) (is_level_known (length nodes)) (a_level (Some known)) (level_tells known)) ls.1
-          ∙ ap (option_or (unknown (list_all (is_level_known (length nodes)) ls.0))) (at_is (codes "places") (all_of (node_places find)) (list_all (are_places_known (length nodes))) (any_list (a_node_places (Some known))) ranks_field d ps.0 (all_tells (node_places find) (are_places_known (length nodes)) (a_node_places (Some known)) (node_places_tells known)) ps.1
-          ∙ ap (option_or (unknown (list_all (are_places_known (length nodes)) ps.0))) (at_is (codes "ranks") (all_of (node_ranks find)) (list_all (are_ranks_known (length nodes))) (any_list (a_node_ranks (Some known))) no_fields d rs.0 (all_tells (node_ranks find) (are_ranks_known (length nodes)) (a_node_ranks (Some known)) (node_ranks_tells known)) rs.1))
+          code_whole (Some known) (object_of fs) d ∙ ap (λ o. option_or o (code (in_fields (Some known) fs d))) (ap (λ r. fault_of (then_with r (λ _. passes rule.None d))) keys.1)
+          ∙ at_is known (codes "format") (whole_number 1 1) always (a_number 1 1) levels_field d format.0 (plain_tells known (whole_number 1 1) (a_number 1 1) (number_agrees (Some known) 1 1)) format.1
+          ∙ at_is known (codes "levels") (all_of (level find)) (list_all (is_level_known (length nodes))) (a_list None a_level) places_field d ls.0 (all_tells known (level find) (is_level_known (length nodes)) a_level (level_tells known)) ls.1
+          ∙ ap (option_or (unknown (list_all (is_level_known (length nodes)) ls.0))) (at_is known (codes "places") (all_of (node_places find)) (list_all (are_places_known (length nodes))) (a_list None a_node_places) ranks_field d ps.0 (all_tells known (node_places find) (are_places_known (length nodes)) a_node_places (node_places_tells known)) ps.1
+          ∙ ap (option_or (unknown (list_all (are_places_known (length nodes)) ps.0))) (at_is known (codes "ranks") (all_of (node_ranks find)) (list_all (are_ranks_known (length nodes))) (a_list None a_node_ranks) no_fields d rs.0 (all_tells known (node_ranks find) (are_ranks_known (length nodes)) a_node_ranks (node_ranks_tells known)) rs.1))
           ∙ unknown_three (list_all (is_level_known (length nodes)) ls.0) (list_all (are_places_known (length nodes)) ps.0) (list_all (are_ranks_known (length nodes)) rs.0)
           ∙ ap (λ (c : CertificateValue). unknown (are_known (length nodes) c)) is;
     }
@@ -316,7 +317,7 @@ entries_doubled d Levels e = ap (λ a. three a (names_differ (nodes_at (codes "p
 entries_doubled d Places e = second_doubled (names_differ (nodes_at (codes "levels") d)) (names_differ (nodes_at (codes "places") d)) (names_differ (nodes_at (codes "ranks") d)) e
 entries_doubled d Ranks e = third_doubled (names_differ (nodes_at (codes "levels") d)) (names_differ (nodes_at (codes "places") d)) (names_differ (nodes_at (codes "ranks") d)) e
 
-module _ (nodes : List (List ℕ)) (d : Data) (none : first_fault (a_certificate None) d ≡ None) where
+module _ (nodes : List (List ℕ)) (d : Data) (none : first_fault None a_certificate d ≡ None) where
   abbrev tests : Result ⊤ ValueFault → Bool → CertificateValue → Result CertificateValue ValueFault
   tests r b c = then_with r (λ _. then_with (demand Doubled b) (λ _. then_with (demand UnknownName (are_known (length nodes) c)) (λ _. Ok c)))
 
@@ -350,13 +351,13 @@ module _ (nodes : List (List ℕ)) (d : Data) (none : first_fault (a_certificate
       by true c f e = cc
       by false c f e = cc
 
-  pub unknown_node : AreSingle → ranks_ascend (get (codes "ranks") d) ≡ true → (l : Located) → first_fault (a_certificate (Some (known_nodes nodes))) d ≡ Some l → (certificate nodes d ≡ Err UnknownName) × (l.fault ≡ UnknownName)
+  pub unknown_node : AreSingle → ranks_ascend (get (codes "ranks") d) ≡ true → (l : Located) → first_fault (Some (known_nodes nodes)) a_certificate d ≡ Some l → (certificate nodes d ≡ Err UnknownName) × (l.fault ≡ UnknownName)
   unknown_node h e l found =
       let t = late_of nodes d none in
       let p = unknown_fault (are_known (length nodes) t.given) l.fault (sym (ap code found) ∙ t.told) in
       (apart h e ∙ ap (λ b. then_with (demand UnknownName b) (λ _. Ok t.given)) p.0, p.1)
 
-  pub is_read : AreSingle → ranks_ascend (get (codes "ranks") d) ≡ true → first_fault (a_certificate (Some (known_nodes nodes))) d ≡ None → (c : CertificateValue) × (certificate nodes d ≡ Ok c)
+  pub is_read : AreSingle → ranks_ascend (get (codes "ranks") d) ≡ true → first_fault (Some (known_nodes nodes)) a_certificate d ≡ None → (c : CertificateValue) × (certificate nodes d ≡ Ok c)
   is_read h e found =
       let t = late_of nodes d none in
       (t.given, apart h e ∙ ap (λ b. then_with (demand UnknownName b) (λ _. Ok t.given)) (known_all (are_known (length nodes) t.given) (sym (ap code found) ∙ t.told)))

@@ -2,6 +2,7 @@
 use Rattle.std.proofs.Common.{◌≡◌, ℕ, suc, List, [], ◌∷◌, length, Bool, true, false, cond, nat_le, codes, Option, Some, None, option_and_then, Result, Ok, Err, IsSome, refl, sym, ap, ◌∙◌, true≢false}
 use Rattle.std.proofs.lemmas.List.{length-map}
 use Rattle.std.proofs.lemmas.Option.{none-some, same_Some}
+use Rattle.std.specs.Bool.{⊤}
 use Rattle.std.specs.List.{list_all}
 use Rattle.std.specs.Option.{option_or}
 use Rattle.serde_json.specs.Data.{Data, null, boolean, number, string, array, object, Items, no_items, item}
@@ -19,12 +20,13 @@ use Rattle.net_plan.specs.declared.error.ValueFault.TheVariants.{OverLimit, OutO
 use Rattle.net_plan.specs.declared.plan_format.PlanFormat.{PlanFormat}
 use Rattle.net_plan.specs.declared.plan_format.PlanFormat.TheVariants.{One, Two}
 use Rattle.net_plan.proofs.Telling.{then_Ok, same_Ok, no_value}
-use Rattle.net_pointers.specs.KnownNames.{Known, names_in, names_at, known_in}
-use Rattle.net_pointers.specs.PlanShapes.{a_bus, a_node, a_node_among, a_plan, a_plan_among}
-use Rattle.net_pointers.specs.Pointers.{Located, key, under, in_fields, first_fault}
-use Rattle.net_pointers.specs.Shapes.{Shape, a_number, a_list, an_object}
-use Rattle.net_pointers.specs.Shapes.{Fields, no_fields, field, fields_of, keys_of, fault_of}
-use Rattle.net_pointers.proofs.Agrees.{code, code_or, code_under, code_whole, or_none, Agrees, Given, given_keys_there, lists, tests, list_fields, number_agrees, list_agrees, bus_agrees, nodes_agrees}
+use Rattle.net_plan.specs.Finding.{fault_of, passes, Located, key, under, in_fields, first_fault}
+use Rattle.net_plan.specs.Grammar.{Grammar, a_list, Fields, no_fields, field, fields_of, keys_of, Known}
+use Rattle.net_plan.specs.Tables.{a_number, object_of, a_bus, a_node, plan_lists, a_plan}
+use Rattle.net_plan.specs.declared.shape.Rule.TheVariants as rule
+use Rattle.net_plan.proofs.Fitting.{no_fault}
+use Rattle.net_pointers.specs.KnownNames.{names_in, names_at, known_in}
+use Rattle.net_pointers.proofs.Agrees.{code, code_or, code_under, code_whole, or_none, Agrees, Given, given_keys_there, lists, tests, number_agrees, list_agrees, bus_agrees, nodes_agrees}
 use Rattle.net_pointers.proofs.NamesTold.{unknown, always, plain_tells, list_tells, node_tells, at_is}
 
 -- ---- where nothing is found, everything was read
@@ -33,22 +35,22 @@ pub or_both : (a b : Option ValueFault) → option_or a b ≡ None → (a ≡ No
 or_both None b e = (refl, e)
 or_both (Some f) b e = absurd (none-some f (sym e))
 
-pub was_read : {A : Type 0} (r : Result A ValueFault) → fault_of r ≡ None → (a : A) × (r ≡ Ok a)
-was_read (Ok a) e = (a, refl)
-was_read (Err f) e = absurd (none-some f (sym e))
-
-pub at_read : {A : Type 0} (k : List ℕ) (f : Data → Result A ValueFault) (s : Shape) (fs : Fields) (d : Data) → Agrees f s → IsSome (get k d) → code (in_fields (field k s fs) d) ≡ None
-    → ((a : A) × (at_key k f d ≡ Ok a)) × (code (in_fields fs d) ≡ None)
+pub at_read : {A : Type 0} (k : List ℕ) (f : Data → Result A ValueFault) (s : Grammar) (fs : Fields) (d : Data) → Agrees None f s → IsSome (get k d) → code (in_fields None (field k s fs) d) ≡ None
+    → ((a : A) × (at_key k f d ≡ Ok a)) × (code (in_fields None fs d) ≡ None)
 at_read {A} k f s fs d h there e = by (get k d) there e
   where
-    by : (o : Option Data) → IsSome o → code (option_or (under (key k) (option_and_then (first_fault s) o)) (in_fields fs d)) ≡ None → ((a : A) × (then_with (found o) f ≡ Ok a)) × (code (in_fields fs d) ≡ None)
+    by : (o : Option Data) → IsSome o → code (option_or (under (key k) (option_and_then (first_fault None s) o)) (in_fields None fs d)) ≡ None → ((a : A) × (then_with (found o) f ≡ Ok a)) × (code (in_fields None fs d) ≡ None)
     by None there e = absurd (true≢false (sym there))
     by (Some v) there e =
-        let p = or_both (code (under (key k) (first_fault s v))) (code (in_fields fs d)) (sym (code_or (under (key k) (first_fault s v)) (in_fields fs d)) ∙ e) in
-        (was_read (f v) (h v ∙ sym (code_under (key k) (first_fault s v)) ∙ p.0), p.1)
+        let p = or_both (code (under (key k) (first_fault None s v))) (code (in_fields None fs d)) (sym (code_or (under (key k) (first_fault None s v)) (in_fields None fs d)) ∙ e) in
+        (no_fault (f v) (h v ∙ sym (code_under (key k) (first_fault None s v)) ∙ p.0), p.1)
 
-pub object_read : (fs : Fields) (d : Data) → code (first_fault (an_object fs) d) ≡ None → (fault_of (keyed (keys_of fs) d) ≡ None) × (code (in_fields fs d) ≡ None)
-object_read fs d e = or_both (fault_of (keyed (keys_of fs) d)) (code (in_fields fs d)) (sym (code_whole (an_object fs) d) ∙ e)
+pub object_read : (fs : Fields) (d : Data) → code (first_fault None (object_of fs) d) ≡ None → (fault_of (keyed (keys_of fs) d) ≡ None) × (code (in_fields None fs d) ≡ None)
+object_read fs d e = by (keyed (keys_of fs) d) (sym (code_whole None (object_of fs) d) ∙ e)
+  where
+    by : (r : Result ⊤ ValueFault) → option_or (fault_of (then_with r (λ _. passes rule.None d))) (code (in_fields None fs d)) ≡ None → (fault_of r ≡ None) × (code (in_fields None fs d) ≡ None)
+    by (Ok u) e = (refl, e)
+    by (Err f) e = absurd (none-some f (sym e))
 
 pub at_stands : {A : Type 0} (k : List ℕ) (f : Data → Result A ValueFault) (d : Data) (a : A) → at_key k f d ≡ Ok a → (v : Data) × (get k d ≡ Some v) × (f v ≡ Ok a)
 at_stands {A} k f d a e = by (get k d) refl e
@@ -120,7 +122,7 @@ record ListsRead (d : Data) (u : ℕ) : Type 0 where
   nodes : List NodeValue
   are : lists d u ≡ tests u buses nodes
   named : bus_names buses ≡ names_at (codes "buses") d
-  told : code (in_fields (field (codes "buses") (a_list 64 a_bus) (field (codes "nodes") (a_list 64 (a_node_among (Some (known_in d)))) no_fields)) d) ≡ unknown (are_placed (length buses) nodes)
+  told : code (in_fields (Some (known_in d)) plan_lists d) ≡ unknown (are_placed (length buses) nodes)
 
 module _ (d : Data) (u : ℕ) (bs : List BusValue) (ns : List NodeValue) (at_buses : at_key (codes "buses") (list_within 64 bus) d ≡ Ok bs) (at_nodes : at_key (codes "nodes") (nodes_among (bus_names bs)) d ≡ Ok ns) where
   bs_named : bus_names bs ≡ names_at (codes "buses") d
@@ -158,15 +160,15 @@ module _ (d : Data) (u : ℕ) (bs : List BusValue) (ns : List NodeValue) (at_bus
     are = ap (λ r. then_with r (λ bs. then_with (at_key (codes "nodes") (nodes_among (bus_names bs)) d) (tests u bs))) at_buses ∙ ap (λ r. then_with r (tests u bs)) at_nodes;
     named = bs_named;
     told =
-        at_is (codes "buses") (list_within 64 bus) always (a_list 64 a_bus) (field (codes "nodes") (a_list 64 (a_node_among (Some known))) no_fields) d bs (plain_tells (list_within 64 bus) (a_list 64 a_bus) (list_agrees 64 bus a_bus bus_agrees)) at_buses
-        ∙ at_is (codes "nodes") (list_within 64 (node (index_among known.buses) (index_among known.nodes))) (list_all (is_node_placed (length known.buses) (length known.nodes))) (a_list 64 (a_node_among (Some known))) no_fields d ns (list_tells 64 (node (index_among known.buses) (index_among known.nodes)) (is_node_placed (length known.buses) (length known.nodes)) (a_node_among (Some known)) (node_tells known)) ns_read
+        at_is known (codes "buses") (list_within 64 bus) always (a_list (Some 64) a_bus) (field (codes "nodes") (a_list (Some 64) a_node) no_fields) d bs (plain_tells known (list_within 64 bus) (a_list (Some 64) a_bus) (list_agrees (Some known) 64 bus a_bus (bus_agrees (Some known)))) at_buses
+        ∙ at_is known (codes "nodes") (list_within 64 (node (index_among known.buses) (index_among known.nodes))) (list_all (is_node_placed (length known.buses) (length known.nodes))) (a_list (Some 64) a_node) no_fields d ns (list_tells known 64 (node (index_among known.buses) (index_among known.nodes)) (is_node_placed (length known.buses) (length known.nodes)) a_node (node_tells known)) ns_read
         ∙ sym (or_none _) ∙ ap (λ count. unknown (list_all (is_node_placed count (length known.nodes)) ns)) bs_counted ∙ ap (λ count. unknown (list_all (is_node_placed (length bs) count) ns)) ns_counted;
   }
 
-lists_of : (d : Data) (u : ℕ) → Given list_fields d → code (in_fields list_fields d) ≡ None → ListsRead d u
+lists_of : (d : Data) (u : ℕ) → Given plan_lists d → code (in_fields None plan_lists d) ≡ None → ListsRead d u
 lists_of d u there e =
-    let b = at_read (codes "buses") (list_within 64 bus) (a_list 64 a_bus) (field (codes "nodes") (a_list 64 a_node) no_fields) d (list_agrees 64 bus a_bus bus_agrees) there.0 e in
-    let n = at_read (codes "nodes") (nodes_among (bus_names b.0.0)) (a_list 64 a_node) no_fields d (nodes_agrees (bus_names b.0.0)) there.1.0 b.1 in
+    let b = at_read (codes "buses") (list_within 64 bus) (a_list (Some 64) a_bus) (field (codes "nodes") (a_list (Some 64) a_node) no_fields) d (list_agrees None 64 bus a_bus (bus_agrees None)) there.0 e in
+    let n = at_read (codes "nodes") (nodes_among (bus_names b.0.0)) (a_list (Some 64) a_node) no_fields d (nodes_agrees (bus_names b.0.0)) there.1.0 b.1 in
     lists_read d u b.0.0 n.0.0 b.0.1 n.0.1
 
 -- ---- a whole plan
@@ -178,19 +180,18 @@ pub record Late (d : Data) : Type 0 where
   pub nodes : List NodeValue
   pub is : plan d ≡ tests unit buses nodes
   pub named : bus_names buses ≡ names_at (codes "buses") d
-  pub told : code (first_fault (a_plan_among (Some (known_in d)) (plan_format d)) d) ≡ unknown (are_placed (length buses) nodes)
+  pub told : code (first_fault (Some (known_in d)) (a_plan (plan_format d)) d) ≡ unknown (are_placed (length buses) nodes)
 
-late_one : (d : Data) → plan_format d ≡ One → code (first_fault (a_plan One) d) ≡ None → Late d
+late_one : (d : Data) → plan_format d ≡ One → code (first_fault None (a_plan One) d) ≡ None → Late d
 late_one d one e =
     let fs = fields_of (a_plan One) in
     let p = object_read fs d e in
     let there = given_keys_there fs d p.0 in
-    let keys = was_read (keyed (keys_of fs) d) p.0 in
-    let format = at_read (codes "format") (whole_number 1 1) (a_number 1 1) list_fields d (number_agrees 1 1) there.0 p.1 in
+    let keys = no_fault (keyed (keys_of fs) d) p.0 in
+    let format = at_read (codes "format") (whole_number 1 1) (a_number 1 1) plan_lists d (number_agrees None 1 1) there.0 p.1 in
     let rest = lists_of d 64 there.1 format.1 in
     let known = known_in d in
-    let known_fields = field (codes "buses") (a_list 64 a_bus) (field (codes "nodes") (a_list 64 (a_node_among (Some known))) no_fields) in
-    let whole = field (codes "format") (a_number 1 1) known_fields in
+    let whole = field (codes "format") (a_number 1 1) plan_lists in
     let unit : unit_by One d ≡ Ok 64 = ap (λ r. then_with r (λ _. then_with (at_key (codes "format") (whole_number 1 1) d) (λ _. Ok 64))) keys.1 ∙ ap (λ r. then_with r (λ (n : ℕ). Ok 64)) format.0.1 in
     record {
       unit = 64;
@@ -199,22 +200,21 @@ late_one d one e =
       is = ap (λ f. then_with (unit_by f d) (lists d)) one ∙ ap (λ r. then_with r (lists d)) unit ∙ rest.are;
       named = rest.named;
       told =
-          ap (λ f. code (first_fault (a_plan_among (Some known) f) d)) one ∙ code_whole (an_object whole) d ∙ ap (λ o. option_or o (code (in_fields whole d))) (ap fault_of keys.1)
-          ∙ at_is (codes "format") (whole_number 1 1) always (a_number 1 1) known_fields d format.0.0 (plain_tells (whole_number 1 1) (a_number 1 1) (number_agrees 1 1)) format.0.1 ∙ rest.told;
+          ap (λ f. code (first_fault (Some known) (a_plan f) d)) one ∙ code_whole (Some known) (object_of whole) d ∙ ap (λ o. option_or o (code (in_fields (Some known) whole d))) (ap (λ r. fault_of (then_with r (λ _. passes rule.None d))) keys.1)
+          ∙ at_is known (codes "format") (whole_number 1 1) always (a_number 1 1) plan_lists d format.0.0 (plain_tells known (whole_number 1 1) (a_number 1 1) (number_agrees (Some known) 1 1)) format.0.1 ∙ rest.told;
     }
 
-late_two : (d : Data) → plan_format d ≡ Two → code (first_fault (a_plan Two) d) ≡ None → Late d
+late_two : (d : Data) → plan_format d ≡ Two → code (first_fault None (a_plan Two) d) ≡ None → Late d
 late_two d two e =
     let fs = fields_of (a_plan Two) in
     let p = object_read fs d e in
     let there = given_keys_there fs d p.0 in
-    let keys = was_read (keyed (keys_of fs) d) p.0 in
-    let format = at_read (codes "format") (whole_number 2 2) (a_number 2 2) (field (codes "unit") (a_number 64 1024) list_fields) d (number_agrees 2 2) there.0 p.1 in
-    let size = at_read (codes "unit") (whole_number 64 1024) (a_number 64 1024) list_fields d (number_agrees 64 1024) there.1.0 format.1 in
+    let keys = no_fault (keyed (keys_of fs) d) p.0 in
+    let format = at_read (codes "format") (whole_number 2 2) (a_number 2 2) (field (codes "unit") (a_number 64 1024) plan_lists) d (number_agrees None 2 2) there.0 p.1 in
+    let size = at_read (codes "unit") (whole_number 64 1024) (a_number 64 1024) plan_lists d (number_agrees None 64 1024) there.1.0 format.1 in
     let rest = lists_of d size.0.0 there.1.1 size.1 in
     let known = known_in d in
-    let known_fields = field (codes "buses") (a_list 64 a_bus) (field (codes "nodes") (a_list 64 (a_node_among (Some known))) no_fields) in
-    let sized = field (codes "unit") (a_number 64 1024) known_fields in
+    let sized = field (codes "unit") (a_number 64 1024) plan_lists in
     let whole = field (codes "format") (a_number 2 2) sized in
     let unit : unit_by Two d ≡ Ok size.0.0 = ap (λ r. then_with r (λ _. at_key (codes "unit") (whole_number 64 1024) d)) keys.1 ∙ size.0.1 in
     record {
@@ -224,15 +224,15 @@ late_two d two e =
       is = ap (λ f. then_with (unit_by f d) (lists d)) two ∙ ap (λ r. then_with r (lists d)) unit ∙ rest.are;
       named = rest.named;
       told =
-          ap (λ f. code (first_fault (a_plan_among (Some known) f) d)) two ∙ code_whole (an_object whole) d ∙ ap (λ o. option_or o (code (in_fields whole d))) (ap fault_of keys.1)
-          ∙ at_is (codes "format") (whole_number 2 2) always (a_number 2 2) sized d format.0.0 (plain_tells (whole_number 2 2) (a_number 2 2) (number_agrees 2 2)) format.0.1
-          ∙ at_is (codes "unit") (whole_number 64 1024) always (a_number 64 1024) known_fields d size.0.0 (plain_tells (whole_number 64 1024) (a_number 64 1024) (number_agrees 64 1024)) size.0.1 ∙ rest.told;
+          ap (λ f. code (first_fault (Some known) (a_plan f) d)) two ∙ code_whole (Some known) (object_of whole) d ∙ ap (λ o. option_or o (code (in_fields (Some known) whole d))) (ap (λ r. fault_of (then_with r (λ _. passes rule.None d))) keys.1)
+          ∙ at_is known (codes "format") (whole_number 2 2) always (a_number 2 2) sized d format.0.0 (plain_tells known (whole_number 2 2) (a_number 2 2) (number_agrees (Some known) 2 2)) format.0.1
+          ∙ at_is known (codes "unit") (whole_number 64 1024) always (a_number 64 1024) plan_lists d size.0.0 (plain_tells known (whole_number 64 1024) (a_number 64 1024) (number_agrees (Some known) 64 1024)) size.0.1 ∙ rest.told;
     }
 
-pub late : (d : Data) → first_fault (a_plan (plan_format d)) d ≡ None → Late d
+pub late : (d : Data) → first_fault None (a_plan (plan_format d)) d ≡ None → Late d
 late d none = by (plan_format d) refl none
   where
-    by : (f : PlanFormat) → plan_format d ≡ f → first_fault (a_plan f) d ≡ None → Late d
+    by : (f : PlanFormat) → plan_format d ≡ f → first_fault None (a_plan f) d ≡ None → Late d
     by One e none = late_one d e (ap code none)
     by Two e none = late_two d e (ap code none)
 
@@ -244,7 +244,7 @@ tests_doubled u bs ns e = ap (λ b. then_with (demand Doubled b) (λ _. then_wit
 tests_single : (u : ℕ) (bs : List BusValue) (ns : List NodeValue) → names_differ (bus_names bs) ≡ true → tests u bs ns ≡ then_with (demand UnknownName (are_placed (length bs) ns)) (λ _. Ok (record { unit = u; buses = bs; nodes = ns }))
 tests_single u bs ns e = ap (λ b. then_with (demand Doubled b) (λ _. then_with (demand UnknownName (are_placed (length bs) ns)) (λ _. Ok (record { unit = u; buses = bs; nodes = ns })))) e
 
-pub late_doubled : (d : Data) → first_fault (a_plan (plan_format d)) d ≡ None → names_differ (names_at (codes "buses") d) ≡ false → plan d ≡ Err Doubled
+pub late_doubled : (d : Data) → first_fault None (a_plan (plan_format d)) d ≡ None → names_differ (names_at (codes "buses") d) ≡ false → plan d ≡ Err Doubled
 late_doubled d none e =
     let l = late d none in
     l.is ∙ tests_doubled l.unit l.buses l.nodes (ap names_differ l.named ∙ e)
@@ -258,14 +258,14 @@ pub known_all : (b : Bool) → None ≡ unknown b → b ≡ true
 known_all true e = refl
 known_all false e = absurd (none-some _ e)
 
-pub late_unknown : (d : Data) (l : Located) → first_fault (a_plan (plan_format d)) d ≡ None → names_differ (names_at (codes "buses") d) ≡ true
-    → first_fault (a_plan_among (Some (known_in d)) (plan_format d)) d ≡ Some l → (plan d ≡ Err UnknownName) × (l.fault ≡ UnknownName)
+pub late_unknown : (d : Data) (l : Located) → first_fault None (a_plan (plan_format d)) d ≡ None → names_differ (names_at (codes "buses") d) ≡ true
+    → first_fault (Some (known_in d)) (a_plan (plan_format d)) d ≡ Some l → (plan d ≡ Err UnknownName) × (l.fault ≡ UnknownName)
 late_unknown d l none single found =
     let t = late d none in
     let p = unknown_fault (are_placed (length t.buses) t.nodes) l.fault (sym (ap code found) ∙ t.told) in
     (t.is ∙ tests_single t.unit t.buses t.nodes (ap names_differ t.named ∙ single) ∙ ap (λ b. then_with (demand UnknownName b) (λ _. Ok (record { unit = t.unit; buses = t.buses; nodes = t.nodes }))) p.0, p.1)
 
-pub late_well : (d : Data) → first_fault (a_plan (plan_format d)) d ≡ None → names_differ (names_at (codes "buses") d) ≡ true → IsWellButForNames plan d
+pub late_well : (d : Data) → first_fault None (a_plan (plan_format d)) d ≡ None → names_differ (names_at (codes "buses") d) ≡ true → IsWellButForNames plan d
 late_well d none single =
     let t = late d none in
     let is = t.is ∙ tests_single t.unit t.buses t.nodes (ap names_differ t.named ∙ single) in
@@ -275,7 +275,7 @@ late_well d none single =
     by true p f e = cc
     by false p f e = cc
 
-pub late_read : (d : Data) → first_fault (a_plan (plan_format d)) d ≡ None → names_differ (names_at (codes "buses") d) ≡ true → first_fault (a_plan_among (Some (known_in d)) (plan_format d)) d ≡ None
+pub late_read : (d : Data) → first_fault None (a_plan (plan_format d)) d ≡ None → names_differ (names_at (codes "buses") d) ≡ true → first_fault (Some (known_in d)) (a_plan (plan_format d)) d ≡ None
     → (p : PlanValue) × (plan d ≡ Ok p)
 late_read d none single found =
     let t = late d none in

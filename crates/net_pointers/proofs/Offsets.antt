@@ -1,6 +1,7 @@
 -- What stands at an offset, in the tree of the text.
 use Rattle.std.proofs.Common.{◌≡◌, ◌∙◌, sym, ap, ℕ, List, ◌∷◌, [], Option, Some, None, option_and_then, subst}
-use Rattle.std.specs.Prelude.{IfSome}
+use Rattle.std.proofs.lemmas.Bool.{false≢true}
+use Rattle.std.specs.Prelude.{Result, Ok, Err, IfOk, IfSome, IsSome, MatchOption}
 use Rattle.json.specs.Find.{BeginsWith}
 use Rattle.json.specs.Json.{Json, if_last}
 use Rattle.json.specs.Lex.{tokens}
@@ -8,10 +9,13 @@ use Rattle.json.specs.Token.{Token}
 use Rattle.json.proofs.Found.{Some_inj, not_found}
 use Rattle.serde_json.specs.Read.{max_depth}
 use Rattle.net_plan.specs.Texts.{IsTree}
+use Rattle.net_plan.specs.Trees.{data_of}
 use Rattle.net_pointers.specs.Offsets.{PartStandsAt, LeadsTo, KeyStandsAt, LeadsToKey}
 use Rattle.net_pointers.specs.Paths.{path_of}
-use Rattle.net_pointers.specs.Pointers.{Step}
-use Rattle.net_pointers.proofs.Paths.{path_leads}
+use Rattle.net_pointers.specs.Doubles.{part_at}
+use Rattle.net_plan.specs.Finding.{Step}
+use Rattle.net_pointers.specs.Pointers.{value_at}
+use Rattle.net_pointers.proofs.Paths.{Leads, path_leads}
 use Rattle.net_pointers.proofs.Readings.{path_read, path_key_read}
 
 last : (o : Option (Json × List Token)) (j : Json) → option_and_then (λ p. if_last p.0 p.1) o ≡ Some j → o ≡ Some (j, [])
@@ -33,7 +37,7 @@ pointer_leads text pointer j path offset whole along stands =
       stands = stands;
       part = found.0;
       leads = found.2;
-      begins = subst (λ ts. BeginsWith ts found.0) stands.2.2 (path_read path (tokens text) stands.0 j found.0 stands.1 (begins text j whole) found.1);
+      begins = subst (λ ts. BeginsWith ts found.0) stands.2.3 (path_read path (tokens text) stands.0 j found.0 stands.1 (begins text j whole) found.1);
     }
 
 key_leads : (text path : List ℕ) (m offset : ℕ) → KeyStandsAt text path m offset → LeadsToKey text path m offset
@@ -41,9 +45,20 @@ key_leads text path m offset stands = record {
   stands = stands;
   names = λ j ms whole at within.
       (let key = path_key_read path m (tokens text) stands.0 j ms stands.1 (begins text j whole) at within in
-      (key.0, sym stands.2.2 ∙ key.1));
+      (key.0, sym stands.2.3 ∙ key.1));
 }
 
-pub found_key_leads : (text path : List ℕ) (m : ℕ) (o : Option ℕ) → IfSome o (λ offset. KeyStandsAt text path m offset) → IfSome o (λ offset. LeadsToKey text path m offset)
-found_key_leads text path m None h = h
-found_key_leads text path m (Some offset) h = key_leads text path m offset h
+pub found_key_leads : {E : Type 0} (text path : List ℕ) (m : ℕ) (r : Result (Option ℕ) E) → IfOk r (λ f. IfSome f (KeyStandsAt text path m) × IsSome f) → IfOk r (λ f. IfSome f (LeadsToKey text path m) × IsSome f)
+found_key_leads text path m (Ok (Some offset)) h = (key_leads text path m offset h.0, h.1)
+found_key_leads text path m (Ok None) h = h
+found_key_leads text path m (Err e) h = h
+
+-- where a pointer leads along a path, what it leads to is found
+pub found_pointer_leads : {E : Type 0} (text : List ℕ) (pointer : List Step) (j : Json) (path : List ℕ) (r : Result (Option ℕ) E) → IsTree text j → path_of pointer j ≡ Some path
+    → IfOk r (λ f. IfSome f (PartStandsAt text path)) → IfOk r (λ f. (tree part : Json) → IsTree text tree → part_at path tree ≡ Some part → IsSome f)
+    → IfOk r (λ f. MatchOption f (value_at pointer (data_of j) ≡ None) (LeadsTo text pointer))
+found_pointer_leads text pointer j path (Ok (Some offset)) whole along stands found = pointer_leads text pointer j path offset whole along stands
+found_pointer_leads text pointer j path (Ok None) whole along stands found =
+    let leads = path_leads pointer j path along in
+    absurd (false≢true (found j leads.0 whole leads.1))
+found_pointer_leads text pointer j path (Err e) whole along stands found = tt

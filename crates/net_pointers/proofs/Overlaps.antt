@@ -2,10 +2,11 @@
 use Rattle.std.proofs.Common.{◌≡◌, ◌<◌, ◌+◌, ◌-◌, ℕ, zero, suc, List, [], ◌∷◌, length, get_or, codes, Some, option_and_then, refl, sym, ap, ◌∙◌, subst, arith}
 use Rattle.serde_json.specs.Data.{Data, array, Items}
 use Rattle.serde_json.specs.Find.{get, get_item}
+use Rattle.net_plan.specs.Finding.{key, index}
 use Rattle.net_plan.specs.Trees.{Tree, view, items_view}
 use Rattle.net_pointers.specs.Ascending.{OverlapIn, OverlapOf, OverlapAmong}
 use Rattle.net_pointers.specs.CertificateTroubles.{first_in, end_in, DoOverlap}
-use Rattle.net_pointers.specs.Pointers.{key, index, value_at}
+use Rattle.net_pointers.specs.Pointers.{value_at}
 use Rattle.net_pointers.specs.declared.ranges.Overlap.{Overlap}
 
 pub get_item_of_view : (vs : List Tree) (i : ℕ) (d : Tree) → i < length vs → get_item i (items_view vs) ≡ Some (view (get_or vs i d))

@@ -9,11 +9,12 @@ use Rattle.json.specs.Json.{Json, null, boolean, number, string, array, object, 
 use Rattle.json.specs.Value.{value_view, items_view, members_view}
 use Rattle.json.proofs.Found.{Some_inj, not_found}
 use Rattle.serde_json.specs.Find.{get_item}
+use Rattle.net_plan.specs.Finding.{Step, key, index}
 use Rattle.net_plan.specs.Trees.{Tree, data_of, items_of}
 use Rattle.net_plan.proofs.Trees.{get_of}
 use Rattle.net_pointers.specs.Doubles.{item_at, member_at, part_after, part_at}
 use Rattle.net_pointers.specs.Paths.{last_index, index_after, path_of}
-use Rattle.net_pointers.specs.Pointers.{Step, key, index, value_after, value_at}
+use Rattle.net_pointers.specs.Pointers.{value_after, value_at}
 use Rattle.net_pointers.proofs.Doubling.{item_of_view, member_of_view}
 use Rattle.net_pointers.proofs.Readings.{and_then_parts}
 
@@ -110,3 +111,55 @@ path_leads (s ∷ ss) j path p =
     let b = and_then_parts (λ e. option_map (λ is. a.0 ∷ is) (path_of ss e)) (part_after a.0 j) path a.2 in
     let c = map_parts (λ is. a.0 ∷ is) (path_of ss b.0) path b.2 in
     further s ss j b.0 a.0 c.0 path a.1 b.1 c.2 (path_leads ss b.0 c.0 c.1)
+
+-- ---- a pointer that leads nowhere
+
+no_member_of : (k : List ℕ) (ms : Members) → last_index k ms ≡ None → value_after (key k) (data_of (object ms)) ≡ None
+no_member_of k ms e = get_of k (object ms) ∙ ap (option_map data_of) (subst (IsLast k ms) e (is_last k ms))
+
+step_nowhere : (s : Step) (j : Json) → index_after s j ≡ None → value_after s (data_of j) ≡ None
+step_nowhere (key k) null e = get_of k null
+step_nowhere (key k) (boolean b) e = get_of k (boolean b)
+step_nowhere (key k) (number s) e = get_of k (number s)
+step_nowhere (key k) (string s) e = get_of k (string s)
+step_nowhere (key k) (array js) e = get_of k (array js)
+step_nowhere (key k) (object ms) e = no_member_of k ms e
+step_nowhere (index n) null e = refl
+step_nowhere (index n) (boolean b) e = refl
+step_nowhere (index n) (number s) e = refl
+step_nowhere (index n) (string s) e = refl
+step_nowhere (index n) (array js) e = not_found n (sym e)
+step_nowhere (index n) (object ms) e = refl
+
+part_nowhere : (s : Step) (j : Json) (i : ℕ) → index_after s j ≡ Some i → part_after i j ≡ None → value_after s (data_of j) ≡ None
+part_nowhere (key k) null i p at = not_found i p
+part_nowhere (key k) (boolean b) i p at = not_found i p
+part_nowhere (key k) (number s) i p at = not_found i p
+part_nowhere (key k) (string s) i p at = not_found i p
+part_nowhere (key k) (array js) i p at = not_found i p
+part_nowhere (key k) (object ms) i p at =
+    let last = subst (IsLast k ms) p (is_last k ms) in
+    not_found last.0 (sym at ∙ last.1)
+part_nowhere (index n) null i p at = not_found i p
+part_nowhere (index n) (boolean b) i p at = not_found i p
+part_nowhere (index n) (number s) i p at = not_found i p
+part_nowhere (index n) (string s) i p at = not_found i p
+part_nowhere (index n) (array js) i p at = item_seen n js ∙ ap (option_map data_of) (ap (λ k. item_at k js) (Some_inj n i p) ∙ at)
+part_nowhere (index n) (object ms) i p at = not_found i p
+
+pub leads_nowhere : (ss : List Step) (j : Json) → path_of ss j ≡ None → value_at ss (data_of j) ≡ None
+leads_nowhere [] j p = not_found [] (sym p)
+leads_nowhere (s ∷ ss) j p = by (λ e. leads_nowhere ss e) (index_after s j) refl
+  where
+    beyond : ((e : Json) → path_of ss e ≡ None → value_at ss (data_of e) ≡ None) → (i : ℕ) (o : Option Json) → index_after s j ≡ Some i → part_after i j ≡ o → value_at (s ∷ ss) (data_of j) ≡ None
+    beyond again i None at part = ap (option_and_then (value_at ss)) (part_nowhere s j i at part)
+    beyond again i (Some e) at part = ap (option_and_then (value_at ss)) (step_leads s j e i at part) ∙ again e (last_nowhere (path_of ss e) refl)
+      where
+        last_nowhere : (o : Option (List ℕ)) → path_of ss e ≡ o → path_of ss e ≡ None
+        last_nowhere None is = is
+        last_nowhere (Some is) there =
+            not_found (i ∷ is) (sym p ∙ ap (option_and_then (λ k. option_and_then (λ x. option_map (λ ks. k ∷ ks) (path_of ss x)) (part_after k j))) at ∙ ap (option_and_then (λ x. option_map (λ ks. i ∷ ks) (path_of ss x))) part ∙ ap (option_map (λ ks. i ∷ ks)) there)
+
+    by : ((e : Json) → path_of ss e ≡ None → value_at ss (data_of e) ≡ None) → (o : Option ℕ) → index_after s j ≡ o → value_at (s ∷ ss) (data_of j) ≡ None
+    by again None at = ap (option_and_then (value_at ss)) (step_nowhere s j at)
+    by again (Some i) at = beyond again i (part_after i j) at refl

@@ -160,7 +160,7 @@ path_read (i ∷ is) ts us j e p h at =
     let b = and_then_parts (part_at is) (part_after i j) e at in
     path_read is a.0 us b.0 e a.2 (part_read i ts a.0 j b.0 a.1 h b.1) b.2
 
-member_within : (n : ℕ) (ms : Members) → n < length (keys ms) → (e : Json) × (member_at n ms ≡ Some e)
+pub member_within : (n : ℕ) (ms : Members) → n < length (keys ms) → (e : Json) × (member_at n ms ≡ Some e)
 member_within n no_members within = absurd (omega arith)
 member_within zero (member k j ms) within = (j, refl)
 member_within (suc n) (member k j ms) within = member_within n ms (omega arith)

@@ -6,20 +6,19 @@ use Rattle.serde_json.specs.Data.{Data}
 use Rattle.serde_json.specs.Find.{get}
 use Rattle.net_plan.specs.CertificateReading.{certificate}
 use Rattle.net_plan.specs.CertificateValues.{CertificateValue}
+use Rattle.net_plan.specs.Finding.{Located, key, index, range_end, first_fault, located}
+use Rattle.net_plan.specs.Grammar.{Known}
 use Rattle.net_plan.specs.Json.{at_key, whole_number}
 use Rattle.net_plan.specs.Names.{texts_at, names_differ}
 use Rattle.net_plan.specs.Refusals.{IsWellButForNames}
 use Rattle.net_plan.specs.SingleKeys.{single}
+use Rattle.net_plan.specs.Tables.{a_certificate}
 use Rattle.net_plan.specs.Trees.{data_of}
 use Rattle.net_plan.specs.declared.error.ValueFault.{ValueFault}
 use Rattle.net_plan.specs.declared.error.ValueFault.TheVariants.{UnknownName, Doubled}
-use Rattle.net_pointers.specs.CertificateShapes.{a_certificate}
 use Rattle.net_pointers.specs.Doubles.{IsFirstDoubled, HasDoubledKey, NoneBefore}
-use Rattle.net_pointers.specs.KnownNames.{Known}
 use Rattle.net_pointers.specs.PlanTroubles.{IsUnknownNameAt}
-use Rattle.net_pointers.specs.Pointers.{Located, key, index, value_at, HasFaultAt, first_fault}
-use Rattle.net_pointers.specs.Shapes.{range_end}
-use Rattle.net_pointers.specs.Views.{located, located_among}
+use Rattle.net_pointers.specs.Pointers.{value_at, HasFaultAt}
 use Rattle.net_pointers.specs.declared.certificates.CertificateList.{CertificateList}
 use Rattle.net_pointers.specs.declared.certificates.CertificateList.TheVariants.{Levels, Places, Ranks}
 use Rattle.net_pointers.specs.declared.certificates.CertificateTrouble.{CertificateTrouble}
@@ -76,8 +75,8 @@ pub record DoOverlap (d : Data) (o : Overlap) : Type 0 where
 -- the fault for which the certificate is refused, and the pointer to the value that has it: the first in the order of
 -- tests
 abbrev pub IsFaultOfCertificate : List (List ℕ) → Data → Located → Type 0
-IsFaultOfCertificate nodes d l = (certificate nodes d ≡ Err l.fault) × HasFaultAt (a_certificate None) d l
-    × (first_fault (a_certificate None) d ≡ Some l)
+IsFaultOfCertificate nodes d l = (certificate nodes d ≡ Err l.fault) × HasFaultAt None a_certificate d l
+    × (first_fault None a_certificate d ≡ Some l)
 
 -- what is told of a certificate among nodes of these names; of one that is read nothing
 abbrev pub IsToldOfCertificate : List (List ℕ) → Json → Option CertificateTrouble → Type 0
@@ -93,5 +92,4 @@ IsToldOfCertificate nodes j (Some (trouble.DoubledKey doubled)) =
     IsWellButForNames (certificate nodes) (data_of j) × HasDoubledKey j doubled × NoneBefore j doubled.path.items
 IsToldOfCertificate nodes j (Some (trouble.UnknownName found)) =
     (certificate nodes (data_of j) ≡ Err UnknownName) × (single j ≡ true)
-    × IsUnknownNameAt (a_certificate (Some (known_nodes nodes))) (data_of j)
-    (located_among (Some (known_nodes nodes)) found)
+    × IsUnknownNameAt (known_nodes nodes) a_certificate (data_of j) (located found)

@@ -1,38 +1,32 @@
 -- Where in a text a value stands.
-use Rattle.std.specs.Prelude.{◌≡◌, ◌≤◌, ◌<◌, ◌==◌, ◌||◌, ℕ, Bool, false, List, [], ◌∷◌, length, drop, get_or}
-use Rattle.std.specs.Prelude.{Some, option_and_then}
+use Rattle.std.specs.Prelude.{◌≡◌, ◌<◌, ◌==◌, ◌||◌, ℕ, Bool, false, List, [], ◌∷◌, length, drop, get_or}
+use Rattle.std.specs.Prelude.{Some, option_and_then, IsUtf8}
 use Rattle.json.specs.Find.{BeginsWith}
-use Rattle.json.specs.Json.{Json, Members, object, value}
+use Rattle.json.specs.Json.{Json, Members, object}
 use Rattle.json.specs.Lex.{tokens}
 use Rattle.json.specs.Strict.{keys}
 use Rattle.json.specs.Token.{Token}
 use Rattle.net_plan.specs.Texts.{IsTree}
 use Rattle.net_plan.specs.Trees.{data_of}
-use Rattle.net_plan.specs.declared.error.ValueFault.{ValueFault}
 use Rattle.net_pointers.specs.Doubles.{part_at}
 use Rattle.net_pointers.specs.PartTokens.{from_key, from_path}
 use Rattle.net_pointers.specs.Paths.{path_of}
-use Rattle.net_pointers.specs.Pointers.{Step, value_at}
-use Rattle.net_pointers.specs.Shapes.{Shape, own_fault}
+use Rattle.net_plan.specs.Finding.{Step}
+use Rattle.net_pointers.specs.Pointers.{value_at}
 
--- the text begins with a value that has the fault in itself
-abbrev pub BeginsWithFault : List ℕ → Shape → ValueFault → Type 0
-BeginsWithFault text s f =
-    (j : Json) × (rest : List Token) × (value 127 (tokens text) ≡ Some (j, rest)) × (own_fault s (data_of j) ≡ Some f)
-
--- such a value begins at the offset
-abbrev pub BeginsThere : List ℕ → ℕ → Shape → ValueFault → Type 0
-BeginsThere text offset s f = (offset ≤ length text) × BeginsWithFault (drop offset text) s f
+-- the bytes are UTF-8, and JSON of this tree
+abbrev pub IsTextOf : List ℕ → Json → Type 0
+IsTextOf text j = IsUtf8 text × IsTree text j
 
 -- white space, a comma or a colon
 abbrev pub is_mark : ℕ → Bool
 is_mark b = b == 32 || b == 9 || b == 10 || b == 13 || b == 44 || b == 58
 
 -- From the offset on the text has just these tokens, up to its end, and no white space, comma or colon stands before
--- the first of them.
+-- the first of them, but a character of ASCII.
 abbrev pub AreTokensFrom : List ℕ → ℕ → List Token → Type 0
-AreTokensFrom text offset ts =
-    (offset < length text) × (is_mark (get_or text offset 0) ≡ false) × (ts ≡ tokens (drop offset text))
+AreTokensFrom text offset ts = (offset < length text) × (is_mark (get_or text offset 0) ≡ false)
+    × (get_or text offset 0 < 128) × (ts ≡ tokens (drop offset text))
 
 -- the part to which a path of indices leads stands at the offset
 abbrev pub PartStandsAt : List ℕ → List ℕ → ℕ → Type 0

@@ -3,8 +3,8 @@ use Rattle.std.specs.Prelude.{ℕ, suc, List, [], ◌∷◌, cond, Option, Some,
 use Rattle.std.specs.Option.{option_or}
 use Rattle.std.specs.Str.{bytes_eq}
 use Rattle.json.specs.Json.{Json, null, boolean, number, string, array, object, Members, no_members, member}
+use Rattle.net_plan.specs.Finding.{Step, key, index}
 use Rattle.net_pointers.specs.Doubles.{part_after}
-use Rattle.net_pointers.specs.Pointers.{Step, key, index}
 
 -- the index of the last member with a key
 abbrev pub last_index : List ℕ → Members → Option ℕ

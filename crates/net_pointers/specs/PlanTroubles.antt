@@ -2,31 +2,27 @@
 use Rattle.std.specs.Prelude.{◌≡◌, true, codes, Option, Some, None, Ok, Err}
 use Rattle.json.specs.Json.{Json}
 use Rattle.serde_json.specs.Data.{Data}
+use Rattle.net_plan.specs.Finding.{Located, first_fault, located}
+use Rattle.net_plan.specs.Grammar.{Grammar, Known}
 use Rattle.net_plan.specs.PlanReading.{plan, plan_format}
 use Rattle.net_plan.specs.PlanValues.{PlanValue}
 use Rattle.net_plan.specs.Refusals.{IsWellButForNames}
 use Rattle.net_plan.specs.SingleKeys.{single}
+use Rattle.net_plan.specs.Tables.{a_plan}
 use Rattle.net_plan.specs.Trees.{data_of}
 use Rattle.net_plan.specs.declared.error.ValueFault.TheVariants.{UnknownName, Doubled}
 use Rattle.net_pointers.specs.Doubles.{IsFirstDoubled, HasDoubledKey, NoneBefore}
 use Rattle.net_pointers.specs.KnownNames.{names_at, known_in}
-use Rattle.net_pointers.specs.PlanShapes.{a_plan_among}
 use Rattle.net_pointers.specs.Plans.{IsFaultOfPlan}
-use Rattle.net_pointers.specs.Pointers.{Located, HasFaultAt, first_fault}
-use Rattle.net_pointers.specs.Shapes.{Shape}
-use Rattle.net_pointers.specs.Views.{located, located_among}
+use Rattle.net_pointers.specs.Pointers.{HasFaultAt}
 use Rattle.net_pointers.specs.declared.plans.PlanTrouble.{PlanTrouble}
 use Rattle.net_pointers.specs.declared.plans.PlanTrouble.TheVariants as trouble
 
--- what may stand in a plan whose names are those of its own buses and nodes
-abbrev pub a_named_plan : Data → Shape
-a_named_plan d = a_plan_among (Some (known_in d)) (plan_format d)
-
--- In a value of this shape the pointer leads to a name that is that of nothing. No other such name comes before it in
--- the order of tests, nor any other fault.
-pub record IsUnknownNameAt (s : Shape) (d : Data) (l : Located) : Type 0 where
-  pub leads : HasFaultAt s d l
-  pub first : first_fault s d ≡ Some l
+-- In a value of this grammar the pointer leads to a name that is none of those that are known. No other such name comes
+-- before it in the order of tests, nor any other fault.
+pub record IsUnknownNameAt (known : Known) (g : Grammar) (d : Data) (l : Located) : Type 0 where
+  pub leads : HasFaultAt (Some known) g d l
+  pub first : first_fault (Some known) g d ≡ Some l
   pub fault : l.fault ≡ UnknownName
 
 -- what is told of a plan; of one that is read nothing
@@ -39,4 +35,4 @@ IsToldOfPlan j (Some (trouble.DoubledKey doubled)) =
     IsWellButForNames plan (data_of j) × HasDoubledKey j doubled × NoneBefore j doubled.path.items
 IsToldOfPlan j (Some (trouble.UnknownName found)) =
     (plan (data_of j) ≡ Err UnknownName) × (single j ≡ true)
-    × IsUnknownNameAt (a_named_plan (data_of j)) (data_of j) (located_among (Some (known_in (data_of j))) found)
+    × IsUnknownNameAt (known_in (data_of j)) (a_plan (plan_format (data_of j))) (data_of j) (located found)

@@ -1,22 +1,20 @@
 //! The first fault of a certificate.
-ghost use Rattle.std.specs.Prelude.{◌≡◌, codes, true, None, IfOk, MatchOption, map};
+ghost use Rattle.std.specs.Prelude.{◌≡◌, codes, true, None, IfOk, MatchOption, map, option_map};
 ghost use Rattle.json.specs.Value.{value_view};
+ghost use Rattle.net_plan.specs.Finding.{first_fault, located};
+ghost use Rattle.net_plan.specs.Grammar.{known_seen};
 ghost use Rattle.net_plan.specs.Names.{names_differ};
 ghost use Rattle.net_plan.specs.PlanValues.{node_value, node_names};
+ghost use Rattle.net_plan.specs.Tables.{a_certificate};
 ghost use Rattle.net_plan.specs.Trees.{view};
-ghost use Rattle.net_pointers.specs.CertificateShapes.{a_certificate};
 ghost use Rattle.net_pointers.specs.CertificateTroubles.{IsToldOfCertificate, NoneDoubledBefore, list_key, nodes_at};
 ghost use Rattle.net_pointers.specs.Doubles.{IsFirstDoubled};
-ghost use Rattle.net_pointers.specs.Pointers.{first_fault};
 
 use crate::doubled::{DoubledKey, TwoIndices, doubled_key, first_doubled};
-use crate::faults::{first_fault, first_fault_among};
-use crate::found::Found;
 use crate::known::{names_of_nodes, texts_in};
-use crate::part::Part;
 use crate::ranges::{Overlap, first_overlap};
 use json::Value;
-use net_plan::{Node, Plan, at};
+use net_plan::{Found, KnownNames, Node, Plan, at, certificate_shape, find_fault};
 use std::alloc::{AllocError, Global};
 
 /// A list of a certificate.
@@ -28,7 +26,7 @@ pub enum CertificateList {
 }
 
 /// What is wrong with a certificate.
-#[derive(Debug, Drop)]
+#[derive(Drop)]
 pub enum CertificateTrouble {
     /// A value is wrong in itself.
     Value(Found),
@@ -51,7 +49,7 @@ pub fn certificate_trouble(
 ) -> Result<Option<CertificateTrouble>, AllocError>
     ensures { IfOk result (λ trouble. IsToldOfCertificate (node_names (map node_value plan.now.nodes.items)) (value_view certificate.now) trouble) }
 {
-    match first_fault(alloc, Part::Certificate, certificate)? {
+    match fault_among(alloc, None, certificate)? {
         Some(found) => Ok(Some(CertificateTrouble::Value(found))),
         None => trouble_of_entries(alloc, plan.nodes.as_slice(), certificate),
     }
@@ -63,7 +61,7 @@ fn trouble_of_entries(
     nodes: &[Node],
     certificate: &Value<'_>,
 ) -> Result<Option<CertificateTrouble>, AllocError>
-    requires { first_fault (a_certificate None) (view certificate.now) ≡ None }
+    requires { first_fault None a_certificate (view certificate.now) ≡ None }
     ensures { IfOk result (λ trouble. IsToldOfCertificate (node_names (map node_value nodes.now)) (value_view certificate.now) trouble) }
 {
     if let Some((list, places)) = doubled_node(alloc, certificate)? {
@@ -76,10 +74,21 @@ fn trouble_of_entries(
         return Ok(Some(CertificateTrouble::DoubledKey(doubled)));
     }
     let known = names_of_nodes(alloc, nodes)?;
-    match first_fault_among(alloc, Some(&known), Part::Certificate, certificate)? {
+    match fault_among(alloc, Some(&known), certificate)? {
         Some(found) => Ok(Some(CertificateTrouble::UnknownName(found))),
         None => Ok(None),
     }
+}
+
+/// The first fault of a value of a certificate.
+fn fault_among(
+    alloc: Global,
+    known: Option<&KnownNames<'_>>,
+    certificate: &Value<'_>,
+) -> Result<Option<Found>, AllocError>
+    ensures { IfOk result (λ found. option_map located found ≡ first_fault (known_seen known.entry) a_certificate (view certificate.now)) }
+{
+    find_fault(alloc, known, certificate_shape(), certificate)
 }
 
 /// The first list that has two entries of one node, and the entries.

@@ -3,19 +3,13 @@ ghost use Rattle.std.specs.Prelude.{◌≡◌, map, IfOk};
 ghost use Rattle.net_plan.specs.Names.{text_at, texts_at};
 ghost use Rattle.net_plan.specs.PlanValues.{name_bytes, node_value, node_names};
 ghost use Rattle.net_plan.specs.Trees.{view};
+ghost use Rattle.net_plan.specs.Grammar.{known_view};
 ghost use Rattle.net_pointers.specs.CertificateTroubles.{known_nodes};
-ghost use Rattle.net_pointers.specs.KnownNames.{known_view, known_in, names_at};
+ghost use Rattle.net_pointers.specs.KnownNames.{known_in, names_at};
 
 use json::Value;
-use net_plan::{Node, at};
+use net_plan::{KnownNames, Node, at};
 use std::alloc::{AllocError, Global};
-
-/// The names of buses, and of nodes.
-#[derive(Debug, Drop)]
-pub struct KnownNames<'t> {
-    pub buses: Vec<&'t str>,
-    pub nodes: Vec<&'t str>,
-}
 
 /// The names that a plan gives its buses and nodes.
 pub fn known_names<'v>(alloc: Global, plan: &'v Value<'_>) -> Result<KnownNames<'v>, AllocError>

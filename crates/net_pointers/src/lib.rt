@@ -3,29 +3,23 @@
 
 mod certificates;
 mod doubled;
-mod faults;
-mod found;
 mod known;
 mod nearest;
 mod offset;
-mod own;
-mod part;
 mod path;
 mod plans;
 mod position;
 mod ranges;
+mod scan;
 mod syntax;
 mod texts;
 mod tokens;
 
 pub use certificates::{CertificateList, CertificateTrouble, certificate_trouble, list_key};
 pub use doubled::{DoubledKey, TwoIndices, doubled_key, first_doubled};
-pub use faults::{first_fault, first_fault_among};
-pub use found::{Found, PointerStep};
-pub use known::{KnownNames, known_names, names_at, names_of_nodes};
+pub use known::{known_names, names_at, names_of_nodes};
 pub use nearest::nearest_name;
-pub use offset::{offset_among, offset_of, offset_of_key, offset_of_pointer};
-pub use part::{Field, Part, fields_of, item_of};
+pub use offset::{offset_of_key, offset_of_pointer};
 pub use path::part_after;
 pub use plans::{PlanTrouble, plan_fault, plan_text_fault, plan_trouble};
 pub use position::{Position, position_of};

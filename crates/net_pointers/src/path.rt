@@ -1,30 +1,35 @@
 //! Where a JSON pointer leads, as a path of indices.
-ghost use Rattle.std.specs.Prelude.{◌≡◌, IfSome, Some, map, option_map};
+ghost use Rattle.std.specs.Prelude.{◌≡◌, IfOk, map, option_map};
 ghost use Rattle.json.specs.Value.{value_view, items_view, members_view};
+ghost use Rattle.net_plan.specs.Finding.{step_value};
 ghost use Rattle.net_pointers.specs.Doubles.{item_at, member_at, part_after};
 ghost use Rattle.net_pointers.specs.Paths.{last_index, index_after, path_of};
-ghost use Rattle.net_pointers.specs.Views.{step_value};
 
-use crate::found::PointerStep;
 use json::Value;
-use std::alloc::Global;
+use net_plan::PointerStep;
+use std::alloc::{AllocError, Global};
 
-/// The indices of the parts through which a pointer leads. `None` where it leads nowhere, or memory ran out.
-pub fn path_of(alloc: Global, root: &Value<'_>, pointer: &[PointerStep]) -> Option<Vec<usize>>
-    ensures { IfSome result (λ path. path_of (map step_value pointer.now) (value_view root.now) ≡ Some path.items) }
+/// The indices of the parts through which a pointer leads. `None` where it leads nowhere.
+pub fn path_of(
+    alloc: Global,
+    root: &Value<'_>,
+    pointer: &[PointerStep],
+) -> Result<Option<Vec<usize>>, AllocError>
+    ensures { IfOk result (λ path. option_map (λ p. p.items) path ≡ path_of (map step_value pointer.now) (value_view root.now)) }
 {
     let mut path = Vec::new(alloc);
     let mut part = Some(root);
     for step in pointer {
         let Some(value) = part else {
-            return None;
+            return Ok(None);
         };
-        let index = index_after(value, *step)?;
-        path.push(index).ok()?;
+        let Some(index) = index_after(value, *step) else {
+            return Ok(None);
+        };
+        path.push(index)?;
         part = part_after(value, index);
     }
-    part?;
-    Some(path)
+    Ok(part.map(|_| path))
 }
 
 /// The index of the part to which a step leads. Of a key that stands twice it is that of the last member.

@@ -1,22 +1,19 @@
 //! The first fault of a plan.
 ghost use Rattle.std.specs.Prelude.{◌≡◌, None, IfOk, IfErr, option_map};
 ghost use Rattle.json.specs.Value.{value_view};
+ghost use Rattle.net_plan.specs.Finding.{first_fault, located};
+ghost use Rattle.net_plan.specs.Grammar.{known_seen};
 ghost use Rattle.net_plan.specs.PlanReading.{plan_format};
 ghost use Rattle.net_plan.specs.Refusals.{IsNoValue};
+ghost use Rattle.net_plan.specs.Tables.{a_plan};
 ghost use Rattle.net_plan.specs.Trees.{view};
 ghost use Rattle.net_pointers.specs.Plans.{IsFoundInPlan, IsFoundInPlanText};
-ghost use Rattle.net_pointers.specs.PlanShapes.{a_plan};
 ghost use Rattle.net_pointers.specs.PlanTroubles.{IsToldOfPlan};
-ghost use Rattle.net_pointers.specs.Pointers.{first_fault};
-ghost use Rattle.net_pointers.specs.Views.{located};
 
 use crate::doubled::{DoubledKey, TwoIndices, doubled_key, first_doubled};
-use crate::faults::{first_fault, first_fault_among};
-use crate::found::Found;
 use crate::known::known_names;
-use crate::part::Part;
 use json::{Scratch, Value};
-use net_plan::{PlanError, format_of, json_of};
+use net_plan::{Found, KnownNames, PlanError, find_fault, format_of, json_of, plan_shape};
 use std::alloc::{AllocError, Global};
 
 /// The first fault of the plan that a text is, in the order of tests, with the pointer to the value that has it. `None`
@@ -40,11 +37,22 @@ pub fn plan_text_fault(alloc: Global, text: &[u8]) -> Result<Option<Found>, Plan
 pub fn plan_fault(alloc: Global, value: &Value<'_>) -> Result<Option<Found>, AllocError>
     ensures { IfOk result (λ found. IsFoundInPlan (view value.now) (option_map located found)) }
 {
-    first_fault(alloc, Part::Plan(format_of(value)), value)
+    fault_among(alloc, None, value)
+}
+
+fn fault_among(
+    alloc: Global,
+    known: Option<&KnownNames<'_>>,
+    value: &Value<'_>,
+) -> Result<Option<Found>, AllocError>
+    ensures { let d = view value.now in
+        IfOk result (λ found. option_map located found ≡ first_fault (known_seen known.entry) (a_plan (plan_format d)) d) }
+{
+    find_fault(alloc, known, plan_shape(format_of(value)), value)
 }
 
 /// What is wrong with a plan.
-#[derive(Debug, Drop)]
+#[derive(Drop)]
 pub enum PlanTrouble {
     /// A value is wrong in itself.
     Value(Found),
@@ -61,8 +69,7 @@ pub enum PlanTrouble {
 pub fn plan_trouble(alloc: Global, value: &Value<'_>) -> Result<Option<PlanTrouble>, AllocError>
     ensures { IfOk result (λ trouble. IsToldOfPlan (value_view value.now) trouble) }
 {
-    let part = Part::Plan(format_of(value));
-    match first_fault(alloc, part, value)? {
+    match fault_among(alloc, None, value)? {
         Some(found) => Ok(Some(PlanTrouble::Value(found))),
         None => trouble_of_names(alloc, value),
     }
@@ -71,7 +78,7 @@ pub fn plan_trouble(alloc: Global, value: &Value<'_>) -> Result<Option<PlanTroub
 /// What is wrong with a plan in which no value is wrong in itself.
 #[tactic(auto, using(crate::proofs::LatePlans::late_doubled, crate::proofs::LatePlans::late_well, crate::proofs::LatePlans::late_unknown, crate::proofs::LatePlans::late_read, crate::proofs::Doubling::first_differs, crate::proofs::Leads::leads))]
 fn trouble_of_names(alloc: Global, value: &Value<'_>) -> Result<Option<PlanTrouble>, AllocError>
-    requires { first_fault (a_plan (plan_format (view value.now))) (view value.now) ≡ None }
+    requires { first_fault None (a_plan (plan_format (view value.now))) (view value.now) ≡ None }
     ensures { IfOk result (λ trouble. IsToldOfPlan (value_view value.now) trouble) }
 {
     let known = known_names(alloc, value)?;
@@ -81,7 +88,7 @@ fn trouble_of_names(alloc: Global, value: &Value<'_>) -> Result<Option<PlanTroub
     if let Some(doubled) = doubled_key(alloc, value)? {
         return Ok(Some(PlanTrouble::DoubledKey(doubled)));
     }
-    match first_fault_among(alloc, Some(&known), Part::Plan(format_of(value)), value)? {
+    match fault_among(alloc, Some(&known), value)? {
         Some(found) => Ok(Some(PlanTrouble::UnknownName(found))),
         None => Ok(None),
     }

@@ -6,9 +6,8 @@ ghost use Rattle.serde_json.specs.Find.{get};
 ghost use Rattle.net_pointers.specs.Ascending.{ranges_ascend, list_ascends, entries_ascend, ranks_ascend, OverlapIn, OverlapOf, OverlapAmong};
 ghost use Rattle.net_pointers.specs.CertificateTroubles.{first_in, end_in, DoOverlap};
 
-use crate::own::{number_at, range_end};
 use json::Value;
-use net_plan::at;
+use net_plan::{at, byte_at, range_end};
 
 /// The entry of a certificate's ranks, and the first of two of its ranges, one behind the other. All from 0.
 #[derive(Clone, Copy, Debug, PartialEq, Eq)]
@@ -93,7 +92,7 @@ fn overlap_within(ranges: &[Value<'_>]) -> Option<usize>
 fn first_of(range: &Value<'_>) -> u64
     ensures { result ≡ first_in (view range.now) }
 {
-    match number_at(range, "first", 0) {
+    match byte_at(range, "first", 0) {
         Ok(first) => first,
         Err(_) => 0,
     }

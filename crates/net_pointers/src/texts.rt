@@ -12,7 +12,7 @@ use net_plan::{Plan, PlanError, json_of};
 use std::alloc::{AllocError, Global};
 
 /// What is wrong with a text.
-#[derive(Debug, Drop)]
+#[derive(Drop)]
 pub enum TextTrouble {
     /// It has so many bytes, and may have 16,777,216.
     TooLong(usize),

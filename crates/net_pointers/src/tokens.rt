@@ -1,6 +1,6 @@
-//! Going through the tokens of a text, and holding them against others.
-ghost use Rattle.std.specs.Prelude.{◌≡◌, ◌↔◌, IfSome, IsTrue, Some};
-ghost use Rattle.json.specs.Reads.{token_of};
+//! Going through the tokens of a text, and counting them.
+ghost use Rattle.std.specs.Prelude.{◌≡◌, ◌<◌, Some, None, MatchOption, length, option_and_then};
+ghost use Rattle.net_pointers.specs.Scans.{AreLeft};
 ghost use Rattle.net_pointers.specs.PartTokens.{past_items, past_key, past_members, from_key, from_part, from_path};
 
 use json::{Reader, Token};
@@ -10,7 +10,7 @@ pub const MOST_DEPTH: usize = 127;
 
 /// Goes to the part to which a path of indices leads.
 pub fn follow(reader: &mut Reader<'_>, path: &[usize]) -> Option<()>
-    ensures { IfSome result (λ _. from_path path.now reader.old ≡ Some reader.new) }
+    ensures { MatchOption result (from_path path.now reader.old ≡ None) (λ _. from_path path.now reader.old ≡ Some reader.new) }
 {
     for index in path {
         enter(reader, *index)?;
@@ -18,9 +18,18 @@ pub fn follow(reader: &mut Reader<'_>, path: &[usize]) -> Option<()>
     Some(())
 }
 
+/// Goes to the key of a member of the object to which a path of indices leads.
+pub fn follow_to_key(reader: &mut Reader<'_>, path: &[usize], member: usize) -> Option<()>
+    ensures { MatchOption result (option_and_then (from_key member) (from_path path.now reader.old) ≡ None)
+        (λ _. option_and_then (from_key member) (from_path path.now reader.old) ≡ Some reader.new) }
+{
+    follow(reader, path)?;
+    enter_object(reader, member)
+}
+
 /// Goes into a list or an object, to one of its parts.
 fn enter(reader: &mut Reader<'_>, index: usize) -> Option<()>
-    ensures { IfSome result (λ _. from_part index reader.old ≡ Some reader.new) }
+    ensures { MatchOption result (from_part index reader.old ≡ None) (λ _. from_part index reader.old ≡ Some reader.new) }
 {
     match reader.next()? {
         Token::BeginArray => pass_items(reader, index),
@@ -33,8 +42,8 @@ fn enter(reader: &mut Reader<'_>, index: usize) -> Option<()>
 }
 
 /// Goes into an object, to the key of one of its members.
-pub fn enter_object(reader: &mut Reader<'_>, member: usize) -> Option<()>
-    ensures { IfSome result (λ _. from_key member reader.old ≡ Some reader.new) }
+fn enter_object(reader: &mut Reader<'_>, member: usize) -> Option<()>
+    ensures { MatchOption result (from_key member reader.old ≡ None) (λ _. from_key member reader.old ≡ Some reader.new) }
 {
     match reader.next()? {
         Token::BeginObject => pass_members(reader, member),
@@ -43,7 +52,7 @@ pub fn enter_object(reader: &mut Reader<'_>, member: usize) -> Option<()>
 }
 
 fn pass_items(reader: &mut Reader<'_>, count: usize) -> Option<()>
-    ensures { IfSome result (λ _. past_items count reader.old ≡ Some reader.new) }
+    ensures { MatchOption result (past_items count reader.old ≡ None) (λ _. past_items count reader.old ≡ Some reader.new) }
 {
     for _ in 0..count {
         reader.skip_value(MOST_DEPTH).ok()?;
@@ -52,7 +61,7 @@ fn pass_items(reader: &mut Reader<'_>, count: usize) -> Option<()>
 }
 
 fn pass_members(reader: &mut Reader<'_>, count: usize) -> Option<()>
-    ensures { IfSome result (λ _. past_members count reader.old ≡ Some reader.new) }
+    ensures { MatchOption result (past_members count reader.old ≡ None) (λ _. past_members count reader.old ≡ Some reader.new) }
 {
     for _ in 0..count {
         pass_key(reader)?;
@@ -62,7 +71,7 @@ fn pass_members(reader: &mut Reader<'_>, count: usize) -> Option<()>
 }
 
 fn pass_key(reader: &mut Reader<'_>) -> Option<()>
-    ensures { IfSome result (λ _. past_key reader.old ≡ Some reader.new) }
+    ensures { MatchOption result (past_key reader.old ≡ None) (λ _. past_key reader.old ≡ Some reader.new) }
 {
     match reader.next()? {
         Token::Key(_) => Some(()),
@@ -70,33 +79,25 @@ fn pass_key(reader: &mut Reader<'_>) -> Option<()>
     }
 }
 
-/// Whether two readers have the same tokens up to their ends.
-pub fn have_same_tokens(one: &mut Reader<'_>, other: &mut Reader<'_>) -> bool
-    ensures { IsTrue result ↔ (one.old ≡ other.old) }
+/// How many tokens a reader has left. `None` where it has none, or the first says that the text is no JSON.
+pub fn count_left(reader: &mut Reader<'_>) -> Option<usize>
+    requires { length reader.old < 18446744073709551616 }
+    ensures { AreLeft (Some reader.old) result }
 {
-    while let Some(token) = one.next() {
-        match other.next() {
-            Some(second) if is_same(&token, &second) => {}
-            _ => return false,
-        }
+    match reader.next()? {
+        Token::Bad => None,
+        _ => Some(1 + count(reader)),
     }
-    other.next().is_none()
 }
 
-fn is_same(one: &Token<'_>, other: &Token<'_>) -> bool
-    ensures { IsTrue result ↔ (token_of one.now ≡ token_of other.now) }
+/// How many tokens a reader has left.
+pub fn count(reader: &mut Reader<'_>) -> usize
+    requires { length reader.old < 18446744073709551616 }
+    ensures { result ≡ length reader.old }
 {
-    match (one, other) {
-        (Token::BeginObject, Token::BeginObject)
-        | (Token::EndObject, Token::EndObject)
-        | (Token::BeginArray, Token::BeginArray)
-        | (Token::EndArray, Token::EndArray)
-        | (Token::Null, Token::Null)
-        | (Token::Bad, Token::Bad) => true,
-        (Token::Key(one), Token::Key(other))
-        | (Token::String(one), Token::String(other))
-        | (Token::Number(one), Token::Number(other)) => one == other,
-        (Token::Bool(one), Token::Bool(other)) => one == other,
-        _ => false,
+    let mut count = 0;
+    while reader.next().is_some() {
+        count += 1;
     }
+    count
 }

@@ -5,10 +5,10 @@ use Rattle.std.proofs.lemmas.Bool.{cases_order}
 use Rattle.std.proofs.lemmas.Option.{slice_get_read, same_Some}
 use Rattle.net_plan.specs.declared.plan.Plan.{Plan}
 use Rattle.net_plan.specs.declared.nodes.Row.{Row}
-use Rattle.net_check.specs.Routing.{Covers, MovesTo, OfItem, rows_of}
-use Rattle.net_check.specs.Moves.{IsEnd}
-use Rattle.net_check.specs.Promises.{WayEnds}
-use Rattle.net_check.proofs.EidMoves.{no_move}
+use Rattle.net_tables.specs.Routing.{Covers, MovesTo, OfItem, rows_of}
+use Rattle.net_rules.specs.Moves.{IsEnd}
+use Rattle.net_rules.specs.Promises.{WayEnds}
+use Rattle.net_rules.proofs.EidMoves.{no_move}
 use Rattle.net_questions.specs.Lint.{IsFirstRowFor, GoesOn}
 use Rattle.net_questions.proofs.Within.{row_within}
 

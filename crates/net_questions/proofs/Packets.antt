@@ -9,16 +9,16 @@ use Rattle.mctp_bridge.specs.declared.decision.Decision.{Decision}
 use Rattle.mctp_bridge.specs.declared.decision.Decision.TheVariants.{Forward}
 use Rattle.net_plan.specs.declared.plan.Plan.{Plan}
 use Rattle.net_plan.specs.declared.certificate.Certificate.{Certificate}
-use Rattle.net_check.specs.Rules.{Accepts}
-use Rattle.net_check.specs.RoutingLoops.{RowsAreApart}
-use Rattle.net_check.specs.States.{NetworkState, Flight, at_start, destination, without_flight, with_made}
-use Rattle.net_check.specs.TwoPlans.{one_plan}
-use Rattle.net_check.specs.Events.{EventValue, Move, OutcomeValue, PutIn, Moved, Entered, Stopped, Lost, Expired, Answered, Silent, Switched, Refused}
-use Rattle.net_check.specs.Networks.{Step as OneStep, IsDone, Happens}
-use Rattle.net_check.specs.Deliveries.{is_refusal}
-use Rattle.net_check.specs.Runs.{Turn, RunFrom, Run, after_all, reached, PutsIn}
-use Rattle.net_check.proofs.Nexts.{HasMoved, IsNew, IsNext, step_is_next}
-use Rattle.net_check.proofs.Promised.{run_parts}
+use Rattle.net_rules.specs.Rules.{Accepts}
+use Rattle.net_tables.specs.Rows.{RowsAreApart}
+use Rattle.net_runs.specs.States.{NetworkState, Flight, at_start, destination, without_flight, with_made}
+use Rattle.net_tables.specs.TwoPlans.{one_plan}
+use Rattle.net_runs.specs.Events.{EventValue, Move, OutcomeValue, PutIn, Moved, Entered, Stopped, Lost, Expired, Answered, Silent, Switched, Refused}
+use Rattle.net_runs.specs.Networks.{Step as OneStep, IsDone, Happens}
+use Rattle.net_runs.specs.Deliveries.{is_refusal}
+use Rattle.net_runs.specs.Runs.{Turn, RunFrom, Run, after_all, reached, PutsIn}
+use Rattle.net_runs.proofs.Nexts.{HasMoved, IsNew, IsNext, step_is_next}
+use Rattle.net_runs.proofs.Promised.{run_parts}
 use Rattle.net_questions.specs.declared.step.WayStep.{WayStep}
 use Rattle.net_questions.specs.declared.way.End.{End}
 use Rattle.net_questions.specs.declared.way.End.TheVariants.{Arrives, Stops}

@@ -8,17 +8,17 @@ use Rattle.std.proofs.lemmas.Option.{same_Some, option_and_then_some, slice_get-
 use Rattle.net_plan.specs.declared.nodes.Node.{Node}
 use Rattle.net_plan.specs.declared.plan.Plan.{Plan}
 use Rattle.net_plan.specs.declared.certificate.Certificate.{Certificate}
-use Rattle.net_check.specs.Routing.{Holds, MovesTo}
-use Rattle.net_check.specs.Rules.{Accepts}
-use Rattle.net_check.specs.Moves.{Leads}
-use Rattle.net_check.specs.Ranks.{rank}
-use Rattle.net_check.specs.Circles.{MovesBy, HasNoCircle, next_in}
-use Rattle.net_check.specs.Promises.{WayEnds}
-use Rattle.net_check.specs.RoutingLoops.{AreNexts}
-use Rattle.net_check.proofs.Elements.{element, in_push}
-use Rattle.net_check.proofs.Ends.{ends_within_rank, moves_or_ends}
-use Rattle.net_check.proofs.EidMoves.{no_move, moves_within}
-use Rattle.net_check.proofs.SameMoves.{Leads-same}
+use Rattle.net_tables.specs.Routing.{Holds, MovesTo}
+use Rattle.net_rules.specs.Rules.{Accepts}
+use Rattle.net_rules.specs.Moves.{Leads}
+use Rattle.net_tables.specs.Ranks.{rank}
+use Rattle.net_rules.specs.Circles.{MovesBy, HasNoCircle, next_in}
+use Rattle.net_rules.specs.Promises.{WayEnds}
+use Rattle.net_rules.specs.RoutingLoops.{AreNexts}
+use Rattle.net_tables.proofs.Elements.{element, in_push}
+use Rattle.net_rules.proofs.Ends.{ends_within_rank, moves_or_ends}
+use Rattle.net_rules.proofs.EidMoves.{no_move, moves_within}
+use Rattle.net_rules.proofs.SameMoves.{Leads-same}
 use Rattle.net_questions.specs.declared.hops.HopsTo.{HopsTo}
 use Rattle.net_questions.specs.declared.pair.Pair.{Pair}
 use Rattle.net_questions.specs.Reaching.{IsReach, NeverCircles, AreHopsTo, AreHopsToEach, hops_in, pairs_from, ArePairs}

@@ -4,9 +4,9 @@ use Rattle.std.specs.Option.{option_eq}
 use Rattle.std.proofs.lemmas.Bool.Decides.{eqb_tells}
 use Rattle.std.proofs.lemmas.Option.{same_Some, none-some}
 use Rattle.net_plan.specs.declared.plan.Plan.{Plan}
-use Rattle.net_check.specs.Owners.{IsOwnedBy}
-use Rattle.net_check.proofs.LevelLaws.{owner_within}
-use Rattle.net_check.proofs.Lines.{lands_within}
+use Rattle.net_tables.specs.Ownership.{IsOwnedBy}
+use Rattle.net_rules.proofs.LevelLaws.{owner_within}
+use Rattle.net_rules.proofs.Lines.{lands_within}
 use Rattle.net_questions.specs.Lint.{IsTopmostOwner}
 use Rattle.net_questions.proofs.Within.{owned_within}
 

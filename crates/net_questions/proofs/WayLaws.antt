@@ -15,20 +15,19 @@ use Rattle.mctp_bridge.specs.declared.row.TableRow as bridge
 use Rattle.net_plan.specs.declared.plan.Plan.{Plan}
 use Rattle.net_plan.specs.declared.nodes.Row.{Row}
 use Rattle.net_plan.specs.declared.certificate.Certificate.{Certificate}
-use Rattle.net_check.specs.declared.rule.Rule.TheVariants.{C04, C05}
-use Rattle.net_check.specs.Routing.{Holds, HasRow, IsBridge, MovesTo, rows_of, Covers}
-use Rattle.net_check.specs.Rows.{AreApart, IsApartFromEarlier}
-use Rattle.net_check.specs.RoutingLoops.{RowsAreApart, RowsAreInRange}
-use Rattle.net_check.specs.HeldEids.{HeldAreLedOn, IsLedOn}
-use Rattle.net_check.specs.Tables.{table_row}
-use Rattle.net_check.specs.Moves.{Leads}
-use Rattle.net_check.specs.Ranks.{rank}
-use Rattle.net_check.specs.Rules.{Accepts}
+use Rattle.net_rules.specs.declared.rule.Rule.TheVariants.{C04, C05}
+use Rattle.net_tables.specs.Routing.{Holds, HasRow, IsBridge, MovesTo, rows_of, Covers}
+use Rattle.net_tables.specs.Rows.{AreApart, IsApartFromEarlier, RowsAreApart, RowsAreInRange}
+use Rattle.net_rules.specs.HeldEids.{HeldAreLedOn, IsLedOn}
+use Rattle.net_tables.specs.Tables.{table_row}
+use Rattle.net_rules.specs.Moves.{Leads}
+use Rattle.net_tables.specs.Ranks.{rank}
+use Rattle.net_rules.specs.Rules.{Accepts}
 use Rattle.net_check.proofs.Accepted.{accepted_leads}
-use Rattle.net_check.proofs.Elements.{element}
-use Rattle.net_check.proofs.Ends.{ends_within_rank}
-use Rattle.net_check.proofs.EidMoves.{moved_in_range}
-use Rattle.net_check.proofs.TableLaws.{named}
+use Rattle.net_tables.proofs.Elements.{element}
+use Rattle.net_rules.proofs.Ends.{ends_within_rank}
+use Rattle.net_rules.proofs.EidMoves.{moved_in_range}
+use Rattle.net_tables.proofs.TableLaws.{named}
 use Rattle.net_questions.specs.declared.step.WayStep.{WayStep}
 use Rattle.net_questions.specs.declared.way.End.{End}
 use Rattle.net_questions.specs.declared.way.End.TheVariants.{Arrives, Stops}

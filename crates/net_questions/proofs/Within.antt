@@ -9,11 +9,10 @@ use Rattle.net_plan.specs.declared.nodes.Pool.{Pool}
 use Rattle.net_plan.specs.declared.nodes.Row.{Row}
 use Rattle.net_plan.specs.declared.terminus.PlannedRecord.{PlannedRecord}
 use Rattle.net_plan.specs.declared.terminus.PlannedTerminus.{PlannedTerminus}
-use Rattle.net_check.specs.Routing.{Holds, HasRow, IsBridge, rows_of}
-use Rattle.net_check.specs.Owners.{IsOwnedBy}
-use Rattle.net_check.specs.Pools.{pool_of, IsInPoolOf}
-use Rattle.net_check.specs.Repositories.{terminus_of, records_of}
-use Rattle.net_check.proofs.Beyond.{no_owner}
+use Rattle.net_tables.specs.Routing.{Holds, HasRow, IsBridge, rows_of}
+use Rattle.net_tables.specs.Ownership.{IsOwnedBy, pool_of, IsInPoolOf}
+use Rattle.net_tables.specs.Repositories.{terminus_of, records_of}
+use Rattle.net_rules.proofs.Beyond.{no_owner}
 use Rattle.net_questions.specs.Lint.{IsPort}
 
 by_past : (plan : Plan) (n : ℕ) → (length plan.nodes.items ≤ n → ⊥) → n < length plan.nodes.items

@@ -1,9 +1,9 @@
 -- The list of all that looks wrong, and its order.
 use Rattle.std.specs.Prelude.{◌≡◌, ◌↔◌, ℕ, List, [], ◌∷◌, ◌++◌, length, Contains, AllPairs, All, ⊤}
 use Rattle.net_plan.specs.declared.plan.Plan.{Plan}
-use Rattle.net_check.specs.Routing.{ports_of, rows_of}
-use Rattle.net_check.specs.Repositories.{records_of}
-use Rattle.net_check.specs.Faults.{LessByFirstDifference}
+use Rattle.net_tables.specs.Routing.{ports_of, rows_of}
+use Rattle.net_tables.specs.Repositories.{records_of}
+use Rattle.net_rules.specs.Faults.{LessByFirstDifference}
 use Rattle.net_questions.specs.declared.code.Code.{Code}
 use Rattle.net_questions.specs.declared.code.Code.TheVariants as code
 use Rattle.net_questions.specs.declared.finding.Finding.{Finding}

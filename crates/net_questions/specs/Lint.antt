@@ -8,12 +8,11 @@ use Rattle.net_plan.specs.declared.terminus.PlannedRecord.{PlannedRecord}
 use Rattle.net_plan.specs.declared.terminus.PlannedTerminus.{PlannedTerminus}
 use Rattle.pdr_record.specs.Layouts.{NumericValue}
 use Rattle.pdr_record.specs.Records.{RecordValue, BodyValue, Spelled}
-use Rattle.net_check.specs.Routing.{ports_of, rows_of, IsBridge, Holds, Covers, HasRow, OfItem}
-use Rattle.net_check.specs.Moves.{Leads, IsEnd}
-use Rattle.net_check.specs.Owners.{IsOwnedBy}
-use Rattle.net_check.specs.Pools.{IsInPoolOf}
-use Rattle.net_check.specs.Repositories.{terminus_of, records_of}
-use Rattle.net_check.specs.Locators.{IsEidLocator}
+use Rattle.net_tables.specs.Routing.{ports_of, rows_of, IsBridge, Holds, Covers, HasRow, OfItem}
+use Rattle.net_rules.specs.Moves.{Leads, IsEnd}
+use Rattle.net_tables.specs.Ownership.{IsOwnedBy, IsInPoolOf}
+use Rattle.net_tables.specs.Repositories.{terminus_of, records_of}
+use Rattle.net_rules.specs.Locators.{IsEidLocator}
 
 -- ---- ports
 

@@ -4,10 +4,10 @@ use Rattle.net_plan.specs.declared.plan.Plan.{Plan}
 use Rattle.net_plan.specs.declared.certificate.Certificate.{Certificate}
 use Rattle.mctp_transport.specs.Frames.{KeyValue}
 use Rattle.mctp_transport.specs.Hearing.{Answer}
-use Rattle.net_check.specs.States.{Flight, destination}
-use Rattle.net_check.specs.Events.{OutcomeValue, Moved, Entered, Stopped, Move}
-use Rattle.net_check.specs.Deliveries.{is_refusal}
-use Rattle.net_check.specs.Runs.{Turn, Run, reached}
+use Rattle.net_runs.specs.States.{Flight, destination}
+use Rattle.net_runs.specs.Events.{OutcomeValue, Moved, Entered, Stopped, Move}
+use Rattle.net_runs.specs.Deliveries.{is_refusal}
+use Rattle.net_runs.specs.Runs.{Turn, Run, reached}
 use Rattle.net_questions.specs.declared.step.WayStep.{WayStep}
 use Rattle.net_questions.specs.declared.way.End.{End}
 use Rattle.net_questions.specs.declared.way.End.TheVariants.{Arrives, Stops}

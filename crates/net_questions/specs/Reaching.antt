@@ -4,10 +4,10 @@ use Rattle.std.specs.Prelude.{Option, Some, MatchOption, option_and_then, if◌t
 use Rattle.std.specs.List.{flat_map, range_with_len}
 use Rattle.net_plan.specs.declared.plan.Plan.{Plan}
 use Rattle.net_plan.specs.declared.certificate.Certificate.{Certificate}
-use Rattle.net_check.specs.Routing.{Holds, HasRow, MovesTo}
-use Rattle.net_check.specs.Circles.{HasNoCircle}
-use Rattle.net_check.specs.Moves.{Leads}
-use Rattle.net_check.specs.Ranks.{rank}
+use Rattle.net_tables.specs.Routing.{Holds, HasRow, MovesTo}
+use Rattle.net_rules.specs.Circles.{HasNoCircle}
+use Rattle.net_rules.specs.Moves.{Leads}
+use Rattle.net_tables.specs.Ranks.{rank}
 use Rattle.net_questions.specs.declared.hops.HopsTo.{HopsTo}
 use Rattle.net_questions.specs.declared.pair.Pair.{Pair}
 

@@ -5,8 +5,8 @@ use Rattle.mctp_bridge.specs.declared.decision.Decision.TheVariants.{Here, Drop,
 use Rattle.mctp_bridge.specs.Decisions.{Decides}
 use Rattle.mctp_bridge.specs.Rows.{Routes}
 use Rattle.net_plan.specs.declared.plan.Plan.{Plan}
-use Rattle.net_check.specs.Routing.{Holds, IsBridge, rows_of}
-use Rattle.net_check.specs.Tables.{table_row}
+use Rattle.net_tables.specs.Routing.{Holds, IsBridge, rows_of}
+use Rattle.net_tables.specs.Tables.{table_row}
 use Rattle.net_questions.specs.declared.step.WayStep.{WayStep}
 use Rattle.net_questions.specs.declared.way.End.{End}
 use Rattle.net_questions.specs.declared.way.End.TheVariants.{Arrives, Stops}

@@ -1,15 +1,15 @@
 //! How many moves along rows lead to the holder of an endpoint ID.
 ghost use Rattle.std.specs.Prelude.{◌≡◌, length, IfOk, MatchOption};
-ghost use Rattle.net_check.specs.Moves.{IsEnd};
-ghost use Rattle.net_check.specs.RoutingLoops.{IsNext, AreNexts};
-ghost use Rattle.net_check.specs.Circles.{next_in};
+ghost use Rattle.net_rules.specs.Moves.{IsEnd};
+ghost use Rattle.net_rules.specs.RoutingLoops.{IsNext, AreNexts};
+ghost use Rattle.net_rules.specs.Circles.{next_in};
 ghost use Rattle.net_questions.specs.Lint.{GoesOn};
 ghost use Rattle.net_questions.specs.Reaching.{IsReach, NeverCircles, AreHopsTo, AreHopsToEach, hops_in};
 
 use crate::lookup::{eid_at, row_for};
 use mctp_transport::Eid;
-use net_check::lookup::holds;
 use net_plan::Plan;
+use net_tables::lookup::holds;
 use std::alloc::{AllocError, Global};
 
 /// The numbers of moves to one node.

@@ -2,7 +2,7 @@
 ghost use Rattle.std.specs.Prelude.{◌↔◌, ℕ, List};
 ghost use Rattle.net_plan.specs.declared.plan.Plan.{Plan};
 ghost use Rattle.net_plan.specs.declared.certificate.Certificate.{Certificate};
-ghost use Rattle.net_check.specs.Rules.{Accepts};
+ghost use Rattle.net_rules.specs.Rules.{Accepts};
 ghost use Rattle.net_questions.specs.declared.step.WayStep.{WayStep};
 ghost use Rattle.net_questions.specs.declared.way.End.{End};
 ghost use Rattle.net_questions.specs.Reaching.{Reaches};

@@ -6,8 +6,8 @@ use crate::code::{CODES, Code};
 use crate::finding::Finding;
 use crate::lints::{locators, ports, rows, sensors, termini, ways};
 use mctp_transport::Eid;
-use net_check::lookup::{ports_at, records_at, rows_at};
 use net_plan::Plan;
+use net_tables::lookup::{ports_at, records_at, rows_at};
 use std::alloc::{AllocError, Global};
 
 /// All that is lawful in the plan and still looks wrong, by the order of the codes, and then in plan order. The plan

@@ -1,6 +1,6 @@
 //! The way of a packet.
 ghost use Rattle.std.specs.Prelude.{◌≡◌, ◌≤◌, ℕ, length, IfOk};
-ghost use Rattle.net_check.specs.Ranks.{rank};
+ghost use Rattle.net_tables.specs.Ranks.{rank};
 ghost use Rattle.net_questions.specs.Ways.{IsWay, DoesAfter};
 
 use crate::lookup::hop_at;
@@ -8,8 +8,8 @@ use crate::step::WayStep;
 use mctp_bridge::{Decision, Obstacle};
 use mctp_transport::Eid;
 use net_check::Checked;
-use net_check::lookup::{holds, is_bridge};
 use net_plan::Plan;
+use net_tables::lookup::{holds, is_bridge};
 use std::alloc::{AllocError, Global};
 
 /// How the way of a packet ends.

@@ -2,7 +2,7 @@
 use Rattle.std.proofs.Common.{◌≡◌, ℕ, List, ◌∷◌, map, Option, Some, refl, ap, subst}
 use Rattle.pdr_repository.specs.Records.{Entry}
 use Rattle.pdr_repository.specs.Answers.{Answers}
-use Rattle.net_check.specs.Termini.{TerminusState}
+use Rattle.net_runs.specs.Termini.{TerminusState}
 use Rattle.net_sim.specs.TerminusQueues.{AnswersOldest, waiting_value}
 use Rattle.net_sim.specs.declared.terminus_queue.Waiting.{Waiting}
 

@@ -2,12 +2,12 @@
 use Rattle.std.proofs.Common.{◌≡◌, ℕ, ◌+◌, ◌-◌, ◌<◌, ◌≤◌, List, length, Option, Some, None, refl, sym, ◌∙◌, ap, subst, inl, inr, arith}
 use Rattle.std.specs.Prelude.{slice_get, slice_set, IsSomeAnd}
 use Rattle.std.proofs.lemmas.Option.{none-some, slice_get_within}
-use Rattle.net_check.specs.Routing.{Holds}
-use Rattle.net_check.specs.TwoPlans.{Tables}
-use Rattle.net_check.specs.States.{NetworkState}
-use Rattle.net_check.specs.Events.{N01, N02, N03, N04, N05, N06, N07, most_flights}
-use Rattle.net_check.specs.Walkers.{WalkerValue, WalkedState, Ask, Asked, WalkRefused, WalkRefusal, Also, N08, N09, N10, N11, N12, N13, MustWait, IsOver, IsWalkRefused, IsFirstWalkRefusal, walk_refusal_number, with_walker}
-use Rattle.net_check.specs.WalkedRuns.{IsAsking}
+use Rattle.net_tables.specs.Routing.{Holds}
+use Rattle.net_tables.specs.TwoPlans.{Tables}
+use Rattle.net_runs.specs.States.{NetworkState}
+use Rattle.net_runs.specs.Events.{N01, N02, N03, N04, N05, N06, N07, most_flights}
+use Rattle.net_runs.specs.Walkers.{WalkerValue, WalkedState, Ask, Asked, WalkRefused, WalkRefusal, Also, N08, N09, N10, N11, N12, N13, MustWait, IsOver, IsWalkRefused, IsFirstWalkRefusal, walk_refusal_number, with_walker}
+use Rattle.net_runs.specs.WalkedRuns.{IsAsking}
 use Rattle.net_sim.specs.Standing.{TrafficValue, StandsFor}
 use Rattle.net_sim.specs.WalkedStanding.{NetworkValue, StandsForWalked, WalkedPlays, WalkedWants}
 use Rattle.net_sim.specs.Requests.{MayAsk, MayNotAsk, PutsRequest}
@@ -18,25 +18,6 @@ pub puts_in : (tables tables' : Tables) (m u : TrafficValue) (x next : WalkerVal
 puts_in tables tables' m u x next flight same = subst (λ (t : Tables). PutsRequest t m x flight u next) same
 
 module _ (tables : Tables) (v : NetworkValue) (number : ℕ) where
-  -- with no number left nobody asks
-  pub asks_full : most_flights < length v.traffic.flights → WalkedPlays tables v (Ask number) (WalkRefused (Also N06)) v
-  asks_full full = walk_refused tables v (Ask number) (Also N06) (λ w s. ((let made = s.network.made in omega arith), before w))
-    where
-      before : (w : WalkedState) (other : WalkRefusal) → walk_refusal_number other < 6 → ¬ IsWalkRefused tables.plan w (Ask number) other
-      before w (Also N01) less is = is
-      before w (Also N02) less is = is
-      before w (Also N03) less is = is
-      before w (Also N04) less is = is
-      before w (Also N05) less is = is
-      before w (Also N06) less is = absurd (omega (arith, less))
-      before w (Also N07) less is = is
-      before w N08 less is = is
-      before w N09 less is = is
-      before w N10 less is = is
-      before w N11 less is = absurd (omega (arith, less))
-      before w N12 less is = absurd (omega (arith, less))
-      before w N13 less is = absurd (omega (arith, less))
-
   module _ (few : length v.traffic.flights ≤ most_flights) where
     not_full : (w : WalkedState) → StandsForWalked v w → ¬ (most_flights - w.network.made < 1)
     not_full w s full = (let made = s.network.made in omega arith)

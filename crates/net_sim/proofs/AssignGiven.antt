@@ -10,13 +10,14 @@ use Rattle.net_plan.specs.declared.nodes.Kind.TheVariants as kind
 use Rattle.net_plan.specs.declared.nodes.Node.{Node}
 use Rattle.net_plan.specs.declared.nodes.Pool.{Pool}
 use Rattle.net_plan.specs.declared.nodes.Port.{Port}
-use Rattle.mctp_control.specs.declared.device.DeviceKind.TheVariants as device
+use Rattle.mctp_bridge.specs.declared.device_kind.DeviceKind.TheVariants as device
 use Rattle.mctp_control.specs.Ranges.{IsAssignableRange}
-use Rattle.net_check.specs.Routing.{node_at, Holds}
-use Rattle.net_check.specs.Owners.{owner_of, ShareBus, HasBridgeAsOwner}
-use Rattle.net_check.specs.Pools.{pool_of, IsPoolInRange, IsLawfulPool, HasLawfulPool}
-use Rattle.net_check.specs.Rules.{Accepts}
-use Rattle.net_check.specs.declared.rule.Rule.TheVariants.{C02, C07, C09}
+use Rattle.net_tables.specs.Routing.{node_at, Holds}
+use Rattle.net_tables.specs.Ownership.{owner_of, pool_of}
+use Rattle.net_rules.specs.Owners.{ShareBus, HasBridgeAsOwner}
+use Rattle.net_rules.specs.Pools.{IsPoolInRange, IsLawfulPool, HasLawfulPool}
+use Rattle.net_rules.specs.Rules.{Accepts}
+use Rattle.net_rules.specs.declared.rule.Rule.TheVariants.{C02, C07, C09}
 use Rattle.net_sim.specs.Assignments.{is_on_bus, shared_bus, requests_by, requests_of, requests_to, requests_over}
 use Rattle.net_sim.specs.AssignmentRuns.{device_kind, planned_size}
 use Rattle.net_sim.proofs.AssignOne.{IsGiven}

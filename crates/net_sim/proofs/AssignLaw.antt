@@ -6,6 +6,16 @@ use Rattle.net_plan.specs.declared.plan.Plan.{Plan}
 use Rattle.net_plan.specs.declared.certificate.Certificate.{Certificate}
 use Rattle.net_sim.specs.Assignments.{AssignmentValue, requests_to, IsAskedBefore, IsAssignmentOf}
 
+pub first : (n : ℕ) (ns : List ℕ) → Contains (n ∷ ns) n
+first n ns = (0, omega arith, refl)
+
+pub in_tail : (n : ℕ) (ns : List ℕ) (k : ℕ) → Contains ns k → Contains (n ∷ ns) k
+in_tail n ns k (i, within, is) = (suc i, omega arith, is)
+
+pub head_or_tail : (n : ℕ) (ns : List ℕ) (k : ℕ) → Contains (n ∷ ns) k → (n ≡ k) ⊎ Contains ns k
+head_or_tail n ns k (zero, within, is) = inl is
+head_or_tail n ns k (suc i, within, is) = inr (i, omega arith, is)
+
 module _ (plan : Plan) (cert : Certificate) where
   not_both : (m n : ℕ) → IsAskedBefore plan cert m n → IsAskedBefore plan cert n m → ⊥
   unfolding IsAskedBefore
@@ -25,16 +35,6 @@ module _ (plan : Plan) (cert : Certificate) where
     λ k has. subst (λ (m : ℕ). IsAskedBefore plan cert n m) has.2 (let w = has.1 in ordered 0 (suc has.0) k (omega arith) (omega arith)),
     in_order ns (λ i j d less within. ordered (suc i) (suc j) d (omega arith) (omega arith)),
   )
-
-  first : (n : ℕ) (ns : List ℕ) → Contains (n ∷ ns) n
-  first n ns = (0, omega arith, refl)
-
-  in_tail : (n : ℕ) (ns : List ℕ) (k : ℕ) → Contains ns k → Contains (n ∷ ns) k
-  in_tail n ns k (i, within, is) = (suc i, omega arith, is)
-
-  head_or_tail : (n : ℕ) (ns : List ℕ) (k : ℕ) → Contains (n ∷ ns) k → (n ≡ k) ⊎ Contains ns k
-  head_or_tail n ns k (zero, within, is) = inl is
-  head_or_tail n ns k (suc i, within, is) = inr (i, omega arith, is)
 
   none : (k : ℕ) → Contains [] k → ⊥
   none k has = let within = has.1 in omega arith

@@ -4,8 +4,8 @@ use Rattle.std.specs.Prelude.{slice_get, slice_set}
 use Rattle.std.proofs.lemmas.List.{length-set}
 use Rattle.net_plan.specs.declared.nodes.Pool.{Pool}
 use Rattle.mctp_transport.specs.Frames.{IsAssignable}
-use Rattle.mctp_control.specs.declared.device.DeviceKind.{DeviceKind}
-use Rattle.mctp_control.specs.declared.device.DeviceKind.TheVariants as device
+use Rattle.mctp_bridge.specs.declared.device_kind.DeviceKind.{DeviceKind}
+use Rattle.mctp_bridge.specs.declared.device_kind.DeviceKind.TheVariants as device
 use Rattle.mctp_control.specs.Ranges.{IsAssignableRange}
 use Rattle.mctp_control.specs.RouteEntries.{EntryValue}
 use Rattle.mctp_control.specs.Requests.{request_bytes}

@@ -1,13 +1,15 @@
 -- An EID lies in a bridge's pool exactly where its holder is behind the bridge.
 use Rattle.std.proofs.Common.{◌≡◌, ◌⊎◌, inl, inr, ◌↔◌, ℕ, zero, suc, ◌<◌, Option, Some, None, refl, sym, ap, ◌∙◌, subst, arith}
+use Rattle.std.proofs.lemmas.Bool.{cases_order}
 use Rattle.net_plan.specs.declared.plan.Plan.{Plan}
 use Rattle.net_plan.specs.declared.certificate.Certificate.{Certificate}
 use Rattle.net_plan.specs.declared.nodes.Pool.{Pool}
-use Rattle.net_check.specs.Routing.{Holds, IsBridge}
-use Rattle.net_check.specs.Owners.{owner_of, IsOwnedBy, level, IsBelowItsOwner}
-use Rattle.net_check.specs.Pools.{pool_of, IsInPoolOf, IsInOwnersPool, IsInNoPeersPool, IsInItsPool, IsLawfulPool, HasLawfulPool, LiesInOwnersPool, LiesApartFromEarlierPools}
-use Rattle.net_check.specs.Rules.{Accepts}
-use Rattle.net_check.specs.declared.rule.Rule.TheVariants.{C07, C08, C09}
+use Rattle.net_tables.specs.Routing.{Holds, IsBridge}
+use Rattle.net_tables.specs.Ownership.{owner_of, IsOwnedBy, level, pool_of, IsInPoolOf}
+use Rattle.net_rules.specs.Owners.{IsBelowItsOwner}
+use Rattle.net_rules.specs.Pools.{IsInOwnersPool, IsInNoPeersPool, IsInItsPool, IsLawfulPool, HasLawfulPool, LiesInOwnersPool, LiesApartFromEarlierPools}
+use Rattle.net_rules.specs.Rules.{Accepts}
+use Rattle.net_rules.specs.declared.rule.Rule.TheVariants.{C07, C08, C09}
 use Rattle.net_sim.specs.AssignmentRuns.{IsBehind, owned, further}
 
 module _ (plan : Plan) (cert : Certificate) (accepts : Accepts plan cert) where
@@ -42,15 +44,13 @@ module _ (plan : Plan) (cert : Certificate) (accepts : Accepts plan cert) where
   unfolding IsInPoolOf IsLawfulPool LiesApartFromEarlierPools
   later_apart m n e earlier peers here there = (lawful n there.0 there.1).3 m earlier peers e there.2 here
 
-  order : (m n : ℕ) → (m < n) ⊎ ((n < m) ⊎ (m ≡ n))
-  order m n = grind arith
-
   -- two bridges of one owner with a common EID are one
   one_pool : (m n e : ℕ) → owner_of plan m ≡ owner_of plan n → IsInPoolOf plan m e → IsInPoolOf plan n e → m ≡ n
   one_pool m n e peers here there =
-      elim (order m n) [
-        | inl earlier ↦ absurd (later_apart m n e earlier peers here there)
-        | inr other ↦ elim other [ inl later ↦ absurd (later_apart n m e later (sym peers) there here) | inr same ↦ same ]
+      elim (cases_order m n) [
+        | inl same ↦ same
+        | inr (inl earlier) ↦ absurd (later_apart m n e earlier peers here there)
+        | inr (inr later) ↦ absurd (later_apart n m e later (sym peers) there here)
       ]
 
   -- an owner above has it in its pool

@@ -1,5 +1,6 @@
 -- Each run of an assignment accepts all and assigns all, and there is one.
-use Rattle.std.proofs.Common.{◌≡◌, ◌≢◌, ◌⊎◌, inl, inr, ℕ, zero, suc, ◌<◌, ◌≤◌, List, [], ◌∷◌, ◌++◌, length, get_or, Option, Some, None, option_map, refl, sym, ap, ◌∙◌, subst, arith}
+use Rattle.std.proofs.Common.{◌≡◌, ◌≢◌, ◌⊎◌, inl, inr, ℕ, suc, ◌<◌, ◌≤◌, List, [], ◌∷◌, ◌++◌, length, get_or, Option, Some, None, option_map, refl, sym, ap, ◌∙◌, subst, arith}
+use Rattle.std.proofs.lemmas.Bool.{cases_order}
 use Rattle.std.specs.Prelude.{slice_get, AllPairs, Contains, IsSomeAnd}
 use Rattle.std.specs.Option.{option_and_then}
 use Rattle.std.specs.List.{flat_map}
@@ -12,29 +13,22 @@ use Rattle.net_plan.specs.declared.nodes.Pool.{Pool}
 use Rattle.mctp_control.specs.RouteEntries.{EntryValue}
 use Rattle.mctp_control.specs.Ranges.{IsWithin}
 use Rattle.mctp_control.specs.Devices.{PoolHeld, DeviceValue}
-use Rattle.net_check.specs.Routing.{node_at, Holds}
-use Rattle.net_check.specs.Eids.{IsNewlyHeld}
-use Rattle.net_check.specs.Pools.{pool_of, IsInPoolOf}
-use Rattle.net_check.specs.Owners.{owner_of, level}
-use Rattle.net_check.specs.Rules.{Accepts}
-use Rattle.net_check.specs.declared.rule.Rule.TheVariants.{C03}
+use Rattle.net_tables.specs.Routing.{node_at, Holds}
+use Rattle.net_rules.specs.Eids.{IsNewlyHeld}
+use Rattle.net_tables.specs.Ownership.{pool_of, IsInPoolOf, owner_of, level}
+use Rattle.net_rules.specs.Rules.{Accepts}
+use Rattle.net_rules.specs.declared.rule.Rule.TheVariants.{C03}
 use Rattle.net_sim.specs.Assignments.{AssignmentValue, requests_to, requests_over, IsOwned, IsAskedBefore, IsAssignmentOf}
 use Rattle.net_sim.specs.AssignmentRuns.{device_kind, planned_size, planned_pool, holding, empty, starting, devices_at_start, AssignRun, AreAccepted, HoldsEid, HasInPool, AreAssigned, CanBeCarriedOut, IsAcceptedThroughout, AssignsAll}
 use Rattle.net_sim.proofs.AssignPools.{pool_behind}
 use Rattle.net_sim.proofs.AssignOne.{Changed, after_asked, start_asked}
 use Rattle.net_sim.proofs.AssignGiven.{owner_is, asked_over, given, holds, pool_is}
+use Rattle.net_sim.proofs.AssignLaw.{first, in_tail, head_or_tail}
 
 -- each differs from all later ones
 abbrev AreApart : List ℕ → Type 0
 AreApart [] = Unit {0}
 AreApart (n ∷ ns) = ((k : ℕ) → Contains ns k → n ≢ k) × AreApart ns
-
-in_tail : (n : ℕ) (ns : List ℕ) (k : ℕ) → Contains ns k → Contains (n ∷ ns) k
-in_tail n ns k (i, within, is) = (suc i, omega arith, is)
-
-head_or_tail : (n : ℕ) (ns : List ℕ) (k : ℕ) → Contains (n ∷ ns) k → (n ≡ k) ⊎ Contains ns k
-head_or_tail n ns k (zero, within, is) = inl is
-head_or_tail n ns k (suc i, within, is) = inr (i, omega arith, is)
 
 not_before_itself : (plan : Plan) (cert : Certificate) (n k : ℕ) → n ≡ k → IsAskedBefore plan cert n k → ⊥
 unfolding IsAskedBefore
@@ -69,9 +63,6 @@ module _ (plan : Plan) (cert : Certificate) (accepts : Accepts plan cert) (table
   -- the nodes of a list are owned and hold nothing yet
   abbrev Waits : List DeviceValue → List ℕ → Type 0
   Waits before nodes = (n : ℕ) → Contains nodes n → IsOwned plan n × ((node : Node) → node_at plan n ≡ Some node → slice_get before n ≡ Some (empty node))
-
-  first : (n : ℕ) (ns : List ℕ) → Contains (n ∷ ns) n
-  first n ns = (0, omega arith, refl)
 
   -- those after the first still wait once it is done
   waits_on : (n : ℕ) (ns : List ℕ) (before between : List DeviceValue) (new : DeviceValue) → AreApart (n ∷ ns) → Waits before (n ∷ ns)
@@ -209,14 +200,12 @@ module _ (plan : Plan) (cert : Certificate) (accepts : Accepts plan cert) (table
       unfolding IsNewlyHeld
       earlier_apart m n e earlier here there = (accepts C03 n None (Some e)).0 there m earlier here
 
-      order : (m n : ℕ) → (m < n) ⊎ ((n < m) ⊎ (m ≡ n))
-      order m n = grind arith
-
       one_holder : (m n e : ℕ) → Holds plan m e → Holds plan n e → m ≡ n
       one_holder m n e here there =
-          elim (order m n) [
-            | inl earlier ↦ absurd (earlier_apart m n e earlier here there)
-            | inr other ↦ elim other [ inl later ↦ absurd (earlier_apart n m e later there here) | inr same ↦ same ]
+          elim (cases_order m n) [
+            | inl same ↦ same
+            | inr (inl earlier) ↦ absurd (earlier_apart m n e earlier here there)
+            | inr (inr later) ↦ absurd (earlier_apart n m e later there here)
           ]
 
       pool_planned : (pool : Option Pool) (giver : Option ℕ) → option_map {U = ℕ × ℕ} (λ held. (held.first, held.size)) (planned_pool pool giver)

@@ -10,10 +10,11 @@ use Rattle.net_plan.specs.declared.plan.Plan.{Plan}
 use Rattle.net_plan.specs.declared.certificate.Certificate.{Certificate}
 use Rattle.net_plan.specs.declared.certificate.NodeLevel.{NodeLevel}
 use Rattle.net_plan.specs.declared.nodes.Node.{Node}
-use Rattle.net_check.specs.Routing.{node_at}
-use Rattle.net_check.specs.Owners.{owner_of, IsOwnedBy, given_level, level, IsBelowItsOwner}
-use Rattle.net_check.specs.declared.rule.Rule.TheVariants.{C07}
-use Rattle.net_check.specs.Rules.{Accepts}
+use Rattle.net_tables.specs.Routing.{node_at}
+use Rattle.net_tables.specs.Ownership.{owner_of, IsOwnedBy, given_level, level}
+use Rattle.net_rules.specs.Owners.{IsBelowItsOwner}
+use Rattle.net_rules.specs.declared.rule.Rule.TheVariants.{C07}
+use Rattle.net_rules.specs.Rules.{Accepts}
 use Rattle.net_sim.specs.Assignments.{AssignmentValue, shared_bus, requests_by, requests_of, requests_to, IsOwned, IsAskedBefore, AsksInOrder, IsAssignmentOf}
 use Rattle.net_sim.specs.AssignmentSteps.{IsAskedUpTo, HasAskedUpTo}
 

@@ -2,16 +2,16 @@
 use Rattle.std.proofs.Common.{◌≡◌, ◌⊎◌, ℕ, ◌+◌, ◌<◌, ◌≤◌, List, [], ◌∷◌, ◌++◌, length, map, Some, None, sym, ◌∙◌, ap, subst, inl, inr, arith}
 use Rattle.std.specs.Prelude.{slice_get, option_map, Any}
 use Rattle.std.proofs.lemmas.Option.{slice_get-map, slice_get-get_or, get_or_from_slice_get, slice_get_within}
-use Rattle.net_check.specs.Routing.{Holds}
-use Rattle.net_check.specs.TwoPlans.{Tables}
-use Rattle.net_check.specs.States.{unit_of}
-use Rattle.net_check.specs.Events.{N01, N02, N03, N04, N05, N06, N07}
-use Rattle.net_check.specs.Walkers.{WalkerValue, WalkedState, BeginWalk, Begun, WalkRefusal, Also, N08, N09, N10, N11, N12, N13, IsThere, IsWalkRefused, IsFirstWalkRefusal, walk_refusal_number, with_walker, fresh_walker, five_packets}
+use Rattle.net_tables.specs.Routing.{Holds}
+use Rattle.net_tables.specs.TwoPlans.{Tables}
+use Rattle.net_runs.specs.States.{unit_of}
+use Rattle.net_runs.specs.Events.{N01, N02, N03, N04, N05, N06, N07}
+use Rattle.net_runs.specs.Walkers.{WalkerValue, WalkedState, BeginWalk, Begun, WalkRefusal, Also, N08, N09, N10, N11, N12, N13, IsThere, IsWalkRefused, IsFirstWalkRefusal, walk_refusal_number, with_walker, fresh_walker, five_packets}
 use Rattle.net_sim.specs.declared.network_walker.NetworkWalker.{NetworkWalker}
 use Rattle.net_sim.specs.NetworkWalkers.{walker_value, IsAt}
-use Rattle.net_sim.specs.WalkedStanding.{NetworkValue, StandsForWalked, WalkedPlays, WalkedWants}
+use Rattle.net_sim.specs.WalkedStanding.{NetworkValue, StandsForWalked, WalkedPlays}
 use Rattle.net_sim.proofs.Finding.{walker_place, mapped_there}
-use Rattle.net_sim.proofs.Walking.{walkers_stay, walker_begins}
+use Rattle.net_sim.proofs.Walking.{walker_begins}
 
 -- a walker among those of the network is one of the state's, and conversely
 module _ (v : NetworkValue) (w : WalkedState) (s : StandsForWalked v w) (walkers : List NetworkWalker) (are : v.walkers ≡ map walker_value walkers) (node eid tag : ℕ) where
@@ -29,24 +29,6 @@ module _ (v : NetworkValue) (w : WalkedState) (s : StandsForWalked v w) (walkers
       (i, y, slice_get_within walkers i y at, get_or_from_slice_get walkers i y y at, subst P (sym same) (node_is, eid_is, tag_is))
 
 module _ (tables : Tables) (w : WalkedState) (node eid tag count : ℕ) where
-  pub begins_nowhere : length tables.plan.nodes.items ≤ node → IsFirstWalkRefusal tables.plan w (BeginWalk node eid tag count) (Also N01)
-  begins_nowhere past = (past, before)
-    where
-      before : (other : WalkRefusal) → walk_refusal_number other < 1 → ¬ IsWalkRefused tables.plan w (BeginWalk node eid tag count) other
-      before (Also N01) less is = absurd (omega (arith, less))
-      before (Also N02) less is = is
-      before (Also N03) less is = is
-      before (Also N04) less is = is
-      before (Also N05) less is = is
-      before (Also N06) less is = is
-      before (Also N07) less is = is
-      before N08 less is = absurd (omega (arith, less))
-      before N09 less is = absurd (omega (arith, less))
-      before N10 less is = absurd (omega (arith, less))
-      before N11 less is = is
-      before N12 less is = is
-      before N13 less is = is
-
   module _ (within : node < length tables.plan.nodes.items) where
     pub begins_twice : IsThere w node eid tag → IsFirstWalkRefusal tables.plan w (BeginWalk node eid tag count) N08
     begins_twice there = (there, before)
@@ -122,9 +104,6 @@ module _ (tables : Tables) (w : WalkedState) (node eid tag count : ℕ) where
 
 module _ (tables : Tables) (v : NetworkValue) (node eid tag count : ℕ)
     (may : (w : WalkedState) → StandsForWalked v w → (why : WalkRefusal) → ¬ IsWalkRefused tables.plan w (BeginWalk node eid tag count) why) where
-  pub begin_wants : (ws : List WalkerValue) → ws ≡ v.walkers → WalkedWants tables v (BeginWalk node eid tag count) (record { traffic = v.traffic; walkers = ws })
-  begin_wants ws same w s = (walkers_stay v v.traffic w w.network s s.network ws same, may w s)
-
   pub begins : (k : ℕ) (x : WalkerValue) (ws : List WalkerValue) → k ≡ length v.walkers + 1 → x ≡ fresh_walker node eid tag count → ws ≡ v.walkers ++ x ∷ []
       → WalkedPlays tables v (BeginWalk node eid tag count) (Begun k) (record { traffic = v.traffic; walkers = ws })
   begins k x ws many is more w s =

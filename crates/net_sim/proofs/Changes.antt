@@ -6,9 +6,9 @@ use Rattle.std.proofs.lemmas.List.{length_push, length-set}
 use Rattle.mctp_transport.specs.declared.assembler.Assembler.{Assembler}
 use Rattle.mctp_transport.specs.Assembly as assembly
 use Rattle.mctp_transport.specs.Histories.{Input, after}
-use Rattle.net_check.specs.Termini.{TerminusState}
-use Rattle.net_check.specs.States.{NetworkState, Flight, with_made, with_input, with_terminus}
-use Rattle.net_check.proofs.Elements.{in_set}
+use Rattle.net_runs.specs.Termini.{TerminusState}
+use Rattle.net_runs.specs.States.{NetworkState, Flight, with_made, with_input, with_terminus}
+use Rattle.net_tables.proofs.Elements.{in_set}
 use Rattle.net_sim.specs.Routers.{RouterValue, has_switched}
 use Rattle.net_sim.specs.Standing.{TrafficValue, StandsFor, at_place}
 use Rattle.net_sim.proofs.Slots.{set_slot, push_slot, push_none}
@@ -96,17 +96,4 @@ module _ (v u : TrafficValue) (w : NetworkState) (s : StandsFor v w) where
     termini = λ n. ap (λ (old : Option TerminusState). cond (eqb n node) o old) (s.termini n)
         ∙ (sym (set_slot v.termini node n o within) ∙ ap (λ (ts : List (Option TerminusState)). at_place ts n) (sym termini));
     switched = λ n. s.switched n ∙ ap (λ (ms : List Bool). has_switched ms n) (sym switched);
-  }
-
-  -- a node without a terminus is left as it is
-  pub no_terminus_stands : (node : ℕ) → at_place v.termini node ≡ None → StandsFor v (with_terminus w node None)
-  no_terminus_stands node none = record {
-    flights = s.flights;
-    made = s.made;
-    histories = s.histories;
-    termini = λ n. elim (eqb_tells n node) [
-      | inl same ↦ rw same.0 (sym (ap (λ k. at_place v.termini k) same.1 ∙ none))
-      | inr apart ↦ rw apart.0 (s.termini n)
-    ];
-    switched = s.switched;
   }

@@ -7,8 +7,8 @@ use Rattle.net_plan.specs.declared.plan.Plan.{Plan}
 use Rattle.net_plan.specs.declared.certificate.Certificate.{Certificate}
 use Rattle.net_plan.specs.declared.terminus.PlannedTerminus.{PlannedTerminus}
 use Rattle.std.proofs.lemmas.List.Recursion.{is_count_by}
-use Rattle.net_check.specs.Repositories.{terminus_of, records_by_place}
-use Rattle.net_check.specs.Termini.{TerminusState, terminus_at_start}
+use Rattle.net_tables.specs.Repositories.{terminus_of, records_by_place}
+use Rattle.net_runs.specs.Termini.{TerminusState, terminus_at_start}
 use Rattle.net_sim.specs.Dealing.{planned_termini}
 
 length_cons : {A : Type 0} (o : Option A) (xs : List A) → length (cons_option o xs) ≡ cond (is_some o) (1 + length xs) (length xs)

@@ -10,9 +10,9 @@ use Rattle.mctp_transport.specs.Assembly as assembly
 use Rattle.net_plan.specs.declared.plan.Plan.{Plan}
 use Rattle.net_plan.specs.declared.certificate.Certificate.{Certificate}
 use Rattle.net_plan.specs.declared.terminus.PlannedTerminus.{PlannedTerminus}
-use Rattle.net_check.specs.Repositories.{records_by_place}
-use Rattle.net_check.specs.Termini.{TerminusState, terminus_at_start}
-use Rattle.net_check.specs.States.{Flight, at_start}
+use Rattle.net_tables.specs.Repositories.{records_by_place}
+use Rattle.net_runs.specs.Termini.{TerminusState, terminus_at_start}
+use Rattle.net_runs.specs.States.{Flight, at_start}
 use Rattle.net_sim.specs.Flights.{flight_at}
 use Rattle.net_sim.specs.Routers.{has_switched}
 use Rattle.net_sim.specs.Standing.{TrafficValue, StandsFor, at_place}

@@ -5,7 +5,7 @@ use Rattle.std.proofs.lemmas.List.{map-set, length-map}
 use Rattle.net_plan.specs.declared.certificate.Certificate.{Certificate}
 use Rattle.net_plan.specs.declared.certificate.NodeRanks.{NodeRanks}
 use Rattle.net_plan.specs.declared.certificate.RankRange.{RankRange}
-use Rattle.net_check.specs.Ranks.{rank, rank_in, is_in_range}
+use Rattle.net_tables.specs.Ranks.{rank, rank_in, is_in_range}
 use Rattle.std.proofs.lemmas.Bool.{cases_Bool}
 use Rattle.std.proofs.lemmas.Bool.Decides.{eqb_tells}
 use Rattle.std.proofs.lemmas.Option.{same_Some, slice_get-map}
@@ -16,9 +16,9 @@ use Rattle.mctp_transport.specs.Hearing.{Answer, Whole, Held, Dropped, Hears}
 use Rattle.mctp_transport.specs.Assembly as assembly
 use Rattle.mctp_transport.specs.declared.assembler.Assembler.{Assembler}
 use Rattle.mctp_transport.specs.declared.drop_cause.DropCause.{DropCause}
-use Rattle.net_check.specs.Termini.{TerminusState, WaitingMessage, with_waiting}
-use Rattle.net_check.specs.States.{NetworkState, Flight, with_input, with_terminus, with_received, slots, limit}
-use Rattle.net_check.specs.Events.{Entered}
+use Rattle.net_runs.specs.Termini.{TerminusState, WaitingMessage, with_waiting}
+use Rattle.net_runs.specs.States.{NetworkState, Flight, with_input, with_terminus, with_received, slots, limit}
+use Rattle.net_runs.specs.Events.{Entered}
 use Rattle.net_sim.specs.TerminusQueues.{with_message}
 use Rattle.net_sim.specs.Standing.{TrafficValue, StandsFor, Receives, at_place}
 use Rattle.net_sim.proofs.Changes.{input_stands, terminus_stands}

@@ -6,8 +6,8 @@ use Rattle.std.proofs.lemmas.List.Elements.{All-from_all_within}
 use Rattle.std.proofs.lemmas.Option.{slice_get_cases, slice_get-map, slice_get_past, get_or_from_slice_get, none-some, same_Some}
 use Rattle.net_plan.specs.declared.plan.Plan.{Plan}
 use Rattle.net_plan.specs.declared.nodes.Node.{Node}
-use Rattle.net_check.specs.Routing.{Holds}
-use Rattle.net_check.specs.Walkers.{WalkerValue, WalkedState}
+use Rattle.net_tables.specs.Routing.{Holds}
+use Rattle.net_runs.specs.Walkers.{WalkerValue, WalkedState}
 use Rattle.net_sim.specs.WalkedStanding.{NetworkValue, StandsForWalked}
 
 module _ {X : Type 0} (P : X → Type 0) (xs : List X) where

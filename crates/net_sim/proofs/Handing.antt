@@ -5,7 +5,7 @@ use Rattle.pldm_message.specs.InstanceIds.{IdSet, TakesBack}
 use Rattle.pdr_repository.specs.declared.walk_fault.Step.{Step}
 use Rattle.pdr_repository.specs.declared.walk_fault.WalkFault.TheVariants.{OutOfMemory}
 use Rattle.pdr_repository.specs.Walkers.{WalkState, Takes}
-use Rattle.net_check.specs.Walkers.{WalkerValue}
+use Rattle.net_runs.specs.Walkers.{WalkerValue}
 use Rattle.net_sim.specs.NetworkWalkers.{HasTakenMessage}
 
 ok_or_err : {S F : Type 0} (s : S) (f : F) → Ok s ≡ Err f → ⊥

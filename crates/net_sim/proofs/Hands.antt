@@ -5,12 +5,12 @@ use Rattle.std.proofs.lemmas.List.{set-get_or}
 use Rattle.std.proofs.lemmas.Option.{slice_get_within, slice_get-map, get_or_from_slice_get, same_Some}
 use Rattle.mctp_transport.specs.Frames.{KeyValue}
 use Rattle.mctp_transport.specs.Hearing.{Whole}
-use Rattle.net_check.specs.TwoPlans.{Tables}
-use Rattle.net_check.specs.States.{NetworkState}
-use Rattle.net_check.specs.Events.{Move, OutcomeValue, Entered}
-use Rattle.net_check.specs.Networks.{Step}
-use Rattle.net_check.specs.Walkers.{WalkerValue, WalkedState, Happening, Happened, Handed, with_walker, answering_key}
-use Rattle.net_check.specs.WalkedRuns.{IsHanded}
+use Rattle.net_tables.specs.TwoPlans.{Tables}
+use Rattle.net_runs.specs.States.{NetworkState}
+use Rattle.net_runs.specs.Events.{Move, OutcomeValue, Entered}
+use Rattle.net_runs.specs.Networks.{Step}
+use Rattle.net_runs.specs.Walkers.{WalkerValue, WalkedState, Happening, Happened, Handed, with_walker, answering_key}
+use Rattle.net_runs.specs.WalkedRuns.{IsHanded}
 use Rattle.net_sim.specs.Standing.{TrafficValue, Plays}
 use Rattle.net_sim.specs.Arrivals.{Arrives}
 use Rattle.net_sim.specs.declared.network_walker.NetworkWalker.{NetworkWalker}
@@ -55,6 +55,13 @@ pub listens_within : (node : ℕ) (key : KeyValue) (items : List NetworkWalker) 
     → MatchOption r (All (λ x. ¬ Listens node key (walker_value x)) items) (λ i. ListensAt node key items i) → IfSome r (λ i. i < length items)
 listens_within node key items None none = tt
 listens_within node key items (Some i) (x, there, listens) = slice_get_within items i x there
+
+-- a flight arrives where the walker listens
+pub arrives_and_listens : (A : ℕ → KeyValue → Type 0) (node : ℕ) (key : KeyValue) (items : List NetworkWalker) (r : Option ℕ) → A node key
+    → MatchOption r (All (λ x. ¬ Listens node key (walker_value x)) items) (λ i. ListensAt node key items i)
+    → IfSome r (λ i. (at : ℕ × KeyValue) × A at.0 at.1 × ListensAt at.0 at.1 items i)
+arrives_and_listens A node key items None arrives none = tt
+arrives_and_listens A node key items (Some i) arrives listens = ((node, key), arrives, listens)
 
 -- what comes is for the walker at the place
 module _ (tables : Tables) (v : NetworkValue) (number : ℕ) (keep : Bool) (i : ℕ) (x : WalkerValue) (there : slice_get v.walkers i ≡ Some x)

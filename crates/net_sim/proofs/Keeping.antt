@@ -19,7 +19,7 @@ use Rattle.std.proofs.lemmas.List.Sums.{sum_by-cons, sum_by_push, sum_by-set}
 use Rattle.std.proofs.lemmas.Option.{slice_get-get_or, slice_get_past}
 use Rattle.net_sim.specs.declared.flights.Flight.{Flight}
 use Rattle.net_sim.specs.declared.flights.Slot.{Slot}
-use Rattle.net_check.specs.States as state
+use Rattle.net_runs.specs.States as state
 use Rattle.net_sim.specs.Flights.{flight_value, kept, flight_at}
 
 abbrev pub Ascend : List Slot → Type 0

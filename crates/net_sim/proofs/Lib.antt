@@ -12,6 +12,7 @@ mod Tabled
 mod Slots
 mod Keeping
 mod Rooms
+mod Lacking
 mod Changes
 mod Losing
 mod Switching
@@ -21,7 +22,7 @@ mod Entering
 mod Moving
 mod Packing
 mod Asking
-pub mod PlayedRuns
+mod PlayedRuns
 pub mod PlayedWalks
 mod PutInBefore
 mod AsSent

@@ -4,9 +4,9 @@ use Rattle.std.specs.Prelude.{slice_get, option_map}
 use Rattle.std.proofs.lemmas.List.{length-map, map-append, take_more, length_push}
 use Rattle.std.proofs.lemmas.Option.{slice_get-map, slice_get-get_or, get_or_from_slice_get}
 use Rattle.net_plan.specs.declared.event.Event.{Event}
-use Rattle.net_check.specs.TwoPlans.{Tables}
-use Rattle.net_check.specs.Walkers.{WalkedState, WalkedEvent, WalkedOutcome}
-use Rattle.net_check.specs.WalkedRuns.{WalkedStep, WalkedTurn, WalkedRunFrom, walked_after}
+use Rattle.net_tables.specs.TwoPlans.{Tables}
+use Rattle.net_runs.specs.Walkers.{WalkedState, WalkedEvent, WalkedOutcome}
+use Rattle.net_runs.specs.WalkedRuns.{WalkedStep, WalkedTurn, WalkedRunFrom, walked_after}
 use Rattle.net_sim.specs.declared.outcome.Outcome.{Outcome}
 use Rattle.net_sim.specs.Outcomes.{event_value, outcome_value}
 use Rattle.net_sim.specs.WalkedStanding.{NetworkValue, StandsForWalked, WalkedPlays, WalkedWants, WalkedMayWant}

@@ -3,13 +3,13 @@ use Rattle.std.proofs.Common.{List, [], ◌∷◌, ◌++◌, Option, Some, None,
 use Rattle.std.specs.Prelude.{IfOk, Ok, Err}
 use Rattle.net_plan.specs.declared.plan.Plan.{Plan}
 use Rattle.net_plan.specs.declared.certificate.Certificate.{Certificate}
-use Rattle.net_check.specs.TwoPlans.{Tables}
-use Rattle.net_check.specs.Walkers.{WalkedState, WalkedEvent, WalkedOutcome, walked_at_start}
-use Rattle.net_check.specs.WalkedRuns.{WalkedTurn, WalkedRunFrom, WalkedRunOf, walked_after, walked_reached}
-use Rattle.net_check.specs.NetworkWalks.{WalksOverBy}
-use Rattle.net_check.proofs.Below.{walked_splits}
-use Rattle.net_check.proofs.WalkedPromises.{plans_walked_headline, moves_walked_headline, plans_walked_delivers, moves_walked_delivers}
-use Rattle.net_check.proofs.WalksOver.{walks_over_networks, walks_over_moves}
+use Rattle.net_tables.specs.TwoPlans.{Tables}
+use Rattle.net_runs.specs.Walkers.{WalkedState, WalkedEvent, WalkedOutcome, walked_at_start}
+use Rattle.net_runs.specs.WalkedRuns.{WalkedTurn, WalkedRunFrom, WalkedRunOf, walked_after, walked_reached}
+use Rattle.net_runs.specs.NetworkWalks.{WalksOverBy}
+use Rattle.net_runs.proofs.Below.{walked_splits}
+use Rattle.net_check.proofs.Whole.{plans_walked_headline, moves_walked_headline, plans_walked_delivers, moves_walked_delivers}
+use Rattle.net_check.proofs.Whole.{walks_over_networks, walks_over_moves}
 use Rattle.net_sim.specs.declared.outcome.Outcome.{Outcome}
 use Rattle.net_sim.specs.Accepted.{AreAccepted, IsAccepted}
 use Rattle.net_sim.specs.Outcomes.{outcome_value}

@@ -8,14 +8,14 @@ use Rattle.mctp_transport.specs.Frames.{Frame, KeyValue, key_of}
 use Rattle.mctp_transport.specs.Hearing.{Whole}
 use Rattle.net_plan.specs.declared.plan.Plan.{Plan}
 use Rattle.net_plan.specs.declared.certificate.Certificate.{Certificate}
-use Rattle.net_check.specs.Routing.{Holds}
-use Rattle.net_check.specs.TwoPlans.{Tables}
-use Rattle.net_check.specs.Events.{Entered}
-use Rattle.net_check.specs.Walkers.{WalkedEvent, WalkedOutcome, Happened, walked_at_start}
-use Rattle.net_check.specs.WalkedRuns.{WalkedTurn, WalkedRunFrom, WalkedRunOf, walked_reached}
-use Rattle.net_check.specs.WalkedMessages.{IsPutOfWalked}
-use Rattle.net_check.specs.WalkedPromises.{WasPutInWalked, WalkedHeadline}
-use Rattle.net_check.proofs.Below.{walked_splits}
+use Rattle.net_tables.specs.Routing.{Holds}
+use Rattle.net_tables.specs.TwoPlans.{Tables}
+use Rattle.net_runs.specs.Events.{Entered}
+use Rattle.net_runs.specs.Walkers.{WalkedEvent, WalkedOutcome, Happened, walked_at_start}
+use Rattle.net_runs.specs.WalkedRuns.{WalkedTurn, WalkedRunFrom, WalkedRunOf, walked_reached}
+use Rattle.net_runs.specs.WalkedMessages.{IsPutOfWalked}
+use Rattle.net_runs.specs.WalkedPromises.{WasPutInWalked, WalkedHeadline}
+use Rattle.net_runs.proofs.Below.{walked_splits}
 use Rattle.net_sim.specs.Accepted.{IsAccepted}
 use Rattle.net_sim.specs.WalkedStanding.{NetworkValue}
 use Rattle.net_sim.specs.Played.{IsRunOf, PlaysAll}

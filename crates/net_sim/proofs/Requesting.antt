@@ -3,10 +3,10 @@ use Rattle.std.proofs.Common.{◌≡◌, ℕ, ◌<◌, ◌≤◌, List, [], ◌�
 use Rattle.mctp_transport.specs.Frames.{Frame, KeyValue, IsFrame, frame_bytes}
 use Rattle.mctp_transport.specs.Cutting.{ArePacketsOf}
 use Rattle.mctp_transport.proofs.Sending.{few_packets, many_packets}
-use Rattle.net_check.specs.TwoPlans.{Tables}
-use Rattle.net_check.specs.States.{unit_of}
-use Rattle.net_check.proofs.Units.{least_unit}
-use Rattle.net_check.specs.Events.{most_flights}
+use Rattle.net_tables.specs.TwoPlans.{Tables}
+use Rattle.net_runs.specs.States.{unit_of}
+use Rattle.net_runs.proofs.Units.{least_unit}
+use Rattle.net_runs.specs.Events.{most_flights}
 use Rattle.net_sim.specs.Flights.{begun}
 use Rattle.net_sim.specs.Standing.{TrafficValue}
 use Rattle.net_sim.specs.Sending.{PutsOne}

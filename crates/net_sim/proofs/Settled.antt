@@ -6,10 +6,10 @@ use Rattle.std.proofs.lemmas.Option.{slice_get-map, slice_get-get_or, slice_get_
 use Rattle.mctp_transport.specs.Frames.{KeyValue}
 use Rattle.net_plan.specs.declared.plan.Plan.{Plan}
 use Rattle.net_plan.specs.declared.nodes.Node.{Node}
-use Rattle.net_check.specs.Routing.{Holds}
-use Rattle.net_check.specs.Termini.{TerminusState, WaitingMessage}
-use Rattle.net_check.specs.States.{NetworkState, Flight}
-use Rattle.net_check.specs.ExactMessages.{IsSettled}
+use Rattle.net_tables.specs.Routing.{Holds}
+use Rattle.net_runs.specs.Termini.{TerminusState, WaitingMessage}
+use Rattle.net_runs.specs.States.{NetworkState, Flight}
+use Rattle.net_runs.specs.ExactMessages.{IsSettled}
 use Rattle.net_sim.specs.Flights.{flight_at}
 use Rattle.net_sim.specs.Standing.{TrafficValue, StandsFor}
 use Rattle.net_sim.specs.Settling.{IsTo, IsNotTo, NoneWaits, IsClearAt}

@@ -6,7 +6,7 @@ use Rattle.std.proofs.lemmas.Bool.Decides.{eqb_tells}
 use Rattle.std.proofs.lemmas.Option.{slice_get_past, same_Some}
 use Rattle.std.proofs.lemmas.List.{length_push, get_or_append_left}
 use Rattle.std.proofs.lemmas.Option.{slice_get-get_or}
-use Rattle.net_check.proofs.Elements.{push_last, set_there, set_elsewhere}
+use Rattle.net_tables.proofs.Elements.{push_last, set_there, set_elsewhere}
 use Rattle.net_sim.specs.Standing.{at_place}
 
 module _ {A : Type 0} (xs : List (Option A)) where
@@ -60,11 +60,6 @@ module _ {A : Type 0} (xs : List (Option A)) where
     | inl same ↦ (let h : cond true o (at_place xs k) ≡ Some a = rw same.0 at (sym (push_slot k o) ∙ is) in new a h)
     | inr other ↦ (let h : cond false o (at_place xs k) ≡ Some a = rw other.0 at (sym (push_slot k o) ∙ is) in each k a h)
   ]
-
--- an optional value by a test
-pub none_by : {A : Type 0} (o : Option A) → is_some o ≡ false → o ≡ None
-none_by None e = refl
-none_by (Some a) e = absurd (cc)
 
 pub some_by : {A : Type 0} (o : Option A) → is_some o ≡ true → (a : A) × (o ≡ Some a)
 some_by None e = absurd (cc)

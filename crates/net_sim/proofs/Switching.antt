@@ -4,11 +4,11 @@ use Rattle.std.specs.Prelude.{slice_get, slice_set, unwrap_or}
 use Rattle.std.proofs.lemmas.Bool.Decides.{eqb_tells}
 use Rattle.std.proofs.lemmas.Option.{slice_get_within}
 use Rattle.mctp_transport.specs.declared.assembler.Assembler.{Assembler}
-use Rattle.net_check.specs.TwoPlans.{Tables}
-use Rattle.net_check.specs.Termini.{TerminusState}
-use Rattle.net_check.specs.States.{NetworkState, Flight, with_switched}
-use Rattle.net_check.specs.Events.{Switch, Switched, Refusal, N01, N02, N03, N04, N05, N06, N07, IsRefused}
-use Rattle.net_check.proofs.Elements.{set_there, set_elsewhere}
+use Rattle.net_tables.specs.TwoPlans.{Tables}
+use Rattle.net_runs.specs.Termini.{TerminusState}
+use Rattle.net_runs.specs.States.{NetworkState, Flight, with_switched}
+use Rattle.net_runs.specs.Events.{Switch, Switched, Refusal, N01, N02, N03, N04, N05, N06, N07, IsRefused}
+use Rattle.net_tables.proofs.Elements.{set_there, set_elsewhere}
 use Rattle.net_sim.specs.Routers.{has_switched}
 use Rattle.net_sim.specs.Standing.{TrafficValue, StandsFor, Plays, at_place}
 

@@ -9,13 +9,13 @@ use Rattle.net_plan.specs.declared.plan.Plan.{Plan}
 use Rattle.net_plan.specs.declared.nodes.Node.{Node}
 use Rattle.net_plan.specs.declared.nodes.Row.{Row}
 use Rattle.net_plan.specs.declared.certificate.Certificate.{Certificate}
-use Rattle.net_check.specs.declared.rule.Rule.TheVariants.{C04, C05}
-use Rattle.net_check.specs.Routing.{rows_of}
-use Rattle.net_check.specs.TwoPlans.{rows_by}
-use Rattle.net_check.specs.Rules.{RuleHolds}
-use Rattle.net_check.specs.MoveRules.{Before, After, AcceptsMove}
-use Rattle.net_check.specs.Tables.{AreRows, table_row}
-use Rattle.net_check.proofs.Elements.{in_push}
+use Rattle.net_rules.specs.declared.rule.Rule.TheVariants.{C04, C05}
+use Rattle.net_tables.specs.Routing.{rows_of}
+use Rattle.net_tables.specs.TwoPlans.{rows_by}
+use Rattle.net_rules.specs.Rules.{RuleHolds}
+use Rattle.net_rules.specs.MoveRules.{Before, After, AcceptsMove}
+use Rattle.net_tables.specs.Tables.{AreRows, table_row}
+use Rattle.net_tables.proofs.Elements.{in_push}
 use Rattle.net_sim.specs.Accepted.{AreAccepted}
 use Rattle.net_sim.specs.Routers.{HasLawfulRows, AreTabled, AreTabledAfter, has_switched}
 use Rattle.net_sim.proofs.Deciding.{same_count}

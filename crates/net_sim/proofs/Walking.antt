@@ -9,13 +9,13 @@ use Rattle.std.proofs.lemmas.Option.{slice_get_past, slice_get-get_or}
 use Rattle.std.proofs.lemmas.List.{length_push, length-set, get_or_append_left}
 use Rattle.mctp_transport.specs.Frames.{KeyValue}
 use Rattle.mctp_transport.specs.Hearing.{Answer}
-use Rattle.net_check.specs.TwoPlans.{Tables}
-use Rattle.net_check.specs.States.{NetworkState}
-use Rattle.net_check.specs.Events.{EventValue, Put, Move, Lose, Expire, AnswerAt, Switch, OutcomeValue, Entered}
-use Rattle.net_check.specs.Networks.{Step}
-use Rattle.net_check.specs.Walkers.{WalkerValue, WalkedState, WalkedEvent, WalkedOutcome, Happening, Happened, WalkRefused, WalkRefusal, Also, N08, N09, N10, N11, N12, N13, IsWalkRefused, IsFirstWalkRefusal, with_walker}
-use Rattle.net_check.specs.WalkedRuns.{IsForNone}
-use Rattle.net_check.proofs.Elements.{set_there, set_elsewhere, push_last}
+use Rattle.net_tables.specs.TwoPlans.{Tables}
+use Rattle.net_runs.specs.States.{NetworkState}
+use Rattle.net_runs.specs.Events.{EventValue, Put, Move, Lose, Expire, AnswerAt, Switch, OutcomeValue, Entered}
+use Rattle.net_runs.specs.Networks.{Step}
+use Rattle.net_runs.specs.Walkers.{WalkerValue, WalkedState, WalkedEvent, WalkedOutcome, Happening, Happened, WalkRefused, WalkRefusal, Also, N08, N09, N10, N11, N12, N13, IsWalkRefused, IsFirstWalkRefusal, with_walker}
+use Rattle.net_runs.specs.WalkedRuns.{IsForNone}
+use Rattle.net_tables.proofs.Elements.{set_there, set_elsewhere, push_last}
 use Rattle.net_sim.specs.Standing.{TrafficValue, StandsFor, Plays, Wants}
 use Rattle.net_sim.specs.WalkedStanding.{NetworkValue, StandsForWalked, WalkedPlays, WalkedWants}
 

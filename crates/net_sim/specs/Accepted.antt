@@ -2,9 +2,9 @@
 use Rattle.std.specs.Prelude.{Option, Some, None}
 use Rattle.net_plan.specs.declared.plan.Plan.{Plan}
 use Rattle.net_plan.specs.declared.certificate.Certificate.{Certificate}
-use Rattle.net_check.specs.Rules.{Accepts}
-use Rattle.net_check.specs.MoveRules.{AcceptsMove}
-use Rattle.net_check.specs.TwoPlans.{Tables, one_plan, moving}
+use Rattle.net_rules.specs.Rules.{Accepts}
+use Rattle.net_rules.specs.MoveRules.{AcceptsMove}
+use Rattle.net_tables.specs.TwoPlans.{Tables, one_plan, moving}
 use Rattle.net_sim.specs.declared.accepted.Accepted.{Accepted}
 use Rattle.net_sim.specs.declared.accepted.Accepted.TheVariants as accepted
 

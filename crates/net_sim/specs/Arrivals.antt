@@ -1,10 +1,10 @@
 -- The moves that bring a packet into the node where it is to come.
 use Rattle.std.specs.Prelude.{◌≡◌, ℕ, Bool, Some}
 use Rattle.mctp_transport.specs.Frames.{KeyValue, key_of}
-use Rattle.net_check.specs.TwoPlans.{Tables}
-use Rattle.net_check.specs.Routing.{Holds}
-use Rattle.net_check.specs.States.{NetworkState, Flight, destination}
-use Rattle.net_check.specs.Events.{Move, Refusal, IsRefused}
+use Rattle.net_tables.specs.TwoPlans.{Tables}
+use Rattle.net_tables.specs.Routing.{Holds}
+use Rattle.net_runs.specs.States.{NetworkState, Flight, destination}
+use Rattle.net_runs.specs.Events.{Move, Refusal, IsRefused}
 
 -- The move isn't refused. The flight is at this node, which holds its destination, and its packet is of this key.
 pub record Arrives (tables : Tables) (w : NetworkState) (number : ℕ) (keep : Bool) (node : ℕ)

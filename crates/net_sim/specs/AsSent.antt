@@ -3,11 +3,11 @@ use Rattle.std.specs.Prelude.{◌≡◌, ℕ, ◌*◌, ◌≤◌, List, length, 
 use Rattle.std.specs.List.{zip}
 use Rattle.mctp_transport.specs.Frames.{KeyValue}
 use Rattle.net_plan.specs.declared.plan.Plan.{Plan}
-use Rattle.net_check.specs.Routing.{Holds}
-use Rattle.net_check.specs.TwoPlans.{Tables}
-use Rattle.net_check.specs.ExactMessages.{Epoch, IsQuiet}
-use Rattle.net_check.specs.Walkers.{WalkedState, WalkedEvent, WalkedOutcome, Handed, BringsWholeAt}
-use Rattle.net_check.specs.WalkedMessages.{IsWalkedTidyFrom}
+use Rattle.net_tables.specs.Routing.{Holds}
+use Rattle.net_tables.specs.TwoPlans.{Tables}
+use Rattle.net_runs.specs.ExactMessages.{Epoch, IsQuiet}
+use Rattle.net_runs.specs.Walkers.{WalkedState, WalkedEvent, WalkedOutcome, Handed, BringsWholeAt}
+use Rattle.net_runs.specs.WalkedMessages.{IsWalkedTidyFrom}
 use Rattle.net_sim.specs.WalkedStanding.{NetworkValue, StandsForWalked}
 use Rattle.net_sim.specs.Played.{IsRunOf}
 

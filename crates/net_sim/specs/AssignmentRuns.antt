@@ -6,16 +6,16 @@ use Rattle.net_plan.specs.declared.nodes.Kind.{Kind}
 use Rattle.net_plan.specs.declared.nodes.Kind.TheVariants as planned
 use Rattle.net_plan.specs.declared.nodes.Node.{Node}
 use Rattle.net_plan.specs.declared.nodes.Pool.{Pool}
-use Rattle.mctp_control.specs.declared.device.DeviceKind.{DeviceKind}
-use Rattle.mctp_control.specs.declared.device.DeviceKind.TheVariants as device
+use Rattle.mctp_bridge.specs.declared.device_kind.DeviceKind.{DeviceKind}
+use Rattle.mctp_bridge.specs.declared.device_kind.DeviceKind.TheVariants as device
 use Rattle.mctp_control.specs.Ranges.{IsWithin}
 use Rattle.mctp_control.specs.RouteEntries.{EntryValue}
 use Rattle.mctp_control.specs.Requests.{CommandValue, SetsEid, AllocatesEids, request_bytes}
 use Rattle.mctp_control.specs.Responses.{AnswerValue, EidSet, PoolTold, ResponseValue, SpellsResponse}
 use Rattle.mctp_control.specs.Devices.{PoolHeld, DeviceValue}
 use Rattle.mctp_control.specs.Replies.{Replies}
-use Rattle.net_check.specs.Routing.{node_at}
-use Rattle.net_check.specs.Owners.{IsOwnedBy}
+use Rattle.net_tables.specs.Routing.{node_at}
+use Rattle.net_tables.specs.Ownership.{IsOwnedBy}
 use Rattle.net_sim.specs.Assignments.{AssignmentValue}
 
 abbrev pub device_kind : Kind → DeviceKind

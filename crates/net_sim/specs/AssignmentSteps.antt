@@ -2,7 +2,7 @@
 use Rattle.std.specs.Prelude.{◌≡◌, ◌⊎◌, ℕ, ◌<◌, List}
 use Rattle.net_plan.specs.declared.plan.Plan.{Plan}
 use Rattle.net_plan.specs.declared.certificate.Certificate.{Certificate}
-use Rattle.net_check.specs.Owners.{level}
+use Rattle.net_tables.specs.Ownership.{level}
 use Rattle.net_sim.specs.Assignments.{AssignmentValue, IsOwned, AsksInOrder}
 
 -- n is owned, and of a lower level than this, or of this level and before the index

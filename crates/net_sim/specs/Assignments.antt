@@ -8,8 +8,8 @@ use Rattle.net_plan.specs.declared.nodes.Node.{Node}
 use Rattle.net_plan.specs.declared.nodes.Pool.{Pool}
 use Rattle.mctp_control.specs.Headers.{HeaderValue}
 use Rattle.mctp_control.specs.Requests.{SetsEid, AllocatesEids, RequestValue, request_value}
-use Rattle.net_check.specs.Routing.{node_at, ports_of}
-use Rattle.net_check.specs.Owners.{IsOwnedBy, level}
+use Rattle.net_tables.specs.Routing.{node_at, ports_of}
+use Rattle.net_tables.specs.Ownership.{IsOwnedBy, level}
 use Rattle.net_sim.specs.declared.assigning.assignment.Assignment.{Assignment}
 
 -- a request to a node, over a bus; both are places in the plan's lists

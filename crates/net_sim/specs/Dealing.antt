@@ -8,8 +8,8 @@ use Rattle.net_plan.specs.declared.certificate.Certificate.{Certificate}
 use Rattle.net_plan.specs.declared.nodes.Node.{Node}
 use Rattle.net_plan.specs.declared.terminus.PlannedTerminus.{PlannedTerminus}
 use Rattle.pdr_repository.specs.Records.{Entry}
-use Rattle.net_check.specs.Termini.{TerminusState, terminus_at_start}
-use Rattle.net_check.specs.States.{NetworkState}
+use Rattle.net_runs.specs.Termini.{TerminusState, terminus_at_start}
+use Rattle.net_runs.specs.States.{NetworkState}
 use Rattle.net_sim.specs.Standing.{at_place}
 
 -- a terminus at which nothing waits

@@ -2,8 +2,8 @@
 use Rattle.std.specs.Prelude.{ℕ, List, codes}
 use Rattle.mctp_transport.specs.Packets.{key_value}
 use Rattle.mctp_transport.specs.Hearing as heard
-use Rattle.net_check.specs.Events.{OutcomeValue, N01, N02, N03, N04, N05, N06, N07}
-use Rattle.net_check.specs.Events as value
+use Rattle.net_runs.specs.Events.{OutcomeValue, N01, N02, N03, N04, N05, N06, N07}
+use Rattle.net_runs.specs.Events as value
 use Rattle.net_sim.specs.declared.refusal.Refusal.{Refusal}
 use Rattle.net_sim.specs.declared.refusal.Refusal.TheVariants.{NoNode, NoPacket, NoFlight, NoTerminus}
 use Rattle.net_sim.specs.declared.refusal.Refusal.TheVariants.{NothingWaits, NoNumbers, NoSwitch}

@@ -3,7 +3,7 @@ use Rattle.std.specs.Prelude.{ℕ, ◌+◌, ◌-◌, ◌==◌, if◌then◌else�
 use Rattle.std.specs.Prelude.{Option, Some, None, option_map, option_and_then, vec_capacity}
 use Rattle.std.specs.List.{range_with_len}
 use Rattle.mctp_transport.specs.Frames.{Frame}
-use Rattle.net_check.specs.States as state
+use Rattle.net_runs.specs.States as state
 use Rattle.net_sim.specs.KeptPackets.{kept_frame}
 use Rattle.net_sim.specs.declared.flights.Flight.{Flight}
 use Rattle.net_sim.specs.declared.flights.Slot.{Slot}

@@ -10,8 +10,8 @@ use Rattle.pdr_repository.specs.declared.walk_fault.WalkFault.TheVariants.{OutOf
 use Rattle.pdr_repository.specs.Walkers.{WalkState, Asks, Takes}
 use Rattle.pdr_repository.specs.WalkerRooms.{HasRoom}
 use Rattle.pdr_repository.specs.WalkerStates.{state_of}
-use Rattle.net_check.specs.Events.{OutcomeValue, Brings}
-use Rattle.net_check.specs.Walkers.{WalkerValue, Handed, answering_key, ended_after}
+use Rattle.net_runs.specs.Events.{OutcomeValue, Brings}
+use Rattle.net_runs.specs.Walkers.{WalkerValue, Handed, answering_key, ended_after}
 use Rattle.net_sim.specs.declared.network_walker.NetworkWalker.{NetworkWalker}
 
 abbrev pub walker_value : NetworkWalker → WalkerValue

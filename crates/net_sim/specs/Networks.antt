@@ -1,7 +1,7 @@
 -- What a network holds with its walkers, as plain lists.
 use Rattle.std.specs.Prelude.{ℕ, List, map}
 use Rattle.net_plan.specs.declared.certificate.Certificate.{Certificate}
-use Rattle.net_check.specs.TwoPlans.{Tables}
+use Rattle.net_tables.specs.TwoPlans.{Tables}
 use Rattle.pdr_repository.specs.Records.{Entry}
 use Rattle.net_sim.specs.declared.network.Network.{Network}
 use Rattle.net_sim.specs.NetworkWalkers.{walker_value}

@@ -3,10 +3,10 @@ use Rattle.std.specs.Prelude.{ℕ, List, codes, option_map}
 use Rattle.mctp_transport.specs.Packets.{key_value}
 use Rattle.net_plan.specs.declared.event.Event.{Event}
 use Rattle.net_plan.specs.declared.event.Event.TheVariants as event
-use Rattle.net_check.specs.Events.{Put, Move, Lose, Expire, AnswerAt, Switch}
-use Rattle.net_check.specs.Walkers.{WalkedEvent, Happening, BeginWalk, Ask, TellWalk}
-use Rattle.net_check.specs.Walkers.{WalkedOutcome, Happened, Begun, Asked, ToldWalk, WalkRefused}
-use Rattle.net_check.specs.Walkers as value
+use Rattle.net_runs.specs.Events.{Put, Move, Lose, Expire, AnswerAt, Switch}
+use Rattle.net_runs.specs.Walkers.{WalkedEvent, Happening, BeginWalk, Ask, TellWalk}
+use Rattle.net_runs.specs.Walkers.{WalkedOutcome, Happened, Begun, Asked, ToldWalk, WalkRefused}
+use Rattle.net_runs.specs.Walkers as value
 use Rattle.net_sim.specs.declared.handed.Handed.{Handed}
 use Rattle.net_sim.specs.declared.standing.Standing.{Standing}
 use Rattle.net_sim.specs.declared.standing.Standing.TheVariants.{Open, Done, Ended}

@@ -2,8 +2,8 @@
 use Rattle.std.specs.Prelude.{◌+◌, ◌<◌, ◌≤◌, length}
 use Rattle.net_plan.specs.declared.plan.Plan.{Plan}
 use Rattle.net_plan.specs.declared.certificate.Certificate.{Certificate}
-use Rattle.net_check.specs.Ranks.{rank}
-use Rattle.net_check.specs.States.{Flight, destination}
+use Rattle.net_tables.specs.Ranks.{rank}
+use Rattle.net_runs.specs.States.{Flight, destination}
 
 -- the flight is at a node of the plan, within its certified hops
 abbrev pub IsPlaced : Plan → Certificate → Flight → Type 0

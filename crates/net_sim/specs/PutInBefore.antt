@@ -4,12 +4,12 @@ use Rattle.mctp_transport.specs.Frames.{Frame, KeyValue, key_of}
 use Rattle.mctp_transport.specs.Messages.{Joined}
 use Rattle.net_plan.specs.declared.plan.Plan.{Plan}
 use Rattle.net_plan.specs.declared.certificate.Certificate.{Certificate}
-use Rattle.net_check.specs.Routing.{Holds}
-use Rattle.net_check.specs.TwoPlans.{Tables}
-use Rattle.net_check.specs.Walkers.{WalkedState, WalkedEvent, WalkedOutcome, Handed, BringsWholeAt}
-use Rattle.net_check.specs.WalkedRuns.{WalkedTurn, WalkedRunOf, walked_reached}
-use Rattle.net_check.specs.WalkedMessages.{IsPutOfWalked}
-use Rattle.net_check.specs.WalkedPromises.{WasPutInWalked}
+use Rattle.net_tables.specs.Routing.{Holds}
+use Rattle.net_tables.specs.TwoPlans.{Tables}
+use Rattle.net_runs.specs.Walkers.{WalkedState, WalkedEvent, WalkedOutcome, Handed, BringsWholeAt}
+use Rattle.net_runs.specs.WalkedRuns.{WalkedTurn, WalkedRunOf, walked_reached}
+use Rattle.net_runs.specs.WalkedMessages.{IsPutOfWalked}
+use Rattle.net_runs.specs.WalkedPromises.{WasPutInWalked}
 use Rattle.net_sim.specs.WalkedStanding.{NetworkValue, StandsForWalked}
 use Rattle.net_sim.specs.Played.{IsRunOf}
 

@@ -1,11 +1,11 @@
 -- Why an event of a walk is refused, and the requests of walkers, which are put in at their nodes.
 use Rattle.std.specs.Prelude.{◌≡◌, ℕ, List, Option, Some, None}
 use Rattle.net_plan.specs.declared.plan.Plan.{Plan}
-use Rattle.net_check.specs.Routing.{Holds}
-use Rattle.net_check.specs.TwoPlans.{Tables}
-use Rattle.net_check.specs.States.{NetworkState}
-use Rattle.net_check.specs.Walkers.{WalkerValue, WalkedState, WalkedEvent, WalkRefusal, N12, N13, MustWait}
-use Rattle.net_check.specs.Walkers.{IsOver, AreSettled, IsWalkRefused, IsFirstWalkRefusal, asking_key}
+use Rattle.net_tables.specs.Routing.{Holds}
+use Rattle.net_tables.specs.TwoPlans.{Tables}
+use Rattle.net_runs.specs.States.{NetworkState}
+use Rattle.net_runs.specs.Walkers.{WalkerValue, WalkedState, WalkedEvent, WalkRefusal, N12, N13, MustWait}
+use Rattle.net_runs.specs.Walkers.{IsOver, AreSettled, IsWalkRefused, IsFirstWalkRefusal, asking_key}
 use Rattle.net_sim.specs.Standing.{TrafficValue}
 use Rattle.net_sim.specs.NetworkWalkers.{TellsRequest}
 use Rattle.net_sim.specs.Sending.{PutsOne}

@@ -9,11 +9,11 @@ use Rattle.net_plan.specs.declared.plan.Plan.{Plan}
 use Rattle.net_plan.specs.declared.nodes.Node.{Node}
 use Rattle.net_plan.specs.declared.nodes.Row.{Row}
 use Rattle.net_plan.specs.declared.certificate.Certificate.{Certificate}
-use Rattle.net_check.specs.Routing.{rows_of}
-use Rattle.net_check.specs.Ranks.{rank}
-use Rattle.net_check.specs.Tables.{AreRows, table_row}
-use Rattle.net_check.specs.TwoPlans.{Tables, rows_by}
-use Rattle.net_check.specs.States.{Flight, destination}
+use Rattle.net_tables.specs.Routing.{rows_of}
+use Rattle.net_tables.specs.Ranks.{rank}
+use Rattle.net_tables.specs.Tables.{AreRows, table_row}
+use Rattle.net_tables.specs.TwoPlans.{Tables, rows_by}
+use Rattle.net_runs.specs.States.{Flight, destination}
 use Rattle.net_sim.specs.Accepted.{IsAccepted}
 
 -- The tables of a network, the certificate for them, and where there is a plan after, whether each node has switched.

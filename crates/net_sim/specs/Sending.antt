@@ -3,11 +3,11 @@ use Rattle.std.specs.Prelude.{◌≡◌, ℕ, ◌+◌, List, [], ◌∷◌, ◌+
 use Rattle.mctp_transport.specs.Frames.{Frame, KeyValue, Spelled}
 use Rattle.mctp_transport.specs.Cutting.{ArePacketsOf}
 use Rattle.net_plan.specs.declared.plan.Plan.{Plan}
-use Rattle.net_check.specs.Routing.{Holds}
-use Rattle.net_check.specs.TwoPlans.{Tables}
-use Rattle.net_check.specs.States.{Flight, unit_of}
-use Rattle.net_check.specs.Networks.{answer_key}
-use Rattle.net_check.specs.Events.{Put, OutcomeValue, Answered, PutIn}
+use Rattle.net_tables.specs.Routing.{Holds}
+use Rattle.net_tables.specs.TwoPlans.{Tables}
+use Rattle.net_runs.specs.States.{Flight, unit_of}
+use Rattle.net_runs.specs.Networks.{answer_key}
+use Rattle.net_runs.specs.Events.{Put, OutcomeValue, Answered, PutIn}
 use Rattle.net_sim.specs.Flights.{begun}
 use Rattle.net_sim.specs.Standing.{TrafficValue, Plays}
 

@@ -2,14 +2,14 @@
 use Rattle.std.specs.Prelude.{◌≡◌, ℕ, ◌*◌, ◌≤◌, List, length, Option, true, All}
 use Rattle.mctp_transport.specs.Frames.{Frame, KeyValue, key_of, Spelled}
 use Rattle.net_plan.specs.declared.plan.Plan.{Plan}
-use Rattle.net_check.specs.Routing.{Holds}
-use Rattle.net_check.specs.TwoPlans.{Tables}
-use Rattle.net_check.specs.States.{unit_of}
-use Rattle.net_check.specs.Events.{Put}
-use Rattle.net_check.specs.ExactMessages.{Epoch, IsOfEpoch, IsQuiet}
-use Rattle.net_check.specs.Walkers.{WalkedState, WalkedEvent, Happening, Ask, WalkedOutcome, Handed, BringsWholeAt}
-use Rattle.net_check.specs.WalkedRuns.{WalkedTurn}
-use Rattle.net_check.specs.WalkedMessages.{IsPutOfWalked}
+use Rattle.net_tables.specs.Routing.{Holds}
+use Rattle.net_tables.specs.TwoPlans.{Tables}
+use Rattle.net_runs.specs.States.{unit_of}
+use Rattle.net_runs.specs.Events.{Put}
+use Rattle.net_runs.specs.ExactMessages.{Epoch, IsOfEpoch, IsQuiet}
+use Rattle.net_runs.specs.Walkers.{WalkedState, WalkedEvent, Happening, Ask, WalkedOutcome, Handed, BringsWholeAt}
+use Rattle.net_runs.specs.WalkedRuns.{WalkedTurn}
+use Rattle.net_runs.specs.WalkedMessages.{IsPutOfWalked}
 use Rattle.net_sim.specs.WalkedStanding.{NetworkValue}
 use Rattle.net_sim.specs.Played.{IsRunOf}
 

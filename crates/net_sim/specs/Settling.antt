@@ -2,8 +2,8 @@
 use Rattle.std.specs.Prelude.{◌≡◌, ◌≢◌, ℕ, Option, Some, None, All}
 use Rattle.mctp_transport.specs.Frames.{KeyValue, key_of}
 use Rattle.mctp_transport.specs.Histories.{IsOpen}
-use Rattle.net_check.specs.Termini.{TerminusState}
-use Rattle.net_check.specs.States.{NetworkState, Flight, destination, slots, limit}
+use Rattle.net_runs.specs.Termini.{TerminusState}
+use Rattle.net_runs.specs.States.{NetworkState, Flight, destination, slots, limit}
 
 -- its packet is of the key and goes to d
 abbrev pub IsTo : KeyValue → ℕ → Flight → Type 0

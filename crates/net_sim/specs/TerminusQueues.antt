@@ -5,7 +5,7 @@ use Rattle.mctp_transport.specs.Packets.{key_value}
 use Rattle.mctp_transport.specs.Frames.{KeyValue}
 use Rattle.pdr_repository.specs.Records.{Entry}
 use Rattle.pdr_repository.specs.Answers.{Answers}
-use Rattle.net_check.specs.Termini.{TerminusState, WaitingMessage, with_waiting}
+use Rattle.net_runs.specs.Termini.{TerminusState, WaitingMessage, with_waiting}
 use Rattle.net_sim.specs.declared.refusal.Refusal.{Refusal}
 use Rattle.net_sim.specs.declared.refusal.Refusal.TheVariants.{NoTerminus, NothingWaits}
 use Rattle.net_sim.specs.declared.terminus_queue.Waiting.{Waiting}

@@ -1,11 +1,11 @@
 -- What a network holds, as plain lists.
 use Rattle.std.specs.Prelude.{◌≡◌, ◌<◌, ◌≤◌, ℕ, length, List, map, option_map, Option, Some, slice_get}
 use Rattle.net_plan.specs.declared.certificate.Certificate.{Certificate}
-use Rattle.net_check.specs.TwoPlans.{Tables}
+use Rattle.net_tables.specs.TwoPlans.{Tables}
 use Rattle.pdr_repository.specs.Records.{Entry}
 use Rattle.net_sim.specs.declared.terminus_queue.TerminusQueue.{TerminusQueue}
 use Rattle.net_sim.specs.declared.traffic.Traffic.{Traffic}
-use Rattle.net_check.specs.Events.{most_flights}
+use Rattle.net_runs.specs.Events.{most_flights}
 use Rattle.net_sim.specs.Flights.{slots_of, room_of}
 use Rattle.net_sim.specs.TerminusQueues.{queue_state, HasRoomFor}
 use Rattle.net_sim.specs.Standing.{TrafficValue}

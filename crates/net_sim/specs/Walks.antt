@@ -1,12 +1,12 @@
 -- What is promised of the walks over a network that is played.
 use Rattle.std.specs.Prelude.{◌≡◌, ◌≢◌, ℕ, List, ◌∷◌, ◌++◌, None, All}
 use Rattle.net_plan.specs.declared.certificate.Certificate.{Certificate}
-use Rattle.net_check.specs.Routing.{Holds}
-use Rattle.net_check.specs.Repositories.{terminus_of, records_by_place}
-use Rattle.net_check.specs.TwoPlans.{Tables}
-use Rattle.net_check.specs.Walkers.{WalkedEvent, WalkedOutcome, BeginWalk, Begun, fresh_walker}
-use Rattle.net_check.specs.WalkedRuns.{WalkedTurn, WalkedRunOf, walked_reached}
-use Rattle.net_check.specs.NetworkWalks.{KeepsOff, WalksThere}
+use Rattle.net_tables.specs.Routing.{Holds}
+use Rattle.net_tables.specs.Repositories.{terminus_of, records_by_place}
+use Rattle.net_tables.specs.TwoPlans.{Tables}
+use Rattle.net_runs.specs.Walkers.{WalkedEvent, WalkedOutcome, BeginWalk, Begun, fresh_walker}
+use Rattle.net_runs.specs.WalkedRuns.{WalkedTurn, WalkedRunOf, walked_reached}
+use Rattle.net_runs.specs.NetworkWalks.{KeepsOff, WalksThere}
 use Rattle.net_sim.specs.WalkedStanding.{NetworkValue, StandsForWalked}
 use Rattle.net_sim.specs.Played.{IsRunOf}
 

@@ -12,7 +12,7 @@ pub enum Accepted<'a> {
 }
 
 impl<'a> Accepted<'a> {
-    ghost use Rattle.net_check.specs.MoveRules.{AcceptsMove};
+    ghost use Rattle.net_rules.specs.MoveRules.{AcceptsMove};
     ghost use Rattle.net_sim.specs.Accepted.{tables_of, certificate_of, IsAccepted};
 
     /// The plan that the nodes start on.

@@ -2,8 +2,11 @@
 ghost use Rattle.std.specs.Prelude.{◌≡◌, All, IfOk, length};
 ghost use Rattle.net_sim.specs.Dealing.{IsIdleAssembler};
 
-use mctp_transport::Assembler;
+use mctp_transport::{Assembler, MAX_MESSAGE};
 use std::alloc::{AllocError, Global};
+
+/// How many messages a node assembles at once.
+const SLOTS: usize = 16;
 
 /// So many assemblers of 16 slots, for messages of at most 4096 bytes.
 pub fn idle_assemblers(alloc: Global, count: usize) -> Result<Vec<Assembler>, AllocError>
@@ -12,7 +15,7 @@ pub fn idle_assemblers(alloc: Global, count: usize) -> Result<Vec<Assembler>, Al
 {
     let mut assemblers = Vec::new(alloc);
     for _ in 0..count {
-        assemblers.push(Assembler::new(alloc, 16, 4096)?)?;
+        assemblers.push(Assembler::new(alloc, SLOTS, MAX_MESSAGE)?)?;
     }
     Ok(assemblers)
 }

@@ -1,5 +1,5 @@
 //! The packets on their way, by number.
-ghost use Rattle.std.specs.Prelude.{◌≡◌, ◌↔◌, ◌≢◌, ◌+◌, ◌*◌, ◌<◌, ◌≤◌, ◌++◌, ◌∷◌, [], length, None, option_map, slice_set, is_some, is_none, All, AllPairs, IsTrue, IfOk, IfSome, IfNone, OnOk, true};
+ghost use Rattle.std.specs.Prelude.{◌≡◌, ◌↔◌, ◌≢◌, ◌+◌, ◌*◌, ◌<◌, ◌≤◌, ◌++◌, ◌∷◌, [], length, None, option_map, slice_set, is_some, is_none, All, AllPairs, IsTrue, IfOk, IfSome, IfNone, OnOk, OnErr, true};
 ghost use Rattle.std.specs.List.{HoldsAt, count_by};
 ghost use Rattle.mctp_transport.specs.Packets.{key_value};
 ghost use Rattle.net_sim.specs.Settling.{IsTo, IsNotTo};
@@ -42,7 +42,8 @@ impl Flight {
 
     /// The same flight, with a packet of its own.
     pub fn copy(&self, alloc: Global) -> Result<Flight, AllocError>
-        ensures { IfOk result (λ copy. flight_value copy ≡ flight_value self.now) }
+        ensures same { IfOk result (λ copy. flight_value copy ≡ flight_value self.now) }
+        ensures full { OnErr result (64 < length (flight_value self.now).packet.payload) }
     {
         let packet = self.packet.view();
         let room = room_for_payload(alloc, packet.payload.len())?;
@@ -121,7 +122,7 @@ pub struct Flights {
 }
 
 impl Flights {
-    ghost use Rattle.net_check.specs.Events.{most_flights};
+    ghost use Rattle.net_runs.specs.Events.{most_flights};
     ghost use Rattle.net_sim.specs.Flights.{flight_value, slots_of, flight_at, gone_on, room_of};
 
     /// No flights, and none made.
@@ -184,6 +185,7 @@ impl Flights {
     pub fn reserve(&mut self, count: usize) -> Result<(), AllocError>
         ensures same { slots_of self.new ≡ slots_of self.old }
         ensures room { OnOk result (count ≤ room_of self.new) }
+        ensures full { OnErr result (room_of self.old < count) }
         // At most half of the slots are empty then.
         ensures half { 2 * self.new.empty ≤ length self.new.slots.items }
     {
@@ -197,6 +199,7 @@ impl Flights {
     fn sweep(&mut self)
         ensures same { slots_of self.new ≡ slots_of self.old }
         ensures swept { self.new.empty ≡ 0 }
+        ensures room { room_of self.old ≤ room_of self.new }
     {
         self.slots.retain(|slot| slot.flight.is_some());
         self.empty = 0;

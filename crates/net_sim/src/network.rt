@@ -38,13 +38,14 @@ pub struct Network<'a, T = Box<dyn Terminus>> {
 }
 
 impl<'a, T: Terminus> Network<'a, T> {
-    ghost use Rattle.net_check.specs.TwoPlans.{one_plan, moving};
-    ghost use Rattle.net_check.specs.States.{at_start, unit_of};
-    ghost use Rattle.net_check.specs.Walkers.{WalkerValue, WalkedState};
+    ghost use Rattle.net_tables.specs.TwoPlans.{one_plan, moving};
+    ghost use Rattle.net_runs.specs.States.{at_start, unit_of};
+    ghost use Rattle.net_runs.specs.Walkers.{WalkerValue, WalkedState};
     ghost use Rattle.net_sim.specs.Accepted.{tables_of, certificate_of};
     ghost use Rattle.net_sim.specs.Outcomes.{outcome_value, event_value};
     ghost use Rattle.net_sim.specs.WalkedStanding.{StandsForWalked, without_walkers, WalkedPlays, WalkedWants};
     ghost use Rattle.net_sim.specs.Networks.{network_value, checked_of};
+    ghost use Rattle.net_sim.specs.LackingRooms.{NetworkLacksRoom};
     ghost use Rattle.net_sim.specs.Dealing.{resting, at_rest, planned_termini};
     ghost use Rattle.net_sim.specs.Played.{PlaysAll, StopsAfter};
     ghost use Rattle.net_sim.specs.Walks.{PlaysWalks};
@@ -118,6 +119,8 @@ impl<'a, T: Terminus> Network<'a, T> {
             (λ _. WalkedWants (checked_of self.old).0
             (network_value T.tid T.records self.old) (event_value event.now)
             (network_value T.tid T.records self.new)) }
+        // Memory is wanted only where the event makes some of its own, or where room was lacking.
+        ensures full { OnErr result (NetworkLacksRoom self.old (event_value event.now)) }
         // Every run with walkers that the network may stand for keeps the headline, and what is promised of deliveries.
         ensures promises { IsPromised (checked_of self.old).0 (checked_of self.old).1 }
         // The exchanges that each walker has taken are a walk over the records of the terminus that it asks.

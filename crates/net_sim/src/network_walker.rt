@@ -1,20 +1,17 @@
 //! A walker at a node of a network.
-ghost use Rattle.std.specs.Prelude.{◌≡◌, ◌↔◌, ◌≤◌, ◌<◌, ℕ, IsTrue, IfOk, OnOk, MatchOption, Some, None, Err, map, true};
+ghost use Rattle.std.specs.Prelude.{◌≡◌, ◌↔◌, ◌≤◌, ◌<◌, ℕ, IsTrue, IfOk, OnOk, OnErr, MatchOption, Some, None, Err, map, true};
 ghost use Rattle.pldm_message.specs.InstanceIds.{TakesBack};
 ghost use Rattle.pldm_message.specs.InstanceIdValues.{id_value, ids_of};
 ghost use Rattle.pdr_repository.specs.WalkerStates.{state_of};
 ghost use Rattle.mctp_transport.specs.Packets.{key_value};
-ghost use Rattle.net_check.specs.Walkers.{fresh_walker, asking_key, answering_key, ended_after};
+ghost use Rattle.net_runs.specs.Walkers.{fresh_walker, asking_key, answering_key, ended_after};
 
 use crate::flights::is_same_key;
 use crate::standing::Standing;
 use mctp_transport::{Eid, Key, Tag};
-use pdr_repository::{Step, WalkFault, Walker};
-use pldm_message::{InstanceId, InstanceIds};
+use pdr_repository::{MAX_RECORDS, Step, WalkFault, Walker};
+use pldm_message::{GetPdrRequest, InstanceId, InstanceIds};
 use std::alloc::{AllocError, Global};
-
-/// The most records that a walker collects.
-const MOST_RECORDS: usize = 4096;
 
 /// The most bytes of records that it collects.
 const MOST_BYTES: usize = 16_777_216;
@@ -37,7 +34,7 @@ pub struct NetworkWalker {
 }
 
 impl NetworkWalker {
-    ghost use Rattle.net_check.specs.Walkers.{IsOver, standing_of};
+    ghost use Rattle.net_runs.specs.Walkers.{IsOver, standing_of};
     ghost use Rattle.net_sim.specs.Outcomes.{standing_value};
     ghost use Rattle.net_sim.specs.NetworkWalkers.{walker_value, IsReady, Listens, TellsRequest, HasTakenMessage};
 
@@ -52,7 +49,7 @@ impl NetworkWalker {
         requires { (8 ≤ count) × (count ≤ 4079) }
         ensures { IfOk result (λ walker. walker_value walker ≡ fresh_walker node eid.value tag.value count) }
     {
-        let walker = Walker::new(alloc, count, MOST_RECORDS, MOST_BYTES)?;
+        let walker = Walker::new(alloc, count, MAX_RECORDS, MOST_BYTES)?;
         let ids = InstanceIds::new();
         Ok(NetworkWalker {
             node,
@@ -145,7 +142,7 @@ impl NetworkWalker {
 
     /// The bytes of its request: of the outstanding one again, under its instance ID, or of a new one, which is outstanding
     /// then, under the next ID. None where the walk is over. It takes no memory.
-    pub fn next_request(&mut self) -> Option<[u8; 17]>
+    pub fn next_request(&mut self) -> Option<[u8; GetPdrRequest::LENGTH]>
         ensures { MatchOption result (IsOver (walker_value self.old) × (walker_value self.new ≡ walker_value self.old))
             (λ request. TellsRequest (walker_value self.old) request (walker_value self.new)) }
     {
@@ -164,6 +161,7 @@ impl NetworkWalker {
     pub fn reserve(&mut self) -> Result<(), AllocError>
         ensures value { walker_value self.new ≡ walker_value self.old }
         ensures room { OnOk result (IsReady self.new) }
+        ensures full { OnErr result (¬ IsReady self.old) }
     {
         self.walker.reserve()
     }

@@ -1,5 +1,5 @@
 //! The payloads of the packets that a network keeps, and the rooms that they take.
-ghost use Rattle.std.specs.Prelude.{◌≡◌, ◌*◌, ◌<◌, ◌≤◌, ◌∷◌, List, length, All, IfOk};
+ghost use Rattle.std.specs.Prelude.{◌≡◌, ◌*◌, ◌<◌, ◌≤◌, ◌∷◌, List, length, All, IfOk, OnErr};
 ghost use Rattle.mctp_transport.specs.Frames.{Frame, IsUnit};
 ghost use Rattle.net_sim.specs.Payloads.{payload_bytes, IsRoomFor, HaveRooms};
 
@@ -46,7 +46,8 @@ impl Payload {
 
 /// Room for a payload of so many bytes. A short one takes none.
 pub fn room_for_payload(alloc: Global, count: usize) -> Result<Vec<u8>, AllocError>
-    ensures { IfOk result (IsRoomFor count) }
+    ensures room { IfOk result (IsRoomFor count) }
+    ensures full { OnErr result (64 < count) }
 {
     if count <= BASELINE_UNIT {
         Ok(Vec::new(alloc))
@@ -71,6 +72,7 @@ pub fn rooms_for_answer(alloc: Global, unit: usize) -> Result<Vec<Vec<u8>>, Allo
     requires { IsUnit unit }
     ensures enough { IfOk result (λ rooms. 64 < unit → 4096 ≤ length rooms.items * unit) }
     ensures rooms { IfOk result (λ rooms. All (IsRoomFor unit) rooms.items) }
+    ensures full { OnErr result (64 < unit) }
 {
     if unit <= BASELINE_UNIT {
         return Ok(Vec::new(alloc));

@@ -1,5 +1,5 @@
 //! A packet that has come to its node, and the room that this takes.
-ghost use Rattle.std.specs.Prelude.{◌≡◌, ◌≤◌, [], vec_capacity, IfOk};
+ghost use Rattle.std.specs.Prelude.{◌≡◌, ◌≤◌, [], vec_capacity, true, IfOk, OnErr};
 ghost use Rattle.mctp_transport.specs.Histories.{History, Arrived, after};
 ghost use Rattle.mctp_transport.specs.Hearing.{Hears};
 ghost use Rattle.mctp_transport.specs.Assembly.{StandsFor, assembler_slots, assembler_limit};
@@ -23,6 +23,7 @@ pub enum Receipt {
 pub fn room_for_message(alloc: Global, header: Header) -> Result<Vec<u8>, AllocError>
     ensures empty { IfOk result (λ room. room.items ≡ []) }
     ensures room { IfOk result (HasRoomAfter header) }
+    ensures full { OnErr result (header.eom ≡ true) }
 {
     if header.eom {
         Vec::with_capacity(alloc, MAX_MESSAGE)

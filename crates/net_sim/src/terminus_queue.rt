@@ -1,7 +1,7 @@
 //! The termini of nodes, and the messages that wait at them.
-ghost use Rattle.std.specs.Prelude.{◌≡◌, ◌≢◌, ◌↔◌, ◌<◌, ◌≤◌, [], length, vec_capacity, option_map, All, IsTrue, OnOk, IfSome, IfNone, Some};
+ghost use Rattle.std.specs.Prelude.{◌≡◌, ◌≢◌, ◌↔◌, ◌<◌, ◌≤◌, [], length, vec_capacity, option_map, All, IsTrue, OnOk, OnErr, IfSome, IfNone, Some};
 ghost use Rattle.mctp_transport.specs.Packets.{key_value};
-ghost use Rattle.net_check.specs.Termini.{with_waiting};
+ghost use Rattle.net_runs.specs.Termini.{with_waiting};
 ghost use Rattle.std.specs.VecDeque.{deque_len, deque_capacity};
 ghost use Rattle.net_sim.specs.TerminusQueues.{queue_state, with_message, HasRoomFor, AnswersOldest, IsIdle, IsIdleFor};
 ghost use Rattle.net_sim.specs.Settling.{NoneWaits};
@@ -77,6 +77,7 @@ impl<T: Terminus> TerminusQueue<T> {
         ensures state { queue_state T.tid T.records self.new
             ≡ queue_state T.tid T.records self.old }
         ensures room { OnOk result (deque_len self.new.waiting < deque_capacity self.new.waiting) }
+        ensures full { OnErr result (¬ (deque_len self.old.waiting < deque_capacity self.old.waiting)) }
     {
         self.waiting.reserve(1)
     }
@@ -147,6 +148,7 @@ pub fn reserve_at<T: Terminus>(queue: &mut Option<TerminusQueue<T>>) -> Result<(
     ensures state { option_map (queue_state T.tid T.records) queue.new
         ≡ option_map (queue_state T.tid T.records) queue.old }
     ensures room { OnOk result (HasRoomFor queue.new) }
+    ensures full { OnErr result (¬ HasRoomFor queue.old) }
 {
     match queue {
         Some(queue) => queue.reserve(),

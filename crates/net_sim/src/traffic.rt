@@ -1,8 +1,8 @@
 //! The packets of a network, and what they come to.
-ghost use Rattle.std.specs.Prelude.{◌≡◌, ℕ, ◌+◌, ◌-◌, ◌<◌, ◌≤◌, ◌↔◌, ◌++◌, ◌∷◌, [], IsTrue, IfSome, None, IfOk, OnOk, length, map, option_map, slice_get, slice_set, is_some, Some, true};
+ghost use Rattle.std.specs.Prelude.{◌≡◌, ℕ, ◌+◌, ◌-◌, ◌<◌, ◌≤◌, ◌↔◌, ◌++◌, ◌∷◌, [], ◌⊎◌, IsTrue, IfSome, None, IfOk, OnOk, OnErr, length, map, option_map, slice_get, slice_set, is_some, Some, true};
 ghost use Rattle.mctp_transport.specs.declared.assembler.Assembler.{Assembler};
 ghost use Rattle.mctp_transport.specs.Assembly.{assembler_slots, assembler_limit};
-ghost use Rattle.net_check.specs.States.{Flight, unit_of};
+ghost use Rattle.net_runs.specs.States.{Flight, unit_of};
 ghost use Rattle.net_sim.specs.Flights.{slots_of, flight_at, flight_value, gone_on, room_of};
 ghost use Rattle.net_sim.specs.Payloads.{IsRoomFor};
 ghost use Rattle.net_sim.specs.Placing.{IsPlaced};
@@ -44,15 +44,15 @@ pub struct Traffic<'a, T> {
 }
 
 impl<'a, T: Terminus> Traffic<'a, T> {
-    ghost use Rattle.net_check.specs.Events.{most_flights, Switch};
+    ghost use Rattle.net_runs.specs.Events.{most_flights, Switch};
     ghost use Rattle.net_sim.specs.Accepted.{tables_of, certificate_of, IsAccepted};
     ghost use Rattle.net_sim.specs.Effects.{effect_value};
-    ghost use Rattle.net_check.specs.States.{at_start};
+    ghost use Rattle.net_runs.specs.States.{at_start};
     ghost use Rattle.net_sim.specs.Standing.{StandsFor, Plays};
     ghost use Rattle.net_sim.specs.Traffics.{traffic_value, traffic_checked};
     ghost use Rattle.net_sim.specs.Dealing.{resting, at_rest, planned_termini};
     ghost use Rattle.mctp_transport.specs.Frames.{IsUnit};
-    ghost use Rattle.net_check.specs.Routing.{Holds};
+    ghost use Rattle.net_tables.specs.Routing.{Holds};
 
     /// The network of what was checked, in which nothing has happened yet.
     #[tactic(auto, using(crate::proofs::Dealt::stands_at_rest))]
@@ -91,6 +91,7 @@ impl<'a, T: Terminus> Traffic<'a, T> {
     pub fn reserve(&mut self, count: usize) -> Result<(), AllocError>
         ensures flights { slots_of self.new.flights ≡ slots_of self.old.flights }
         ensures room { OnOk result (count ≤ room_of self.new.flights) }
+        ensures full { OnErr result (room_of self.old.flights < count) }
         ensures router { self.new.router ≡ self.old.router }
         ensures assemblers { self.new.assemblers.items ≡ self.old.assemblers.items }
         ensures queues { self.new.queues.items ≡ self.old.queues.items }
@@ -106,6 +107,7 @@ impl<'a, T: Terminus> Traffic<'a, T> {
         ensures assemblers { self.new.assemblers.items ≡ self.old.assemblers.items }
         ensures queues { self.new.queues.items ≡ self.old.queues.items }
         ensures payload { IfOk result (IsRoomFor count) }
+        ensures full { OnErr result ((room_of self.old.flights < 1) ⊎ (64 < count)) }
     {
         self.reserve(1)?;
         room_for_payload(self.alloc, count)

@@ -1,5 +1,5 @@
-pub mod Writing
-pub mod Numeric
-pub mod ListsRead
-pub mod BodyFaults
-pub mod RecordFaults
+mod Writing
+mod Numeric
+mod ListsRead
+mod BodyFaults
+mod RecordFaults

@@ -1,12 +1,13 @@
 -- Lists that are read are spelled so.
-use Rattle.std.proofs.Common.{◌≡◌, ℕ, zero, suc, ◌+◌, ◌-◌, ◌*◌, ◌/◌, ◌%◌, ◌^◌, ◌<◌, ◌≤◌, Bool, true, false, cond, ltb, List, [], ◌∷◌, ◌++◌, length, get_or, take, drop, Option, Some, None, refl, sym, ap, ◌∙◌, arith, length-append}
+use Rattle.std.proofs.Common.{◌≡◌, ℕ, zero, suc, ◌+◌, ◌-◌, ◌*◌, ◌/◌, ◌%◌, ◌^◌, ◌<◌, ◌≤◌, false, ltb, List, [], ◌∷◌, ◌++◌, length, get_or, take, drop, Option, Some, refl, sym, ap, ◌∙◌, arith, length-append}
+use Rattle.std.proofs.NetLemmas.Options.{cond_none}
 use Rattle.std.specs.Prelude.{slice_index}
-use Rattle.std.proofs.lemmas.Bool.{ltb-false, le-ltb, lt-ltb}
+use Rattle.std.proofs.lemmas.Bool.{ltb-false, le-ltb}
 use Rattle.std.proofs.lemmas.List.{take_at, drop_at, take-append-drop, drop-drop, length-take, length-drop, get_or-drop, nil_from_length}
 use Rattle.byteorder.specs.Endian.{little_bytes, little_number}
 use Rattle.pdr_record.specs.Fields.{followed, bytes_of, Fit}
-use Rattle.pdr_record.specs.Layouts.{EntityValue, StateSetValue, entity_fields, entities_fields, state_sets_fields}
-use Rattle.pdr_record.specs.ListsAt.{entity_at, entities_of, state_set_at, after_state_set, state_sets_of, after_state_sets}
+use Rattle.pdr_record.specs.Layouts.{StateSetValue, entities_fields, state_sets_fields}
+use Rattle.pdr_record.specs.ListsAt.{entities_of, state_set_at, after_state_set, state_sets_of, after_state_sets}
 use Rattle.pdr_record.specs.FieldLaws.{followed-bytes, length-followed}
 use Rattle.pdr_record.specs.ListLaws.{state_sets_again}
 
@@ -53,27 +54,11 @@ entities_fit zero bytes fits = tt
 entities_fit (suc n) bytes fits =
     (two_fits bytes fits, (two_fits (drop 2 bytes) (IsBytes-drop 2 bytes fits), (two_fits (drop 4 bytes) (IsBytes-drop 4 bytes fits), entities_fit n (drop 6 bytes) (IsBytes-drop 6 bytes fits))))
 
--- the first of some
-pub first_entity : (n : ℕ) (bytes : List ℕ) → bytes_of (entities_fields (entities_of (suc n) bytes)) ≡ bytes → (6 ≤ length bytes) × (bytes_of (entities_fields (entities_of n (drop 6 bytes))) ≡ drop 6 bytes)
-first_entity n bytes e = (omega (arith, ap length e), ap (drop 6) e)
-
--- the entity that was read
-pub entity_again : (v : EntityValue) (bytes rest : List ℕ) → Fit (entity_fields v) → bytes ≡ followed (entity_fields v) rest → (entity_at bytes ≡ v) × (drop 6 bytes ≡ rest)
-entity_again v bytes rest fits e =
-    let a : little_number 2 (little_bytes 2 v.entity_type) ≡ v.entity_type = let h = fits.0 in omega arith in
-    let b : little_number 2 (little_bytes 2 v.instance_number) ≡ v.instance_number = let h = fits.1.0 in omega arith in
-    let c : little_number 2 (little_bytes 2 v.container_id) ≡ v.container_id = let h = fits.1.1.0 in omega arith in
-    (ap entity_at e ∙ (λ i. record { entity_type = a i; instance_number = b i; container_id = c i }), ap (drop 6) e)
-
 -- ---- state sets
 
 pub state_sets_count : (n : ℕ) (bytes : List ℕ) → length (state_sets_of n bytes) ≡ n
 state_sets_count zero bytes = refl
 state_sets_count (suc n) bytes = ap suc (state_sets_count n (after_state_set bytes))
-
-guard_some : {A : Type 0} (b : Bool) (o : Option A) (r : A) → cond b None o ≡ Some r → (b ≡ false) × (o ≡ Some r)
-guard_some true o r e = absurd cc
-guard_some false o r e = (refl, e)
 
 pub record AreRead (sets : List StateSetValue) (bytes rest : List ℕ) : Type 0 where
   pub field : bytes ≡ followed (state_sets_fields sets) rest
@@ -89,7 +74,7 @@ state_sets_spelled (suc n) (a ∷ []) rest fits e = absurd cc
 state_sets_spelled (suc n) (a ∷ b ∷ []) rest fits e = absurd cc
 state_sets_spelled (suc n) (a ∷ b ∷ c ∷ xs) rest fits e =
     let bytes = a ∷ b ∷ c ∷ xs in
-    let g = guard_some (ltb (length bytes) (3 + c)) (after_state_sets n (drop c xs)) rest e in
+    let g = cond_none (ltb (length bytes) (3 + c)) (after_state_sets n (drop c xs)) rest e in
     let long : 3 + c ≤ length bytes = ltb-false _ _ g.0 in
     let ha : a < 256 = fits 0 in
     let hb : b < 256 = fits 1 in
@@ -134,13 +119,6 @@ one_after count i bytes rest total lt long is so_far =
     let enough : ltb (length bytes) (3 + slice_index bytes 2) ≡ false = le-ltb _ _ long in
     let one : after_state_sets (count - i) bytes ≡ after_state_sets (count - (i + 1)) (after_state_set bytes) = rw (k, enough) refl in
     ap (after_state_sets (count - (i + 1))) is ∙ sym one ∙ so_far
-
-pub none_after : (count i : ℕ) (bytes : List ℕ) (total : Option (List ℕ)) → i < count → length bytes < 3 + slice_index bytes 2 → after_state_sets (count - i) bytes ≡ total → total ≡ None
-none_after count i bytes total lt short so_far =
-    let k : count - i ≡ suc (count - (i + 1)) = omega arith in
-    let few : ltb (length bytes) (3 + slice_index bytes 2) ≡ true = lt-ltb _ _ short in
-    let one : after_state_sets (count - i) bytes ≡ None = rw (k, few) refl in
-    sym so_far ∙ one
 
 pub shorter_after : (n : ℕ) (bytes rest : List ℕ) → IsBytes bytes → after_state_sets n bytes ≡ Some rest → length rest ≤ length bytes
 shorter_after n bytes rest fits e =

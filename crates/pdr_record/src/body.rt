@@ -11,6 +11,18 @@ use crate::record_error::RecordError;
 use crate::state_sensor::StateSensor;
 use crate::terminus_locator::TerminusLocator;
 
+/// The type of a terminus locator (DSP0248, PDR types).
+const TERMINUS_LOCATOR: u8 = 1;
+
+/// The type of a numeric sensor.
+const NUMERIC_SENSOR: u8 = 2;
+
+/// The type of a state sensor.
+const STATE_SENSOR: u8 = 4;
+
+/// The type of an entity association.
+const ENTITY_ASSOCIATION: u8 = 15;
+
 /// What follows the header of a record: one of four layouts (DSP0248), or the bytes of another type. A number's lowest
 /// byte comes first.
 #[derive(Clone, Copy, Debug, PartialEq, Eq)]
@@ -58,10 +70,10 @@ impl<'a> Body<'a> {
         ensures refused { IfErr result (λ e. IsFrontFault e record_type fields.old.rest.now) }
     {
         match record_type {
-            1 => Ok(Body::Terminus(TerminusLocator::take(fields)?)),
-            2 => Ok(Body::Numeric(NumericSensor::take(fields)?)),
-            4 => Ok(Body::State(StateSensor::take(fields)?)),
-            15 => Ok(Body::Association(EntityAssociation::take(fields)?)),
+            TERMINUS_LOCATOR => Ok(Body::Terminus(TerminusLocator::take(fields)?)),
+            NUMERIC_SENSOR => Ok(Body::Numeric(NumericSensor::take(fields)?)),
+            STATE_SENSOR => Ok(Body::State(StateSensor::take(fields)?)),
+            ENTITY_ASSOCIATION => Ok(Body::Association(EntityAssociation::take(fields)?)),
             _ => Ok(Body::Other {
                 record_type,
                 bytes: fields.bytes(fields.rest.len()),
@@ -74,10 +86,10 @@ impl<'a> Body<'a> {
         ensures { result ≡ type_of (body_value self.now) }
     {
         match self {
-            Body::Terminus(_) => 1,
-            Body::Numeric(_) => 2,
-            Body::State(_) => 4,
-            Body::Association(_) => 15,
+            Body::Terminus(_) => TERMINUS_LOCATOR,
+            Body::Numeric(_) => NUMERIC_SENSOR,
+            Body::State(_) => STATE_SENSOR,
+            Body::Association(_) => ENTITY_ASSOCIATION,
             Body::Other { record_type, .. } => *record_type,
         }
     }

@@ -1,14 +1,13 @@
 -- Records copied one after another into a block.
-use Rattle.std.proofs.Common.{◌≡◌, ℕ, ◌+◌, ◌-◌, ◌^◌, ◌<◌, ◌≤◌, List, [], ◌∷◌, ◌++◌, length, take, drop, get_or, slice_get, Some, None, refl, sym, ap, ◌∙◌, subst, arith}
-use Rattle.std.specs.Prelude.{All, MatchOption, Option, Vec, option_map, sum_by}
+use Rattle.std.proofs.Common.{◌≡◌, ℕ, ◌+◌, ◌-◌, ◌^◌, ◌<◌, ◌≤◌, List, [], ◌∷◌, ◌++◌, length, take, drop, get_or, slice_get, Some, refl, sym, ap, ◌∙◌, subst, arith}
+use Rattle.std.specs.Prelude.{All, Vec, option_map, sum_by}
 use Rattle.std.proofs.lemmas.List.{drop-append-le, drop_at, take-append-le, take_all, map_more, map_push, length-append, length-drop, length_push}
 use Rattle.std.proofs.lemmas.List.Elements.{All-head, All-tail, All-push, All-weaker}
 use Rattle.std.proofs.lemmas.List.Sums.{sum_by_more, sum_by_more_le}
-use Rattle.std.proofs.lemmas.Option.{same_Some, slice_get-map}
+use Rattle.std.proofs.lemmas.Option.{slice_get-map}
 use Rattle.pdr_repository.specs.declared.record_block.Span.{Span}
-use Rattle.pdr_repository.specs.Records.{Entry, IsLawful, entries, entry_of}
-use Rattle.pdr_repository.specs.RecordBlocks.{HaveHandles, IsSpanIn, entry_in, entries_in}
-use Rattle.pdr_repository.specs.LentParts.{HoldsRecord, IsPartFrom, LendsPart}
+use Rattle.pdr_repository.specs.Records.{Entry, entries, entry_of}
+use Rattle.pdr_repository.specs.RecordBlocks.{IsSpanIn, entry_in, entries_in}
 
 entry_kept : (block more : List ℕ) (s : Span) → IsSpanIn block s → entry_in (block ++ more) s ≡ entry_in block s
 entry_kept block more s is =
@@ -82,11 +81,6 @@ filled_more records i x block more spans start end inside is copied begins ends 
           (record { ordered = omega (arith, long, begins, ends); within = omega (arith, ends); short = omega (arith, long, begins, ends, short) });
     }
 
-pub lawful_handles : (records kept : List Entry) → kept ≡ records → IsLawful records → HaveHandles kept
-lawful_handles records kept same lawful =
-    let P : List Entry → Type 0 = λ es. HaveHandles es in
-    subst P (sym same) (record { distinct = lawful.distinct; some = lawful.handles })
-
 -- the same with the room
 pub filled_to_more : {Z : Type 0} (records : List (ℕ × Vec ℕ Z)) (i : ℕ) (x : ℕ × Vec ℕ Z) (block more grown : List ℕ) (spans : List Span) (start end bytes places larger : ℕ) → i < length records → x ≡ get_or records i x
     → more ≡ x.1.items → grown ≡ block ++ more → start ≡ length block → end ≡ length grown → length more < 2 ^ 32 → bytes ≤ larger → IsFilledTo records i block spans bytes places
@@ -108,18 +102,3 @@ filled_to_more records i x block more grown spans start end bytes places larger 
 -- what stands at a place of the spans is the record that it holds
 pub held_there : (block : List ℕ) (spans : List Span) (place : ℕ) (s : Span) → slice_get spans place ≡ Some s → slice_get (entries_in block spans) place ≡ Some (entry_in block s)
 held_there block spans place s here = slice_get-map (entry_in block) spans place ∙ ap (option_map (entry_in block)) here
-
--- one record has the handle, so nothing is lent where the offset isn't below its length
-none_left : (records : List Entry) (handle offset place : ℕ) (e : Entry) → HaveHandles records → slice_get records place ≡ Some e → e.handle ≡ handle → length e.bytes ≤ offset
-    → (p : ℕ) (f : Entry) → slice_get records p ≡ Some f → f.handle ≡ handle → length f.bytes ≤ offset
-none_left records handle offset place e handles here named past p f there same =
-    let at : place ≡ p = handles.distinct place p e f here there (named ∙ sym same) in
-    let is : e ≡ f = same_Some e f (sym here ∙ ap (slice_get records) at ∙ there) in
-    let P : Entry → Type 0 = λ g. length g.bytes ≤ offset in
-    subst P is past
-
--- a part of the record that was found is lent
-pub lent : {X : Type 0} (now : X → List ℕ) (records : List Entry) (handle offset count : ℕ) (bytes : List ℕ) (part : Option X) → HaveHandles records → HoldsRecord records handle (Some bytes)
-    → MatchOption part (length bytes ≤ offset) (λ p. IsPartFrom bytes offset count (now p)) → LendsPart records handle offset count (option_map now part)
-lent now records handle offset count bytes None handles (place, e, here, named, is) past = none_left records handle offset place e handles here named (let P : List ℕ → Type 0 = λ bs. length bs ≤ offset in subst P is past)
-lent now records handle offset count bytes (Some p) handles (place, e, here, named, is) from = (place, e, here, named, (let P : List ℕ → Type 0 = λ bs. IsPartFrom bs offset count (now p) in subst P is from))

@@ -1,20 +1,11 @@
 -- Each list of numbers has a check byte, and no other number is one.
-use Rattle.std.proofs.Common.{◌≡◌, ℕ, zero, suc, ◌+◌, ◌*◌, ◌/◌, ◌%◌, ◌^◌, ◌≤◌, List, [], ◌∷◌, ◌++◌, length, ap, ◌∙◌, subst, inl, inr, arith, add-one}
+use Rattle.std.proofs.Common.{◌≡◌, ℕ, zero, suc, ◌*◌, ◌/◌, ◌%◌, ◌≤◌, List, [], ◌∷◌, ◌++◌, ap, ◌∙◌, subst, inl, inr, arith}
 use Rattle.std.proofs.lemmas.Bool.{cases_lt}
-use Rattle.std.proofs.lemmas.List.{length_push}
-use Rattle.std.proofs.Math.Nat.{pow-suc}
 use Rattle.pdr_repository.specs.Crc.{polynomial, IsCrc}
-use Rattle.pdr_repository.proofs.Crcs.{one_crc}
+use Rattle.pdr_repository.proofs.Crcs.{one_crc, polynomial_more}
 use Rattle.pdr_repository.proofs.SomeAnswers.{EachByte, some_crc}
 use Rattle.pdr_repository.proofs.AnswerBytes.{bytes_append}
 use Rattle.pdr_repository.proofs.Deciding.{OrNot, same_or_not}
-
--- one more byte
-polynomial_push : (bs : List ℕ) (b : ℕ) → polynomial (bs ++ b ∷ []) ≡ 256 * polynomial bs + b
-polynomial_push [] b = omega arith
-polynomial_push (x ∷ bs) b =
-    let power : 256 ^ length (bs ++ b ∷ []) ≡ 256 * 256 ^ length bs = ap (λ n. 256 ^ n) (length_push bs b ∙ add-one (length bs)) ∙ pow-suc 256 (length bs) ∙ omega arith in
-    rw power (omega (arith, polynomial_push bs b))
 
 -- each number is the polynomial of some bytes
 digits : (most n : ℕ) → n ≤ most → (bytes : List ℕ) × EachByte bytes × (polynomial bytes ≡ n)
@@ -23,7 +14,7 @@ digits (suc most) n small = elim (cases_lt 0 n) [
   | inr none ↦ ([], tt, omega arith)
   | inl some ↦
       let rest = digits most (n / 256) (omega arith) in
-      (rest.0 ++ n % 256 ∷ [], bytes_append rest.0 (n % 256 ∷ []) rest.1 (omega arith, tt), polynomial_push rest.0 (n % 256) ∙ omega (arith, rest.2))
+      (rest.0 ++ n % 256 ∷ [], bytes_append rest.0 (n % 256 ∷ []) rest.1 (omega arith, tt), polynomial_more rest.0 (n % 256) ∙ omega (arith, rest.2))
 ]
 
 same_crc : (xs ys : List ℕ) (crc : ℕ) → polynomial xs ≡ polynomial ys → IsCrc xs crc → IsCrc ys crc

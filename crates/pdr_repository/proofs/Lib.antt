@@ -1,31 +1,31 @@
-pub mod Crcs
+mod Crcs
 pub mod Collecting
-pub mod Headers
+mod Headers
 pub mod Dues
 pub mod Walks
-pub mod CommandLaws
-pub mod Places
-pub mod Indexing
-pub mod Blocks
-pub mod OneLentParts
-pub mod Handles
-pub mod Collected
-pub mod Judging
+mod CommandLaws
+mod Places
+mod Indexing
+mod Blocks
+mod OneLentParts
+mod Handles
+mod Collected
+mod Judging
 pub mod Taking
-pub mod Wanting
-pub mod FivePackets
+mod Wanting
+mod FivePackets
 pub mod Following
-pub mod Telling
+mod Telling
 pub mod Ascending
-pub mod LawfulLists
+mod LawfulLists
 pub mod Meeting
 pub mod OneAnswers
 pub mod Deciding
 pub mod Searching
 pub mod SomeAnswers
 pub mod AnswerBytes
-pub mod AnswersRead
-pub mod CheckBytes
+mod AnswersRead
+mod CheckBytes
 pub mod Takings
 pub mod SomeTakings
 pub mod OneTakings

@@ -172,10 +172,6 @@ some_part_answer records r all = elim (less_or_not 1 r.operation) [
   ]
 ]
 
--- 13 bytes are a request for a part
-number_of_four : ℕ → ℕ → ℕ → ℕ → ℕ
-number_of_four a b c d = a + 256 * b + 65536 * c + 16777216 * d
-
 some_request : (asked : List ℕ) → EachByte asked → length asked ≡ 13 → (r : PartRequest) × IsPartRequest r × (asked ≡ part_request_bytes r)
 some_request (a ∷ b ∷ c ∷ d ∷ e ∷ f ∷ g ∷ h ∷ o ∷ i ∷ j ∷ k ∷ l ∷ []) (pa, (pb, (pc, (pd, (pe, (pf, (pg, (ph, (po, (pi, (pj, (pk, (pl, none))))))))))))) long =
     let r : PartRequest = record {

@@ -7,9 +7,8 @@ use Rattle.std.specs.Str.Parse.{digits_value, ParsesUnsigned}
 use Rattle.std.proofs.lemmas.Option.{none-some}
 use Rattle.std.proofs.lemmas.Str.Parse.{IsNumeralModel, numerals_by_value, parse_digits}
 use Rattle.mctp_transport.specs.declared.address.Eid.{Eid}
-use Rattle.net_check.specs.Faults.{eid_number}
-use Rattle.net_check.specs.Names.{name_of}
-use Rattle.net_check.specs.Routing.{node_at, eid_of}
+use Rattle.net_tables.specs.Routing.{eid_number, node_at, eid_of}
+use Rattle.net_rules.specs.Names.{name_of}
 use Rattle.net_plan.specs.declared.nodes.Node.{Node}
 use Rattle.net_plan.specs.declared.plan.Plan.{Plan}
 use Rattle.plan_commands.specs.Walking.{IsFirstNamed}

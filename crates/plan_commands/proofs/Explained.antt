@@ -1,11 +1,10 @@
 -- What the end of `explain` tells of an answer.
-use Rattle.std.proofs.Common.{◌≡◌, ◌≢◌, List, ℕ, Result, Ok, Err, Some, inl, inr, sym, ◌∙◌, ap, subst}
+use Rattle.std.proofs.Common.{◌≡◌, ◌≢◌, List, ℕ, Result, Ok, Err, Some, inl, inr, sym, subst}
 use Rattle.std.specs.Prelude.{IfOk, IfErr}
 use Rattle.std.specs.Cow.{cow_str_bytes}
-use Rattle.std.specs.Io.KnownBytes.{Appends}
-use Rattle.net_check.specs.declared.certify_error.CertifyError.{CertifyError}
-use Rattle.net_check.specs.declared.certify_error.CertifyError.TheVariants as error
-use Rattle.net_check.specs.Rules.{Accepts}
+use Rattle.net_rules.specs.declared.certify_error.CertifyError.{CertifyError}
+use Rattle.net_rules.specs.declared.certify_error.CertifyError.TheVariants as error
+use Rattle.net_rules.specs.Rules.{Accepts}
 use Rattle.net_plan.specs.declared.certificate.Certificate.{Certificate}
 use Rattle.net_plan.specs.declared.plan.Plan.{Plan}
 use Rattle.plan_commands.specs.declared.commands.answer.Answer.{Answer}
@@ -14,13 +13,12 @@ use Rattle.plan_commands.specs.declared.refused.Refused.{Refused}
 use Rattle.plan_commands.specs.declared.refused.Refused.TheVariants as refused
 use Rattle.plan_commands.specs.declared.status.Status.{Status}
 use Rattle.plan_commands.specs.declared.status.Status.TheVariants as status
-use Rattle.plan_commands.specs.Answers.{Stream, Refuses, IsReported, GavePlan, GaveCertificate}
-use Rattle.plan_commands.specs.Explaining.{IsExplained, ExplainsSo, IsExplainAnswer, Explains}
-use Rattle.plan_commands.specs.Explaining.{IsBothExplained, IsExplainedWith, ExplainsWithSo, IsCertifiedAnswer, ExplainsWith, IsFaultExplained, IsRemedyTold, remedy_text}
+use Rattle.plan_commands.specs.Answers.{Stream, Refuses, GavePlan, GaveCertificate}
+use Rattle.plan_commands.specs.Explaining.{IsExplained, ExplainsSo}
+use Rattle.plan_commands.specs.Explaining.{IsBothExplained, IsExplainedWith, ExplainsWithSo, IsFaultExplained, IsRemedyTold, remedy_text}
 use Rattle.plan_commands.specs.UnreadTexts.{IsNoPlanBy, IsNoCertificateBy, IsUnreadText, IsUnreadCertificateText}
 use Rattle.plan_texts.specs.Lines.{obstacle_text}
-use Rattle.plan_commands.specs.Statuses.{status_of, IsReportedFor}
-use Rattle.plan_commands.specs.Told.{IsTold}
+use Rattle.plan_commands.proofs.Told.{of_memory}
 
 -- want of memory has no text
 pub not_memory : (plan : Plan) (obstacle : CertifyError) (text : List ℕ) → obstacle_text plan obstacle ≡ Some text → obstacle ≢ error.OutOfMemory
@@ -30,12 +28,6 @@ not_memory plan obstacle text told is =
 
 -- ---- standard error
 
--- want of memory ends with its own status
-of_memory : (why : Refused) (s : Status) (errors : Stream) → why ≡ refused.NoMemory → Refuses why s errors → (s ≡ status.NoMemory) × IsReported refused.NoMemory errors
-of_memory why s errors is refuses =
-    let reported : refuses.reported ≡ refused.NoMemory = subst (λ w. IsReportedFor w refuses.reported) is refuses.for_it in
-    (refuses.ends ∙ ap status_of reported, subst (λ w. IsReported w errors) reported refuses.line)
-
 -- where only want of memory is no answer, what holds of an answer holds under every other status
 pub quiet_told : (P Q : Type 0) (s : Status) (errors : Stream) (answered : Result Answer Refused) → IfErr answered (λ why. why ≡ refused.NoMemory)
     → IfOk answered (λ _. P → Q) → IfErr answered (λ why. Refuses why s errors) → s ≢ status.NoMemory → P → Q
@@ -43,33 +35,6 @@ quiet_told P Q s errors (Ok answer) none quiet ends told p = quiet p
 quiet_told P Q s errors (Err why) none quiet ends told p = absurd (told (of_memory why s errors none ends).0)
 
 -- ---- of a plan
-
-explain_answer : (plans : Stream) (s : Status) (text : List ℕ) → ExplainsSo plans s text → IsExplainAnswer plans text
-explain_answer plans status.Yes text (inl (plan, given, sound)) = inl (plan, given, inl sound)
-explain_answer plans status.Fault text (inl (plan, given, told)) = inl (plan, given, inr told)
-explain_answer plans status.Unreadable text (inl (plan, given, h)) = absurd h
-explain_answer plans status.NoMemory text (inl (plan, given, h)) = absurd h
-explain_answer plans s text (inr (is, unread)) = inr unread
-
-explain_out : (plans output errors : Stream) (s : Status) (text : List ℕ) → ExplainsSo plans s text → Appends output.before output.after text → Explains s plans output errors
-explain_out plans output errors status.Yes text (inl (plan, given, sound)) written = (plan, text, given, sound, written)
-explain_out plans output errors status.Fault text (inl (plan, given, told)) written = (plan, text, given, told, written)
-explain_out plans output errors status.Unreadable text (inl (plan, given, h)) written = absurd h
-explain_out plans output errors status.NoMemory text (inl (plan, given, h)) written = absurd h
-explain_out plans output errors s text (inr (is, unread)) written = subst (λ s. Explains s plans output errors) (sym is) (inl (text, unread, written))
-
-pub explains_so : (plans output errors : Stream) (ended : Status) (answered : Result Answer Refused)
-    → IfOk answered (λ (a : Answer). ExplainsSo plans a.status (cow_str_bytes a.text)) → IfErr answered (λ why. why ≡ refused.NoMemory)
-    → IfOk answered (λ (a : Answer). IsTold a.status (cow_str_bytes a.text) ended output errors)
-    → IfErr answered (λ why. Refuses why ended errors) → Explains ended plans output errors
-explains_so plans output errors ended (Ok a) answers lacks (inl (is, written)) ends =
-    subst (λ s. Explains s plans output errors) (sym is) (explain_out plans output errors a.status (cow_str_bytes a.text) answers written)
-explains_so plans output errors ended (Ok a) answers lacks (inr (is, fails, part, line)) ends = subst (λ s. Explains s plans output errors) (sym is) (inr (
-  record { text = cow_str_bytes a.text; answer = explain_answer plans a.status (cow_str_bytes a.text) answers; fails = fails; beginning = part },
-  line,
-))
-explains_so plans output errors ended (Err why) answers lacks told ends =
-    let memory = of_memory why ended errors lacks ends in subst (λ s. Explains s plans output errors) (sym memory.0) memory.1
 
 -- the answer on a plan that was given
 pub of_given : (plans : Stream) (plan : Plan) (result : Result Answer Refused) → GavePlan plans plan
@@ -99,39 +64,6 @@ pub of_certificate : (plan : Plan) (certificates : Stream) (cert : Certificate) 
     → IfOk result (λ (a : Answer). IsBothExplained plan cert a.status (cow_str_bytes a.text)) → IfOk result (λ (a : Answer). IsExplainedWith plan certificates a.status (cow_str_bytes a.text))
 of_certificate plan certificates cert (Ok a) given h = inl (cert, given, h)
 of_certificate plan certificates cert (Err why) given h = tt
-
-module _ (plans certificates : Stream) where
-  certified_answer : (s : Status) (text : List ℕ) → ExplainsWithSo plans certificates s text → IsCertifiedAnswer plans certificates text
-  certified_answer status.Yes text (inl (plan, given, inl (cert, read, sound))) = inl (plan, cert, record { plan_text = given; certificate_text = read }, inl sound)
-  certified_answer status.Fault text (inl (plan, given, inl (cert, read, told))) = inl (plan, cert, record { plan_text = given; certificate_text = read }, inr told)
-  certified_answer status.Unreadable text (inl (plan, given, inl (cert, read, h))) = absurd h
-  certified_answer status.NoMemory text (inl (plan, given, inl (cert, read, h))) = absurd h
-  certified_answer s text (inl (plan, given, inr (is, unread))) = inr (inr (plan, given, unread))
-  certified_answer s text (inr (is, unread)) = inr (inl unread)
-
-  module _ (output errors : Stream) where
-    certified_out : (s : Status) (text : List ℕ) → ExplainsWithSo plans certificates s text → Appends output.before output.after text
-        → ExplainsWith s plans certificates output errors
-    certified_out status.Yes text (inl (plan, given, inl (cert, read, sound))) written = (plan, cert, text, record { plan_text = given; certificate_text = read }, sound, written)
-    certified_out status.Fault text (inl (plan, given, inl (cert, read, told))) written = (plan, cert, text, record { plan_text = given; certificate_text = read }, told, written)
-    certified_out status.Unreadable text (inl (plan, given, inl (cert, read, h))) written = absurd h
-    certified_out status.NoMemory text (inl (plan, given, inl (cert, read, h))) written = absurd h
-    certified_out s text (inl (plan, given, inr (is, unread))) written =
-        subst (λ s. ExplainsWith s plans certificates output errors) (sym is) (inl (text, inr (plan, given, unread), written))
-    certified_out s text (inr (is, unread)) written = subst (λ s. ExplainsWith s plans certificates output errors) (sym is) (inl (text, inl unread, written))
-
-    pub explains_with_so : (ended : Status) (answered : Result Answer Refused)
-        → IfOk answered (λ (a : Answer). ExplainsWithSo plans certificates a.status (cow_str_bytes a.text)) → IfErr answered (λ why. why ≡ refused.NoMemory)
-        → IfOk answered (λ (a : Answer). IsTold a.status (cow_str_bytes a.text) ended output errors)
-        → IfErr answered (λ why. Refuses why ended errors) → ExplainsWith ended plans certificates output errors
-    explains_with_so ended (Ok a) answers lacks (inl (is, written)) ends =
-        subst (λ s. ExplainsWith s plans certificates output errors) (sym is) (certified_out a.status (cow_str_bytes a.text) answers written)
-    explains_with_so ended (Ok a) answers lacks (inr (is, fails, part, line)) ends = subst (λ s. ExplainsWith s plans certificates output errors) (sym is) (inr (
-      record { text = cow_str_bytes a.text; answer = certified_answer a.status (cow_str_bytes a.text) answers; fails = fails; beginning = part },
-      line,
-    ))
-    explains_with_so ended (Err why) answers lacks told ends =
-        let memory = of_memory why ended errors lacks ends in subst (λ s. ExplainsWith s plans certificates output errors) (sym memory.0) memory.1
 
 -- the answer on both, where the plan was given
 pub of_both : (plans certificates : Stream) (plan : Plan) (result : Result Answer Refused) → GavePlan plans plan

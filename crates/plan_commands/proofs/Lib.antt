@@ -9,9 +9,10 @@ pub mod Simulated
 pub mod Naming
 pub mod Moved
 pub mod MovePlayed
-pub mod Traced
+pub mod Playing
 pub mod Ends
 pub mod Linted
+pub mod FaultListed
 pub mod Drawn
 pub mod UnreadTexts
 pub mod Explained

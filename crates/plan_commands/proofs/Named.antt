@@ -13,7 +13,7 @@ use Rattle.net_plan.specs.declared.nodes.Port.{Port}
 use Rattle.net_plan.specs.NodeValues.{node_value}
 use Rattle.net_plan.specs.Placed.{are_placed, is_placed, is_owner_placed}
 use Rattle.net_plan.proofs.Placed.{list_all_values}
-use Rattle.net_check.specs.Routing.{node_at}
+use Rattle.net_tables.specs.Routing.{node_at}
 use Rattle.net_sim.specs.Assignments.{AssignmentValue, IsAssignmentOf, is_on_bus, shared_bus, pool_requests, requests_by, requests_of, requests_to}
 use Rattle.plan_commands.specs.Assigning.{IsNamed}
 

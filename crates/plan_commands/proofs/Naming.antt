@@ -1,6 +1,6 @@
 -- A name stands for its first node.
 use Rattle.std.proofs.Common.{◌≡◌, ◌<◌, ℕ, List, None, ap, ◌∙◌, arith}
-use Rattle.net_check.specs.Repositories.{terminus_of}
+use Rattle.net_tables.specs.Repositories.{terminus_of}
 use Rattle.net_plan.specs.declared.plan.Plan.{Plan}
 use Rattle.plan_commands.specs.Walking.{IsFirstNamed, HasTerminusNamed}
 

@@ -12,11 +12,11 @@ use Rattle.net_plan.specs.declared.terminus.PlannedTerminus.{PlannedTerminus}
 use Rattle.pdr_repository.specs.declared.list_terminus.ListTerminus.{ListTerminus}
 use Rattle.pdr_repository.specs.ListTermini.{list_records}
 use Rattle.pdr_repository.specs.Records.{Entry, IsLawful}
-use Rattle.net_check.specs.Repositories.{terminus_of, records_of, places_of, entry_of, record_at, records_by_place, RecordsHaveOrder}
-use Rattle.net_check.specs.Rules.{Accepts}
-use Rattle.net_check.specs.MoveRules.{AcceptsMove}
+use Rattle.net_tables.specs.Repositories.{terminus_of, records_of, places_of, entry_of, record_at, records_by_place, RecordsHaveOrder}
+use Rattle.net_rules.specs.Rules.{Accepts}
+use Rattle.net_rules.specs.MoveRules.{AcceptsMove}
 use Rattle.net_check.proofs.Accepted.{accepted_orders, move_orders}
-use Rattle.net_check.proofs.ByPlace.{by_place_length, is_lawful}
+use Rattle.net_runs.proofs.ByPlace.{by_place_length, is_lawful}
 
 -- where the first of a list stands, the list is one longer
 position_more : (here : Bool) (n l : ℕ) → cond (nat_lt (cond (not here) (1 + n) 0) (suc l)) (Some (cond (not here) (1 + n) 0)) None

@@ -1,46 +1,39 @@
 -- Lines of outcomes, and runs of which they are.
-use Rattle.std.proofs.Common.{◌≡◌, ℕ, zero, suc, ◌+◌, ◌<◌, ◌≤◌, Bool, true, false, List, [], ◌∷◌, ◌++◌, length, map, take, drop, get_or, Option, Some, Result, Ok, Err, inl, inr, refl, sym, ◌∙◌, ap, subst, append_assoc, append-nil, arith}
-use Rattle.std.specs.Prelude.{slice_get, option_map, ◌⊎◌, IfErr, OnOk, OnErr}
+use Rattle.std.proofs.Common.{◌≡◌, ℕ, zero, suc, ◌+◌, ◌<◌, ◌≤◌, List, [], ◌∷◌, ◌++◌, length, map, take, drop, get_or, Option, Some, Result, Ok, Err, refl, sym, ◌∙◌, ap, subst, append_assoc, append-nil, arith}
+use Rattle.std.specs.Prelude.{slice_get, option_map, IfErr, OnOk, OnErr}
 use Rattle.std.specs.Io.KnownBytes.{Appends}
 use Rattle.std.proofs.KnownBytes.{Appends-nil}
-use Rattle.std.proofs.lemmas.List.{take-append-drop, length-map, length-take, length-take-le, take_more, take_all, take-map}
-use Rattle.std.proofs.lemmas.Option.{slice_get-map, slice_get-get_or, slice_get_within, get_or_from_slice_get}
-use Rattle.net_plan.specs.declared.event.Event.{Event}
+use Rattle.std.proofs.lemmas.List.{take-append-drop, length-map, length-take-le, take_more, take_all, take-map}
+use Rattle.std.proofs.lemmas.Option.{slice_get-map, slice_get-get_or, get_or_from_slice_get}
 use Rattle.net_plan.specs.declared.plan.Plan.{Plan}
-use Rattle.net_plan.specs.Stream.{AppendsBeginning}
+use Rattle.net_plan.specs.Stream.{HasFailed, AppendsBeginning}
 use Rattle.plan_commands.specs.Gathering.{AppendsAllBut}
 use Rattle.plan_commands.proofs.Waiting.{added_after, begins_after, begins_at_end, given_at_end}
-use Rattle.net_check.specs.WalkedRuns.{WalkedTurn, WalkedRunFrom}
-use Rattle.net_check.specs.Walkers.{WalkedState, WalkedEvent, WalkedOutcome, walked_at_start}
-use Rattle.net_check.specs.Termini.{TerminusState}
-use Rattle.net_check.specs.TwoPlans.{Tables, one_plan}
+use Rattle.net_runs.specs.WalkedRuns.{WalkedTurn, WalkedRunFrom}
+use Rattle.net_runs.specs.Walkers.{WalkedState, WalkedEvent, WalkedOutcome, walked_at_start}
+use Rattle.net_runs.specs.Termini.{TerminusState}
+use Rattle.net_tables.specs.TwoPlans.{Tables}
 use Rattle.net_sim.specs.declared.outcome.Outcome.{Outcome}
 use Rattle.net_sim.specs.Dealing.{planned_termini}
-use Rattle.net_sim.specs.Outcomes.{event_value, outcome_value}
-use Rattle.net_sim.specs.Played.{IsRunOf, StopsAfter}
+use Rattle.net_sim.specs.Outcomes.{outcome_value}
+use Rattle.net_sim.specs.Played.{IsRunOf}
 use Rattle.net_sim.specs.WalkedStanding.{NetworkValue, StandsForWalked}
 use Rattle.net_sim.specs.Walks.{HaveWalked, PlaysWalks}
 use Rattle.plan_commands.specs.declared.refused.Refused.{Refused}
 use Rattle.plan_commands.specs.declared.refused.Refused.TheVariants as refused
 use Rattle.plan_commands.specs.declared.refused.Input.{Input}
 use Rattle.plan_commands.specs.declared.refused.Input.TheVariants as input
-use Rattle.plan_commands.specs.declared.status.Status.{Status}
-use Rattle.plan_commands.specs.declared.status.Status.TheVariants as status
-use Rattle.plan_commands.specs.Answers.{Stream, Fails, BreaksOff, AreGiven, IsErrorText, PrintsFault, FailsToPrint}
+use Rattle.plan_commands.specs.Answers.{Stream, Fails, BreaksOff, AreGiven}
 use Rattle.plan_commands.specs.Statuses.{refused_at}
-use Rattle.plan_commands.proofs.Causes.{unread_also, unread_among, unwritten_among}
-use Rattle.plan_commands.proofs.Telling.{refusal_at, breaks_off_also, untouched_also}
-use Rattle.net_check.specs.declared.check_error.CheckError.{CheckError}
-use Rattle.net_check.specs.declared.check_error.CheckError.TheVariants as check_error
-use Rattle.net_check.specs.Errors.{NamesFirstFault}
-use Rattle.net_check.specs.Rules.{Accepts}
+use Rattle.plan_commands.proofs.Causes.{unread_also}
+use Rattle.plan_commands.proofs.Telling.{refusal_at, breaks_off_also}
 use Rattle.net_plan.specs.declared.certificate.Certificate.{Certificate}
 use Rattle.net_plan.specs.declared.error.PlanError.{PlanError}
 use Rattle.net_plan.specs.PlanValues.{plan_value}
 use Rattle.net_plan.specs.TextFaults.{error_count}
 use Rattle.net_plan.specs.Unread.{GaveNoEvents}
 use Rattle.plan_texts.specs.OutcomeLines.{outcome_line, lines_from, outcome_lines}
-use Rattle.plan_commands.specs.Simulating.{IsRunText, ReportsPlay, ShowsRun, ShowsBeginning, ShowsWalks, ShowsBegunWalks, IsWalksText, ShowsAllOr, EndsShowing, AreFirstLines, SimulatesBy, Simulates, AreLinesAtMost, ShowsLines, ShowsOutcomes, ShowsAtMost, GaveEvents, TellsBeginning, IsSimAnswer, AreUnreadEvents, AreEventsUnread, IsUnreadAmong, AreUnreadAmong, IsUnsimulatedFor, SimulatesFiles}
+use Rattle.plan_commands.specs.Simulating.{IsRunText, ShowsRun, ShowsBeginning, ShowsWalks, ShowsBegunWalks, IsWalksText, ShowsAllOr, AreFirstLines, ShowsLines, AreUnreadEvents, AreEventsUnread, IsUnreadAmong, AreUnreadAmong}
 
 -- ---- lines
 
@@ -84,36 +77,36 @@ module _ (plan : Plan) (outcomes : List Outcome) (index : ℕ) (outcome : Outcom
 
   -- a beginning of the lines that waited and the next one, where the output fails in them
   pub breaks_in_line : (line waiting : List ℕ) (output middle : Stream) → line ≡ outcome_line plan (index + 1) (outcome_value outcome)
-      → AppendsAllBut waiting output.before middle.before (outcome_lines plan (take index (map outcome_value outcomes)))
-      → AppendsBeginning middle.before output.after (waiting ++ line) → output.failures_after ≡ output.failures_before + 1
+      → AppendsAllBut waiting output.before.bytes middle.before.bytes (outcome_lines plan (take index (map outcome_value outcomes)))
+      → AppendsBeginning middle.before.bytes output.after.bytes (waiting ++ line) → Fails output
       → BreaksOff (AreFirstLines plan (map outcome_value outcomes)) output
   breaks_in_line line waiting output middle told before part fails = record {
     text = outcome_lines plan (take (index + 1) (map outcome_value outcomes));
     answer = (index + 1, refl);
     fails = fails;
-    beginning = subst (AppendsBeginning output.before output.after) (all_lines line told) (begins_after _ line waiting output.before middle.before output.after before part);
+    beginning = subst (AppendsBeginning output.before.bytes output.after.bytes) (all_lines line told) (begins_after _ line waiting output.before.bytes middle.before.bytes output.after.bytes before part);
   }
 
 -- a beginning of the lines that waited, where the output fails in them
 pub breaks_in_waiting : (plan : Plan) (outcomes : List WalkedOutcome) (count : ℕ) (waiting : List ℕ) (output middle : Stream)
-    → AppendsAllBut waiting output.before middle.before (outcome_lines plan (take count outcomes)) → AppendsBeginning middle.before output.after waiting
-    → output.failures_after ≡ output.failures_before + 1 → BreaksOff (AreFirstLines plan outcomes) output
+    → AppendsAllBut waiting output.before.bytes middle.before.bytes (outcome_lines plan (take count outcomes)) → AppendsBeginning middle.before.bytes output.after.bytes waiting
+    → Fails output → BreaksOff (AreFirstLines plan outcomes) output
 breaks_in_waiting plan outcomes count waiting output middle before part fails = record {
   text = outcome_lines plan (take count outcomes);
   answer = (count, refl);
   fails = fails;
-  beginning = begins_at_end _ waiting output.before middle.before output.after before part;
+  beginning = begins_at_end _ waiting output.before.bytes middle.before.bytes output.after.bytes before part;
 }
 
 -- all lines are out, where those that waited were written
 pub ends_written : (P : Type 0) (plan : Plan) (outcomes : List WalkedOutcome) (index count : ℕ) (waiting : List ℕ) (output middle : Stream) (result : Result (Unit {0}) Refused)
-    → index ≡ count → AppendsAllBut waiting output.before middle.before (outcome_lines plan (take index outcomes))
-    → OnOk result (Appends middle.before output.after waiting) → IfErr result (λ why. why ≡ refused.Unwritten)
-    → OnErr result (AppendsBeginning middle.before output.after waiting) → OnErr result (output.failures_after ≡ middle.failures_before + 1)
-    → middle.failures_before ≡ output.failures_before → ShowsAllOr result P (ShowsLines plan outcomes count output) (AreFirstLines plan outcomes) output
+    → index ≡ count → AppendsAllBut waiting output.before.bytes middle.before.bytes (outcome_lines plan (take index outcomes))
+    → OnOk result (Appends middle.before.bytes output.after.bytes waiting) → IfErr result (λ why. why ≡ refused.Unwritten)
+    → OnErr result (AppendsBeginning middle.before.bytes output.after.bytes waiting) → OnErr result (output.after.failures ≡ middle.before.failures + 1)
+    → middle.before.failures ≡ output.before.failures → ShowsAllOr result P (ShowsLines plan outcomes count output) (AreFirstLines plan outcomes) output
 ends_written P plan outcomes index count waiting output middle (Ok done) all before written unwritten part fails kept =
     let A : ℕ → Type 0 = λ n. ShowsLines plan outcomes n output in
-    subst A all (given_at_end _ waiting output.before middle.before output.after before written)
+    subst A all (given_at_end _ waiting output.before.bytes middle.before.bytes output.after.bytes before written)
 ends_written P plan outcomes index count waiting output middle (Err why) all before written unwritten part fails kept =
     let A : Refused → Type 0 = λ w. ShowsAllOr {T = Unit {0}} (Err w) P (ShowsLines plan outcomes count output) (AreFirstLines plan outcomes) output in
     subst A (sym unwritten) (breaks_in_waiting plan outcomes index waiting output middle before part (fails ∙ ap (λ n. n + 1) kept))
@@ -138,7 +131,7 @@ module _ (tables : Tables) (w : WalkedState) (events : List WalkedEvent) (output
   abbrev begun_run : (new : NetworkValue) (n : ℕ) (outcomes : List WalkedOutcome) (k : ℕ) → IsRunOf tables w (take n events) outcomes new
       → ShowsLines tables.plan outcomes k output → ShowsRun tables w (take (take_twice k n events).0 events) output
   begun_run new n outcomes k run shown =
-      let S : List WalkedOutcome → Type 0 = λ os. Appends output.before output.after (outcome_lines tables.plan os) in
+      let S : List WalkedOutcome → Type 0 = λ os. Appends output.before.bytes output.after.bytes (outcome_lines tables.plan os) in
       record {
         turns = take k run.turns;
         events_are = sym (take-map (λ (t : WalkedTurn). t.event) k run.turns) ∙ (ap (take k) run.events_are ∙ (take_twice k n events).1);
@@ -162,7 +155,7 @@ module _ (tables : Tables) (w : WalkedState) (events : List WalkedEvent) (output
   abbrev whole_run : (new : NetworkValue) (n : ℕ) (outcomes : List WalkedOutcome) (k : ℕ) → length events ≤ n → length outcomes ≤ k
       → IsRunOf tables w (take n events) outcomes new → ShowsLines tables.plan outcomes k output → ShowsRun tables w events output
   whole_run new n outcomes k all_events all_outcomes run shown =
-      let S : List WalkedOutcome → Type 0 = λ os. Appends output.before output.after (outcome_lines tables.plan os) in
+      let S : List WalkedOutcome → Type 0 = λ os. Appends output.before.bytes output.after.bytes (outcome_lines tables.plan os) in
       record {
         turns = run.turns;
         events_are = run.events_are ∙ take_all n events all_events;
@@ -183,12 +176,12 @@ module _ (tables : Tables) (w : WalkedState) (events : List WalkedEvent) (output
   shows_run new n outcomes k all_events all_outcomes run shown = whole_run new n outcomes k all_events all_outcomes run shown
 
   -- nothing was played, and nothing is out
-  abbrev empty_run : output.before ≡ output.after → ShowsRun tables w [] output
+  abbrev empty_run : output.before.bytes ≡ output.after.bytes → ShowsRun tables w [] output
   empty_run same =
-      let A : Option (List ℕ) → Type 0 = λ new. Appends output.before new [] in
-      record { turns = []; events_are = refl; runs = tt; shown = subst A same (Appends-nil output.before) }
+      let A : Option (List ℕ) → Type 0 = λ new. Appends output.before.bytes new [] in
+      record { turns = []; events_are = refl; runs = tt; shown = subst A same (Appends-nil output.before.bytes) }
 
-  pub shows_nothing : output.before ≡ output.after → ShowsBeginning tables w events output
+  pub shows_nothing : output.before.bytes ≡ output.after.bytes → ShowsBeginning tables w events output
   shows_nothing same = (0, empty_run same)
 
 -- ---- runs in which the walkers have walked
@@ -228,7 +221,7 @@ module _ (tables : Tables) (cert : Certificate) where
     shows_walks new n outcomes k all_events all_outcomes run walked shown =
         (whole_run tables (walked_at_start tables.plan cert) events output new n outcomes k all_events all_outcomes run shown, walked)
 
-    pub shows_no_walks : output.before ≡ output.after → ShowsBegunWalks tables cert events output
+    pub shows_no_walks : output.before.bytes ≡ output.after.bytes → ShowsBegunWalks tables cert events output
     shows_no_walks same = (0, (empty_run tables (walked_at_start tables.plan cert) events output same, walked_nowhere))
 
 -- the run that a network plays from the start is one in which the walkers have walked
@@ -240,30 +233,6 @@ walks_in checked checked' events outcomes old new same stands plays =
     let went = subst P same plays [] tt stands in
     (went.0, went.1 went.0)
 
--- ---- so many outcomes
-
-pub lists_nothing : (plan : Plan) (count : ℕ) (output : Stream) → output.before ≡ output.after → ShowsAtMost plan count output
-lists_nothing plan count output same =
-    let A : Option (List ℕ) → Type 0 = λ new. Appends output.before new [] in
-    (0, omega arith, ([], refl, subst A same (Appends-nil output.before)))
-
-pub lists_some : (plan : Plan) (count : ℕ) (output : Stream) (outcomes : List WalkedOutcome) (k : ℕ) → length outcomes ≤ count → ShowsLines plan outcomes k output
-    → ShowsAtMost plan count output
-lists_some plan count output outcomes k few shown =
-    let part : length (take k outcomes) ≤ length outcomes = omega (arith, length-take k outcomes) in
-    (length (take k outcomes), omega (arith, few, part), (take k outcomes, refl, shown))
-
-pub lists_all : (plan : Plan) (count : ℕ) (output : Stream) (outcomes : List WalkedOutcome) (k : ℕ) → length outcomes ≡ count → length outcomes ≤ k
-    → ShowsLines plan outcomes k output → ShowsOutcomes plan count output
-lists_all plan count output outcomes k all whole shown =
-    (outcomes, all, subst (λ os. Appends output.before output.after (outcome_lines plan os)) (take_all k outcomes whole) shown)
-
-pub lines_at_most : (plan : Plan) (count : ℕ) (outcomes : List WalkedOutcome) (text : List ℕ) → length outcomes ≤ count → AreFirstLines plan outcomes text
-    → AreLinesAtMost plan count text
-lines_at_most plan count outcomes text few (k, is) =
-    let part : length (take k outcomes) ≤ length outcomes = omega (arith, length-take k outcomes) in
-    (take k outcomes, omega (arith, few, part), is)
-
 -- the part that is shown where not all is may be told otherwise
 pub cut_short : (why : Refused) (P A P' A' : Type 0) (Q Q' : List ℕ → Type 0) (output : Stream) → ShowsAllOr {T = Unit {0}} (Err why) P A Q output → (P → P')
     → ((text : List ℕ) → Q text → Q' text) → ShowsAllOr {T = Unit {0}} (Err why) P' A' Q' output
@@ -274,15 +243,6 @@ cut_short refused.UnreadableHex P A P' A' Q Q' output h other also = h
 cut_short refused.TooMuch P A P' A' Q Q' output h other also = h
 cut_short refused.Unwritten P A P' A' Q Q' output h other also = breaks_off_also Q Q' output also h
 cut_short refused.NoMemory P A P' A' Q Q' output h other also = other h
-
--- as many outcomes as events at most
-pub few_outcomes : (tables : Tables) (old : NetworkValue) (events : List Event) (outcomes : List Outcome) (new : NetworkValue) (stopped : Bool)
-    → (stopped ≡ false → length outcomes ≡ length events) → (stopped ≡ true → StopsAfter tables old (map event_value events) (map outcome_value outcomes) new)
-    → length outcomes ≤ length events
-few_outcomes tables old events outcomes new false whole stops = omega (arith, whole refl)
-few_outcomes tables old events outcomes new true whole stops =
-    let next = slice_get_within (map event_value events) (length (map outcome_value outcomes)) (stops refl).event (stops refl).next in
-    omega (arith, next, length-map events event_value, length-map outcomes outcome_value)
 
 -- ---- the same of another name of the plan, or of the tables
 
@@ -304,12 +264,6 @@ pub shows_by : {T : Type 0} (tables tables' : Tables) (w : WalkedState) (events 
 shows_by tables tables' w events result output same =
     subst (λ (t : Tables). ShowsAllOr result (ShowsBeginning t w events output) (ShowsRun t w events output) (IsRunText t w events) output) same
 
-pub lists_by : {T : Type 0} (plan plan' : Plan) (count : ℕ) (result : Result T Refused) (output : Stream) → plan' ≡ plan
-    → ShowsAllOr result (ShowsAtMost plan' count output) (ShowsOutcomes plan' count output) (AreLinesAtMost plan' count) output
-    → ShowsAllOr result (ShowsAtMost plan count output) (ShowsOutcomes plan count output) (AreLinesAtMost plan count) output
-lists_by plan plan' count result output same =
-    subst (λ (p : Plan). ShowsAllOr result (ShowsAtMost p count output) (ShowsOutcomes p count output) (AreLinesAtMost p count) output) same
-
 -- ---- the planned termini
 
 -- termini that are as planned are as many
@@ -322,20 +276,11 @@ pub planned_by : (termini : List TerminusState) (plan plan' : Plan) (cert cert' 
 planned_by termini plan plan' cert cert' is same same_cert =
     is ∙ (ap (λ (p : Plan). planned_termini p cert') same ∙ ap (λ (k : Certificate). planned_termini plan k) same_cert)
 
-pub simulates_in : (tables tables' : Tables) (cert cert' : Certificate) (events events' : List Event) (ended : Status) (output : Stream)
-    → tables' ≡ tables → cert' ≡ cert → events' ≡ events
-    → SimulatesBy tables' cert' (map event_value events') ended output → SimulatesBy tables cert (map event_value events) ended output
-simulates_in tables tables' cert cert' events events' ended output same same_cert listed shown =
-    let P : List Event → Type 0 = λ es. SimulatesBy tables cert (map event_value es) ended output in
-    let Q : Certificate → Type 0 = λ k. SimulatesBy tables k (map event_value events') ended output in
-    let R : Tables → Type 0 = λ t. SimulatesBy t cert' (map event_value events') ended output in
-    subst P listed (subst Q same_cert (subst R same shown))
-
 -- ---- files
 
 -- of events at the nodes of a plan, so that the refusal has its cause
-pub no_events : (e : PlanError) (plan : Plan) (happenings : Stream) → GaveNoEvents (plan_value plan) happenings.before happenings.after e
-    → happenings.failures_after ≡ happenings.failures_before + error_count e → AreEventsUnread (refused_at input.Events e) plan happenings
+pub no_events : (e : PlanError) (plan : Plan) (happenings : Stream) → GaveNoEvents (plan_value plan) happenings.before.bytes happenings.after.bytes e
+    → HasFailed happenings.before happenings.after (error_count e) → AreEventsUnread (refused_at input.Events e) plan happenings
 no_events e plan happenings gave counted =
     refusal_at (λ why. AreEventsUnread why plan happenings) (GaveNoEvents (plan_value plan)) happenings input.Events e gave counted tt
     (λ cause nothing. nothing)
@@ -350,77 +295,3 @@ events_unread plan cert why plans certificates happenings given h =
     also input.Plan cause h = absurd h
     also input.Certificate cause h = absurd h
     also input.Events cause h = (plan, cert, given, h)
-
--- where the inputs were not read, nothing is simulated
-pub files_unread : (why : Refused) (plans certificates happenings output : Stream) → AreUnreadAmong why plans certificates happenings
-    → IsUnsimulatedFor why plans certificates happenings output
-files_unread why plans certificates happenings output h =
-    unread_among (λ unread cause. IsUnreadAmong unread cause plans certificates happenings) ⊥ ⊥ ⊥ (Fails output) why h
-
--- nor where the fault is not written
-pub files_unwritten : (why : Refused) (plans certificates happenings output : Stream) → FailsToPrint why output → IsUnsimulatedFor why plans certificates happenings output
-files_unwritten why plans certificates happenings output h =
-    unwritten_among (λ unread cause. IsUnreadAmong unread cause plans certificates happenings) ⊥ ⊥ ⊥ (Fails output) why h
-
-pub files_fault : (plan : Plan) (cert : Certificate) (plans certificates happenings output errors : Stream) (fault : CheckError) (ended : Status)
-    → AreGiven plans certificates plan cert → NamesFirstFault plan cert fault → PrintsFault plan fault ended output
-    → SimulatesFiles ended plans certificates happenings output errors
-files_fault plan cert plans certificates happenings output errors (check_error.Fault fault) ended given first (is, written) =
-    subst (λ s. SimulatesFiles s plans certificates happenings output errors) (sym is) (plan, cert, fault, given, first, written)
-files_fault plan cert plans certificates happenings output errors check_error.OutOfMemory ended given first printed = absurd printed
-
-module _ (plan : Plan) (cert : Certificate) (plans certificates happenings output : Stream) (events : List Event)
-    (given : AreGiven plans certificates plan cert) (gave : GaveEvents plan happenings events) where
-  -- so an output that failed in the line of an error failed in an answer
-  pub files_fault_broken : (error : CheckError) (Same : Type 0) (result : Result Status Refused) → NamesFirstFault plan cert error
-      → IfErr result (λ why. ((why ≡ refused.Unwritten) × BreaksOff (IsErrorText plan error) output) ⊎ Same)
-      → IfErr result (λ why. ((why ≡ refused.Unwritten) × BreaksOff (IsSimAnswer plans certificates happenings) output) ⊎ Same)
-  files_fault_broken error Same result first left =
-      untouched_also (IsErrorText plan error) (IsSimAnswer plans certificates happenings) output Same result (answers error first) left
-    where
-      answers : (error : CheckError) → NamesFirstFault plan cert error → (text : List ℕ) → IsErrorText plan error text
-          → IsSimAnswer plans certificates happenings text
-      answers (check_error.Fault fault) first text is = (plan, cert, events, given, gave, inr (fault, first, is))
-      answers check_error.OutOfMemory first text is = absurd is
-
-  -- the output failed in what came of the events
-  pub files_broken : (ended : Status) → Accepts plan cert → Simulates plan cert (map event_value events) ended output → ended ≡ status.Unreadable
-      → BreaksOff (IsSimAnswer plans certificates happenings) output
-  files_broken ended accepted shown is =
-      let P : Status → Type 0 = λ s. Simulates plan cert (map event_value events) s output in
-      breaks_off_also (IsWalksText (one_plan plan) cert (map event_value events)) (IsSimAnswer plans certificates happenings) output
-      (λ text lines. (plan, cert, events, given, gave, inl (accepted, lines))) (subst P is shown)
-
-  module _ (ended : Status) (accepted : Accepts plan cert)
-      (shown : EndsShowing ended (ShowsAtMost plan (length events) output) (ShowsOutcomes plan (length events) output) (AreLinesAtMost plan (length events)) output) where
-    pub files_played : (errors : Stream) → ReportsPlay ended errors → SimulatesFiles ended plans certificates happenings output errors
-    files_played errors reports = by ended shown reports
-      where
-        by : (ended : Status) → EndsShowing ended (ShowsAtMost plan (length events) output) (ShowsOutcomes plan (length events) output) (AreLinesAtMost plan (length events)) output
-            → ReportsPlay ended errors → SimulatesFiles ended plans certificates happenings output errors
-        by status.Yes shown line = (plan, cert, events, given, gave, accepted, shown)
-        by status.Fault shown line = absurd shown
-        by status.Unreadable shown line = (refused.Unwritten, refl, shown.fails, line)
-        by status.NoMemory shown line = line
-
-    abbrev ends : Status → Type 0
-    ends s = EndsShowing s (ShowsAtMost plan (length events) output) (ShowsOutcomes plan (length events) output) (AreLinesAtMost plan (length events)) output
-
-    -- memory ran out in them
-    pub files_begun : ended ≡ status.NoMemory → TellsBeginning plans certificates happenings output
-    files_begun is = (plan, cert, events, given, gave, accepted, subst ends is shown)
-
-pub shown_in : (plan plan' : Plan) (count count' : ℕ) (ended : Status) (output : Stream) → plan' ≡ plan → count' ≡ count
-    → EndsShowing ended (ShowsAtMost plan' count' output) (ShowsOutcomes plan' count' output) (AreLinesAtMost plan' count') output
-    → EndsShowing ended (ShowsAtMost plan count output) (ShowsOutcomes plan count output) (AreLinesAtMost plan count) output
-shown_in plan plan' count count' ended output same many shown =
-    let P : ℕ → Type 0 = λ n. EndsShowing ended (ShowsAtMost plan n output) (ShowsOutcomes plan n output) (AreLinesAtMost plan n) output in
-    let Q : Plan → Type 0 = λ p. EndsShowing ended (ShowsAtMost p count' output) (ShowsOutcomes p count' output) (AreLinesAtMost p count') output in
-    subst P many (subst Q same shown)
-
--- what is played never ends with a fault
-pub no_fault : (P A : Type 0) (Q : List ℕ → Type 0) (output : Stream) (ended : Status) → EndsShowing ended P A Q output → ended ≡ status.Fault → ⊥
-no_fault P A Q output status.Yes shown is = absurd (cc)
-no_fault P A Q output status.Fault shown is = shown
-no_fault P A Q output status.Unreadable shown is = absurd (cc)
-no_fault P A Q output status.NoMemory shown is = absurd (cc)

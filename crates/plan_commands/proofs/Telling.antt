@@ -1,30 +1,23 @@
 -- Why an input is not read, by the reader's error, and what a printed fault tells.
-use Rattle.std.proofs.Common.{◌≡◌, ◌+◌, ◌⊎◌, ℕ, List, Option, Result, Ok, Err, subst, inl, inr}
-use Rattle.std.specs.Prelude.{IfErr}
-use Rattle.net_check.specs.declared.check_error.CheckError.{CheckError}
-use Rattle.net_check.specs.declared.check_error.CheckError.TheVariants as check_error
+use Rattle.std.proofs.Common.{ℕ, List, Option}
 use Rattle.net_plan.specs.declared.plan.Plan.{Plan}
 use Rattle.net_plan.specs.declared.error.PlanError.{PlanError}
 use Rattle.net_plan.specs.declared.error.PlanError.TheVariants as error
 use Rattle.net_plan.specs.PlanValues.{plan_value}
+use Rattle.net_plan.specs.Stream.{HasFailed}
 use Rattle.net_plan.specs.TextFaults.{error_count}
 use Rattle.net_plan.specs.Unread.{GaveNoCertificate}
 use Rattle.plan_commands.specs.declared.refused.Input.{Input}
 use Rattle.plan_commands.specs.declared.refused.Input.TheVariants as input
 use Rattle.plan_commands.specs.declared.refused.Refused.{Refused}
 use Rattle.plan_commands.specs.declared.refused.Refused.TheVariants as refused
-use Rattle.plan_commands.specs.declared.commands.answer.Answer.{Answer}
-use Rattle.plan_commands.specs.declared.status.Status.{Status}
-use Rattle.plan_commands.specs.declared.status.Status.TheVariants as status
-use Rattle.std.specs.Cow.{cow_str_bytes}
-use Rattle.std.specs.Io.KnownBytes.{Appends}
-use Rattle.plan_commands.specs.Answers.{Stream, BreaksOff, GavePlan, GaveNothing, IsUnread, AreUnread, IsUnreadCertificate, IsCertificateUnread, IsErrorText, PrintsFault}
+use Rattle.plan_commands.specs.Answers.{Stream, BreaksOff, GavePlan, GaveNothing, IsUnread, AreUnread, IsUnreadCertificate, IsCertificateUnread}
 use Rattle.plan_commands.specs.Statuses.{refused_at}
 use Rattle.plan_commands.proofs.Causes.{unread_also}
 
 -- of a refusal that an error leads to, what holds of no memory and of each cause of an unreadable input
 pub refusal_at : (Is : Refused → Type 0) (GaveNone : Option (List ℕ) → Option (List ℕ) → PlanError → Type 0) (stream : Stream) (unread : Input) (e : PlanError)
-    → GaveNone stream.before stream.after e → stream.failures_after ≡ stream.failures_before + error_count e
+    → GaveNone stream.before.bytes stream.after.bytes e → HasFailed stream.before stream.after (error_count e)
     → Is refused.NoMemory → ((cause : PlanError) → GaveNothing GaveNone stream cause → Is (refused.Unreadable unread cause)) → Is (refused_at unread e)
 refusal_at Is GaveNone stream unread error.OutOfMemory gave counted memory is = memory
 refusal_at Is GaveNone stream unread error.Device gave counted memory is = is error.Device counted
@@ -39,8 +32,8 @@ refusal_at Is GaveNone stream unread error.OverLimit gave counted memory is = is
 refusal_at Is GaveNone stream unread error.Doubled gave counted memory is = is error.Doubled gave
 
 -- of a plan's certificate, so that the refusal has its cause
-pub no_certificate : (e : PlanError) (p : Plan) (certificates : Stream) → GaveNoCertificate (plan_value p) certificates.before certificates.after e
-    → certificates.failures_after ≡ certificates.failures_before + error_count e → IsCertificateUnread (refused_at input.Certificate e) p certificates
+pub no_certificate : (e : PlanError) (p : Plan) (certificates : Stream) → GaveNoCertificate (plan_value p) certificates.before.bytes certificates.after.bytes e
+    → HasFailed certificates.before certificates.after (error_count e) → IsCertificateUnread (refused_at input.Certificate e) p certificates
 no_certificate e p certificates gave counted =
     refusal_at (λ why. IsCertificateUnread why p certificates) (GaveNoCertificate (plan_value p)) certificates input.Certificate e gave counted tt
     (λ cause nothing. nothing)
@@ -60,15 +53,3 @@ certificate_unread p why plans certificates given h =
 pub breaks_off_also : (P Q : List ℕ → Type 0) (output : Stream) → ((text : List ℕ) → P text → Q text) → BreaksOff P output → BreaksOff Q output
 breaks_off_also P Q output also broken =
     record { text = broken.text; answer = also broken.text broken.answer; fails = broken.fails; beginning = broken.beginning }
-
-pub untouched_also : (P Q : List ℕ → Type 0) (output : Stream) (Same : Type 0) (result : Result Status Refused) → ((text : List ℕ) → P text → Q text)
-    → IfErr result (λ why. ((why ≡ refused.Unwritten) × BreaksOff P output) ⊎ Same) → IfErr result (λ why. ((why ≡ refused.Unwritten) × BreaksOff Q output) ⊎ Same)
-untouched_also P Q output Same (Ok ended) also left = tt
-untouched_also P Q output Same (Err why) also (inl (is, broken)) = inl (is, breaks_off_also P Q output also broken)
-untouched_also P Q output Same (Err why) also (inr same) = inr same
-
--- the line of an error that was written
-pub prints_fault : (plan : Plan) (error : CheckError) (a : Answer) (output : Stream) → (a.status ≡ status.Fault) × IsErrorText plan error (cow_str_bytes a.text)
-    → Appends output.before output.after (cow_str_bytes a.text) → PrintsFault plan error a.status output
-prints_fault plan (check_error.Fault fault) a output (is, told) written = (is, subst (Appends output.before output.after) told written)
-prints_fault plan check_error.OutOfMemory a output (is, told) written = absurd told

@@ -58,7 +58,7 @@ module _ {A : Type 0} (said : Data → Result A ValueFault) (R : Data → A → 
 
 -- by why its text is none
 pub unread_by : {A T : Type 0} (said : Data → Result A ValueFault) (R : Data → A → Type 0) (source : Stream) (bytes : List ℕ) (r : Result T Unread)
-    → Consumes source.before source.after bytes → IsAtEnd source.after → length bytes ≤ 16777216 → IfErr r (IsUnreadAs said R bytes) → IfErr r (IsUnreadBy said R source)
+    → Consumes source.before.bytes source.after.bytes bytes → IsAtEnd source.after.bytes → length bytes ≤ 16777216 → IfErr r (IsUnreadAs said R bytes) → IfErr r (IsUnreadBy said R source)
 unread_by said R source bytes (Ok x) took end few h = tt
 unread_by said R source bytes (Err NoMemory) took end few h = tt
 unread_by said R source bytes (Err Failed) took end few h = absurd h
@@ -70,7 +70,7 @@ module _ {A : Type 0} (said : Data → Result A ValueFault) (R : Data → A → 
   told_of source text = IsTextOfUnread role (λ old new e. GaveNone said R old new e) IsTold source text
 
   -- a text that is refused, as a cause
-  text_given : (source : Stream) (bytes : List ℕ) (cause : PlanError) → GaveNone said R source.before source.after cause → IsRefused said R bytes cause
+  text_given : (source : Stream) (bytes : List ℕ) (cause : PlanError) → GaveNone said R source.before.bytes source.after.bytes cause → IsRefused said R bytes cause
       → cause ≢ cause_of.OutOfMemory → GaveNothing (λ old new e. GaveNone said R old new e) source cause
   text_given source bytes cause_of.NotJson none refused known = none
   text_given source bytes cause_of.WrongKind none refused known = none
@@ -98,11 +98,11 @@ module _ {A : Type 0} (said : Data → Result A ValueFault) (R : Data → A → 
       record { cause = cause_of.OverLimit; lines = words; given = inl more; told = inl (more, same); written = written }
   long_told bytes u words (Err e) is same written = tt
 
-  of_text : (source : Stream) (cause : PlanError) (lines told b : List ℕ) → Consumes source.before source.after b → IsAtEnd source.after → length b ≤ 16777216
+  of_text : (source : Stream) (cause : PlanError) (lines told b : List ℕ) → Consumes source.before.bytes source.after.bytes b → IsAtEnd source.after.bytes → length b ≤ 16777216
       → IsRefused said R b cause → cause ≢ cause_of.OutOfMemory → IsTold b lines → told ≡ unread_line (role_of role) cause ++ lines → told_of source told
   of_text source cause lines told b took end few refused known reading written =
       let unread : Result (List ℕ) PlanError = Err cause in
-      let none : GaveNone said R source.before source.after cause = answer_given said R source.before source.after b b unread took end few refl refused in
+      let none : GaveNone said R source.before.bytes source.after.bytes cause = answer_given said R source.before.bytes source.after.bytes b b unread took end few refl refused in
       record {
         cause = cause;
         lines = lines;

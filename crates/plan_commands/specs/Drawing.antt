@@ -1,20 +1,13 @@
--- What `draw` prints of a plan, in Graphviz' DOT language, and what the end of it says.
+-- What `draw` prints of a plan, in Graphviz' DOT language.
 use Rattle.std.specs.Prelude.{◌≢◌, ℕ, List, []}
 use Rattle.std.specs.Prelude.{Option, Some, None}
-use Rattle.net_check.specs.Certificates.{NamesObstacle, HasNoCertificate}
-use Rattle.net_check.specs.declared.certify_error.CertifyError.{CertifyError}
-use Rattle.net_check.specs.declared.certify_error.CertifyError.TheVariants as error
-use Rattle.net_check.specs.Rules.{Accepts}
+use Rattle.net_rules.specs.Certificates.{NamesObstacle, HasNoCertificate}
+use Rattle.net_rules.specs.declared.certify_error.CertifyError.{CertifyError}
+use Rattle.net_rules.specs.declared.certify_error.CertifyError.TheVariants as error
+use Rattle.net_rules.specs.Rules.{Accepts}
 use Rattle.net_plan.specs.declared.certificate.Certificate.{Certificate}
 use Rattle.net_plan.specs.declared.plan.Plan.{Plan}
-use Rattle.plan_commands.specs.declared.refused.Refused.TheVariants as refused
-use Rattle.plan_commands.specs.declared.status.Status.{Status}
-use Rattle.plan_commands.specs.declared.status.Status.TheVariants as status
-use Rattle.plan_commands.specs.Answers.{Stream, GavePlan, IsReported, SaysWhy}
-use Rattle.plan_commands.specs.Linting.{TellsOfPlan, IsPlanRefusedFor}
 use Rattle.plan_texts.specs.DrawingLines.{IsDrawing}
-
--- ---- drawings
 
 -- the text is the drawing of a plan with its certificate, and nothing in it is red
 abbrev pub IsCertifiedDrawing : Plan → Certificate → List ℕ → Type 0
@@ -41,23 +34,3 @@ pub record IsPlanDrawing (plan : Plan) (text : List ℕ) : Type 0 where
   pub obstacle : Option CertifyError
   pub first : IsFirstObstacle plan obstacle
   pub drawn : IsDrawing plan (loop_nodes obstacle) (owner_loop_nodes obstacle) None text
-
--- ---- answers
-
--- the text is the drawing of the plan that was given
-abbrev pub IsDrawAnswer : Stream → List ℕ → Type 0
-IsDrawAnswer plans text = (plan : Plan) × GavePlan plans plan × IsPlanDrawing plan text
-
--- so it is, in a run that ends so
-abbrev pub DrawsSo : Stream → Status → List ℕ → Type 0
-DrawsSo plans status.Yes text = IsDrawAnswer plans text
-DrawsSo plans status.Fault text = ⊥
-DrawsSo plans status.Unreadable text = ⊥
-DrawsSo plans status.NoMemory text = ⊥
-
--- what the end of a run says of what the source gave and what was written on both outputs
-abbrev pub Draws : Status → Stream → (output errors : Stream) → Type 0
-Draws status.Yes plans output errors = TellsOfPlan IsPlanDrawing plans output
-Draws status.Fault plans output errors = ⊥
-Draws status.Unreadable plans output errors = SaysWhy (λ why. IsPlanRefusedFor why plans output) errors
-Draws status.NoMemory plans output errors = IsReported refused.NoMemory errors

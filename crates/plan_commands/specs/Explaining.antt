@@ -1,12 +1,11 @@
 -- What `explain` prints, and what the end of it says.
 use Rattle.std.specs.Prelude.{◌≡◌, ◌⊎◌, ℕ, List, ◌++◌, codes}
 use Rattle.std.specs.Prelude.{Option, Some, None}
-use Rattle.std.specs.Io.KnownBytes.{Appends}
-use Rattle.net_check.specs.Certificates.{IsExact}
-use Rattle.net_check.specs.Faults.{IsFirstFault, site_of}
-use Rattle.net_check.specs.Rules.{Accepts}
-use Rattle.net_check.specs.declared.certify_error.CertifyError.{CertifyError}
-use Rattle.net_check.specs.declared.fault.Fault.{Fault}
+use Rattle.net_rules.specs.Certificates.{IsExact}
+use Rattle.net_rules.specs.Faults.{IsFirstFault, site_of}
+use Rattle.net_rules.specs.Rules.{Accepts}
+use Rattle.net_rules.specs.declared.certify_error.CertifyError.{CertifyError}
+use Rattle.net_rules.specs.declared.fault.Fault.{Fault}
 use Rattle.net_explained.specs.declared.cause.Cause.{Cause}
 use Rattle.net_explained.specs.declared.hops.MostHops.{MostHops}
 use Rattle.net_explained.specs.Causes.{IsCauseAt}
@@ -15,15 +14,14 @@ use Rattle.net_plan.specs.declared.certificate.Certificate.{Certificate}
 use Rattle.net_plan.specs.declared.plan.Plan.{Plan}
 use Rattle.plan_commands.specs.declared.status.Status.{Status}
 use Rattle.plan_commands.specs.declared.status.Status.TheVariants as status
-use Rattle.plan_commands.specs.declared.refused.Refused.TheVariants as refused
-use Rattle.plan_commands.specs.Answers.{Stream, BreaksOff, GavePlan, GaveCertificate, AreGiven, IsReported}
+use Rattle.plan_commands.specs.Answers.{Stream, GavePlan, GaveCertificate}
 use Rattle.plan_commands.specs.Certifying.{IsRuledOutBy}
 use Rattle.plan_texts.specs.Lines.{fault_text}
-use Rattle.plan_commands.specs.Linting.{TellsOfPlan}
 use Rattle.plan_commands.specs.Statuses.{yes_line}
 use Rattle.plan_commands.specs.UnreadTexts.{IsUnreadText, IsUnreadCertificateText}
-use Rattle.plan_texts.specs.CertificateLines.{certificate_fault_text}
-use Rattle.plan_texts.specs.ExplanationLines.{told_cause, IsObstacleTold}
+use Rattle.plan_texts.specs.CertificateSubjects.{certificate_subjects}
+use Rattle.plan_texts.specs.Explanations.{told_subjects, IsObstacleTold}
+use Rattle.plan_texts.specs.Pieces.{Tells}
 use Rattle.plan_texts.specs.SummaryLines.{summary_text}
 
 -- the certificate is at fault, and not the plan
@@ -67,28 +65,11 @@ IsExplained plan status.Fault text = IsObstacleText plan text
 IsExplained plan status.Unreadable text = ⊥
 IsExplained plan status.NoMemory text = ⊥
 
--- the text answers for the source of a plan: it explains the plan that was given, or why none was
-abbrev pub IsExplainAnswer : Stream → List ℕ → Type 0
-IsExplainAnswer plans text =
-    ((plan : Plan) × GavePlan plans plan × (IsSoundText plan text ⊎ IsObstacleText plan text)) ⊎ IsUnreadText plans text
-
--- so it does, in a run that ends so: as `certify` ends
+-- the text answers for the source of a plan, in a run that ends so: it explains the plan that was given, or why none
+-- was
 abbrev pub ExplainsSo : Stream → Status → List ℕ → Type 0
 ExplainsSo plans ended text = ((plan : Plan) × GavePlan plans plan × IsExplained plan ended text)
     ⊎ ((ended ≡ status.Unreadable) × IsUnreadText plans text)
-
--- the output was given the text that explains why the source gave no plan
-abbrev pub TellsUnreadPlan : Stream → Stream → Type 0
-TellsUnreadPlan plans output = (text : List ℕ) × IsUnreadText plans text × Appends output.before output.after text
-
--- What the end of a run says of what the source gave and what was written on both outputs. Where the status is that of
--- an input that can't be read, this was told, or the output failed in the answer, and this is reported.
-abbrev pub Explains : Status → Stream → (output errors : Stream) → Type 0
-Explains status.Yes plans output errors = TellsOfPlan IsSoundText plans output
-Explains status.Fault plans output errors = TellsOfPlan IsObstacleText plans output
-Explains status.Unreadable plans output errors = TellsUnreadPlan plans output
-    ⊎ (BreaksOff (IsExplainAnswer plans) output × IsReported refused.Unwritten errors)
-Explains status.NoMemory plans output errors = IsReported refused.NoMemory errors
 
 -- ---- a plan with a certificate
 
@@ -100,12 +81,13 @@ IsRemedyTold plan text = ((certificate : Certificate) × Accepts plan certificat
 -- what is told where the certificate is at fault and the plan meets the rule: what the certificate gives by which it
 -- breaks the rule, and what helps
 abbrev pub IsCertificateTold : Plan → Certificate → Fault → List ℕ → Type 0
-IsCertificateTold plan certificate fault text = (remedy : List ℕ) × IsRemedyTold plan remedy
-    × (text ≡ certificate_fault_text plan certificate fault ++ remedy)
+IsCertificateTold plan certificate fault text = (lines : List ℕ) × (remedy : List ℕ)
+    × Tells plan (certificate_subjects plan certificate fault) lines × IsRemedyTold plan remedy
+    × (text ≡ lines ++ remedy)
 
 -- the text explains a fault of the plan, by its cause, or of the certificate, where it has none in the plan
 abbrev pub IsFaultTold : Plan → Certificate → Fault → Option Cause → List ℕ → Type 0
-IsFaultTold plan certificate fault (Some cause) text = text ≡ told_cause plan fault (Some cause)
+IsFaultTold plan certificate fault (Some cause) text = Tells plan (told_subjects plan fault (Some cause)) text
 IsFaultTold plan certificate fault None text = IsCertificateTold plan certificate fault text
 
 -- The text is the line of the first fault of the plan and the certificate, and then the lines that explain it.
@@ -136,40 +118,9 @@ IsExplainedWith plan certificates ended text =
     × IsBothExplained plan certificate ended text)
     ⊎ ((ended ≡ status.Unreadable) × IsUnreadCertificateText plan certificates text)
 
--- the text explains why the source of the plan gave none, or that of its certificate
-abbrev pub IsUnreadOfBoth : Stream → Stream → List ℕ → Type 0
-IsUnreadOfBoth plans certificates text = IsUnreadText plans text
-    ⊎ ((plan : Plan) × GavePlan plans plan × IsUnreadCertificateText plan certificates text)
-
--- the text answers for the sources of a plan and its certificate: it explains what was given, or why something was not
-abbrev pub IsCertifiedAnswer : Stream → Stream → List ℕ → Type 0
-IsCertifiedAnswer plans certificates text = ((plan : Plan) × (certificate : Certificate)
-    × AreGiven plans certificates plan certificate
-    × (IsYesExplained plan certificate text ⊎ IsFaultExplained plan certificate text))
-    ⊎ IsUnreadOfBoth plans certificates text
-
--- so it does, in a run that ends so: as `check` ends
+-- the text answers for the sources of a plan and its certificate, in a run that ends so: it explains what was given, or
+-- why something was not
 abbrev pub ExplainsWithSo : Stream → Stream → Status → List ℕ → Type 0
 ExplainsWithSo plans certificates ended text =
     ((plan : Plan) × GavePlan plans plan × IsExplainedWith plan certificates ended text)
     ⊎ ((ended ≡ status.Unreadable) × IsUnreadText plans text)
-
--- the output was given a text that is said of the plan and the certificate that were given
-abbrev pub TellsOfBoth : (Plan → Certificate → List ℕ → Type 0) → Stream → Stream → Stream → Type 0
-TellsOfBoth IsSaid plans certificates output = (plan : Plan) × (certificate : Certificate) × (text : List ℕ)
-    × AreGiven plans certificates plan certificate × IsSaid plan certificate text
-    × Appends output.before output.after text
-
--- the output was given the text that explains why an input can't be read
-abbrev pub TellsUnread : Stream → Stream → Stream → Type 0
-TellsUnread plans certificates output =
-    (text : List ℕ) × IsUnreadOfBoth plans certificates text × Appends output.before output.after text
-
--- What the end of a run says of what the sources gave and what was written on both outputs. Where the status is that of
--- an input that can't be read, this was told, or the output failed in the answer, and this is reported.
-abbrev pub ExplainsWith : Status → Stream → Stream → (output errors : Stream) → Type 0
-ExplainsWith status.Yes plans certificates output errors = TellsOfBoth IsYesExplained plans certificates output
-ExplainsWith status.Fault plans certificates output errors = TellsOfBoth IsFaultExplained plans certificates output
-ExplainsWith status.Unreadable plans certificates output errors = TellsUnread plans certificates output
-    ⊎ (BreaksOff (IsCertifiedAnswer plans certificates) output × IsReported refused.Unwritten errors)
-ExplainsWith status.NoMemory plans certificates output errors = IsReported refused.NoMemory errors

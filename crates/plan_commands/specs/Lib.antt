@@ -11,9 +11,12 @@ pub mod Gathering
 pub mod Reaching
 pub mod Tracing
 pub mod Linting
+pub mod FaultListing
 pub mod UnreadTexts
 pub mod Explaining
 pub mod Drawing
+pub mod Planned
+pub mod Certified
 pub mod Simulating
 pub mod Moving
 pub mod MoveSimulating

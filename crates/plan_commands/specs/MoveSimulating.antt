@@ -1,7 +1,8 @@
 -- What the end of `simmove` says of the files that it read, and of what it wrote.
-use Rattle.std.specs.Prelude.{◌≡◌, ◌⊎◌, ℕ, List, length, map, ⊤}
-use Rattle.net_check.specs.MoveRules.{AcceptsMove}
-use Rattle.net_check.specs.TwoPlans.{moving}
+use Rattle.std.specs.Prelude.{◌⊎◌, ℕ, List, map}
+use Rattle.net_rules.specs.MoveRules.{AcceptsMove}
+use Rattle.net_tables.specs.TwoPlans.{moving}
+use Rattle.net_runs.specs.Walkers.{WalkedEvent}
 use Rattle.net_sim.specs.Outcomes.{event_value}
 use Rattle.net_sim.specs.Promised.{IsPromised}
 use Rattle.net_plan.specs.declared.plan.Plan.{Plan}
@@ -13,12 +14,10 @@ use Rattle.net_plan.specs.Unread.{GaveNoEvents}
 use Rattle.plan_commands.specs.declared.refused.Input.{Input}
 use Rattle.plan_commands.specs.declared.refused.Input.TheVariants as input
 use Rattle.plan_commands.specs.declared.refused.Refused.{Refused}
-use Rattle.plan_commands.specs.declared.refused.Refused.TheVariants as refused
 use Rattle.plan_commands.specs.declared.status.Status.{Status}
-use Rattle.plan_commands.specs.declared.status.Status.TheVariants as status
-use Rattle.plan_commands.specs.Answers.{Stream, Fails, GaveNothing, IsReported, SaysWhy}
-use Rattle.plan_commands.specs.Moving.{IsMoveGiven, IsMoveFaultText, IsUnreadInMove, TellsMoveFault}
-use Rattle.plan_commands.specs.Simulating.{SimulatesBy, IsWalksText, ShowsOutcomes, ShowsAtMost, GaveEvents}
+use Rattle.plan_commands.specs.Answers.{Stream, GaveNothing}
+use Rattle.plan_commands.specs.Moving.{IsMoveGiven, IsMoveFaultText, IsUnreadInMove}
+use Rattle.plan_commands.specs.Simulating.{SimulatesBy, IsWalksText, GaveEvents}
 use Rattle.plan_commands.specs.Statuses.{HasCause}
 
 -- the sources gave the plans, the certificate, and the events at the nodes of the plan before
@@ -27,40 +26,40 @@ pub record IsPlayGiven (befores afters certificates happenings : Stream) (before
   pub inputs : IsMoveGiven befores afters certificates before after certificate
   pub events_text : GaveEvents before happenings events
 
--- Every rule of a move holds of the plans and the certificate that were given, and the output was given an outcome's
--- line for each of the events that were given.
-abbrev pub TellsMoved : Stream → Stream → Stream → Stream → Stream → Type 0
-TellsMoved befores afters certificates happenings output =
+-- Every rule of a move holds of the plans and the certificate, every run of the move is as promised, and what was
+-- written is what comes of the events, in such runs, in which the walkers have walked.
+abbrev pub MovesOn : Plan → Plan → Certificate → List WalkedEvent → Status → Stream → Type 0
+MovesOn before after certificate events ended output = AcceptsMove before after certificate
+    × IsPromised (moving before after) certificate × SimulatesBy (moving before after) certificate events ended output
+
+-- The text answers on them: where every rule of a move holds it is the lines of what comes of a beginning of the
+-- events, in a run of the move in which the walkers have walked, else the line of the first fault.
+abbrev pub IsMovePlayText : Plan → Plan → Certificate → List WalkedEvent → List ℕ → Type 0
+IsMovePlayText before after certificate events text = (AcceptsMove before after certificate
+    × IsWalksText (moving before after) certificate events text) ⊎ IsMoveFaultText before after certificate text
+
+-- the sources gave two plans, a certificate and events at the nodes of the plan before, of which this is so
+abbrev pub AreOfMoveFiles : (Plan → Plan → Certificate → List WalkedEvent → Type 0) → Stream → Stream → Stream → Stream
+    → Type 0
+AreOfMoveFiles IsSo befores afters certificates happenings =
     (before : Plan) × (after : Plan) × (certificate : Certificate) × (events : List Event)
     × IsPlayGiven befores afters certificates happenings before after certificate events
-    × AcceptsMove before after certificate × ShowsOutcomes before (length events) output
+    × IsSo before after certificate (map event_value events)
 
--- so it is of a beginning of the events
-abbrev pub TellsMovedInPart : Stream → Stream → Stream → Stream → Stream → Type 0
-TellsMovedInPart befores afters certificates happenings output =
-    (before : Plan) × (after : Plan) × (certificate : Certificate) × (events : List Event)
-    × IsPlayGiven befores afters certificates happenings before after certificate events
-    × AcceptsMove before after certificate × ShowsAtMost before (length events) output
+abbrev pub TellsMovedRun : Stream → Stream → Stream → Stream → Status → Stream → Type 0
+TellsMovedRun befores afters certificates happenings ended output =
+    AreOfMoveFiles (λ before after certificate events. MovesOn before after certificate events ended output)
+    befores afters certificates happenings
 
--- Every rule of a move holds of the plans and the certificate that were given, every run of the move is as promised,
--- and what was written is what comes of the events that were given, in such runs, in which the walkers have walked.
-abbrev pub TellsMovedRun : Status → Stream → Stream → Stream → Stream → Stream → Type 0
-TellsMovedRun ended befores afters certificates happenings output =
-    (before : Plan) × (after : Plan) × (certificate : Certificate) × (events : List Event)
-    × IsPlayGiven befores afters certificates happenings before after certificate events
-    × AcceptsMove before after certificate
-    × IsPromised (moving before after) certificate
-    × SimulatesBy (moving before after) certificate (map event_value events) ended output
+abbrev pub IsPlayFault : Stream → Stream → Stream → Stream → List ℕ → Type 0
+IsPlayFault befores afters certificates happenings text =
+    AreOfMoveFiles (λ before after certificate events. IsMoveFaultText before after certificate text)
+    befores afters certificates happenings
 
--- The text answers for the files that were given: where every rule of a move holds it is the lines of what comes of a
--- beginning of the events, in a run of the move in which the walkers have walked, else the line of the first fault.
 abbrev pub IsPlayAnswer : Stream → Stream → Stream → Stream → List ℕ → Type 0
 IsPlayAnswer befores afters certificates happenings text =
-    (before : Plan) × (after : Plan) × (certificate : Certificate) × (events : List Event)
-    × IsPlayGiven befores afters certificates happenings before after certificate events
-    × ((AcceptsMove before after certificate
-    × IsWalksText (moving before after) certificate (map event_value events) text)
-    ⊎ IsMoveFaultText before after certificate text)
+    AreOfMoveFiles (λ before after certificate events. IsMovePlayText before after certificate events text)
+    befores afters certificates happenings
 
 -- why an input can't be read; each is read only where those before it were given
 abbrev pub IsUnreadInPlay : Input → PlanError → Stream → Stream → Stream → Stream → Type 0
@@ -76,21 +75,4 @@ IsUnreadInPlay input.Events cause befores afters certificates happenings =
 -- why the inputs were not read
 abbrev pub IsPlayUnread : Refused → Stream → Stream → Stream → Stream → Type 0
 IsPlayUnread why befores afters certificates happenings =
-    HasCause (λ unread cause. IsUnreadInPlay unread cause befores afters certificates happenings) ⊥ ⊥ ⊥ ⊥ why
-
--- why there is no answer: the inputs were not read, or the output failed
-abbrev pub IsUnplayedFor : Refused → Stream → Stream → Stream → Stream → Stream → Type 0
-IsUnplayedFor why befores afters certificates happenings output =
-    HasCause (λ unread cause. IsUnreadInPlay unread cause befores afters certificates happenings) ⊥ ⊥ ⊥
-    (Fails output) why
-
--- what the end of a run says of what the sources gave and what was written on both outputs
-abbrev pub SimulatesMoveFiles : Status → Stream → Stream → Stream → Stream → (output errors : Stream) → Type 0
-SimulatesMoveFiles status.Yes befores afters certificates happenings output errors =
-    TellsMoved befores afters certificates happenings output
-SimulatesMoveFiles status.Fault befores afters certificates happenings output errors =
-    TellsMoveFault befores afters certificates output
-SimulatesMoveFiles status.Unreadable befores afters certificates happenings output errors =
-    SaysWhy (λ why. IsUnplayedFor why befores afters certificates happenings output) errors
-SimulatesMoveFiles status.NoMemory befores afters certificates happenings output errors =
-    IsReported refused.NoMemory errors
+    HasCause (λ unread cause. IsUnreadInPlay unread cause befores afters certificates happenings) ⊥ ⊥ ⊥ why

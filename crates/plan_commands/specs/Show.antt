@@ -1,6 +1,5 @@
 -- What the end of `show` says of the bytes that it was given.
 use Rattle.std.specs.Prelude.{◌≡◌, ℕ, List, Ok, Err}
-use Rattle.std.specs.Io.KnownBytes.{Appends}
 use Rattle.hex.specs.Hex.{decode_of}
 use Rattle.hex.specs.declared.error.FromHexError.{FromHexError}
 use Rattle.mctp_transport.specs.declared.packet_error.PacketError.{PacketError}
@@ -16,8 +15,6 @@ use Rattle.plan_commands.specs.declared.commands.show.ShownKind.TheVariants as k
 use Rattle.plan_commands.specs.declared.refused.Refused.{Refused}
 use Rattle.plan_commands.specs.declared.status.Status.{Status}
 use Rattle.plan_commands.specs.declared.status.Status.TheVariants as status
-use Rattle.plan_commands.specs.declared.refused.Refused.TheVariants as refused
-use Rattle.plan_commands.specs.Answers.{Stream, Fails, IsReported, SaysWhy}
 use Rattle.plan_commands.specs.Statuses.{HasCause}
 use Rattle.plan_texts.specs.Shown.{refused_bytes, packet_bytes, record_text_bytes}
 
@@ -49,27 +46,10 @@ IsShown status.Fault kind.Record bytes text =
 IsShown status.Unreadable asked bytes text = ⊥
 IsShown status.NoMemory asked bytes text = ⊥
 
--- the text tells what the bytes of the hex text are of the kind, or why they are none
-abbrev pub IsShowAnswer : ShownKind → List ℕ → List ℕ → Type 0
-IsShowAnswer asked hex text = (bytes : List ℕ) × (ended : Status) × IsDecoded hex bytes × IsShown ended asked bytes text
-
--- so it does, in a run that ends so
+-- the text tells what the bytes of the hex text are of the kind, or why they are none, in a run that ends so
 abbrev pub ShowsSo : ShownKind → List ℕ → Status → List ℕ → Type 0
 ShowsSo asked hex ended text = (bytes : List ℕ) × IsDecoded hex bytes × IsShown ended asked bytes text
 
--- the output was given the text of the bytes that the hex text is
-abbrev pub TellsOf : Status → ShownKind → List ℕ → Stream → Type 0
-TellsOf ended asked hex output =
-    (bytes : List ℕ) × (text : List ℕ) × IsDecoded hex bytes × IsShown ended asked bytes text
-    × Appends output.before output.after text
-
--- why nothing is shown: the text is no hex, or the output failed
-abbrev pub IsNotShown : Refused → List ℕ → Stream → Type 0
-IsNotShown why hex output = HasCause (λ unread cause. ⊥) ⊥ (IsNoHex hex) ⊥ (Fails output) why
-
--- what the end of a run says of the hex text and of what was written on both outputs
-abbrev pub Shows : Status → ShownKind → List ℕ → (output errors : Stream) → Type 0
-Shows status.Yes asked hex output errors = TellsOf status.Yes asked hex output
-Shows status.Fault asked hex output errors = TellsOf status.Fault asked hex output
-Shows status.Unreadable asked hex output errors = SaysWhy (λ why. IsNotShown why hex output) errors
-Shows status.NoMemory asked hex output errors = IsReported refused.NoMemory errors
+-- why nothing is shown: the text is no hex, or memory is wanting
+abbrev pub IsNotShown : List ℕ → Refused → Type 0
+IsNotShown hex why = HasCause (λ unread cause. ⊥) ⊥ (IsNoHex hex) ⊥ why

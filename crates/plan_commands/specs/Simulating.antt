@@ -1,5 +1,5 @@
 -- What the end of `sim` says of the events that were played and of what was written.
-use Rattle.std.specs.Prelude.{◌≡◌, ◌≤◌, ◌⊎◌, ℕ, List, length, map, take, Result, Ok, Err, ⊤}
+use Rattle.std.specs.Prelude.{◌≡◌, ◌⊎◌, ℕ, List, map, take, Result, Ok, Err, ⊤}
 use Rattle.std.specs.Io.KnownBytes.{Appends}
 use Rattle.net_plan.specs.declared.plan.Plan.{Plan}
 use Rattle.net_plan.specs.declared.certificate.Certificate.{Certificate}
@@ -10,10 +10,10 @@ use Rattle.net_plan.specs.EventValues.{event_entry}
 use Rattle.net_plan.specs.PlanValues.{plan_value}
 use Rattle.net_plan.specs.Texts.{Gave, StandsFor}
 use Rattle.net_plan.specs.Unread.{GaveNoEvents}
-use Rattle.net_check.specs.Rules.{Accepts}
-use Rattle.net_check.specs.TwoPlans.{Tables, one_plan}
-use Rattle.net_check.specs.WalkedRuns.{WalkedTurn, WalkedRunFrom}
-use Rattle.net_check.specs.Walkers.{WalkedState, WalkedEvent, WalkedOutcome, walked_at_start}
+use Rattle.net_rules.specs.Rules.{Accepts}
+use Rattle.net_tables.specs.TwoPlans.{Tables, one_plan}
+use Rattle.net_runs.specs.WalkedRuns.{WalkedTurn, WalkedRunFrom}
+use Rattle.net_runs.specs.Walkers.{WalkedState, WalkedEvent, WalkedOutcome, walked_at_start}
 use Rattle.net_sim.specs.Outcomes.{event_value}
 use Rattle.net_sim.specs.Promised.{IsPromised}
 use Rattle.net_sim.specs.Walks.{HaveWalked}
@@ -23,17 +23,19 @@ use Rattle.plan_commands.specs.declared.refused.Refused.{Refused}
 use Rattle.plan_commands.specs.declared.refused.Refused.TheVariants as refused
 use Rattle.plan_commands.specs.declared.status.Status.{Status}
 use Rattle.plan_commands.specs.declared.status.Status.TheVariants as status
-use Rattle.plan_commands.specs.Answers.{Stream, Fails, BreaksOff, AreGiven}
-use Rattle.plan_commands.specs.Answers.{GaveNothing, IsUnread, IsFaultText, TellsFault, IsReported, SaysWhy}
+use Rattle.plan_commands.specs.Answers.{Stream, BreaksOff, AreGiven, GaveNothing, IsUnread, IsFaultText}
+use Rattle.plan_commands.specs.Answers.{IsReported, SaysWhy}
 use Rattle.plan_texts.specs.OutcomeLines.{outcome_lines}
 use Rattle.plan_commands.specs.Statuses.{HasCause}
+use Rattle.plan_commands.specs.Told.{IsUngivenFor}
 
 -- The events are those of a run from the state, and the output was given the lines of what came of them.
 pub record ShowsRun (tables : Tables) (w : WalkedState) (events : List WalkedEvent) (output : Stream) : Type 0 where
   pub turns : List WalkedTurn
   pub events_are : map (λ (t : WalkedTurn). t.event) turns ≡ events
   pub runs : WalkedRunFrom tables w turns
-  pub shown : Appends output.before output.after (outcome_lines tables.plan (map (λ (t : WalkedTurn). t.outcome) turns))
+  pub shown : Appends output.before.bytes output.after.bytes
+      (outcome_lines tables.plan (map (λ (t : WalkedTurn). t.outcome) turns))
 
 -- so it is of a beginning of the events
 abbrev pub ShowsBeginning : Tables → WalkedState → List WalkedEvent → Stream → Type 0
@@ -75,21 +77,28 @@ EndsShowing status.Fault part all IsText output = ⊥
 EndsShowing status.Unreadable part all IsText output = BreaksOff IsText output
 EndsShowing status.NoMemory part all IsText output = part
 
--- what the end of a run says of the events, in runs by these tables from the state, and of what was written
+-- what is shown of the events, in runs by these tables from the state
+abbrev pub PlaysFrom : {T : Type 0} → Tables → WalkedState → List WalkedEvent → Result T Refused → Stream → Type 0
+PlaysFrom tables w events result output =
+    ShowsAllOr result (ShowsBeginning tables w events output) (ShowsRun tables w events output)
+    (IsRunText tables w events) output
+
+-- so it is from the start, in runs in which the walkers have walked
+abbrev pub PlaysBy : {T : Type 0} → Tables → Certificate → List WalkedEvent → Result T Refused → Stream → Type 0
+PlaysBy tables cert events result output =
+    ShowsAllOr result (ShowsBegunWalks tables cert events output) (ShowsWalks tables cert events output)
+    (IsWalksText tables cert events) output
+
+-- the same of the end of a run of the program
 abbrev pub SimulatesFrom : Tables → WalkedState → List WalkedEvent → Status → Stream → Type 0
 SimulatesFrom tables w events ended output =
     EndsShowing ended (ShowsBeginning tables w events output) (ShowsRun tables w events output)
     (IsRunText tables w events) output
 
--- so it is from the start, in runs in which the walkers have walked
 abbrev pub SimulatesBy : Tables → Certificate → List WalkedEvent → Status → Stream → Type 0
 SimulatesBy tables cert events ended output =
     EndsShowing ended (ShowsBegunWalks tables cert events output) (ShowsWalks tables cert events output)
     (IsWalksText tables cert events) output
-
--- so it is at a checked plan
-abbrev pub Simulates : Plan → Certificate → List WalkedEvent → Status → Stream → Type 0
-Simulates plan cert events ended output = SimulatesBy (one_plan plan) cert events ended output
 
 -- where the lines of outcomes are not all out, it is reported that the output failed, or want of memory
 abbrev pub ReportsPlay : Status → Stream → Type 0
@@ -100,64 +109,18 @@ ReportsPlay status.NoMemory errors = IsReported refused.NoMemory errors
 
 -- the output was given the lines of so many of the outcomes
 abbrev pub ShowsLines : Plan → List WalkedOutcome → ℕ → Stream → Type 0
-ShowsLines plan outcomes count output = Appends output.before output.after (outcome_lines plan (take count outcomes))
+ShowsLines plan outcomes count output =
+    Appends output.before.bytes output.after.bytes (outcome_lines plan (take count outcomes))
 
 -- the text is the lines of some of the outcomes, from the first on
 abbrev pub AreFirstLines : Plan → List WalkedOutcome → List ℕ → Type 0
 AreFirstLines plan outcomes text = (count : ℕ) × (text ≡ outcome_lines plan (take count outcomes))
 
--- the text is the lines of some outcomes, so many at most
-abbrev pub AreLinesAtMost : Plan → ℕ → List ℕ → Type 0
-AreLinesAtMost plan count text =
-    (outcomes : List WalkedOutcome) × (length outcomes ≤ count) × (text ≡ outcome_lines plan outcomes)
-
--- the output was given the lines of some outcomes, so many
-abbrev pub ShowsOutcomes : Plan → ℕ → Stream → Type 0
-ShowsOutcomes plan count output =
-    (outcomes : List WalkedOutcome) × (length outcomes ≡ count)
-    × Appends output.before output.after (outcome_lines plan outcomes)
-
--- so many at most
-abbrev pub ShowsAtMost : Plan → ℕ → Stream → Type 0
-ShowsAtMost plan count output = (shown : ℕ) × (shown ≤ count) × ShowsOutcomes plan shown output
-
 -- the source gave the events at the nodes of the plan
 abbrev pub GaveEvents : Plan → Stream → List Event → Type 0
 GaveEvents plan stream events =
-    Gave 16777216 stream.before stream.after
+    Gave 16777216 stream.before.bytes stream.after.bytes
     (λ text. StandsFor (AreEventsOf (plan_value plan)) text (map event_entry events))
-
--- Every rule holds of the plan and the certificate that were given, and the output was given an outcome's line
--- for each of the events that were given.
-abbrev pub TellsOutcomes : Stream → Stream → Stream → Stream → Type 0
-TellsOutcomes plans certificates happenings output = (plan : Plan) × (certificate : Certificate) × (events : List Event)
-    × AreGiven plans certificates plan certificate × GaveEvents plan happenings events × Accepts plan certificate
-    × ShowsOutcomes plan (length events) output
-
--- Every rule holds of the plan and the certificate that were given, and the output was given an outcome's line for each
--- event of a beginning of those that were given.
-abbrev pub TellsBeginning : Stream → Stream → Stream → Stream → Type 0
-TellsBeginning plans certificates happenings output =
-    (plan : Plan) × (certificate : Certificate) × (events : List Event)
-    × AreGiven plans certificates plan certificate × GaveEvents plan happenings events × Accepts plan certificate
-    × ShowsAtMost plan (length events) output
-
--- Every rule holds of the plan and the certificate that were given, every run of the plan's network is as promised, and
--- what was written is what comes of the events that were given, in such runs, in which the walkers have walked.
-abbrev pub TellsRun : Status → Stream → Stream → Stream → Stream → Type 0
-TellsRun ended plans certificates happenings output =
-    (plan : Plan) × (certificate : Certificate) × (events : List Event)
-    × AreGiven plans certificates plan certificate × GaveEvents plan happenings events × Accepts plan certificate
-    × IsPromised (one_plan plan) certificate × Simulates plan certificate (map event_value events) ended output
-
--- The text answers for the plan, the certificate and the events that were given: where every rule holds it is the lines
--- of what comes of a beginning of the events, in a run of the plan's network in which the walkers have walked, else the
--- line of the first fault.
-abbrev pub IsSimAnswer : Stream → Stream → Stream → List ℕ → Type 0
-IsSimAnswer plans certificates happenings text = (plan : Plan) × (certificate : Certificate) × (events : List Event)
-    × AreGiven plans certificates plan certificate × GaveEvents plan happenings events
-    × ((Accepts plan certificate × IsWalksText (one_plan plan) certificate (map event_value events) text)
-    ⊎ IsFaultText plan certificate text)
 
 -- why an input, which is the events at the nodes of the plan, can't be read
 abbrev pub AreUnreadEvents : Plan → Input → PlanError → Stream → Type 0
@@ -168,7 +131,7 @@ AreUnreadEvents plan input.Events cause happenings = GaveNothing (GaveNoEvents (
 -- why the events at the nodes of the plan were not read
 abbrev pub AreEventsUnread : Refused → Plan → Stream → Type 0
 AreEventsUnread why plan happenings =
-    HasCause (λ unread cause. AreUnreadEvents plan unread cause happenings) ⊥ ⊥ ⊥ ⊥ why
+    HasCause (λ unread cause. AreUnreadEvents plan unread cause happenings) ⊥ ⊥ ⊥ why
 
 -- why an input can't be read; the events are read only where the plan and the certificate were given
 abbrev pub IsUnreadAmong : Input → PlanError → Stream → Stream → Stream → Type 0
@@ -181,18 +144,60 @@ IsUnreadAmong input.Events cause plans certificates happenings = (plan : Plan) �
 -- why the inputs were not read
 abbrev pub AreUnreadAmong : Refused → Stream → Stream → Stream → Type 0
 AreUnreadAmong why plans certificates happenings =
-    HasCause (λ unread cause. IsUnreadAmong unread cause plans certificates happenings) ⊥ ⊥ ⊥ ⊥ why
+    HasCause (λ unread cause. IsUnreadAmong unread cause plans certificates happenings) ⊥ ⊥ ⊥ why
 
--- why there is no answer: the inputs were not read, or the output failed
-abbrev pub IsUnsimulatedFor : Refused → Stream → Stream → Stream → Stream → Type 0
-IsUnsimulatedFor why plans certificates happenings output =
-    HasCause (λ unread cause. IsUnreadAmong unread cause plans certificates happenings) ⊥ ⊥ ⊥ (Fails output) why
+-- ---- answers that are written as they are found
 
--- what the end of a run says of what the sources gave and what was written on both outputs
-abbrev pub SimulatesFiles : Status → Stream → Stream → Stream → (output errors : Stream) → Type 0
-SimulatesFiles status.Yes plans certificates happenings output errors =
-    TellsOutcomes plans certificates happenings output
-SimulatesFiles status.Fault plans certificates happenings output errors = TellsFault plans certificates output
-SimulatesFiles status.Unreadable plans certificates happenings output errors =
-    SaysWhy (λ why. IsUnsimulatedFor why plans certificates happenings output) errors
-SimulatesFiles status.NoMemory plans certificates happenings output errors = IsReported refused.NoMemory errors
+-- What was written for an answer, by how the run is to end or by why it broke off: what is run, or a fault; or the
+-- output failed in an answer; or memory ran out, and nothing was written or a part; or an input was not read, and
+-- nothing was written.
+abbrev pub PlaysSo : (Runs : Status → Stream → Type 0) → (IsFault IsText : List ℕ → Type 0) → (Refused → Type 0)
+    → (nothing : Type 0) → Result Status Refused → Stream → Type 0
+PlaysSo Runs IsFault IsText IsUnread nothing (Ok status.Yes) output = Runs status.Yes output
+PlaysSo Runs IsFault IsText IsUnread nothing (Ok status.Fault) output =
+    (text : List ℕ) × IsFault text × Appends output.before.bytes output.after.bytes text
+PlaysSo Runs IsFault IsText IsUnread nothing (Ok _) output = ⊥
+PlaysSo Runs IsFault IsText IsUnread nothing (Err refused.Unwritten) output = BreaksOff IsText output
+PlaysSo Runs IsFault IsText IsUnread nothing (Err refused.NoMemory) output = nothing ⊎ Runs status.NoMemory output
+PlaysSo Runs IsFault IsText IsUnread nothing (Err why) output = nothing × IsUnread why
+
+-- what the end of a run says of such an answer, and of what was written on both outputs
+abbrev pub EndsPlay : (Runs : Status → Stream → Type 0) → (IsFault : List ℕ → Type 0) → (Refused → Type 0)
+    → Status → (output errors : Stream) → Type 0
+EndsPlay Runs IsFault IsUnread status.Yes output errors = Runs status.Yes output
+EndsPlay Runs IsFault IsUnread status.Fault output errors =
+    (text : List ℕ) × IsFault text × Appends output.before.bytes output.after.bytes text
+EndsPlay Runs IsFault IsUnread status.Unreadable output errors = SaysWhy (IsUngivenFor IsUnread output) errors
+EndsPlay Runs IsFault IsUnread status.NoMemory output errors = IsReported refused.NoMemory errors
+
+-- ---- of a plan, its certificate and events
+
+-- Every rule holds of the plan and the certificate, every run of the plan's network is as promised, and what was
+-- written is what comes of the events, in such runs, in which the walkers have walked.
+abbrev pub RunsOn : Plan → Certificate → List WalkedEvent → Status → Stream → Type 0
+RunsOn plan certificate events ended output = Accepts plan certificate × IsPromised (one_plan plan) certificate
+    × SimulatesBy (one_plan plan) certificate events ended output
+
+-- The text answers on them: where every rule holds it is the lines of what comes of a beginning of the events, in a run
+-- of the plan's network in which the walkers have walked, else the line of the first fault.
+abbrev pub IsPlayText : Plan → Certificate → List WalkedEvent → List ℕ → Type 0
+IsPlayText plan certificate events text =
+    (Accepts plan certificate × IsWalksText (one_plan plan) certificate events text) ⊎ IsFaultText plan certificate text
+
+-- the sources gave a plan, its certificate and events at its nodes, of which this is so
+abbrev pub AreOfFiles : (Plan → Certificate → List WalkedEvent → Type 0) → Stream → Stream → Stream → Type 0
+AreOfFiles IsSo plans certificates happenings = (plan : Plan) × (certificate : Certificate) × (events : List Event)
+    × AreGiven plans certificates plan certificate × GaveEvents plan happenings events
+    × IsSo plan certificate (map event_value events)
+
+abbrev pub TellsRun : Stream → Stream → Stream → Status → Stream → Type 0
+TellsRun plans certificates happenings ended output =
+    AreOfFiles (λ plan certificate events. RunsOn plan certificate events ended output) plans certificates happenings
+
+abbrev pub IsSimFault : Stream → Stream → Stream → List ℕ → Type 0
+IsSimFault plans certificates happenings text =
+    AreOfFiles (λ plan certificate events. IsFaultText plan certificate text) plans certificates happenings
+
+abbrev pub IsSimAnswer : Stream → Stream → Stream → List ℕ → Type 0
+IsSimAnswer plans certificates happenings text =
+    AreOfFiles (λ plan certificate events. IsPlayText plan certificate events text) plans certificates happenings

@@ -1,27 +1,37 @@
--- How an answer is told, and what the answers on a plan and its certificate are.
+-- How an answer is told, and what the end of a run says of it.
 use Rattle.std.specs.Prelude.{◌≡◌, ◌⊎◌, ℕ, List}
 use Rattle.std.specs.Io.KnownBytes.{Appends}
-use Rattle.net_check.specs.Rules.{Accepts}
-use Rattle.net_plan.specs.declared.plan.Plan.{Plan}
-use Rattle.net_plan.specs.declared.certificate.Certificate.{Certificate}
 use Rattle.net_plan.specs.Stream.{AppendsBeginning}
+use Rattle.plan_commands.specs.declared.refused.Refused.{Refused}
+use Rattle.plan_commands.specs.declared.refused.Refused.TheVariants as refused
 use Rattle.plan_commands.specs.declared.status.Status.{Status}
 use Rattle.plan_commands.specs.declared.status.Status.TheVariants as status
-use Rattle.plan_commands.specs.declared.refused.Refused.TheVariants as refused
-use Rattle.plan_commands.specs.Answers.{Stream, Fails, IsReported, AreGiven, IsFaultText}
+use Rattle.plan_commands.specs.Answers.{Stream, Fails, IsReported, SaysWhy}
 
 -- The output was given the text, and the run ended as is due; or the output failed in the text, and this is reported.
 abbrev pub IsTold : Status → List ℕ → Status → (output errors : Stream) → Type 0
-IsTold due text ended output errors = ((ended ≡ due) × Appends output.before output.after text)
-    ⊎ ((ended ≡ status.Unreadable) × Fails output × AppendsBeginning output.before output.after text
+IsTold due text ended output errors = ((ended ≡ due) × Appends output.before.bytes output.after.bytes text)
+    ⊎ ((ended ≡ status.Unreadable) × Fails output × AppendsBeginning output.before.bytes output.after.bytes text
     × IsReported refused.Unwritten errors)
 
--- The text answers for the plan and the certificate that were given, in a run that ends so: it is told of them, and
--- every rule holds of them, or it is the line of their first fault.
-abbrev pub AnswersSo : (Plan → Certificate → List ℕ → Type 0) → Stream → Stream → Status → List ℕ → Type 0
-AnswersSo IsToldOf plans certificates status.Yes text = (plan : Plan) × (certificate : Certificate)
-    × AreGiven plans certificates plan certificate × Accepts plan certificate × IsToldOf plan certificate text
-AnswersSo IsToldOf plans certificates status.Fault text = (plan : Plan) × (certificate : Certificate)
-    × AreGiven plans certificates plan certificate × IsFaultText plan certificate text
-AnswersSo IsToldOf plans certificates status.Unreadable text = ⊥
-AnswersSo IsToldOf plans certificates status.NoMemory text = ⊥
+-- the text is an answer, in a run that ends in some way
+abbrev pub IsSomeAnswer : (Status → List ℕ → Type 0) → List ℕ → Type 0
+IsSomeAnswer Answers text = (ended : Status) × Answers ended text
+
+-- the output was given a text that answers in a run that ends so
+abbrev pub Gives : (Status → List ℕ → Type 0) → Status → Stream → Type 0
+Gives Answers ended output =
+    (text : List ℕ) × Answers ended text × Appends output.before.bytes output.after.bytes text
+
+-- why no answer was given: there is none for this cause, or the output failed
+abbrev pub IsUngivenFor : (Refused → Type 0) → Stream → Refused → Type 0
+IsUngivenFor IsWhy output why = IsWhy why ⊎ ((why ≡ refused.Unwritten) × Fails output)
+
+-- What the end of a run says of what was written on both outputs, by what answers in a run that ends so, and by why
+-- there may be no answer.
+abbrev pub Ends : (Status → List ℕ → Type 0) → (Refused → Type 0) → Status → (output errors : Stream) → Type 0
+Ends Answers IsWhy status.Yes output errors = Gives Answers status.Yes output
+Ends Answers IsWhy status.Fault output errors = Gives Answers status.Fault output
+Ends Answers IsWhy status.Unreadable output errors =
+    Gives Answers status.Unreadable output ⊎ SaysWhy (IsUngivenFor IsWhy output) errors
+Ends Answers IsWhy status.NoMemory output errors = IsReported refused.NoMemory errors

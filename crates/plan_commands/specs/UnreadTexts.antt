@@ -37,13 +37,13 @@ long_line = codes "The text is longer than 16777216 bytes.\n"
 abbrev pub IsNoTextTold : Stream → PlanError → List ℕ → Type 0
 IsNoTextTold source error_of.Device line = Fails source × (line ≡ failed_line)
 IsNoTextTold source error_of.OverLimit line =
-    TakesMoreThan 16777216 source.before source.after × (line ≡ long_line)
+    TakesMoreThan 16777216 source.before.bytes source.after.bytes × (line ≡ long_line)
 IsNoTextTold source _ line = ⊥
 
 -- the lines tell of a source that gave nothing for this cause: of the text that it gave, or that it gave none
 abbrev pub IsUnreadTold : (List ℕ → List ℕ → Type 0) → Stream → PlanError → List ℕ → Type 0
 IsUnreadTold IsTold source cause lines =
-    IsNoTextTold source cause lines ⊎ Gave 16777216 source.before source.after (λ bytes. IsTold bytes lines)
+    IsNoTextTold source cause lines ⊎ Gave 16777216 source.before.bytes source.after.bytes (λ bytes. IsTold bytes lines)
 
 -- The text is the line by which `certify` and `check` tell why a file of this role can't be read, and then the lines
 -- that tell where its text has its first fault.
@@ -85,9 +85,9 @@ IsUnreadAs said R bytes (Text text cause) =
 abbrev pub IsUnreadBy : {A : Type 0} → (Data → Result A ValueFault) → (Data → A → Type 0) → Stream → Unread → Type 0
 IsUnreadBy said R source NoMemory = ⊤
 IsUnreadBy said R source Failed = Fails source
-IsUnreadBy said R source TooLong = TakesMoreThan 16777216 source.before source.after
+IsUnreadBy said R source TooLong = TakesMoreThan 16777216 source.before.bytes source.after.bytes
 IsUnreadBy said R source (Text text cause) =
-    Gave 16777216 source.before source.after (λ bytes. IsUnreadAs said R bytes (Text text cause))
+    Gave 16777216 source.before.bytes source.after.bytes (λ bytes. IsUnreadAs said R bytes (Text text cause))
 
 -- the text that was given, if any, stands for nothing
 abbrev pub StandsForNothing : {A : Type 0} → (Data → A → Type 0) → Unread → Type 0

@@ -1,27 +1,31 @@
 //! The program's command line.
+use crate::commands::certified::Question;
+use crate::commands::planned::PlanQuestion;
 use crate::commands::show::ShownKind;
 use crate::commands::walk::PartSize;
 use crate::refused::Refused;
 use clap::{Arg, ArgAction, ArgMatches};
-use plan_texts::text_of;
+use plan_texts::{GUIDE, text_of};
 use std::alloc::{AllocError, Global};
 
-/// A command with its arguments.
+/// A command with its arguments. Files stand by their paths.
 #[derive(Clone, Copy, Debug, PartialEq, Eq)]
 pub enum Subcommand<'a> {
-    /// Does the certificate in one file fit the plan in another?
-    Check {
+    /// A question about the plan in one file, certified by another.
+    Certified {
+        question: Question<'a>,
         plan: &'a str,
         certificate: &'a str,
     },
-    /// What is the certificate of the plan in a file?
-    Certify {
+    /// A question about the plan in a file.
+    Planned {
+        question: PlanQuestion,
         plan: &'a str,
     },
-    /// Which requests give the nodes of the plan in one file, certified by another, their endpoint IDs and pools?
-    Assign {
+    /// What does `certify` say of the plan in a file, or `check` with the certificate in another, and why?
+    Explain {
         plan: &'a str,
-        certificate: &'a str,
+        certificate: Option<&'a str>,
     },
     /// What comes of the events in a file?
     Sim {
@@ -43,45 +47,10 @@ pub enum Subcommand<'a> {
         certificate: &'a str,
         events: &'a str,
     },
-    /// Which records does a walk over a node's terminus collect, by parts of so many bytes?
-    Walk {
-        plan: &'a str,
-        certificate: &'a str,
-        node: &'a str,
-        part: PartSize,
-    },
-    /// What in the plan in a file is lawful and still looks wrong?
-    Lint {
-        plan: &'a str,
-    },
-    /// Who reaches whom in the network of the plan in one file, certified by another?
-    Reach {
-        plan: &'a str,
-        certificate: &'a str,
-    },
-    /// Which way does a packet take from a node to another, or to an endpoint ID?
-    Trace {
-        plan: &'a str,
-        certificate: &'a str,
-        from: &'a str,
-        to: &'a str,
-    },
-    /// What does the network of the plan in a file look like, with the certificate in another where that is given?
-    Draw {
-        plan: &'a str,
-        certificate: Option<&'a str>,
-    },
-    /// What does `certify` say of the plan in a file, or `check` with the certificate in another, and why?
-    Explain {
-        plan: &'a str,
-        certificate: Option<&'a str>,
-    },
-    /// What does a code mean? The text says it.
-    Code {
+    /// What does a code mean, or which commands are there? The text says it.
+    Known {
         text: &'static str,
     },
-    /// Which commands are there?
-    Guide,
     /// What are the bytes of a hex text?
     Show {
         kind: ShownKind,
@@ -96,7 +65,7 @@ pub fn parse_command<'a>(alloc: Global, list: &'a [String]) -> Result<Subcommand
 }
 
 /// The name of each command, the names of its arguments, and those of the arguments that may be left out.
-const COMMANDS: [(&str, &[&str], &[&str]); 15] = [
+const COMMANDS: [(&str, &[&str], &[&str]); 16] = [
     ("check", &["plan", "certificate"], &[]),
     ("certify", &["plan"], &[]),
     ("assign", &["plan", "certificate"], &[]),
@@ -108,6 +77,7 @@ const COMMANDS: [(&str, &[&str], &[&str]); 15] = [
     ("trace", &["plan", "certificate", "from", "to"], &[]),
     ("draw", &["plan"], &["certificate"]),
     ("explain", &["plan"], &["certificate"]),
+    ("faults", &["plan"], &["certificate"]),
     ("lint", &["plan"], &[]),
     ("show", &["kind", "hex"], &[]),
     ("code", &["code"], &[]),
@@ -143,42 +113,38 @@ fn with_arguments<'a>(
 fn chosen<'a>(matches: &ArgMatches<'a>) -> Option<Subcommand<'a>> {
     let (name, arguments) = matches.subcommand()?;
     match name {
-        "check" => checking(arguments),
-        "certify" => certifying(arguments),
-        "assign" => assigning(arguments),
+        "check" => certified(arguments, Question::Check),
+        "certify" => planned(arguments, PlanQuestion::Certify),
+        "assign" => certified(arguments, Question::Assign),
         "sim" => playing(arguments),
         "move" => moving(arguments),
         "simmove" => playing_moves(arguments),
         "walk" => walking(arguments),
-        "reach" => reaching(arguments),
+        "reach" => certified(arguments, Question::Reach),
         "trace" => tracing(arguments),
-        "draw" => drawing(arguments),
+        "draw" => with_or_without(arguments, Question::Draw, PlanQuestion::Draw),
         "explain" => explaining(arguments),
-        "lint" => linting(arguments),
+        "faults" => with_or_without(arguments, Question::Faults, PlanQuestion::Faults),
+        "lint" => planned(arguments, PlanQuestion::Lint),
         "show" => showing(arguments),
         "code" => telling(arguments),
-        "guide" => Some(Subcommand::Guide),
+        "guide" => Some(Subcommand::Known { text: GUIDE }),
         _ => None,
     }
 }
 
-fn checking<'a>(arguments: &ArgMatches<'a>) -> Option<Subcommand<'a>> {
-    Some(Subcommand::Check {
+fn certified<'a>(arguments: &ArgMatches<'a>, question: Question<'a>) -> Option<Subcommand<'a>> {
+    Some(Subcommand::Certified {
+        question,
         plan: arguments.get_str("plan")?,
         certificate: arguments.get_str("certificate")?,
     })
 }
 
-fn certifying<'a>(arguments: &ArgMatches<'a>) -> Option<Subcommand<'a>> {
-    Some(Subcommand::Certify {
+fn planned<'a>(arguments: &ArgMatches<'a>, question: PlanQuestion) -> Option<Subcommand<'a>> {
+    Some(Subcommand::Planned {
+        question,
         plan: arguments.get_str("plan")?,
-    })
-}
-
-fn assigning<'a>(arguments: &ArgMatches<'a>) -> Option<Subcommand<'a>> {
-    Some(Subcommand::Assign {
-        plan: arguments.get_str("plan")?,
-        certificate: arguments.get_str("certificate")?,
     })
 }
 
@@ -208,47 +174,33 @@ fn playing_moves<'a>(arguments: &ArgMatches<'a>) -> Option<Subcommand<'a>> {
 }
 
 fn walking<'a>(arguments: &ArgMatches<'a>) -> Option<Subcommand<'a>> {
-    Some(Subcommand::Walk {
-        plan: arguments.get_str("plan")?,
-        certificate: arguments.get_str("certificate")?,
-        node: arguments.get_str("node")?,
-        part: part_size_of(arguments.get_str("count")?)?,
-    })
-}
-
-fn reaching<'a>(arguments: &ArgMatches<'a>) -> Option<Subcommand<'a>> {
-    Some(Subcommand::Reach {
-        plan: arguments.get_str("plan")?,
-        certificate: arguments.get_str("certificate")?,
-    })
+    let node = arguments.get_str("node")?;
+    let part = part_size_of(arguments.get_str("count")?)?;
+    certified(arguments, Question::Walk { node, part })
 }
 
 fn tracing<'a>(arguments: &ArgMatches<'a>) -> Option<Subcommand<'a>> {
-    Some(Subcommand::Trace {
-        plan: arguments.get_str("plan")?,
-        certificate: arguments.get_str("certificate")?,
-        from: arguments.get_str("from")?,
-        to: arguments.get_str("to")?,
-    })
+    let from = arguments.get_str("from")?;
+    let to = arguments.get_str("to")?;
+    certified(arguments, Question::Trace { from, to })
 }
 
-fn drawing<'a>(arguments: &ArgMatches<'a>) -> Option<Subcommand<'a>> {
-    Some(Subcommand::Draw {
-        plan: arguments.get_str("plan")?,
-        certificate: arguments.get_str("certificate"),
-    })
+/// A question about a plan with its certificate, or one about the plan alone where that is all.
+fn with_or_without<'a>(
+    arguments: &ArgMatches<'a>,
+    question: Question<'a>,
+    alone: PlanQuestion,
+) -> Option<Subcommand<'a>> {
+    match arguments.get_str("certificate") {
+        Some(_) => certified(arguments, question),
+        None => planned(arguments, alone),
+    }
 }
 
 fn explaining<'a>(arguments: &ArgMatches<'a>) -> Option<Subcommand<'a>> {
     Some(Subcommand::Explain {
         plan: arguments.get_str("plan")?,
         certificate: arguments.get_str("certificate"),
-    })
-}
-
-fn linting<'a>(arguments: &ArgMatches<'a>) -> Option<Subcommand<'a>> {
-    Some(Subcommand::Lint {
-        plan: arguments.get_str("plan")?,
     })
 }
 
@@ -277,5 +229,5 @@ fn part_size_of(word: &str) -> Option<PartSize> {
 
 fn telling<'a>(arguments: &ArgMatches<'a>) -> Option<Subcommand<'a>> {
     let text = text_of(arguments.get_str("code")?)?;
-    Some(Subcommand::Code { text })
+    Some(Subcommand::Known { text })
 }

@@ -2,8 +2,8 @@
 
 pub mod answer;
 pub mod assign;
+pub mod certified;
 pub mod certify;
-pub mod check;
 pub mod draw;
 pub mod explain;
 pub mod faults;
@@ -11,8 +11,10 @@ pub mod gathered;
 pub mod inputs;
 pub mod known;
 pub mod lint;
+pub mod listing;
 pub mod moving;
 pub mod naming;
+pub mod planned;
 pub mod reach;
 pub mod repositories;
 pub mod show;

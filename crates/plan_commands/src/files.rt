@@ -2,7 +2,7 @@
 ghost use Rattle.std.specs.Io.{ReadsAtMost};
 ghost use Rattle.std.specs.Io.KnownBytes.{ReadConsumes};
 ghost use Rattle.std.specs.Option.{option_and_then};
-ghost use Rattle.std.specs.Prelude.{◌<◌, ◌^◌, ◌-◌};
+ghost use Rattle.net_plan.specs.Stream.{HasRoom};
 
 use net_plan::{Sink, write_whole};
 use std::alloc::Global;
@@ -33,7 +33,7 @@ impl<'a, R: Files> FileAtPath<'a, R> {
     /// Tells the file's path and the system's reason, where it could not be opened or a read failed. Want of memory for that
     /// line and a sink that fails are passed over.
     pub fn tell_failure<E: Sink>(&self, alloc: Global, errors: &mut E)
-        requires { E.failures errors.old < 2 ^ 64 - 1 }
+        requires { HasRoom (E.account errors.old) }
     {
         let Some(failure) = self.failure else {
             return;

@@ -1,10 +1,10 @@
 -- Where records of a bad chain have handles of their own.
 use Rattle.std.proofs.Common.{◌<◌, ℕ, Some, None, arith}
-use Rattle.net_check.specs.declared.rule.Rule.TheVariants.{C12, C14}
-use Rattle.net_check.specs.Certificates.{CanBeMetBefore}
-use Rattle.net_check.specs.Faults.{order_of}
-use Rattle.net_check.specs.RecordChains.{HaveNewHandles}
-use Rattle.net_check.specs.Repositories.{records_of}
+use Rattle.net_rules.specs.declared.rule.Rule.TheVariants.{C12, C14}
+use Rattle.net_rules.specs.Certificates.{CanBeMetBefore}
+use Rattle.net_rules.specs.Faults.{order_of}
+use Rattle.net_rules.specs.RecordChains.{HaveNewHandles}
+use Rattle.net_tables.specs.Repositories.{records_of}
 use Rattle.net_plan.specs.declared.plan.Plan.{Plan}
 
 -- what comes before chains in the order of the rules is met

@@ -1,13 +1,14 @@
 -- What stands twice, as it is told: keys by index, and the lines of a key.
-use Rattle.std.proofs.Common.{◌≡◌, ◌≤◌, ◌<◌, ◌++◌, ℕ, zero, suc, List, [], ◌∷◌, length, get_or, append-nil, Option, None, Result, Ok, Err, Bor, refl, sym, ◌∙◌, ap, subst, arith}
+use Rattle.std.proofs.Common.{◌≡◌, ◌≤◌, ◌<◌, ◌++◌, ℕ, zero, suc, List, [], ◌∷◌, length, get_or, append-nil, Option, Some, None, Result, Ok, Err, Bor, refl, sym, ◌∙◌, ap, subst, arith}
 use Rattle.std.specs.Prelude.{IfOk}
 use Rattle.json.specs.Json.{Json}
 use Rattle.json.specs.Strict.{keys}
 use Rattle.json.specs.Value.{members_view}
 use Rattle.net_plan.specs.Trees.{Tree}
+use Rattle.net_pointers.specs.Doubles.{HasDoubledKey, part_at}
 use Rattle.net_pointers.specs.Offsets.{LeadsToKey}
 use Rattle.net_pointers.specs.declared.doubled.DoubledKey.{DoubledKey}
-use Rattle.plan_texts.specs.TroubleLines.{AreOffsets, two_lines, IsDoubledKeyTold, key_at, key_of, key_line, key_again_line, object_text, path_text}
+use Rattle.plan_texts.specs.TroubleLines.{keys_in, two_lines, IsDoubledKeyTold, key_at, key_of, key_line, key_again_line, object_text, path_text}
 use Rattle.plan_texts.proofs.ToldTexts.{no_path}
 
 -- ---- by index
@@ -35,11 +36,17 @@ path_done text whole ps o none is =
 
 -- ---- the lines of a key
 
-pub key_told : {A E : Type 0} (bytes : A → List ℕ) (text : List ℕ) (j : Json) (k : DoubledKey) (key whole one other : List ℕ) (offsets : Option (ℕ × ℕ)) (r : Result A E)
-    → key ≡ key_of j k → whole ≡ object_text k.path.items j → one ≡ key_line whole key → other ≡ key_again_line whole key → AreOffsets text key (LeadsToKey text k.path.items k.members.first) (LeadsToKey text k.path.items k.members.second) offsets
-    → IfOk r (λ t. bytes t ≡ two_lines text offsets one other) → IfOk r (λ t. IsDoubledKeyTold text j k (bytes t))
-key_told bytes text j k key whole one other offsets (Ok t) the_key the_object first second at is =
-    let F : List ℕ → List ℕ → List ℕ = λ w s. two_lines text offsets (key_line w s) (key_again_line w s) in
-    let written : bytes t ≡ F whole key = is ∙ (ap (λ z. two_lines text offsets z other) first ∙ ap (λ z. two_lines text offsets (key_line whole key) z) second) in
-    (offsets, subst (λ (s : List ℕ). AreOffsets text s (LeadsToKey text k.path.items k.members.first) (LeadsToKey text k.path.items k.members.second) offsets) the_key at, written ∙ (ap (λ w. F w key) the_object ∙ ap (λ s. F (object_text k.path.items j) s) the_key))
-key_told bytes text j k key whole one other offsets (Err e) the_key the_object first second at is = tt
+pub key_told : {A E : Type 0} (bytes : A → List ℕ) (text : List ℕ) (j : Json) (k : DoubledKey) (key whole one other : List ℕ) (at again : ℕ) (r : Result A E)
+    → key ≡ key_of j k → whole ≡ object_text k.path.items j → one ≡ key_line whole key → other ≡ key_again_line whole key → LeadsToKey text k.path.items k.members.first at → LeadsToKey text k.path.items k.members.second again
+    → IfOk r (λ t. bytes t ≡ two_lines text (Some at) (Some again) one other) → IfOk r (λ t. IsDoubledKeyTold text j k (bytes t))
+key_told bytes text j k key whole one other at again (Ok t) the_key the_object first second leads leads_again is =
+    let F : List ℕ → List ℕ → List ℕ = λ w s. two_lines text (Some at) (Some again) (key_line w s) (key_again_line w s) in
+    let written : bytes t ≡ F whole key = is ∙ (ap (λ z. two_lines text (Some at) (Some again) z other) first ∙ ap (λ z. two_lines text (Some at) (Some again) (key_line whole key) z) second) in
+    (at, again, leads, leads_again, written ∙ (ap (λ w. F w key) the_object ∙ ap (λ s. F (object_text k.path.items j) s) the_key))
+key_told bytes text j k key whole one other at again (Err e) the_key the_object first second leads leads_again is = tt
+
+-- a doubled key is that of two members of the object
+pub members_there : (j : Json) (k : DoubledKey) → HasDoubledKey j k → (k.members.first < length (keys_in (part_at k.path.items j))) × (k.members.second < length (keys_in (part_at k.path.items j)))
+members_there j k (ms, at, is) =
+    let same = ap (λ o. length (keys_in o)) at in
+    (omega (arith, is.ascends, is.within, same), omega (arith, is.within, same))

@@ -1,5 +1,5 @@
 -- What is told of a text that doesn't read.
-use Rattle.std.proofs.Common.{◌≡◌, ◌≢◌, ◌≤◌, ◌<◌, ◌+◌, ◌++◌, ◌||◌, ℕ, zero, suc, List, [], ◌∷◌, map, length, get_or, take, drop, Bool, append_assoc, option_and_then, Option, Some, None, option_map, Result, Ok, Err, Bor, refl, sym, ◌∙◌, ap, subst, arith}
+use Rattle.std.proofs.Common.{IsUtf8, ◌≡◌, ◌≢◌, ◌≤◌, ◌<◌, ◌+◌, ◌++◌, ◌||◌, ℕ, zero, suc, List, [], ◌∷◌, map, length, get_or, take, drop, Bool, append_assoc, option_and_then, Option, Some, None, option_map, Result, Ok, Err, Bor, refl, sym, ◌∙◌, ap, subst, arith}
 use Rattle.std.specs.Prelude.{IfOk, IfSome, codes}
 use Rattle.std.specs.List.{flat_map, list_any, slice_get}
 use Rattle.std.specs.Slice.{IsItemAt}
@@ -15,6 +15,8 @@ use Rattle.serde_json.specs.Data.{Data}
 use Rattle.serde_json.specs.Find.{get, get_item}
 use Rattle.net_plan.specs.CertificateText.{IsCertificateOf}
 use Rattle.net_plan.specs.CertificateValues.{CertificateValue}
+use Rattle.net_plan.specs.Finding.{Located, Step, step_value}
+use Rattle.net_plan.specs.Grammar.{Fields, fields_of, fields_view, keys_of}
 use Rattle.net_plan.specs.Json.{is_among, items_count}
 use Rattle.net_plan.specs.PlanText.{IsPlanOf}
 use Rattle.net_plan.specs.PlanValues.{PlanValue, node_names}
@@ -29,19 +31,20 @@ use Rattle.net_plan.specs.PlanReading.{plan}
 use Rattle.net_plan.specs.SingleKeys.{unless_doubled}
 use Rattle.net_plan.specs.declared.error.ValueFault.{ValueFault}
 use Rattle.net_plan.specs.declared.error.ValueFault.TheVariants as fault
+use Rattle.net_plan.specs.declared.found.PointerStep.{PointerStep}
+use Rattle.net_plan.specs.declared.shape.Field.{Field, out-Field}
+use Rattle.net_plan.proofs.FieldKeys.{fields_cons}
 use Rattle.net_pointers.specs.Doubles.{item_at, member_at, part_at, part_after}
-use Rattle.net_pointers.specs.PlanShapes.{fields_view}
-use Rattle.net_pointers.specs.Pointers.{Located, Step, value_at, value_after}
-use Rattle.net_pointers.specs.Shapes.{Fields, keys_of, fields_of}
+use Rattle.net_pointers.specs.Pointers.{value_at, value_after}
 use Rattle.net_pointers.specs.TextTroubles.{IsJsonOf, IsToldOfPlanText, IsToldOfCertificateText}
-use Rattle.net_pointers.specs.Views.{step_value}
-use Rattle.net_pointers.specs.declared.found.PointerStep.{PointerStep}
-use Rattle.net_pointers.specs.declared.part.Field.{Field}
 use Rattle.net_pointers.specs.declared.ranges.Overlap.{Overlap}
 use Rattle.net_pointers.specs.declared.texts.TextTrouble.{TextTrouble}
 use Rattle.plan_texts.specs.ReadingLines.{key_words, keys_words}
 use Rattle.plan_texts.specs.Standing.{IsShownLength, IsShownOf, IsShown, dots_after, printed}
-use Rattle.plan_texts.specs.TroubleLines.{StandsAt, rest_of, IsStandingTold, IsWrongTold, IsLineOf, IsValueTold, value_line, AreOffsets, AreApart, AreTwoTold, two_lines, tree_at, IsOverlapTold, range_line, next_range_line, range_pointer}
+use Rattle.plan_texts.specs.TroubleLines.{IsStandingTold, IsWrongTold, IsLineOf, IsValueTold, value_line, IsOffsetOf, two_lines, tree_at, entry_pointer, doubled_name, name_line, again_line, IsDoubledNameTold, IsOverlapTold, range_line, next_range_line, range_pointer}
+use Rattle.std.proofs.lemmas.Str.{IsUtf8-drop, IsCharBoundary-before_ascii}
+use Rattle.net_pointers.specs.Offsets.{LeadsTo}
+use Rattle.net_pointers.specs.declared.doubled.TwoIndices.{TwoIndices}
 use Rattle.plan_texts.specs.TroubleLines.{key_at, part_step, path_text, AreTroubleLines, IsPlanTextTold, IsCertificateTextTold}
 
 -- ---- a text of which nothing is told is read
@@ -61,13 +64,13 @@ certificate_is_read p text (j, tree, json, (one, c, read)) none =
 
 -- ---- the keys of a table
 
-pub keys_same : (fs : List Field) → flat_map (λ (f : Field). key_words f.key.now) fs ≡ keys_words (fields_view fs)
+pub keys_same : (fs : List Field) → flat_map (λ (f : Field). key_words (out-Field f).key.now) fs ≡ keys_words (fields_view fs)
 keys_same [] = refl
-keys_same (f ∷ fs) = ap (λ z. key_words f.key.now ++ z) (keys_same fs)
+keys_same (f ∷ fs) = ap (λ z. key_words (out-Field f).key.now ++ z) (keys_same fs) ∙ sym (ap keys_words (fields_cons f fs))
 
-pub among_fields : (fs : List Field) (key : List ℕ) → list_any (λ (f : Field). bytes_eq key f.key.now) fs ≡ is_among (keys_of (fields_view fs)) key
+pub among_fields : (fs : List Field) (key : List ℕ) → list_any (λ (f : Field). bytes_eq key (out-Field f).key.now) fs ≡ is_among (keys_of (fields_view fs)) key
 among_fields [] key = refl
-among_fields (f ∷ fs) key = ap (λ b. bytes_eq key f.key.now || b) (among_fields fs key)
+among_fields (f ∷ fs) key = ap (λ b. bytes_eq key (out-Field f).key.now || b) (among_fields fs key) ∙ sym (ap (λ gs. is_among (keys_of gs) key) (fields_cons f fs))
 
 -- ---- parts of a value, by index
 
@@ -138,9 +141,9 @@ standing_told bytes rest shown (Ok t) fits is = (shown, fits, is)
 standing_told bytes rest shown (Err e) fits is = tt
 
 -- of a fault that isn't of a key or a length, what stands there is told
-pub wrong_told : {A E : Type 0} (bytes : A → List ℕ) (fs : Fields) (f : ValueFault) (d : Json) (rest : Option (List ℕ)) (r : Result A E)
+pub wrong_told : {A E : Type 0} (bytes : A → List ℕ) (fs : Fields) (f : ValueFault) (d : Json) (rest : List ℕ) (r : Result A E)
     → f ≢ fault.MissingKey → f ≢ fault.UnknownKey → f ≢ fault.OverLimit
-    → IfOk r (λ t. IsStandingTold f rest (bytes t)) → IfOk r (λ t. IsWrongTold fs f d rest (bytes t))
+    → IfOk r (λ t. IsStandingTold rest (bytes t)) → IfOk r (λ t. IsWrongTold fs f d rest (bytes t))
 wrong_told bytes fs fault.MissingKey d rest r missing unknown over told = absurd (missing refl)
 wrong_told bytes fs fault.UnknownKey d rest r missing unknown over told = absurd (unknown refl)
 wrong_told bytes fs fault.OverLimit d rest r missing unknown over told = absurd (over refl)
@@ -151,37 +154,36 @@ wrong_told bytes fs fault.BadHex d rest r missing unknown over told = told
 wrong_told bytes fs fault.Doubled d rest r missing unknown over told = told
 wrong_told bytes fs fault.OutOfMemory d rest r missing unknown over told = told
 
-pub line_told : {A E : Type 0} (bytes : A → List ℕ) (text : List ℕ) (l : Located) (d : Json) (offset : Option ℕ) (rest : Option (List ℕ)) (words : List ℕ) (r : Result A E)
-    → IsWrongTold (fields_of l.shape) l.fault d rest words → IfOk r (λ t. bytes t ≡ value_line text offset l words) → IfOk r (λ t. IsLineOf text l d offset rest (bytes t))
-line_told bytes text l d offset rest words (Ok t) wrong is = (words, wrong, is)
-line_told bytes text l d offset rest words (Err e) wrong is = tt
+pub line_told : {A E : Type 0} (bytes : A → List ℕ) (text : List ℕ) (l : Located) (d : Json) (offset : ℕ) (words : List ℕ) (r : Result A E)
+    → IsWrongTold (fields_of l.grammar) l.fault d (drop offset text) words → IfOk r (λ t. bytes t ≡ value_line text offset l words) → IfOk r (λ t. IsLineOf text l d offset (bytes t))
+line_told bytes text l d offset words (Ok t) wrong is = (words, wrong, is)
+line_told bytes text l d offset words (Err e) wrong is = tt
 
-pub value_told : {A E : Type 0} (bytes : A → List ℕ) (text : List ℕ) (j stands : Json) (l : Located) (offset : Option ℕ) (rest : Option (List ℕ)) (r : Result A E)
-    → StandsAt text offset l → tree_at l.pointer j ≡ Some stands → value_at l.pointer (data_of j) ≡ Some (data_of stands) → rest ≡ rest_of text offset
-    → IfOk r (λ t. IsLineOf text l stands offset rest (bytes t)) → IfOk r (λ t. IsValueTold text j l (bytes t))
-value_told bytes text j stands l offset rest (Ok t) at tree leads same is =
-    record { offset = offset; stands = stands; at = at; tree = tree; leads = leads; written = subst (λ (o : Option (List ℕ)). IsLineOf text l stands offset o (bytes t)) same is }
-value_told bytes text j stands l offset rest (Err e) at tree leads same is = tt
+pub value_told : {A E : Type 0} (bytes : A → List ℕ) (text : List ℕ) (j stands : Json) (l : Located) (offset : ℕ) (r : Result A E)
+    → LeadsTo text l.pointer offset → tree_at l.pointer j ≡ Some stands → value_at l.pointer (data_of j) ≡ Some (data_of stands)
+    → IfOk r (λ t. IsLineOf text l stands offset (bytes t)) → IfOk r (λ t. IsValueTold text j l (bytes t))
+value_told bytes text j stands l offset (Ok t) at tree leads is = record { offset = offset; stands = stands; at = at; tree = tree; leads = leads; written = is }
+value_told bytes text j stands l offset (Err e) at tree leads is = tt
 
-pub two_told : {A E : Type 0} (bytes : A → List ℕ) (text s : List ℕ) (first second : ℕ → Type 0) (one other : List ℕ) (offsets : Option (ℕ × ℕ)) (r : Result A E) → AreOffsets text s first second offsets
-    → IfOk r (λ t. bytes t ≡ two_lines text offsets one other) → IfOk r (λ t. AreTwoTold text s first second one other (bytes t))
-two_told bytes text s first second one other offsets (Ok t) at is = (offsets, at, is)
-two_told bytes text s first second one other offsets (Err e) at is = tt
-
-pub overlap_told : {A E : Type 0} (bytes : A → List ℕ) (text : List ℕ) (o : Overlap) (offsets : Option (ℕ × ℕ)) (r : Result A E) → AreApart text (range_pointer o.entry o.range) (range_pointer o.entry (o.range + 1)) offsets
-    → IfOk r (λ t. bytes t ≡ two_lines text offsets (range_line (range_pointer o.entry o.range)) (next_range_line (range_pointer o.entry (o.range + 1))))
+pub overlap_told : {A E : Type 0} (bytes : A → List ℕ) (text : List ℕ) (o : Overlap) (first second : ℕ) (r : Result A E)
+    → LeadsTo text (range_pointer o.entry o.range) first → LeadsTo text (range_pointer o.entry (o.range + 1)) second
+    → IfOk r (λ t. bytes t ≡ two_lines text (Some first) (Some second) (range_line (range_pointer o.entry o.range)) (next_range_line (range_pointer o.entry (o.range + 1))))
     → IfOk r (λ t. IsOverlapTold text o (bytes t))
-overlap_told bytes text o offsets (Ok t) at is = (offsets, at, is)
-overlap_told bytes text o offsets (Err e) at is = tt
+overlap_told bytes text o first second (Ok t) one other is = (first, second, one, other, is)
+overlap_told bytes text o first second (Err e) one other is = tt
 
--- the offsets of what stands twice are in the text
-pub offsets_within : (text s : List ℕ) (first second : ℕ → Type 0) (offsets : Option (ℕ × ℕ)) → AreOffsets text s first second offsets → IfSome offsets (λ o. (o.0 ≤ length text) × (o.1 ≤ length text))
-offsets_within text s first second None h = tt
-offsets_within text s first second (Some o) h = (omega (arith, h.2.ascends, h.2.within), h.2.within)
+pub name_told_twice : {A E : Type 0} (bytes : A → List ℕ) (text : List ℕ) (d : Data) (list k why : List ℕ) (indices : TwoIndices) (first second : Option ℕ) (r : Result A E)
+    → IsOffsetOf text d (entry_pointer list indices.first k) first → IsOffsetOf text d (entry_pointer list indices.second k) second
+    → IfOk r (λ t. bytes t ≡ two_lines text first second (name_line (entry_pointer list indices.first k) (doubled_name d list k indices)) (again_line (entry_pointer list indices.second k) (doubled_name d list k indices) why))
+    → IfOk r (λ t. IsDoubledNameTold text d list k why indices (bytes t))
+name_told_twice bytes text d list k why indices first second (Ok t) one other is = (first, second, one, other, is)
+name_told_twice bytes text d list k why indices first second (Err e) one other is = tt
 
-pub apart_within : (text : List ℕ) (one other : List Step) (offsets : Option (ℕ × ℕ)) → AreApart text one other offsets → IfSome offsets (λ o. (o.0 ≤ length text) × (o.1 ≤ length text))
-apart_within text one other None h = tt
-apart_within text one other (Some o) h = (omega (arith, h.2, h.3), h.3)
+-- what begins at the offset to which a pointer leads is UTF-8, as the text is
+pub rest_is_text : (text : List ℕ) (pointer : List Step) (offset : ℕ) → IsUtf8 text → LeadsTo text pointer offset → (offset ≤ length text) × IsUtf8 (drop offset text)
+rest_is_text text pointer offset utf8 leads =
+    let at = leads.stands.2 in
+    (omega (arith, at.0), IsUtf8-drop text offset utf8 (IsCharBoundary-before_ascii text offset at.0 at.2))
 
 -- ---- a text that is JSON of one tree
 

@@ -3,8 +3,8 @@ use Rattle.std.specs.Prelude.{◌≡◌, ℕ, ◌+◌, ◌==◌, ◌||◌, List,
 use Rattle.std.specs.Prelude.{Option, Some, None, is_some, count_by, codes, chars, encode_utf8_all, string_bytes}
 use Rattle.std.specs.Fmt.{decimal}
 use Rattle.std.specs.List.{concat, enumerate_from, flat_map, list_any, sum_by}
-use Rattle.net_check.specs.Owners.{given_level}
-use Rattle.net_check.specs.Stretches.{ranges_of}
+use Rattle.net_tables.specs.Ownership.{given_level}
+use Rattle.net_tables.specs.Ranks.{ranges_of}
 use Rattle.net_plan.specs.declared.certificate.Certificate.{Certificate}
 use Rattle.net_plan.specs.declared.certificate.RankRange.{RankRange}
 use Rattle.net_plan.specs.declared.nodes.Bus.{Bus}

@@ -3,7 +3,7 @@ use Rattle.std.specs.Prelude.{ℕ, List, [], ◌++◌, codes}
 use Rattle.std.specs.Prelude.{Option, option_map, slice_get, unwrap_or}
 use Rattle.std.specs.Fmt.{decimal}
 use Rattle.std.specs.List.{flat_map}
-use Rattle.net_check.specs.Routing.{ports_of}
+use Rattle.net_tables.specs.Routing.{ports_of}
 use Rattle.net_plan.specs.declared.nodes.Port.{Port}
 use Rattle.net_plan.specs.declared.plan.Plan.{Plan}
 use Rattle.net_questions.specs.declared.finding.Finding.{Finding}

@@ -1,11 +1,13 @@
 pub mod Lines
-pub mod CauseLines
-pub mod EditLines
 pub mod WayLines
-pub mod ExplanationLines
-pub mod CertificateLines
+pub mod Pieces
+pub mod CauseSubjects
+pub mod EditSubjects
+pub mod Explanations
+pub mod CertificateSubjects
 pub mod SummaryLines
 pub mod MoveLines
+pub mod FaultListLines
 pub mod FindingLines
 pub mod PairLines
 pub mod AssignmentLines

@@ -1,10 +1,10 @@
 -- The lines of what is wrong with a move.
 use Rattle.std.specs.Prelude.{ℕ, List, ◌++◌, Option, Some, None, codes}
-use Rattle.net_check.specs.declared.move_error.MoveError.{MoveError}
-use Rattle.net_check.specs.declared.move_error.MoveError.TheVariants as error
-use Rattle.net_check.specs.declared.move_fault.MoveFault.{MoveFault}
-use Rattle.net_check.specs.Faults.{eid_number}
-use Rattle.net_check.specs.MoveFaults.{code_of_move}
+use Rattle.net_rules.specs.declared.move_error.MoveError.{MoveError}
+use Rattle.net_rules.specs.declared.move_error.MoveError.TheVariants as error
+use Rattle.net_rules.specs.declared.move_fault.MoveFault.{MoveFault}
+use Rattle.net_tables.specs.Routing.{eid_number}
+use Rattle.net_rules.specs.MoveFaults.{code_of_move}
 use Rattle.net_plan.specs.declared.plan.Plan.{Plan}
 use Rattle.plan_texts.specs.Lines.{name_or_dash, number_or_dash}
 

@@ -11,10 +11,10 @@ use Rattle.pdr_repository.specs.declared.walk_fault.Step.TheVariants.{More, Reco
 use Rattle.pdr_repository.specs.declared.walk_fault.WalkFault.{WalkFault}
 use Rattle.pdr_repository.specs.Faults.{code_of}
 use Rattle.net_plan.specs.declared.plan.Plan.{Plan}
-use Rattle.net_check.specs.Events.{OutcomeValue, PutIn, Moved, Entered, Stopped, Lost, Expired, Answered}
-use Rattle.net_check.specs.Events.{Silent, Switched, Refused, Refusal, N01, N02, N03, N04, N05, N06, N07}
-use Rattle.net_check.specs.Walkers.{WalkedOutcome, Happened, Begun, Asked, ToldWalk, WalkRefused, WalkRefusal}
-use Rattle.net_check.specs.Walkers.{Also, N08, N09, N10, N11, N12, N13, Handed, Standing, Open, Finished, EndedBy}
+use Rattle.net_runs.specs.Events.{OutcomeValue, PutIn, Moved, Entered, Stopped, Lost, Expired, Answered}
+use Rattle.net_runs.specs.Events.{Silent, Switched, Refused, Refusal, N01, N02, N03, N04, N05, N06, N07}
+use Rattle.net_runs.specs.Walkers.{WalkedOutcome, Happened, Begun, Asked, ToldWalk, WalkRefused, WalkRefusal}
+use Rattle.net_runs.specs.Walkers.{Also, N08, N09, N10, N11, N12, N13, Handed, Standing, Open, Finished, EndedBy}
 use Rattle.plan_texts.specs.Lines.{name_or_dash}
 
 -- the code of a cause for which an event is refused

@@ -4,15 +4,15 @@ use Rattle.std.specs.Prelude.{if◌then◌else◌, Option, Some, None}
 use Rattle.std.specs.Fmt.{decimal}
 use Rattle.std.specs.List.{flat_map, slice_get}
 use Rattle.std.specs.Str.{bytes_eq}
+use Rattle.net_plan.specs.Finding.{Step, key, index}
+use Rattle.net_plan.specs.Grammar.{Grammar, plain, a_list, an_optional, an_object, Fields, no_fields, field}
 use Rattle.net_plan.specs.declared.error.PlanError.{PlanError}
 use Rattle.net_plan.specs.declared.error.PlanError.TheVariants as error
-use Rattle.net_plan.specs.declared.error.ValueFault.{ValueFault}
-use Rattle.net_plan.specs.declared.error.ValueFault.TheVariants as fault
-use Rattle.net_pointers.specs.Pointers.{Step, key, index}
+use Rattle.net_plan.specs.declared.shape.Rule.{Rule}
+use Rattle.net_plan.specs.declared.shape.Rule.TheVariants as rule
+use Rattle.net_plan.specs.declared.shape.Word.{Word}
+use Rattle.net_plan.specs.declared.shape.Word.TheVariants as word
 use Rattle.net_pointers.specs.Positions.{is_line_feed, begins_character, last_line}
-use Rattle.net_pointers.specs.Shapes.{Shape, a_number, a_name, a_kind, a_hex, an_address}
-use Rattle.net_pointers.specs.Shapes.{a_list, an_optional, an_object, a_name_of, any_list, a_range}
-use Rattle.net_pointers.specs.Shapes.{Fields, no_fields, field}
 
 -- ---- why
 
@@ -61,18 +61,6 @@ joined first second = first ++ (codes ";" ++ (gap_between first second ++ (secon
 
 -- ---- what is wrong, and what would be right
 
--- what is wrong with a value, where nothing more is known of it
-abbrev pub fault_words : ValueFault → List ℕ
-fault_words fault.WrongKind = codes "is of another kind than may stand there"
-fault_words fault.MissingKey = codes "lacks a key that belongs there"
-fault_words fault.UnknownKey = codes "has a key that doesn't belong there"
-fault_words fault.OutOfRange = codes "is out of its range"
-fault_words fault.UnknownName = codes "is the name of nothing"
-fault_words fault.BadHex = codes "is no hex"
-fault_words fault.OverLimit = codes "is too long"
-fault_words fault.Doubled = codes "stands there twice"
-fault_words fault.OutOfMemory = codes "is too large for the memory"
-
 abbrev pub key_words : List ℕ → List ℕ
 key_words k = k ++ codes ", "
 
@@ -101,22 +89,35 @@ number_words noun least most =
     if least == most then noun ++ (codes " is " ++ decimal least)
     else noun ++ (codes " is " ++ (decimal least ++ (codes " to " ++ decimal most)))
 
-abbrev pub list_words : ℕ → List ℕ
-list_words most = codes "a list there has at most " ++ (decimal most ++ codes " items")
+-- how a name is spelled
+abbrev pub name_words : List ℕ
+name_words = codes "a name has 1 to 32 letters, digits, '-', '_' or '.'"
+
+-- what a value without parts may be, by the noun of a number
+abbrev pub word_words : List ℕ → Word → List ℕ
+word_words noun (word.Number least most) = number_words noun least most
+word_words noun word.Name = name_words
+word_words noun (word.Named names) = name_words
+word_words noun word.Kind = codes "a kind is \"bridge\" or \"endpoint\""
+word_words noun word.Hex = codes "bytes are in hex, two digits each"
+word_words noun word.Address = codes "an address has at most 8 bytes in hex, two digits each"
+
+-- how long a list may be
+abbrev pub list_words : Option ℕ → List ℕ
+list_words (Some most) = codes "a list there has at most " ++ (decimal most ++ codes " items")
+list_words None = codes "a list stands there"
 
 abbrev pub object_words : Fields → List ℕ
 object_words fs = codes "an object there has the keys " ++ (keys_words fs ++ codes "and no others")
 
+-- what else is asked of an object
+abbrev pub rule_words : Rule → List ℕ
+rule_words rule.None = []
+rule_words rule.EndsInTime = codes ", and first + size is at most 256"
+
 -- what may stand where a pointer leads that ends with this noun of a number
-abbrev pub shape_words : List ℕ → Shape → List ℕ
-shape_words noun (a_number least most) = number_words noun least most
-shape_words noun a_name = codes "a name has 1 to 32 letters, digits, '-', '_' or '.'"
-shape_words noun a_kind = codes "a kind is \"bridge\" or \"endpoint\""
-shape_words noun a_hex = codes "bytes are in hex, two digits each"
-shape_words noun an_address = codes "an address has at most 8 bytes in hex, two digits each"
-shape_words noun (a_list most s) = list_words most
-shape_words noun (an_optional s) = codes "null stands there, or " ++ shape_words noun s
-shape_words noun (an_object fs) = object_words fs
-shape_words noun (a_name_of names) = codes "a name there is one of the plan"
-shape_words noun (any_list s) = codes "a list stands there"
-shape_words noun (a_range fs) = object_words fs ++ codes ", and first + size is at most 256"
+abbrev pub shape_words : List ℕ → Grammar → List ℕ
+shape_words noun (plain w) = word_words noun w
+shape_words noun (a_list most g) = list_words most
+shape_words noun (an_optional g) = codes "null stands there, or " ++ shape_words noun g
+shape_words noun (an_object rule fs) = object_words fs ++ rule_words rule

@@ -1,6 +1,7 @@
 -- The lines that tell what is wrong with a text, and where.
 use Rattle.std.specs.Prelude.{◌≡◌, ◌<◌, ◌≤◌, ◌+◌, ⊤, ℕ, zero, suc, not, codes, is_some, get_or}
-use Rattle.std.specs.Prelude.{List, [], ◌∷◌, ◌++◌, length, drop, Option, Some, None, option_map, option_and_then}
+use Rattle.std.specs.Prelude.{List, [], ◌∷◌, ◌++◌, length, drop}
+use Rattle.std.specs.Prelude.{Option, Some, None, MatchOption, option_and_then}
 use Rattle.std.specs.Fmt.{decimal}
 use Rattle.std.specs.List.{find}
 use Rattle.json.specs.Json.{Json, object, Members, no_members, member}
@@ -12,26 +13,27 @@ use Rattle.json.specs.Token as token
 use Rattle.serde_json.specs.Data.{Data}
 use Rattle.serde_json.specs.Data as tree
 use Rattle.serde_json.specs.Find.{get}
+use Rattle.net_plan.specs.Finding.{Located, key, index, Step, names_of, located}
+use Rattle.net_plan.specs.Grammar.{Grammar, plain, Fields, fields_of, keys_of, Known}
 use Rattle.net_plan.specs.Json.{is_among, items_count}
 use Rattle.net_plan.specs.Names.{text_found}
 use Rattle.net_plan.specs.Trees.{data_of}
 use Rattle.net_plan.specs.declared.error.ValueFault.{ValueFault}
 use Rattle.net_plan.specs.declared.error.ValueFault.TheVariants as fault
+use Rattle.net_plan.specs.declared.shape.Named.{Named}
+use Rattle.net_plan.specs.declared.shape.Named.TheVariants.{Buses, Nodes}
+use Rattle.net_plan.specs.declared.shape.Word.TheVariants as word
 use Rattle.net_pointers.specs.CertificateTroubles.{list_key, known_nodes}
 use Rattle.net_pointers.specs.Doubles.{part_at, part_after}
-use Rattle.net_pointers.specs.KnownNames.{Known, known_in}
+use Rattle.net_pointers.specs.KnownNames.{known_in}
 use Rattle.net_pointers.specs.Nearest.{IsNearest}
-use Rattle.net_pointers.specs.Offsets.{BeginsThere, LeadsTo, LeadsToKey}
-use Rattle.net_pointers.specs.Pointers.{Located, value_at, key, index, Step}
-use Rattle.net_pointers.specs.Shapes.{Fields, fields_of, keys_of}
+use Rattle.net_pointers.specs.Offsets.{LeadsTo, LeadsToKey}
+use Rattle.net_pointers.specs.Pointers.{value_at}
 use Rattle.net_pointers.specs.TextTroubles.{IsJsonOf, IsToldOfPlanText, IsToldOfCertificateText}
-use Rattle.net_pointers.specs.Views.{located, located_among}
 use Rattle.net_pointers.specs.declared.certificates.CertificateTrouble.{CertificateTrouble}
 use Rattle.net_pointers.specs.declared.certificates.CertificateTrouble.TheVariants as of_certificate
 use Rattle.net_pointers.specs.declared.doubled.DoubledKey.{DoubledKey}
 use Rattle.net_pointers.specs.declared.doubled.TwoIndices.{TwoIndices}
-use Rattle.net_pointers.specs.declared.part.Part.{Part}
-use Rattle.net_pointers.specs.declared.part.Part.TheVariants as part
 use Rattle.net_pointers.specs.declared.plans.PlanTrouble.{PlanTrouble}
 use Rattle.net_pointers.specs.declared.plans.PlanTrouble.TheVariants as of_plan
 use Rattle.net_pointers.specs.declared.ranges.Overlap.{Overlap}
@@ -41,7 +43,7 @@ use Rattle.net_pointers.specs.declared.syntax.Wanted.{Wanted}
 use Rattle.net_pointers.specs.declared.syntax.Wanted.TheVariants as wanted
 use Rattle.net_pointers.specs.declared.texts.TextTrouble.{TextTrouble}
 use Rattle.net_pointers.specs.declared.texts.TextTrouble.TheVariants.{TooLong, NotJson, Plan, Certificate}
-use Rattle.plan_texts.specs.ReadingLines.{position_text, pointer_text, joined, fault_words, number_noun, shape_words}
+use Rattle.plan_texts.specs.ReadingLines.{position_text, pointer_text, joined, number_noun, shape_words}
 use Rattle.plan_texts.specs.Standing.{IsShown, shown_key}
 
 -- ---- no JSON
@@ -84,19 +86,9 @@ abbrev pub tree_at : List Step → Json → Option Json
 tree_at [] j = Some j
 tree_at (s ∷ ss) j = option_and_then (tree_at ss) (tree_after s j)
 
--- the pointer leads to what begins at the offset, and that is a value with this fault, where the offset is known
-abbrev pub StandsAt : List ℕ → Option ℕ → Located → Type 0
-StandsAt text None l = ⊤
-StandsAt text (Some offset) l = LeadsTo text l.pointer offset × BeginsThere text offset l.shape l.fault
-
--- the text from an offset on, where that is known
-abbrev pub rest_of : List ℕ → Option ℕ → Option (List ℕ)
-rest_of text offset = option_map (λ o. drop o text) offset
-
--- what stands there, as it is shown, or what is wrong with it, where it isn't known where it stands
-abbrev pub IsStandingTold : ValueFault → Option (List ℕ) → List ℕ → Type 0
-IsStandingTold f None words = words ≡ fault_words f
-IsStandingTold f (Some rest) words = (shown : List ℕ) × IsShown rest shown × (words ≡ codes "is " ++ shown)
+-- what stands there, as it is shown
+abbrev pub IsStandingTold : List ℕ → List ℕ → Type 0
+IsStandingTold rest words = (shown : List ℕ) × IsShown rest shown × (words ≡ codes "is " ++ shown)
 
 -- the first of the keys that the object lacks
 abbrev pub lacked_key : Fields → Data → Option (List ℕ)
@@ -104,11 +96,15 @@ lacked_key fs d = find (λ k. not (is_some (get k d))) (keys_of fs)
 
 abbrev pub lack_words : Option (List ℕ) → List ℕ
 lack_words (Some k) = codes "lacks the key " ++ k
-lack_words None = fault_words fault.MissingKey
+lack_words None = codes "lacks a key that belongs there"
+
+-- an object that has a key which doesn't belong there
+abbrev pub some_unknown_key : List ℕ
+some_unknown_key = codes "has a key that doesn't belong there"
 
 abbrev pub unknown_words : Option (List ℕ) → List ℕ
 unknown_words (Some k) = codes "has the key " ++ shown_key k
-unknown_words None = fault_words fault.UnknownKey
+unknown_words None = some_unknown_key
 
 -- the first key of an object, as it is written, that is none of those that may stand there
 abbrev pub first_unknown : Fields → Members → Option (List ℕ)
@@ -116,51 +112,52 @@ first_unknown fs ms = find (λ k. not (is_among (keys_of fs) k)) (keys ms)
 
 abbrev pub unknown_key_words : Fields → Json → List ℕ
 unknown_key_words fs (object ms) = unknown_words (first_unknown fs ms)
-unknown_key_words fs _ = fault_words fault.UnknownKey
+unknown_key_words fs _ = some_unknown_key
 
 -- how long a list is; of anything else what stands there
-abbrev pub IsLengthTold : Data → Option (List ℕ) → List ℕ → Type 0
+abbrev pub IsLengthTold : Data → List ℕ → List ℕ → Type 0
 IsLengthTold (tree.array ds) rest words = words ≡ codes "is a list of " ++ (decimal (items_count ds) ++ codes " items")
-IsLengthTold _ rest words = IsStandingTold fault.OverLimit rest words
+IsLengthTold _ rest words = IsStandingTold rest words
 
 -- what is wrong with a value: the key that it lacks or that doesn't belong there, its length, or what stands there
-abbrev pub IsWrongTold : Fields → ValueFault → Json → Option (List ℕ) → List ℕ → Type 0
+abbrev pub IsWrongTold : Fields → ValueFault → Json → List ℕ → List ℕ → Type 0
 IsWrongTold fs fault.MissingKey j rest words = words ≡ lack_words (lacked_key fs (data_of j))
 IsWrongTold fs fault.UnknownKey j rest words = words ≡ unknown_key_words fs j
 IsWrongTold fs fault.OverLimit j rest words = IsLengthTold (data_of j) rest words
-IsWrongTold fs f j rest words = IsStandingTold f rest words
+IsWrongTold fs f j rest words = IsStandingTold rest words
 
 -- where the value is, what is wrong with it, and what may stand there
-abbrev pub value_line : List ℕ → Option ℕ → Located → List ℕ → List ℕ
+abbrev pub value_line : List ℕ → ℕ → Located → List ℕ → List ℕ
 value_line text offset l words =
-    joined (position_text text offset ++ (pointer_text l.pointer ++ (codes " " ++ words)))
-    (shape_words (number_noun l.pointer) l.shape)
+    joined (position_text text (Some offset) ++ (pointer_text l.pointer ++ (codes " " ++ words)))
+    (shape_words (number_noun l.pointer) l.grammar)
 
 -- the line of a value, with what is wrong with it
-abbrev pub IsLineOf : List ℕ → Located → Json → Option ℕ → Option (List ℕ) → List ℕ → Type 0
-IsLineOf text l j offset rest line = (words : List ℕ) × IsWrongTold (fields_of l.shape) l.fault j rest words
+abbrev pub IsLineOf : List ℕ → Located → Json → ℕ → List ℕ → Type 0
+IsLineOf text l j offset line = (words : List ℕ) × IsWrongTold (fields_of l.grammar) l.fault j (drop offset text) words
     × (line ≡ value_line text offset l words)
 
 -- The line tells of a value of the tree that has a fault: where it is, what is wrong with it, and what may stand there.
+-- The offset is that to which the pointer leads.
 pub record IsValueTold (text : List ℕ) (j : Json) (l : Located) (line : List ℕ) : Type 0 where
-  pub offset : Option ℕ
+  pub offset : ℕ
   pub stands : Json
-  pub at : StandsAt text offset l
+  pub at : LeadsTo text l.pointer offset
   pub tree : tree_at l.pointer j ≡ Some stands
   pub leads : value_at l.pointer (data_of j) ≡ Some (data_of stands)
-  pub written : IsLineOf text l stands offset (rest_of text offset) line
+  pub written : IsLineOf text l stands offset line
 
 -- ---- a name that nothing has
 
--- the names among which one is looked for
-abbrev pub names_for : Known → Part → List (List ℕ)
-names_for known part.NamedBus = known.buses
-names_for known _ = known.nodes
+-- whose name may stand there
+abbrev pub named_there : Grammar → Named
+named_there (plain (word.Named names)) = names
+named_there _ = Nodes
 
 -- what would have the name
-abbrev pub named_noun : Part → List ℕ
-named_noun part.NamedBus = codes "bus"
-named_noun _ = codes "node"
+abbrev pub named_noun : Named → List ℕ
+named_noun Buses = codes "bus"
+named_noun Nodes = codes "node"
 
 -- the name that is nearest, where one is close
 abbrev pub nearest_line : List (List ℕ) → Option ℕ → List ℕ
@@ -170,61 +167,31 @@ nearest_line names None = codes "No name is close to it.\n"
 abbrev pub missing_words : List ℕ → List ℕ
 missing_words noun = codes "no " ++ (noun ++ codes " has that name")
 
-abbrev pub unknown_line : List ℕ → Option ℕ → List Step → List ℕ → List ℕ → List ℕ
+abbrev pub unknown_line : List ℕ → ℕ → List Step → List ℕ → List ℕ → List ℕ
 unknown_line text offset pointer name noun =
-    joined (position_text text offset ++ (pointer_text pointer ++ (codes " is " ++ name)))
+    joined (position_text text (Some offset) ++ (pointer_text pointer ++ (codes " is " ++ name)))
     (missing_words noun)
 
--- The lines tell of a name in the data that is none of these: where it stands, and the nearest of them, where one is
--- close.
-pub record IsUnknownNameTold (text : List ℕ) (d : Data) (names : List (List ℕ)) (noun : List ℕ) (l : Located)
-    (lines : List ℕ) : Type 0 where
-  pub offset : Option ℕ
+-- The lines tell of a name in the data that is none of those that are known: where it stands, and the nearest of them,
+-- where one is close.
+pub record IsUnknownNameTold (text : List ℕ) (d : Data) (known : Known) (l : Located) (lines : List ℕ) : Type 0 where
+  pub offset : ℕ
   pub nearest : Option ℕ
-  pub at : StandsAt text offset l
-  pub is_nearest : IsNearest names (text_found (value_at l.pointer d)) nearest
-  pub written : lines ≡ unknown_line text offset l.pointer (text_found (value_at l.pointer d)) noun
-      ++ nearest_line names nearest
+  pub at : LeadsTo text l.pointer offset
+  pub is_nearest : IsNearest (names_of (named_there l.grammar) known) (text_found (value_at l.pointer d)) nearest
+  pub written : lines ≡ unknown_line text offset l.pointer (text_found (value_at l.pointer d))
+      (named_noun (named_there l.grammar)) ++ nearest_line (names_of (named_there l.grammar) known) nearest
 
 -- ---- what stands twice
 
--- the text in quotes that the first token is, as a value or as a key
-abbrev pub first_text : List Token → Option (List ℕ)
-first_text (token.string s ∷ ts) = Some s
-first_text (token.key s ∷ ts) = Some s
-first_text _ = None
+-- the offset is that to which the pointer leads; there is none where it leads to no value
+abbrev pub IsOffsetOf : List ℕ → Data → List Step → Option ℕ → Type 0
+IsOffsetOf text d pointer o = MatchOption o (value_at pointer d ≡ None) (LeadsTo text pointer)
 
--- the text begins with this text in quotes
-abbrev pub BeginsQuoted : List ℕ → List ℕ → Type 0
-BeginsQuoted text s = first_text (tokens text) ≡ Some s
-
--- Two offsets, one behind the other, at which this text stands in quotes.
-pub record StandsTwice (text s : List ℕ) (first second : ℕ) : Type 0 where
-  pub ascends : first < second
-  pub within : second ≤ length text
-  pub one : BeginsQuoted (drop first text) s
-  pub other : BeginsQuoted (drop second text) s
-
--- the two offsets, where they are known: this is so of the first one, and that of the second
-abbrev pub AreOffsets : List ℕ → List ℕ → (one other : ℕ → Type 0) → Option (ℕ × ℕ) → Type 0
-AreOffsets text s one other None = ⊤
-AreOffsets text s one other (Some o) = one o.0 × other o.1 × StandsTwice text s o.0 o.1
-
-abbrev pub first_offset : Option (ℕ × ℕ) → Option ℕ
-first_offset o = option_map (λ p. p.0) o
-
-abbrev pub second_offset : Option (ℕ × ℕ) → Option ℕ
-second_offset o = option_map (λ p. p.1) o
-
--- two lines, each with its line and column, where they are known
-abbrev pub two_lines : List ℕ → Option (ℕ × ℕ) → List ℕ → List ℕ → List ℕ
-two_lines text offsets one other =
-    position_text text (first_offset offsets) ++ (one ++ (position_text text (second_offset offsets) ++ other))
-
--- the lines tell of what stands twice, where each stands
-abbrev pub AreTwoTold : List ℕ → List ℕ → (first second : ℕ → Type 0) → (one other : List ℕ) → List ℕ → Type 0
-AreTwoTold text s first second one other lines =
-    (offsets : Option (ℕ × ℕ)) × AreOffsets text s first second offsets × (lines ≡ two_lines text offsets one other)
+-- two lines, each with its line and column, where they are told
+abbrev pub two_lines : List ℕ → (first second : Option ℕ) → (one other : List ℕ) → List ℕ
+two_lines text first second one other =
+    position_text text first ++ (one ++ (position_text text second ++ other))
 
 -- to a value at a key of an item of the list at a key
 abbrev pub entry_pointer : List ℕ → ℕ → List ℕ → List Step
@@ -244,10 +211,11 @@ again_line pointer name why =
 -- the lines tell of a name that stands at two items of a list, each with its pointer
 abbrev pub IsDoubledNameTold : List ℕ → Data → List ℕ → List ℕ → List ℕ → TwoIndices → List ℕ → Type 0
 IsDoubledNameTold text d list k why indices lines = let name = doubled_name d list k indices in
-    AreTwoTold text name
-    (LeadsTo text (entry_pointer list indices.first k)) (LeadsTo text (entry_pointer list indices.second k))
-    (name_line (entry_pointer list indices.first k) name)
-    (again_line (entry_pointer list indices.second k) name why) lines
+    (first second : Option ℕ)
+    × IsOffsetOf text d (entry_pointer list indices.first k) first
+    × IsOffsetOf text d (entry_pointer list indices.second k) second
+    × (lines ≡ two_lines text first second (name_line (entry_pointer list indices.first k) name)
+    (again_line (entry_pointer list indices.second k) name why))
 
 abbrev pub one_bus : List ℕ
 one_bus = codes "No two buses have one name"
@@ -291,24 +259,17 @@ key_line whole k = whole ++ (codes " has the key " ++ (k ++ codes ".\n"))
 abbrev pub key_again_line : List ℕ → List ℕ → List ℕ
 key_again_line whole k = whole ++ (codes " has the key " ++ (k ++ codes " again.\nAn object has a key once.\n"))
 
--- the lines tell of a key that an object has twice
+-- the lines tell of a key that an object has twice, and where both stand
 abbrev pub IsDoubledKeyTold : List ℕ → Json → DoubledKey → List ℕ → Type 0
-IsDoubledKeyTold text j k lines =
-    AreTwoTold text (key_of j k)
-    (LeadsToKey text k.path.items k.members.first) (LeadsToKey text k.path.items k.members.second)
-    (key_line (object_text k.path.items j) (key_of j k))
-    (key_again_line (object_text k.path.items j) (key_of j k)) lines
+IsDoubledKeyTold text j k lines = (first second : ℕ)
+    × LeadsToKey text k.path.items k.members.first first × LeadsToKey text k.path.items k.members.second second
+    × (lines ≡ two_lines text (Some first) (Some second) (key_line (object_text k.path.items j) (key_of j k))
+    (key_again_line (object_text k.path.items j) (key_of j k)))
 
 -- to a range of ranks
 abbrev pub range_pointer : ℕ → ℕ → List Step
 range_pointer entry range =
     key (codes "ranks") ∷ (index entry ∷ (key (codes "ranges") ∷ (index range ∷ [])))
-
--- two offsets of the text, one behind the other, where they are known: the pointers lead to what begins there
-abbrev pub AreApart : List ℕ → (one other : List Step) → Option (ℕ × ℕ) → Type 0
-AreApart text one other None = ⊤
-AreApart text one other (Some o) =
-    LeadsTo text one o.0 × LeadsTo text other o.1 × (o.0 < o.1) × (o.1 ≤ length text)
 
 abbrev pub range_line : List Step → List ℕ
 range_line pointer = pointer_text pointer ++ codes " is one range.\n"
@@ -317,11 +278,11 @@ abbrev pub next_range_line : List Step → List ℕ
 next_range_line pointer =
     pointer_text pointer ++ codes " is the next one, and begins before that one has ended.\n"
 
--- the lines tell of two ranges of a node, of which the second begins before the first has ended
+-- the lines tell of two ranges of a node, of which the second begins before the first has ended, and where both stand
 abbrev pub IsOverlapTold : List ℕ → Overlap → List ℕ → Type 0
-IsOverlapTold text o lines = (offsets : Option (ℕ × ℕ))
-    × AreApart text (range_pointer o.entry o.range) (range_pointer o.entry (o.range + 1)) offsets
-    × (lines ≡ two_lines text offsets (range_line (range_pointer o.entry o.range))
+IsOverlapTold text o lines = (first second : ℕ)
+    × LeadsTo text (range_pointer o.entry o.range) first × LeadsTo text (range_pointer o.entry (o.range + 1)) second
+    × (lines ≡ two_lines text (Some first) (Some second) (range_line (range_pointer o.entry o.range))
     (next_range_line (range_pointer o.entry (o.range + 1))))
 
 -- ---- a text
@@ -332,9 +293,8 @@ ArePlanLines text j (of_plan.Value found) lines = IsValueTold text j (located fo
 ArePlanLines text j (of_plan.DoubledBus indices) lines =
     IsDoubledNameTold text (data_of j) (codes "buses") (codes "name") one_bus indices lines
 ArePlanLines text j (of_plan.DoubledKey doubled) lines = IsDoubledKeyTold text j doubled lines
-ArePlanLines text j (of_plan.UnknownName found) lines = let known = known_in (data_of j) in
-    IsUnknownNameTold text (data_of j) (names_for known found.part) (named_noun found.part)
-    (located_among (Some known) found) lines
+ArePlanLines text j (of_plan.UnknownName found) lines =
+    IsUnknownNameTold text (data_of j) (known_in (data_of j)) (located found) lines
 
 -- the lines tell of what is wrong with the certificate that a tree is, among nodes of these names
 abbrev pub AreCertificateLines : List (List ℕ) → List ℕ → Json → CertificateTrouble → List ℕ → Type 0
@@ -344,9 +304,8 @@ AreCertificateLines nodes text j (of_certificate.DoubledNode list indices) lines
     IsDoubledNameTold text (data_of j) (list_key list) (codes "node") one_entry indices lines
 AreCertificateLines nodes text j (of_certificate.Overlap overlap) lines = IsOverlapTold text overlap lines
 AreCertificateLines nodes text j (of_certificate.DoubledKey doubled) lines = IsDoubledKeyTold text j doubled lines
-AreCertificateLines nodes text j (of_certificate.UnknownName found) lines = let known = known_nodes nodes in
-    IsUnknownNameTold text (data_of j) (names_for known found.part) (named_noun found.part)
-    (located_among (Some known) found) lines
+AreCertificateLines nodes text j (of_certificate.UnknownName found) lines =
+    IsUnknownNameTold text (data_of j) (known_nodes nodes) (located found) lines
 
 -- the lines tell of what is wrong with a text
 abbrev pub AreTroubleLines : List (List ℕ) → List ℕ → TextTrouble → List ℕ → Type 0

@@ -4,7 +4,7 @@ use Rattle.std.specs.Prelude.{Some, None, option_map, slice_get, unwrap_or, find
 use Rattle.std.specs.Fmt.{decimal}
 use Rattle.hex.specs.Hex.{encode_lower}
 use Rattle.mctp_bridge.specs.Decisions.{obstacle_code}
-use Rattle.net_check.specs.Routing.{ports_of}
+use Rattle.net_tables.specs.Routing.{ports_of}
 use Rattle.net_plan.specs.declared.plan.Plan.{Plan}
 use Rattle.net_plan.specs.declared.nodes.Port.{Port}
 use Rattle.net_questions.specs.declared.step.WayStep.{WayStep}

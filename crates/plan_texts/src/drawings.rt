@@ -1,8 +1,8 @@
 //! What the command `draw` prints: a planned network in Graphviz' DOT language.
 ghost use Rattle.std.specs.Prelude.{◌≡◌, ◌==◌, ◌∷◌, [], List, ℕ, ◌++◌, IfOk, OnOk, Some, option_map, string_bytes, encode_utf8_all};
 ghost use Rattle.std.specs.List.{concat, flat_map, list_any};
-ghost use Rattle.net_check.specs.Owners.{given_level};
-ghost use Rattle.net_check.specs.Stretches.{ranges_of};
+ghost use Rattle.net_tables.specs.Ownership.{given_level};
+ghost use Rattle.net_tables.specs.Ranks.{ranges_of};
 ghost use Rattle.plan_texts.specs.DrawingLines.{escaped_char, escaped, color_among, kind_word, kind_shape, pool_text, terminus_text, label_text, range_text, certified_text, tooltip_text, first_line, last_line, bus_line, shape_line, node_line, port_line, owner_line, owner_lines, all_by_index, IsDrawing};
 ghost use Rattle.plan_texts.specs.WayLines.{address_text};
 

@@ -1,32 +1,34 @@
 //! What the command `explain` prints below its first line.
-ghost use Rattle.std.specs.Prelude.{◌≡◌, ◌==◌, IfOk, Some, position, string_bytes};
-ghost use Rattle.std.specs.Fmt.{decimal};
+ghost use Rattle.std.specs.Prelude.{◌≡◌, ◌==◌, IfOk, Some, not, position, string_bytes};
 ghost use Rattle.std.specs.List.{flat_map};
-ghost use Rattle.net_check.specs.Certificates.{NamesObstacle};
-ghost use Rattle.net_check.specs.Circles.{IsOnCircle};
-ghost use Rattle.net_check.specs.Owners.{owner_of};
-ghost use Rattle.net_check.specs.RecordChains.{HaveNewHandles, IsBadChain, IsFollowedBy};
-ghost use Rattle.net_check.specs.Repositories.{records_of};
-ghost use Rattle.plan_texts.specs.Lines.{number_or_dash};
-ghost use Rattle.plan_texts.specs.CauseLines.{row_at};
-ghost use Rattle.plan_texts.specs.ExplanationLines.{IsCauseTold, IsChainTold, IsCircleTold, IsObstacleTold, covers_eid, row_for, bus_of_row, address_to, row_way, way_by, way_to, way_line, around, loop_lines, owner_name, owner_line, owner_loop_lines, next_handle, next_handle_line, missing_lines, record_before, so_has_lines, doubled_lines, record_line, circle_edit, circle_lines, told_cause};
-ghost use Rattle.plan_texts.specs.WayLines.{address_text, bus_text};
+ghost use Rattle.net_rules.specs.Certificates.{NamesObstacle};
+ghost use Rattle.net_rules.specs.Circles.{IsOnCircle};
+ghost use Rattle.net_tables.specs.Ownership.{pool_of};
+ghost use Rattle.net_rules.specs.RecordChains.{HaveNewHandles, IsBadChain, IsFollowedBy};
+ghost use Rattle.net_tables.specs.Repositories.{records_of};
+ghost use Rattle.net_tables.specs.Routing.{rows_of};
+ghost use Rattle.plan_texts.specs.Explanations.{IsNamedOf, IsNamedOfChain, IsNamedOfCircle, IsNamedOfFault};
+ghost use Rattle.plan_texts.specs.Explanations.{IsObstacleTold, around, circle_subjects, covers_eid, doubled_subjects};
+ghost use Rattle.plan_texts.specs.Explanations.{is_in_owners_pool, loop_subjects, missing_subjects, next_handle};
+ghost use Rattle.plan_texts.specs.Explanations.{opened_subjects, outside_owners_pool, owned_anew, owner_loop_subjects};
+ghost use Rattle.plan_texts.specs.Explanations.{owner_subjects, record_before, record_subjects, row_for};
+ghost use Rattle.plan_texts.specs.Explanations.{told_subjects, way_subjects};
+ghost use Rattle.plan_texts.specs.Pieces.{Tells, entry_at, subjects};
 
-use super::causes::cause_text;
-use super::causes::edit_lines::edits_text;
-use super::causes::lookups::{handle_at, next_at, next_of_row, number_text, port_of_row};
-use super::name_or_dash;
-use super::ways::{address_on, address_text, bus_text};
+use crate::causes::cause_pieces;
+use crate::edits::{edit_pieces, has_eid, may_be_unowned};
+use crate::lookups::{eid_of, handle_of, record_of};
+use crate::pieces::Piece::{
+    At, EidOf, Given, Handle, Name, NextHandle, Number, OwnerName, RowAddress, RowBus, RowNext,
+    RowPort,
+};
+use crate::pieces::{Entry, Piece, entry_at, followed_by, render, told};
 use mctp_transport::Eid;
-use net_check::lookup::{owner_at, ports_at, record_at, records_at, rows_at};
-use net_check::{CertifyError, ChainFault, Fault};
 use net_explained::{Cause, circle_from, find_cause};
 use net_plan::{Plan, PlannedRecord, Row};
+use net_rules::{CertifyError, ChainFault, Fault};
+use net_tables::lookup::{owner_at, pool_at, records_at, rows_at};
 use std::alloc::{AllocError, Global};
-
-/// What is told of a next handle that no record has.
-const NO_SUCH_HANDLE: &str =
-    "No record has that handle.\nEdit: let next be the handle of the record that is to follow, or 0 at the last one.\n";
 
 /// Explains what rules certificates of a plan out.
 pub fn obstacle_lines(
@@ -37,24 +39,28 @@ pub fn obstacle_lines(
     requires { NamesObstacle plan.now obstacle.now }
     ensures { IfOk result (λ text. IsObstacleTold plan.now obstacle.now (string_bytes text)) }
 {
+    let pieces = obstacle_pieces(alloc, plan, obstacle)?;
+    render(alloc, plan, &pieces)
+}
+
+fn obstacle_pieces(
+    alloc: Global,
+    plan: &Plan,
+    obstacle: &CertifyError,
+) -> Result<Vec<Piece>, AllocError>
+    requires { NamesObstacle plan.now obstacle.now }
+    ensures { IfOk result (λ pieces. IsNamedOf plan.now obstacle.now (subjects pieces.items)) }
+{
     match obstacle {
-        CertifyError::Fault(fault) => fault_lines(alloc, plan, fault),
-        CertifyError::OwnerLoop(nodes) => owner_loop_lines(alloc, plan, nodes),
-        CertifyError::Loop(eid, nodes) => loop_lines(alloc, plan, *eid, nodes),
-        CertifyError::BadChain(node, fault) => chain_lines(alloc, plan, *node, *fault),
+        CertifyError::Fault(fault) => fault_pieces(alloc, plan, fault),
+        CertifyError::OwnerLoop(nodes) => owner_loop_pieces(alloc, plan, nodes),
+        CertifyError::Loop(eid, nodes) => loop_pieces(alloc, plan, *eid, nodes),
+        CertifyError::BadChain(node, fault) => chain_pieces(alloc, plan, *node, *fault),
         CertifyError::OutOfMemory => Err(AllocError),
     }
 }
 
-/// Tells the cause of a fault, and edits that take it away.
-fn fault_lines(alloc: Global, plan: &Plan, fault: &Fault) -> Result<String, AllocError>
-    ensures { IfOk result (λ text. IsCauseTold plan.now fault.now (string_bytes text)) }
-{
-    match find_cause(plan, fault) {
-        Some(cause) => cause_lines(alloc, plan, fault, cause),
-        None => Ok(String::new(alloc)),
-    }
-}
+// ---- faults
 
 /// Tells a cause of a fault, and edits that take it away.
 pub fn cause_lines(
@@ -63,23 +69,52 @@ pub fn cause_lines(
     fault: &Fault,
     cause: Cause,
 ) -> Result<String, AllocError>
-    ensures { IfOk result (λ text. string_bytes text ≡ told_cause plan.now fault.now (Some cause)) }
+    ensures { IfOk result (λ text. Tells plan.now (told_subjects plan.now fault.now (Some cause)) (string_bytes text)) }
 {
-    let mut lines = cause_text(alloc, plan, fault, cause)?;
-    lines.push_str(&edits_text(alloc, plan, fault, cause)?)?;
-    Ok(lines)
+    let pieces = told_pieces(alloc, plan, fault, cause)?;
+    render(alloc, plan, &pieces)
+}
+
+/// The cause of a fault, if the plan itself breaks the rule, and edits that take it away.
+fn fault_pieces(alloc: Global, plan: &Plan, fault: &Fault) -> Result<Vec<Piece>, AllocError>
+    ensures { IfOk result (λ pieces. IsNamedOfFault plan.now fault.now (subjects pieces.items)) }
+{
+    match find_cause(plan, fault) {
+        Some(cause) => told_pieces(alloc, plan, fault, cause),
+        None => Ok(Vec::new(alloc)),
+    }
+}
+
+fn told_pieces(
+    alloc: Global,
+    plan: &Plan,
+    fault: &Fault,
+    cause: Cause,
+) -> Result<Vec<Piece>, AllocError>
+    ensures { IfOk result (λ pieces. subjects pieces.items ≡ told_subjects plan.now fault.now (Some cause)) }
+{
+    followed_by(
+        cause_pieces(alloc, plan, fault, cause)?,
+        &edit_pieces(alloc, plan, fault, cause)?,
+    )
 }
 
 // ---- loops
 
 /// The way round the nodes of a loop, a line a hop, for what is for the endpoint ID.
-fn loop_lines(alloc: Global, plan: &Plan, eid: Eid, nodes: &[usize]) -> Result<String, AllocError>
-    ensures { IfOk result (λ text. string_bytes text ≡ loop_lines plan.now eid.value nodes.now) }
+fn loop_pieces(
+    alloc: Global,
+    plan: &Plan,
+    eid: Eid,
+    nodes: &[usize],
+) -> Result<Vec<Piece>, AllocError>
+    ensures { IfOk result (λ pieces. subjects pieces.items ≡ loop_subjects plan.now eid.value nodes.now) }
 {
-    let lines = way_lines(alloc, plan, eid, around(nodes))?;
-    let eid = eid.value;
-    format!(in alloc;
-        "{lines}Edit: lead endpoint ID {eid} elsewhere by one of these rows, or by none.\n"
+    let ways = ways_pieces(alloc, plan, eid, around(nodes))?;
+    followed_by(
+        ways,
+        &told!(alloc; "Edit: lead endpoint ID " {Number(usize::from(eid.value))}
+        " elsewhere by one of these rows, or by none.\n")?,
     )
 }
 
@@ -95,19 +130,40 @@ fn around(nodes: &[usize]) -> &[usize]
 }
 
 /// How each node sends what is for the endpoint ID.
-fn way_lines(alloc: Global, plan: &Plan, eid: Eid, nodes: &[usize]) -> Result<String, AllocError>
-    ensures { IfOk result (λ lines. string_bytes lines ≡ flat_map (way_line plan.now eid.value) nodes.now) }
+fn ways_pieces(
+    alloc: Global,
+    plan: &Plan,
+    eid: Eid,
+    nodes: &[usize],
+) -> Result<Vec<Piece>, AllocError>
+    ensures { IfOk result (λ pieces. subjects pieces.items ≡ flat_map (λ n. way_subjects (row_for plan.now eid.value n)) nodes.now) }
 {
-    let mut lines = String::new(alloc);
+    let mut pieces = Vec::new(alloc);
     for &node in nodes {
-        lines.push_str(&row_way(alloc, plan, node, row_for(plan, node, eid))?)?;
+        pieces.extend_from_slice(&way_pieces(alloc, row_for(plan, eid, node))?)?;
     }
-    Ok(lines)
+    Ok(pieces)
+}
+
+/// How a node sends by a row: port, bus, address and next node.
+fn way_pieces(alloc: Global, at: Entry) -> Result<Vec<Piece>, AllocError>
+    ensures { IfOk result (λ pieces. subjects pieces.items ≡ way_subjects at) }
+{
+    told!(alloc; "Row " {At(at)} ": port " {RowPort(at)} " bus " {RowBus(at)} " address " {RowAddress(at)} " to "
+        {RowNext(at)} "\n")
 }
 
 /// The first of a node's rows that covers the endpoint ID.
-fn row_for(plan: &Plan, node: usize, eid: Eid) -> Option<usize>
-    ensures { result ≡ row_for plan.now node eid.value }
+fn row_for(plan: &Plan, eid: Eid, node: usize) -> Entry
+    ensures { result ≡ row_for plan.now eid.value node }
+{
+    let index = index_for(plan, eid, node);
+    Entry { node, index }
+}
+
+/// Its index.
+fn index_for(plan: &Plan, eid: Eid, node: usize) -> Option<usize>
+    ensures { result ≡ position (covers_eid eid.value) (rows_of plan.now node) }
 {
     rows_at(plan, node)
         .iter()
@@ -122,178 +178,125 @@ fn covers_eid(row: &Row, eid: Eid) -> bool
         && u16::from(eid.value) < u16::from(row.first.value) + u16::from(row.size)
 }
 
-/// How a node sends by the row at an entry: port, bus, address and next node.
-fn row_way(
-    alloc: Global,
-    plan: &Plan,
-    node: usize,
-    entry: Option<usize>,
-) -> Result<String, AllocError>
-    ensures { IfOk result (λ line. string_bytes line ≡ row_way plan.now node entry) }
-{
-    let row = number_text(alloc, entry)?;
-    let name = name_or_dash(plan, node);
-    let port = number_text(alloc, port_of_row(plan, node, entry))?;
-    let bus = bus_text(plan, bus_of_row(plan, node, entry));
-    let address = address_to(alloc, plan, node, entry)?;
-    let next = next_of_row(plan, node, entry);
-    let mut text = way_by(alloc, &row, name, &port, bus)?;
-    text.push_str(&way_to(alloc, &address, next)?)?;
-    Ok(text)
-}
-
-/// A row of a node, its port and the bus.
-fn way_by(alloc: Global, row: &str, name: &str, port: &str, bus: &str) -> Result<String, AllocError>
-    ensures { IfOk result (λ text. string_bytes text ≡ way_by row.now name.now port.now bus.now) }
-{
-    format!(in alloc; "Row {row} of {name}: port {port} bus {bus}")
-}
-
-/// The address of the next node, and that node.
-fn way_to(alloc: Global, address: &str, next: &str) -> Result<String, AllocError>
-    ensures { IfOk result (λ text. string_bytes text ≡ way_to address.now next.now) }
-{
-    format!(in alloc; " address {address} to {next}\n")
-}
-
-/// The bus on which a node sends by the row at an entry.
-fn bus_of_row(plan: &Plan, node: usize, entry: Option<usize>) -> Option<usize>
-    ensures { result ≡ bus_of_row plan.now node entry }
-{
-    let port = port_of_row(plan, node, entry)?;
-    Some(ports_at(plan, node).get(port)?.bus)
-}
-
-/// The address to which a node sends by the row at an entry, in hex, or a dash where it is empty.
-fn address_to(
-    alloc: Global,
-    plan: &Plan,
-    node: usize,
-    entry: Option<usize>,
-) -> Result<String, AllocError>
-    ensures { IfOk result (λ text. string_bytes text ≡ address_text (address_to plan.now (bus_of_row plan.now node entry) (row_at plan.now node entry))) }
-{
-    match next_at(plan, node, entry) {
-        Some(next) => {
-            let address = address_on(plan, next, bus_of_row(plan, node, entry));
-            address_text(alloc, address)
-        }
-        None => "-".to_string(alloc),
-    }
-}
-
 // ---- owners
 
 /// The way round the nodes of a loop of owners, a line an owner.
-fn owner_loop_lines(alloc: Global, plan: &Plan, nodes: &[usize]) -> Result<String, AllocError>
-    ensures { IfOk result (λ text. string_bytes text ≡ owner_loop_lines plan.now nodes.now) }
+fn owner_loop_pieces(alloc: Global, plan: &Plan, nodes: &[usize]) -> Result<Vec<Piece>, AllocError>
+    ensures { IfOk result (λ pieces. subjects pieces.items ≡ owner_loop_subjects plan.now nodes.now) }
 {
-    let lines = owner_lines(alloc, plan, around(nodes))?;
-    format!(in alloc; "{lines}Edit: give one of them an owner that is none of them, or none.\n")
+    let nodes = around(nodes);
+    let owners = owners_pieces(alloc, nodes)?;
+    followed_by(
+        owners,
+        &owner_edit(alloc, plan, outside_owners_pool(plan, nodes))?,
+    )
 }
 
 /// The owner of each node.
-fn owner_lines(alloc: Global, plan: &Plan, nodes: &[usize]) -> Result<String, AllocError>
-    ensures { IfOk result (λ lines. string_bytes lines ≡ flat_map (owner_line plan.now) nodes.now) }
+fn owners_pieces(alloc: Global, nodes: &[usize]) -> Result<Vec<Piece>, AllocError>
+    ensures { IfOk result (λ pieces. subjects pieces.items ≡ flat_map owner_subjects nodes.now) }
 {
-    let mut lines = String::new(alloc);
+    let mut pieces = Vec::new(alloc);
     for &node in nodes {
-        lines.push_str(&owner_line(alloc, plan, node)?)?;
+        pieces.extend_from_slice(&owner_pieces(alloc, node)?)?;
     }
-    Ok(lines)
+    Ok(pieces)
 }
 
-fn owner_line(alloc: Global, plan: &Plan, node: usize) -> Result<String, AllocError>
-    ensures { IfOk result (λ line. string_bytes line ≡ owner_line plan.now node) }
+fn owner_pieces(alloc: Global, node: usize) -> Result<Vec<Piece>, AllocError>
+    ensures { IfOk result (λ pieces. subjects pieces.items ≡ owner_subjects node) }
 {
-    let name = name_or_dash(plan, node);
-    let owner = owner_name(plan, node);
-    format!(in alloc; "The owner of {name} is {owner}.\n")
+    told!(alloc; "The owner of " {Name(node)} " is " {OwnerName(node)} ".\n")
 }
 
-/// The name of a node's owner, null where it has none.
-pub fn owner_name(plan: &Plan, node: usize) -> &str
-    ensures { result.now ≡ owner_name plan.now (owner_of plan.now node) }
+/// The first of the nodes whose endpoint ID isn't in its owner's pool.
+fn outside_owners_pool(plan: &Plan, nodes: &[usize]) -> Option<usize>
+    ensures { result ≡ outside_owners_pool plan.now nodes.now }
+{
+    nodes
+        .iter()
+        .copied()
+        .find(|node| !is_in_owners_pool(plan, *node))
+}
+
+/// Whether the pool of a node's owner has the node's endpoint ID.
+fn is_in_owners_pool(plan: &Plan, node: usize) -> bool
+    ensures { result ≡ is_in_owners_pool plan.now node }
 {
     match owner_at(plan, node) {
-        Some(owner) => name_or_dash(plan, owner),
-        None => "null",
+        Some(owner) => has_eid(pool_at(plan, owner), eid_of(plan, node)),
+        None => false,
+    }
+}
+
+/// Which node is to have another owner.
+fn owner_edit(alloc: Global, plan: &Plan, node: Option<usize>) -> Result<Vec<Piece>, AllocError>
+    ensures { IfOk result (λ pieces. subjects pieces.items ≡ owned_anew node) }
+{
+    match node {
+        Some(node) if may_be_unowned(plan, node) =>
+            told!(alloc; "Edit: set the owner of " {Name(node)}
+            " to null,\nor to another bridge, whose pool has " {EidOf(node)} ".\n"),
+        Some(node) => told!(alloc; "Edit: set the owner of " {Name(node)}
+            " to another bridge,\nwhose pool has " {EidOf(node)} ".\n"),
+        None =>
+            told!(alloc; "Edit: set the owner of one of them to a bridge that is none of them.\n"),
     }
 }
 
 // ---- chains
 
 /// Where a bad chain of records goes.
-fn chain_lines(
+fn chain_pieces(
     alloc: Global,
     plan: &Plan,
     node: usize,
     fault: ChainFault,
-) -> Result<String, AllocError>
+) -> Result<Vec<Piece>, AllocError>
     requires handles { HaveNewHandles (records_of plan.now node) }
     requires bad { IsBadChain (records_of plan.now node) fault }
-    ensures { IfOk result (λ text. IsChainTold plan.now node fault (string_bytes text)) }
+    ensures { IfOk result (λ pieces. IsNamedOfChain plan.now node fault (subjects pieces.items)) }
 {
     match fault {
-        ChainFault::Missing(index) => missing_lines(alloc, plan, node, index),
-        ChainFault::Doubled(index) => doubled_lines(alloc, plan, node, index),
-        ChainFault::Circle(index) => circle_lines(alloc, plan, node, index),
+        ChainFault::Missing(index) => missing_pieces(alloc, node, index),
+        ChainFault::Doubled(index) => doubled_pieces(alloc, plan, node, index),
+        ChainFault::Circle(index) => circle_pieces(alloc, plan, node, index),
     }
 }
 
 /// A record whose next handle no record has.
-fn missing_lines(
-    alloc: Global,
-    plan: &Plan,
-    node: usize,
-    index: usize,
-) -> Result<String, AllocError>
-    ensures { IfOk result (λ text. string_bytes text ≡ missing_lines plan.now node index) }
+fn missing_pieces(alloc: Global, node: usize, index: usize) -> Result<Vec<Piece>, AllocError>
+    ensures { IfOk result (λ pieces. subjects pieces.items ≡ missing_subjects node index) }
 {
-    let mut lines = next_handle_line(alloc, plan, node, index)?;
-    lines.push_str(NO_SUCH_HANDLE)?;
-    Ok(lines)
+    let at = entry_at(node, index);
+    told!(alloc; "Record " {At(at)} " has next handle " {NextHandle(at)} ".\nNo record has that handle.\n"
+        "Edit: let next be the handle of the record that is to follow, or 0 at the last one.\n")
 }
 
 /// A record whose next handle an earlier record has too.
-fn doubled_lines(
+fn doubled_pieces(
     alloc: Global,
     plan: &Plan,
     node: usize,
     index: usize,
-) -> Result<String, AllocError>
-    ensures { IfOk result (λ text. string_bytes text ≡ doubled_lines plan.now node index) }
+) -> Result<Vec<Piece>, AllocError>
+    ensures { IfOk result (λ pieces. subjects pieces.items ≡ doubled_subjects plan.now node index) }
 {
-    let mut lines = next_handle_line(alloc, plan, node, index)?;
-    let earlier = record_before(plan, node, next_handle(plan, node, index));
-    lines.push_str(&so_has_lines(alloc, &number_text(alloc, earlier)?)?)?;
-    Ok(lines)
+    let at = entry_at(node, index);
+    let earlier = record_before(plan, node, next_handle(plan, at));
+    told!(alloc; "Records " {Given(earlier)} " and " {At(at)} " both have next handle " {NextHandle(at)} ".\n"
+        "Edit: let next of one of them be the handle of the record that is to follow it,\nor 0 at the last one.\n")
 }
 
-fn so_has_lines(alloc: Global, earlier: &str) -> Result<String, AllocError>
-    ensures { IfOk result (λ text. string_bytes text ≡ so_has_lines earlier.now) }
+/// The next handle of a record.
+fn next_handle(plan: &Plan, at: Entry) -> Option<u32>
+    ensures { result ≡ next_handle plan.now at }
 {
-    format!(in alloc;
-        "So has record {earlier}.\nEdit: let next be the handle of the record that is to follow, or 0 at the last one.\n"
-    )
-}
-
-/// A record of a node, and its next handle.
-fn next_handle_line(
-    alloc: Global,
-    plan: &Plan,
-    node: usize,
-    index: usize,
-) -> Result<String, AllocError>
-    ensures { IfOk result (λ text. string_bytes text ≡ next_handle_line plan.now node index) }
-{
-    let name = name_or_dash(plan, node);
-    let next = number_text(alloc, next_handle(plan, node, index))?;
-    format!(in alloc; "Record {index} of {name} has next handle {next}.\n")
+    Some(record_of(plan, at)?.next)
 }
 
 /// The first record of a node that has this next handle, if one has it.
-fn record_before(plan: &Plan, node: usize, next: Option<usize>) -> Option<usize>
+fn record_before(plan: &Plan, node: usize, next: Option<u32>) -> Option<usize>
     ensures { result ≡ record_before plan.now node next }
 {
     match next {
@@ -303,92 +306,75 @@ fn record_before(plan: &Plan, node: usize, next: Option<usize>) -> Option<usize>
 }
 
 /// The first of the records that has this next handle, if one has it.
-fn first_leading_to(records: &[PlannedRecord], next: usize) -> Option<usize>
+fn first_leading_to(records: &[PlannedRecord], next: u32) -> Option<usize>
     ensures { result ≡ position (λ r. r.next == next) records.now }
 {
-    records
-        .iter()
-        .position(|record| record.next as usize == next)
+    records.iter().position(|record| record.next == next)
 }
 
 /// The way round the circle of a record, a line a record, and an edit that opens it.
-fn circle_lines(alloc: Global, plan: &Plan, node: usize, index: usize) -> Result<String, AllocError>
+fn circle_pieces(
+    alloc: Global,
+    plan: &Plan,
+    node: usize,
+    index: usize,
+) -> Result<Vec<Piece>, AllocError>
     requires handles { HaveNewHandles (records_of plan.now node) }
     requires circle { IsOnCircle (IsFollowedBy (records_of plan.now node)) index }
-    ensures { IfOk result (λ text. IsCircleTold plan.now node index (string_bytes text)) }
+    ensures { IfOk result (λ pieces. IsNamedOfCircle plan.now node index (subjects pieces.items)) }
 {
     let circle = circle_from(alloc, records_at(plan, node), index)?;
-    let text = circle_text(alloc, plan, node, index, &circle)?;
-    Ok(text)
+    let pieces = round_pieces(alloc, plan, node, index, &circle)?;
+    Ok(pieces)
 }
 
-/// The way round a circle that is known, and an edit that opens it at the record.
-fn circle_text(
+/// The way round a circle that is known, and an edit that opens it.
+fn round_pieces(
     alloc: Global,
     plan: &Plan,
     node: usize,
     index: usize,
     circle: &[usize],
-) -> Result<String, AllocError>
-    ensures { IfOk result (λ text. string_bytes text ≡ circle_lines plan.now node index circle.now) }
+) -> Result<Vec<Piece>, AllocError>
+    ensures { IfOk result (λ pieces. subjects pieces.items ≡ circle_subjects plan.now node index circle.now) }
 {
-    let mut lines = record_lines(alloc, plan, node, around(circle))?;
-    lines.push_str(&circle_edit(alloc, plan, node, index)?)?;
-    Ok(lines)
+    let records = records_pieces(alloc, node, around(circle))?;
+    let last = record_before(plan, node, Some(0));
+    followed_by(records, &opened_pieces(alloc, plan, node, index, last)?)
 }
 
 /// The handle and the next handle of each of these records.
-fn record_lines(
+fn records_pieces(alloc: Global, node: usize, records: &[usize]) -> Result<Vec<Piece>, AllocError>
+    ensures { IfOk result (λ pieces. subjects pieces.items ≡ flat_map (λ j. record_subjects (entry_at node j)) records.now) }
+{
+    let mut pieces = Vec::new(alloc);
+    for &index in records {
+        pieces.extend_from_slice(&record_pieces(alloc, entry_at(node, index))?)?;
+    }
+    Ok(pieces)
+}
+
+fn record_pieces(alloc: Global, at: Entry) -> Result<Vec<Piece>, AllocError>
+    ensures { IfOk result (λ pieces. subjects pieces.items ≡ record_subjects at) }
+{
+    told!(alloc; "Record " {At(at)} ": handle " {Handle(at)} " next " {NextHandle(at)} "\n")
+}
+
+/// An edit that opens the circle of a record before it.
+fn opened_pieces(
     alloc: Global,
     plan: &Plan,
     node: usize,
-    records: &[usize],
-) -> Result<String, AllocError>
-    ensures { IfOk result (λ lines. string_bytes lines ≡ flat_map (record_line plan.now node) records.now) }
-{
-    let mut lines = String::new(alloc);
-    for &index in records {
-        lines.push_str(&record_line(alloc, plan, node, index)?)?;
-    }
-    Ok(lines)
-}
-
-fn record_line(alloc: Global, plan: &Plan, node: usize, index: usize) -> Result<String, AllocError>
-    ensures { IfOk result (λ line. string_bytes line ≡ record_line plan.now node index) }
-{
-    let name = name_or_dash(plan, node);
-    let handle = number_text(alloc, handle_at(plan, node, Some(index)))?;
-    let next = number_text(alloc, next_handle(plan, node, index))?;
-    format!(in alloc; "Record {index} of {name}: handle {handle} next {next}\n")
-}
-
-/// An edit that opens the circle of a record.
-fn circle_edit(alloc: Global, plan: &Plan, node: usize, index: usize) -> Result<String, AllocError>
-    ensures { IfOk result (λ text. string_bytes text ≡ circle_edit (decimal index) (number_or_dash (next_handle plan.now node index)) (record_before plan.now node (Some 0))) }
-{
-    let next = number_text(alloc, next_handle(plan, node, index))?;
-    opened_text(alloc, index, &next, record_before(plan, node, Some(0)))
-}
-
-fn opened_text(
-    alloc: Global,
     index: usize,
-    next: &str,
     last: Option<usize>,
-) -> Result<String, AllocError>
-    ensures { IfOk result (λ text. string_bytes text ≡ circle_edit (decimal index) next.now last) }
+) -> Result<Vec<Piece>, AllocError>
+    ensures { IfOk result (λ pieces. subjects pieces.items ≡ opened_subjects plan.now node index last) }
 {
+    let at = entry_at(node, index);
+    let before = Given(record_before(plan, node, handle_of(plan, at)));
     match last {
-        Some(last) => format!(in alloc;
-            "Edit: let next be {next} at record {last}, and 0 at record {index}.\n"
-        ),
-        None => format!(in alloc; "Edit: let next be 0 at record {index}.\n"),
+        Some(last) => told!(alloc; "Edit: let next be " {Handle(at)} " at record " {Number(last)}
+            ", and 0 at record " {before} ".\n"),
+        None => told!(alloc; "Edit: let next be 0 at record " {before} ".\n"),
     }
-}
-
-/// The next handle of a node's record.
-fn next_handle(plan: &Plan, node: usize, index: usize) -> Option<usize>
-    ensures { result ≡ next_handle plan.now node index }
-{
-    Some(record_at(plan, node, index)?.next as usize)
 }

@@ -5,9 +5,9 @@ ghost use Rattle.plan_texts.specs.WayLines.{bus_text, address_text};
 
 use super::name_or_dash;
 use super::ways::{address_text, bus_text};
-use net_check::lookup::ports_at;
 use net_plan::Plan;
 use net_questions::Finding;
+use net_tables::lookup::ports_at;
 use std::alloc::{AllocError, Global};
 
 /// The findings, each in a line of its own.

@@ -9,11 +9,15 @@ mod causes;
 mod certificates;
 mod codes;
 mod drawings;
+mod edits;
 mod explanations;
+mod fault_lists;
 mod findings;
+mod lookups;
 mod moves;
 mod outcomes;
 mod pairs;
+mod pieces;
 mod readings;
 mod shown;
 mod summaries;
@@ -25,11 +29,12 @@ pub use certificates::certificate_fault_lines;
 pub use codes::text_of;
 pub use drawings::drawing;
 pub use explanations::{cause_lines, obstacle_lines};
+pub use fault_lists::{counted_line, fault_lines};
 pub use findings::lint_lines;
 use mctp_transport::Eid;
 pub use moves::move_error_line;
-use net_check::{CertifyError, ChainFault, Fault};
 use net_plan::Plan;
+use net_rules::{CertifyError, ChainFault, Fault};
 pub use outcomes::outcome_line;
 pub use pairs::reach_lines;
 pub use readings::{certificate_reading_lines, plan_reading_lines, unread_line};
@@ -61,6 +66,7 @@ reach PLAN CERT              who reaches whom, and in how many hops
 trace PLAN CERT FROM TO      the way of a packet from a node to another, or to an endpoint ID
 draw PLAN [CERT]             the planned network as a drawing for Graphviz
 explain PLAN [CERT]          what certify says of the plan, or check of both, and why
+faults PLAN [CERT]           every fault of the plan, or of both, and how many they are
 lint PLAN                    what is lawful in the plan and still looks wrong, or clean
 show packet HEX              what the bytes of a packet are
 show record HEX              what the bytes of a platform descriptor record are

@@ -3,8 +3,8 @@ ghost use Rattle.std.specs.Prelude.{◌≡◌, Some, IfOk, string_bytes};
 ghost use Rattle.plan_texts.specs.MoveLines.{name_of_some, difference_text, move_fault_text, move_error_text};
 
 use super::{OrDash, name_or_dash};
-use net_check::{MoveError, MoveFault};
 use net_plan::Plan;
+use net_rules::{MoveError, MoveFault};
 use std::alloc::{AllocError, Global};
 
 /// The line that says why a move from one plan to another is not accepted, with the nodes' names in the plan before.

@@ -7,6 +7,7 @@ ghost use Rattle.net_plan.specs.PlanText.{IsPlanOf};
 ghost use Rattle.net_plan.specs.PlanValues.{PlanValue, plan_value, node_names};
 ghost use Rattle.net_plan.specs.Texts.{StandsFor};
 ghost use Rattle.net_pointers.specs.CertificateTroubles.{IsToldOfCertificate};
+ghost use Rattle.net_pointers.specs.Offsets.{IsTextOf};
 ghost use Rattle.net_pointers.specs.PlanTroubles.{IsToldOfPlan};
 ghost use Rattle.net_pointers.specs.TextTroubles.{IsJsonOf, IsToldOfPlanText, IsToldOfCertificateText};
 ghost use Rattle.plan_texts.specs.ReadingLines.{unread_code, unread_line};
@@ -108,7 +109,8 @@ fn plan_value_lines(
     value: &Value<'_>,
     trouble: &PlanTrouble,
 ) -> Result<String, AllocError>
-    requires { IsToldOfPlan (value_view value.now) (Some trouble.now) }
+    requires text { IsTextOf text.now (value_view value.now) }
+    requires told { IsToldOfPlan (value_view value.now) (Some trouble.now) }
     ensures { IfOk result (λ lines. ArePlanLines text.now (value_view value.now) trouble.now (string_bytes lines)) }
 {
     match trouble {
@@ -180,7 +182,8 @@ fn certificate_value_lines(
     value: &Value<'_>,
     trouble: &CertificateTrouble,
 ) -> Result<String, AllocError>
-    requires { IsToldOfCertificate (node_names (plan_value plan.now).nodes) (value_view value.now) (Some trouble.now) }
+    requires text { IsTextOf text.now (value_view value.now) }
+    requires told { IsToldOfCertificate (node_names (plan_value plan.now).nodes) (value_view value.now) (Some trouble.now) }
     ensures { IfOk result (λ lines. AreCertificateLines (node_names (plan_value plan.now).nodes) text.now (value_view value.now) trouble.now (string_bytes lines)) }
 {
     match trouble {
@@ -196,7 +199,7 @@ fn certificate_value_lines(
                 *indices,
             )
         }
-        CertificateTrouble::Overlap(overlap) => overlap_lines(alloc, text, *overlap),
+        CertificateTrouble::Overlap(overlap) => overlap_lines(alloc, text, value, *overlap),
         CertificateTrouble::DoubledKey(doubled) => doubled_key_lines(alloc, text, value, doubled),
         CertificateTrouble::UnknownName(found) => {
             let known = names_of_nodes(alloc, plan.nodes.as_slice())?;

@@ -3,9 +3,9 @@ ghost use Rattle.std.specs.Prelude.{◌≡◌, length, IfOk, string_bytes};
 ghost use Rattle.plan_texts.specs.WayLines.{bus_of_step, bus_text, first_address, address_on, address_text, steps_from, hop_text, step_line, end_line, trace_text};
 
 use super::{bus_name_or_dash, name_or_dash};
-use net_check::lookup::ports_at;
 use net_plan::{Plan, Port};
 use net_questions::{End, Way, WayStep};
+use net_tables::lookup::ports_at;
 use std::alloc::{AllocError, Global};
 
 /// The steps of a packet's way, each in a line of its own and numbered from 1, and a line that says how the way ends.

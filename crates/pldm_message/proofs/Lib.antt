@@ -1,4 +1,4 @@
-pub mod FirstFaults
-pub mod Writing
-pub mod Turns
+mod FirstFaults
+mod Writing
+mod Turns
 pub mod OneInstanceIds

@@ -1,6 +1,7 @@
 -- One instance ID is given, and what is out after it was given or taken back is determined.
 use Rattle.std.proofs.Common.{◌≡◌, ℕ, ◌+◌, ◌%◌, ◌<◌, ◌==◌, ◌||◌, Option, Some, None, sym, ap, ◌∙◌, arith}
 use Rattle.pldm_message.specs.InstanceIds.{IdSet, IsNextFree, Gives, TakesBack, first_place, steps_to}
+use Rattle.pldm_message.proofs.Turns.{there_again}
 
 same_ids : (a b : IdSet) → ((i : ℕ) → a.out i ≡ b.out i) → a.last ≡ b.last → a ≡ b
 same_ids a b out last = λ j. record { out = λ i. out i j; last = last j }
@@ -8,9 +9,6 @@ same_ids a b out last = λ j. record { out = λ i. out i j; last = last j }
 place_small : (o : Option ℕ) → first_place o < 32
 place_small None = omega arith
 place_small (Some last) = omega arith
-
-there_again : (place id : ℕ) → place < 32 → id < 32 → (place + steps_to place id) % 32 ≡ id
-there_again place id small fits = omega arith
 
 next_one : (ids : IdSet) (id other : ℕ) → IsNextFree ids id → IsNextFree ids other → id ≡ other
 next_one ids id other x y =

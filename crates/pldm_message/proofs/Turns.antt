@@ -10,8 +10,8 @@ all_false (suc n) zero = refl
 all_false (suc n) (suc i) = all_false n i
 
 -- so many steps from a place there is the ID
-back : (place id : ℕ) → place < 32 → id < 32 → (place + steps_to place id) % 32 ≡ id
-back place id hp hi = omega arith
+pub there_again : (place id : ℕ) → place < 32 → id < 32 → (place + steps_to place id) % 32 ≡ id
+there_again place id hp hi = omega arith
 
 -- an ID is so many steps away
 away : (place k : ℕ) → place < 32 → k < 32 → steps_to place ((place + k) % 32) ≡ k
@@ -19,7 +19,7 @@ away place k hp hk = omega arith
 
 -- an ID within so many steps is out, where all of these are
 within : (ids : IdSet) (place step id : ℕ) → place < 32 → id < 32 → steps_to place id < step → ((k : ℕ) → k < step → ids.out ((place + k) % 32) ≡ true) → ids.out id ≡ true
-within ids place step id hp hi lt seen = let P : ℕ → Type 0 = λ j. ids.out j ≡ true in subst P (back place id hp hi) (seen (steps_to place id) lt)
+within ids place step id hp hi lt seen = let P : ℕ → Type 0 = λ j. ids.out j ≡ true in subst P (there_again place id hp hi) (seen (steps_to place id) lt)
 
 pub all_out : (ids : IdSet) (place : ℕ) → place < 32 → ((k : ℕ) → k < 32 → ids.out ((place + k) % 32) ≡ true) → AreAllOut ids
 all_out ids place hp seen id hi = within ids place 32 id hp hi (omega arith) seen

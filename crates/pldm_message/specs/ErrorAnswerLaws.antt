@@ -1,6 +1,5 @@
 -- No two answers with a completion code alone have the same bytes.
-use Rattle.std.specs.Prelude.{◌≡◌, ℕ}
-use Rattle.pldm_message.specs.Headers.{HeaderValue, header_bytes}
+use Rattle.std.specs.Prelude.{◌≡◌}
 use Rattle.pldm_message.specs.HeaderLaws.{one_header}
 use Rattle.pldm_message.specs.MessageLaws.{IsOneValue}
 use Rattle.pldm_message.specs.ErrorAnswers.{ErrorMessage, IsErrorAnswer, error_answer_bytes}

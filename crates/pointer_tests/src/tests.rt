@@ -1,9 +1,10 @@
 //! Faulty texts, each with the code, the pointer, and the line and the column that are told.
-use net_plan::{PlanError, plan_of_text};
+use json::Scratch;
+use net_plan::{Found, PlanError, PointerStep, json_of, plan_of_text};
 use net_pointers::{
-    CertificateTrouble, DoubledKey, Found, JsonFault, PlanTrouble, PointerStep, Position,
-    TextTrouble, certificate_text_trouble, list_key, nearest_name, offset_of, offset_of_key,
-    offset_of_pointer, plan_text_fault, plan_text_trouble, position_of,
+    CertificateTrouble, DoubledKey, JsonFault, PlanTrouble, Position, TextTrouble,
+    certificate_text_trouble, list_key, nearest_name, offset_of_key, offset_of_pointer,
+    plan_text_fault, plan_text_trouble, position_of,
 };
 use std::alloc::Global;
 use std::rt::HostRuntime;
@@ -224,7 +225,7 @@ fn trouble_line(alloc: Global, text: &[u8], told: Option<TextTrouble>) -> Result
         Some(TextTrouble::Plan(PlanTrouble::UnknownName(found)))
         | Some(TextTrouble::Certificate(CertificateTrouble::UnknownName(found))) => {
             let pointer = pointer_text(alloc, &found)?;
-            let offset = offset_of_pointer(alloc, text, found.pointer.as_slice());
+            let offset = offset_at(alloc, text, &found)?;
             let at = position_text(alloc, text, offset)?;
             Ok(format!(in alloc; "J06 {pointer} {at}")?)
         }
@@ -246,12 +247,34 @@ fn trouble_line(alloc: Global, text: &[u8], told: Option<TextTrouble>) -> Result
     }
 }
 
+/// The offset of the value to which a fault's pointer leads.
+fn offset_at(alloc: Global, text: &[u8], found: &Found) -> Result<Option<usize>, Fail> {
+    let mut scratch = Scratch::new(alloc);
+    let Ok(tree) = json_of(alloc, text, &mut scratch) else {
+        return Err(Fail::new("no JSON"));
+    };
+    Ok(offset_of_pointer(alloc, text, &tree, found.pointer.as_slice())?)
+}
+
+/// The offset of a member's key, in a text that is UTF-8.
+fn key_offset(
+    alloc: Global,
+    text: &[u8],
+    path: &[usize],
+    member: usize,
+) -> Result<Option<usize>, Fail> {
+    match std::str::from_utf8(text) {
+        Ok(text) => Ok(offset_of_key(alloc, text.as_bytes(), path, member)?),
+        Err(_) => Err(Fail::new("no UTF-8")),
+    }
+}
+
 /// The places of a key that stands twice.
 fn keys_line(alloc: Global, text: &[u8], doubled: &DoubledKey) -> Result<String, Fail> {
     let path = doubled.path.as_slice();
-    let first = offset_of_key(alloc, text, path, doubled.members.first);
+    let first = key_offset(alloc, text, path, doubled.members.first)?;
     let first = position_text(alloc, text, first)?;
-    let second = offset_of_key(alloc, text, path, doubled.members.second);
+    let second = key_offset(alloc, text, path, doubled.members.second)?;
     let second = position_text(alloc, text, second)?;
     Ok(format!(in alloc; "J09 {first} {second}")?)
 }
@@ -292,7 +315,7 @@ fn told(alloc: Global, text: &[u8]) -> Result<String, Fail> {
     let Ok(Some(found)) = plan_text_fault(alloc, text) else {
         return Err(Fail::new("no fault"));
     };
-    let Some(offset) = offset_of(alloc, text, &found) else {
+    let Some(offset) = offset_at(alloc, text, &found)? else {
         return Err(Fail::new("no offset"));
     };
     line_of(alloc, &found, position_of(text, offset))

@@ -9,16 +9,16 @@ use Rattle.net_plan.specs.declared.certificate.Certificate.{Certificate}
 use Rattle.net_plan.specs.declared.terminus.PlannedRecord.{PlannedRecord}
 use Rattle.net_plan.specs.declared.terminus.PlannedTerminus.{PlannedTerminus}
 use Rattle.pdr_repository.specs.Records.{Entry, IsLawful}
-use Rattle.net_check.specs.Repositories.{terminus_of, records_of, places_of, entry_of, by_place, records_by_place, HaveOrder}
-use Rattle.net_check.specs.Rules.{Accepts}
-use Rattle.net_check.specs.Routing.{node_at}
-use Rattle.net_check.specs.Walkers.{WalkedEvent}
-use Rattle.net_check.specs.WalkedRuns.{WalkedRunFrom}
-use Rattle.net_check.specs.States.{at_start}
-use Rattle.net_check.specs.TwoPlans.{Tables, one_plan}
-use Rattle.net_check.specs.Termini.{TerminusState, terminus_at_start}
+use Rattle.net_tables.specs.Repositories.{terminus_of, records_of, places_of, entry_of, by_place, records_by_place, HaveOrder}
+use Rattle.net_rules.specs.Rules.{Accepts}
+use Rattle.net_tables.specs.Routing.{node_at}
+use Rattle.net_runs.specs.Walkers.{WalkedEvent}
+use Rattle.net_runs.specs.WalkedRuns.{WalkedRunFrom}
+use Rattle.net_runs.specs.States.{at_start}
+use Rattle.net_tables.specs.TwoPlans.{Tables, one_plan}
+use Rattle.net_runs.specs.Termini.{TerminusState, terminus_at_start}
 use Rattle.net_check.proofs.Accepted.{accepted_orders}
-use Rattle.net_check.proofs.ByPlace.{by_place_length, placed, is_lawful}
+use Rattle.net_runs.proofs.ByPlace.{by_place_length, placed, is_lawful}
 use Rattle.net_sim.specs.declared.network.Played.{Played}
 use Rattle.net_sim.specs.Dealing.{planned_termini}
 use Rattle.net_sim.specs.Outcomes.{outcome_value}

@@ -2,9 +2,9 @@
 use Rattle.std.specs.Prelude.{◌≡◌, ◌≢◌, ℕ, List, map, None}
 use Rattle.net_plan.specs.declared.plan.Plan.{Plan}
 use Rattle.net_plan.specs.declared.certificate.Certificate.{Certificate}
-use Rattle.net_check.specs.Walkers.{WalkedEvent, WalkedOutcome}
-use Rattle.net_check.specs.Repositories.{terminus_of}
-use Rattle.net_check.specs.WalkedRuns.{WalkedTurn, WalkedRun}
+use Rattle.net_runs.specs.Walkers.{WalkedEvent, WalkedOutcome}
+use Rattle.net_tables.specs.Repositories.{terminus_of}
+use Rattle.net_runs.specs.WalkedRuns.{WalkedTurn, WalkedRun}
 
 -- The events with these outcomes are the turns of a run of the plan from its start.
 pub record IsRunFromStart (plan : Plan) (cert : Certificate) (events : List WalkedEvent)

@@ -1,16 +1,15 @@
 //! Which words are which command.
 
-use plan_commands::{PartSize, Refused, ShownKind, Subcommand, parse_command};
+use plan_commands::{
+    GUIDE, PartSize, PlanQuestion, Question, Refused, ShownKind, Subcommand, parse_command,
+};
 use std::process::Abort;
 use std::test::Fail;
 
 #[test]
 fn gives_the_command_or_usage(rt: HostRuntime) -> Result<(), Fail> {
-    let check = Subcommand::Check {
-        plan: "a",
-        certificate: "b",
-    };
-    let certify = Subcommand::Certify { plan: "a" };
+    let check = certified(Question::Check);
+    let certify = planned(PlanQuestion::Certify);
     let packet = Subcommand::Show {
         kind: ShownKind::Packet,
         hex: "01",
@@ -19,10 +18,7 @@ fn gives_the_command_or_usage(rt: HostRuntime) -> Result<(), Fail> {
         kind: ShownKind::Record,
         hex: "",
     };
-    let assign = Subcommand::Assign {
-        plan: "a",
-        certificate: "b",
-    };
+    let assign = certified(Question::Assign);
     let sim = Subcommand::Sim {
         plan: "a",
         certificate: "b",
@@ -39,14 +35,8 @@ fn gives_the_command_or_usage(rt: HostRuntime) -> Result<(), Fail> {
         certificate: "c",
         events: "d",
     };
-    let plain = Subcommand::Draw {
-        plan: "a",
-        certificate: None,
-    };
-    let certified = Subcommand::Draw {
-        plan: "a",
-        certificate: Some("b"),
-    };
+    let plain = planned(PlanQuestion::Draw);
+    let drawn = certified(Question::Draw);
     let explained = Subcommand::Explain {
         plan: "a",
         certificate: None,
@@ -55,18 +45,27 @@ fn gives_the_command_or_usage(rt: HostRuntime) -> Result<(), Fail> {
         plan: "a",
         certificate: Some("b"),
     };
-    let rows: [(&[&str], Result<Subcommand, Refused>); 61] = [
+    let listed = planned(PlanQuestion::Faults);
+    let listed_both = certified(Question::Faults);
+    let rows: [(&[&str], Result<Subcommand, Refused>); 65] = [
         (&["mctpplan", "explain", "a"], Ok(explained)),
         (&["mctpplan", "explain", "a", "b"], Ok(both)),
         (&["mctpplan", "explain"], Err(Refused::Usage)),
         (&["mctpplan", "explain", "a", "b", "c"], Err(Refused::Usage)),
         (&["mctpplan", "draw", "a"], Ok(plain)),
-        (&["mctpplan", "draw", "a", "b"], Ok(certified)),
+        (&["mctpplan", "draw", "a", "b"], Ok(drawn)),
         (&["mctpplan", "draw"], Err(Refused::Usage)),
         (&["mctpplan", "draw", "a", "b", "c"], Err(Refused::Usage)),
+        (&["mctpplan", "faults", "a"], Ok(listed)),
+        (&["mctpplan", "faults", "a", "b"], Ok(listed_both)),
+        (&["mctpplan", "faults"], Err(Refused::Usage)),
+        (&["mctpplan", "faults", "a", "b", "c"], Err(Refused::Usage)),
         (&["mctpplan", "lint"], Err(Refused::Usage)),
         (&["mctpplan", "lint", "a", "b"], Err(Refused::Usage)),
-        (&["mctpplan", "guide"], Ok(Subcommand::Guide)),
+        (
+            &["mctpplan", "guide"],
+            Ok(Subcommand::Known { text: GUIDE }),
+        ),
         (&["mctpplan", "guide", "check"], Err(Refused::Usage)),
         (&["mctpplan", "code"], Err(Refused::Usage)),
         (&["mctpplan", "code", "C99"], Err(Refused::Usage)),
@@ -136,6 +135,23 @@ fn gives_the_command_or_usage(rt: HostRuntime) -> Result<(), Fail> {
     Ok(())
 }
 
+/// The question about the plan in `a`, certified by `b`.
+fn certified(question: Question) -> Subcommand {
+    Subcommand::Certified {
+        question,
+        plan: "a",
+        certificate: "b",
+    }
+}
+
+/// The question about the plan in `a`.
+fn planned(question: PlanQuestion) -> Subcommand<'static> {
+    Subcommand::Planned {
+        question,
+        plan: "a",
+    }
+}
+
 /// Wants a list of words to stand for a command, or to be refused.
 fn expect_words(
     rt: &(impl Abort + AllocGlobal),
@@ -175,12 +191,7 @@ fn takes_part_sizes_of_8_to_4079(rt: HostRuntime) -> Result<(), Fail> {
     ];
     for (count, bytes) in rows {
         let wanted = match bytes.and_then(PartSize::of) {
-            Some(part) => Ok(Subcommand::Walk {
-                plan: "a",
-                certificate: "b",
-                node: "nic",
-                part,
-            }),
+            Some(part) => Ok(certified(Question::Walk { node: "nic", part })),
             None => Err(Refused::Usage),
         };
         expect_words(&rt, &["mctpplan", "walk", "a", "b", "nic", count], wanted)?;

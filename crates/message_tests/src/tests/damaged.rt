@@ -2,21 +2,25 @@
 //! FF.
 use std::alloc::{AllocError, Global};
 
+/// The bytes of these parts, one after another.
+pub(crate) fn joined(alloc: Global, parts: &[&[u8]]) -> Result<Vec<u8>, AllocError> {
+    let mut all = Vec::new(alloc);
+    for part in parts {
+        all.extend_from_slice(*part)?;
+    }
+    Ok(all)
+}
+
 /// The message, its beginnings, and the message with each byte in turn at 00 and at FF.
 pub(crate) fn damaged(alloc: Global, message: &[u8]) -> Result<Vec<Vec<u8>>, AllocError> {
     let mut all = Vec::new(alloc);
     for length in 0..=message.len() {
-        let mut bytes = Vec::new(alloc);
-        bytes.extend_from_slice(&message[..length])?;
-        all.push(bytes)?;
+        all.push(joined(alloc, &[&message[..length]])?)?;
     }
     for index in 0..message.len() {
         for value in [0x00, 0xff] {
-            let mut bytes = Vec::new(alloc);
-            bytes.extend_from_slice(&message[..index])?;
-            bytes.push(value)?;
-            bytes.extend_from_slice(&message[index + 1..])?;
-            all.push(bytes)?;
+            let (before, after) = (&message[..index], &message[index + 1..]);
+            all.push(joined(alloc, &[before, &[value], after])?)?;
         }
     }
     Ok(all)

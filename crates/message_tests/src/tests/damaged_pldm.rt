@@ -6,8 +6,7 @@ use pldm_message::{
     ErrorAnswer, GetPdrAnswer, GetPdrRequest, GetPldmTypes, GetPldmTypesAnswer, GetTid,
     GetTidAnswer, PldmHeader, SetTid, SetTidAnswer,
 };
-use std::alloc::Global;
-use std::process::Abort;
+use std::alloc::{AllocError, Global};
 use std::test::Fail;
 
 /// A PLDM type and a command byte.
@@ -83,40 +82,29 @@ fn alone_cause(bytes: &[u8]) -> &'static str {
     first(&[(header, header != "read"), ("L04", bytes.len() != 4)])
 }
 
-/// Reads the bytes as each request, and wants its first cause.
-fn expect_requests(rt: &impl Abort, bytes: &[u8]) {
-    assert_eq!(rt; code(SetTid::read(bytes)), request_cause(bytes, SET_TID, 5));
-    assert_eq!(rt; code(GetTid::read(bytes)), request_cause(bytes, GET_TID, 4));
-    assert_eq!(rt;
-        code(GetPldmTypes::read(bytes)),
-        request_cause(bytes, GET_PLDM_TYPES, 4)
-    );
-    assert_eq!(rt;
-        code(GetPdrRequest::read(bytes)),
-        request_cause(bytes, GET_PDR, 17)
-    );
+/// Whether the bytes, read as each request, are told by their first cause.
+fn are_told_as_requests(bytes: &[u8]) -> bool {
+    code(SetTid::read(bytes)) == request_cause(bytes, SET_TID, 5)
+        && code(GetTid::read(bytes)) == request_cause(bytes, GET_TID, 4)
+        && code(GetPldmTypes::read(bytes)) == request_cause(bytes, GET_PLDM_TYPES, 4)
+        && code(GetPdrRequest::read(bytes)) == request_cause(bytes, GET_PDR, 17)
 }
 
-/// Reads the bytes as each answer, and wants its first cause.
-fn expect_answers(rt: &impl Abort, bytes: &[u8]) {
-    let length = part_answer_length(bytes);
-    assert_eq!(rt;
-        code(SetTidAnswer::read(bytes)),
-        answer_cause(bytes, SET_TID, 5)
-    );
-    assert_eq!(rt;
-        code(GetTidAnswer::read(bytes)),
-        answer_cause(bytes, GET_TID, 6)
-    );
-    assert_eq!(rt;
-        code(GetPldmTypesAnswer::read(bytes)),
-        answer_cause(bytes, GET_PLDM_TYPES, 13)
-    );
-    assert_eq!(rt;
-        code(GetPdrAnswer::read(bytes)),
-        answer_cause(bytes, GET_PDR, length)
-    );
-    assert_eq!(rt; code(ErrorAnswer::read(bytes)), error_cause(bytes));
+/// Whether the bytes, read as each answer, are told by their first cause.
+fn are_told_as_answers(bytes: &[u8]) -> bool {
+    code(SetTidAnswer::read(bytes)) == answer_cause(bytes, SET_TID, 5)
+        && code(GetTidAnswer::read(bytes)) == answer_cause(bytes, GET_TID, 6)
+        && code(GetPldmTypesAnswer::read(bytes)) == answer_cause(bytes, GET_PLDM_TYPES, 13)
+        && code(GetPdrAnswer::read(bytes))
+            == answer_cause(bytes, GET_PDR, part_answer_length(bytes))
+        && code(ErrorAnswer::read(bytes)) == error_cause(bytes)
+}
+
+/// Whether the bytes, read as everything, are told by their first cause.
+fn are_told(bytes: &[u8]) -> bool {
+    are_told_as_requests(bytes)
+        && are_told_as_answers(bytes)
+        && code(PldmHeader::read(bytes)) == alone_cause(bytes)
 }
 
 /// The messages of the base commands, and a refusal.
@@ -130,37 +118,37 @@ const BASE: [&[u8]; 7] = [
     &[0x01, 0x00, 0x02, 0x51, 0x82],
 ];
 
-/// Damages a message in every way, and reads what is left as everything.
-fn expect_first_causes<R: Abort + Alloc<A = Global>>(rt: &R, message: &[u8]) -> Result<(), Fail> {
-    for bytes in &damaged(rt.alloc(), message)? {
-        expect_requests(rt, bytes);
-        expect_answers(rt, bytes);
-        assert_eq!(rt; code(PldmHeader::read(bytes)), alone_cause(bytes));
+/// Requests for parts, and answers with parts.
+const PARTS: [&[u8]; 5] = [&FIRST, &NEXT, &START, &END, &WHOLE];
+
+/// The first of all damages of a message after which it isn't told so.
+fn first_untold(alloc: Global, message: &[u8]) -> Result<Option<usize>, AllocError> {
+    for (index, bytes) in damaged(alloc, message)?.iter().enumerate() {
+        if !are_told(bytes) {
+            return Ok(Some(index));
+        }
     }
-    Ok(())
+    Ok(None)
 }
 
-#[test]
-fn damaged_base_messages_are_refused_by_their_first_cause(rt: HostRuntime) -> Result<(), Fail> {
-    for message in BASE {
-        expect_first_causes(&rt, message)?;
+/// The first message of which a damage isn't told so, and the first such damage.
+fn first_untold_of(
+    alloc: Global,
+    messages: &[&[u8]],
+) -> Result<Option<(usize, usize)>, AllocError> {
+    for (index, message) in messages.iter().enumerate() {
+        if let Some(damage) = first_untold(alloc, *message)? {
+            return Ok(Some((index, damage)));
+        }
     }
+    Ok(None)
+}
+
+#[test]
+fn damaged_messages_are_refused_by_their_first_cause(rt: HostRuntime) -> Result<(), Fail> {
+    assert_eq!(rt; first_untold_of(rt.alloc(), &BASE)?, None);
+    assert_eq!(rt; first_untold_of(rt.alloc(), &PARTS)?, None);
     Ok(())
-}
-
-#[test]
-fn damaged_requests_for_parts_are_refused_by_their_first_cause(
-    rt: HostRuntime,
-) -> Result<(), Fail> {
-    expect_first_causes(&rt, &FIRST)?;
-    expect_first_causes(&rt, &NEXT)
-}
-
-#[test]
-fn damaged_parts_are_refused_by_their_first_cause(rt: HostRuntime) -> Result<(), Fail> {
-    expect_first_causes(&rt, &START)?;
-    expect_first_causes(&rt, &END)?;
-    expect_first_causes(&rt, &WHOLE)
 }
 
 /// A record of nineteen bytes as one part.

@@ -1,7 +1,8 @@
 //! Packets and control messages cut at each length, and with each byte changed to 00 and to FF: each is refused by the first
 //! of its causes, or read. The causes are told from the bytes, each by itself.
-use mctp_bridge::{EntryReader, ReadFault};
-use mctp_control::{ControlError, ControlInstanceId, Device, Request, Response, RouteEntry};
+use mctp_control::{
+    ControlError, ControlInstanceId, Device, EntryReader, ReadFault, Request, Response, RouteEntry,
+};
 use mctp_transport::{Assembler, DropCause, Fed, PacketView, Wire};
 use std::alloc::{AllocError, Global};
 use std::test::Fail;
@@ -131,7 +132,7 @@ fn packet_code(bytes: &[u8]) -> &'static str {
 }
 
 /// What reading a control message or an entry comes to.
-fn control_code<T: Drop>(read: Result<T, ControlError>) -> &'static str {
+pub(crate) fn control_code<T: Drop>(read: Result<T, ControlError>) -> &'static str {
     match read {
         Ok(_) => "read",
         Err(error) => error.code(),

@@ -33,54 +33,9 @@ pub(crate) const END: [u8; 20] = [
 ];
 
 pub(crate) fn code<T: Drop>(read: Result<T, PldmError>) -> &'static str {
-    read.err().map_or("read", |error| error.code())
-}
-
-#[test]
-fn requests_are_refused_by_the_first_cause(rt: HostRuntime) {
-    let mut response = FIRST;
-    response[1] = 0x00;
-    let mut datagram = FIRST;
-    datagram[1] = 0xc0;
-    let rows: [(&[u8], &str); 13] = [
-        (&[0x01, 0x80, 0x00], "L01"),
-        (&[0x00, 0x80, 0x02, 0x51], "L02"),
-        (&[0x01, 0x80, 0x42, 0x51], "L03"),
-        (&[0x01, 0x40, 0x02, 0x51], "L05"),
-        (&[0x01, 0x80, 0x02, 0x50], "L06"),
-        (&[0x01, 0x80, 0x02, 0x51, 0x00], "L04"),
-        (&[0x00, 0x40, 0x42, 0x50], "L02"),
-        (&[0x01, 0x40, 0x42, 0x50], "L03"),
-        (&[0x01, 0x40, 0x00, 0x50, 0x00], "L05"),
-        (&[0x01, 0x80, 0x00, 0x51, 0x00], "L06"),
-        (&response, "L06"),
-        (&datagram, "read"),
-        (&FIRST, "read"),
-    ];
-    for (bytes, wanted) in rows {
-        assert_eq!(rt; code(GetPdrRequest::read(bytes)), wanted);
-    }
-}
-
-#[test]
-fn answers_are_refused_by_the_first_cause(rt: HostRuntime) {
-    let rows: [(&[u8], &str); 5] = [
-        (&FIRST, "L06"),
-        (&START[..4], "L04"),
-        (&START[..31], "L04"),
-        (&END[..19], "L04"),
-        (&[0x01, 0x00, 0x02, 0x51, 0x82, 0x00], "L04"),
-    ];
-    for (bytes, wanted) in rows {
-        assert_eq!(rt; code(GetPdrAnswer::read(bytes)), wanted);
-    }
-}
-
-#[test]
-fn headers_have_four_bytes(rt: HostRuntime) {
-    let rows: [(&[u8], &str); 2] = [(&FIRST[..4], "read"), (&FIRST[..5], "L04")];
-    for (bytes, wanted) in rows {
-        assert_eq!(rt; code(PldmHeader::read(bytes)), wanted);
+    match read {
+        Ok(_) => "read",
+        Err(error) => error.code(),
     }
 }
 
@@ -168,7 +123,6 @@ fn requests_without_data_have_four_bytes(rt: HostRuntime) {
         is_kept::<GetTid>(&[0x01, 0x80, 0x00, 0x02])
             && is_kept::<GetPldmTypes>(&[0x01, 0x80, 0x00, 0x04])
     );
-    assert_eq!(rt; code(GetTid::read(&[0x01, 0x80, 0x00, 0x02, 0x00])), "L04");
 }
 
 #[test]

@@ -1,7 +1,7 @@
 //! Routing tables that are read from a bridge's answers.
 use super::tables::{row, told};
-use mctp_bridge::{EntryReader, Neighbor, ReadFault};
-use mctp_control::{ControlInstanceId, Device, DeviceKind};
+use mctp_bridge::DeviceKind;
+use mctp_control::{ControlInstanceId, Device, EntryReader, Neighbor, ReadFault};
 use mctp_transport::Eid;
 use std::process::Abort;
 use std::test::Fail;

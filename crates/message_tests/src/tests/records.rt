@@ -37,8 +37,10 @@ pub(crate) fn numeric(bytes: &mut [u8; 110], data_size: u8, format: u8, length: 
 }
 
 pub(crate) fn code(bytes: &[u8]) -> &'static str {
-    let refused = Record::read(bytes).err();
-    refused.map_or("read", |error| error.code())
+    match Record::read(bytes) {
+        Ok(_) => "read",
+        Err(error) => error.code(),
+    }
 }
 
 #[test]

@@ -1,9 +1,9 @@
 //! Check bytes, lists of records, and termini that answer requests for them.
+use super::damaged::joined;
 use arrayvec::ArrayVec;
 use pdr_repository::{BlockTerminus, ListTerminus, Terminus, crc8, is_lawful_list};
 use pldm_message::Tid;
 use std::alloc::{AllocError, Global};
-use std::process::Abort;
 use std::test::Fail;
 
 pub(crate) const LOCATOR: [u8; 19] = [
@@ -46,10 +46,8 @@ pub(crate) fn block_over(
 
 /// The one record.
 pub(crate) fn one_record(alloc: Global) -> Result<Vec<(u32, Vec<u8>)>, AllocError> {
-    let mut bytes = Vec::new(alloc);
-    bytes.extend_from_slice(&LOCATOR)?;
     let mut records = Vec::new(alloc);
-    records.push((1, bytes))?;
+    records.push((1, joined(alloc, &[&LOCATOR])?))?;
     Ok(records)
 }
 
@@ -65,50 +63,130 @@ pub(crate) fn records_of(
     Ok(records)
 }
 
-/// The rows of the base commands, at a terminus over the one record.
-fn answers_the_base_commands(rt: &impl Abort, terminus: &mut Box<dyn Terminus>) {
+/// Requests of the base commands one after another, and the answers of a terminus over the one record: none where it
+/// is silent.
+const BASE: [(&[u8], &[u8]); 12] = [
+    (
+        &[0x01, 0x80, 0x00, 0x02],
+        &[0x01, 0x00, 0x00, 0x02, 0x00, 0x01],
+    ),
+    (
+        &[0x01, 0x80, 0x00, 0x01, 0xff],
+        &[0x01, 0x00, 0x00, 0x01, 0x02],
+    ),
+    (
+        &[0x01, 0x80, 0x00, 0x01, 0x05],
+        &[0x01, 0x00, 0x00, 0x01, 0x00],
+    ),
+    (
+        &[0x01, 0x80, 0x00, 0x02],
+        &[0x01, 0x00, 0x00, 0x02, 0x00, 0x05],
+    ),
+    (
+        &[0x01, 0x80, 0x00, 0x04],
+        &[0x01, 0x00, 0x00, 0x04, 0x00, 0x05, 0, 0, 0, 0, 0, 0, 0],
+    ),
+    (&[0x01, 0x80, 0x04, 0x01], &[0x01, 0x00, 0x04, 0x01, 0x20]),
+    (&[0x01, 0x80, 0x02, 0x50], &[0x01, 0x00, 0x02, 0x50, 0x05]),
+    (
+        &[0x01, 0xa3, 0x00, 0x02, 0x00],
+        &[0x01, 0x03, 0x00, 0x02, 0x03],
+    ),
+    (&[0x01, 0xc0, 0x00, 0x02], &[]),
+    (&[0x01, 0x00, 0x00, 0x02], &[]),
+    (&[0x01, 0x40, 0x00, 0x02], &[]),
+    (&[0x00, 0x80, 0x00, 0x02], &[]),
+];
+
+/// Requests for parts of the one record, and their answers.
+const PARTS: [(&[u8], &[u8]); 11] = [
+    (
+        &[
+            0x01, 0x80, 0x02, 0x51, 0, 0, 0, 0, 0, 0, 0, 0, 1, 0x10, 0, 0, 0,
+        ],
+        &[
+            0x01, 0x00, 0x02, 0x51, 0, 0, 0, 0, 0, 0x10, 0, 0, 0, 0, 0x10, 0, 0x01, 0, 0, 0, 0x01,
+            0x01, 0, 0, 0x09, 0, 0x01, 0, 0x01, 0x01, 0, 0,
+        ],
+    ),
+    (
+        &[
+            0x01, 0x81, 0x02, 0x51, 0, 0, 0, 0, 0x10, 0, 0, 0, 0, 0x10, 0, 0, 0,
+        ],
+        &[
+            0x01, 0x01, 0x02, 0x51, 0, 0, 0, 0, 0, 0, 0, 0, 0, 0x04, 0x03, 0, 0x01, 0x01, 0x0a,
+            0xa6,
+        ],
+    ),
+    (
+        &[
+            0x01, 0x80, 0x02, 0x51, 0, 0, 0, 0, 0, 0, 0, 0, 1, 0x13, 0, 0, 0,
+        ],
+        &[
+            0x01, 0x00, 0x02, 0x51, 0, 0, 0, 0, 0, 0, 0, 0, 0, 0x05, 0x13, 0, 0x01, 0, 0, 0, 0x01,
+            0x01, 0, 0, 0x09, 0, 0x01, 0, 0x01, 0x01, 0, 0, 0x01, 0x01, 0x0a,
+        ],
+    ),
+    (
+        &[
+            0x01, 0x80, 0x02, 0x51, 0, 0, 0, 0, 0, 0, 0, 0, 1, 0x10, 0, 0,
+        ],
+        &[0x01, 0x00, 0x02, 0x51, 0x03],
+    ),
+    (
+        &[
+            0x01, 0x80, 0x02, 0x51, 0, 0, 0, 0, 0, 0, 0, 0, 2, 0x10, 0, 0, 0,
+        ],
+        &[0x01, 0x00, 0x02, 0x51, 0x81],
+    ),
+    (
+        &[
+            0x01, 0x80, 0x02, 0x51, 0, 0, 0, 0, 0, 0, 0, 0, 1, 0, 0, 0, 0,
+        ],
+        &[0x01, 0x00, 0x02, 0x51, 0x02],
+    ),
+    (
+        &[
+            0x01, 0x80, 0x02, 0x51, 99, 0, 0, 0, 0, 0, 0, 0, 1, 0x10, 0, 0, 0,
+        ],
+        &[0x01, 0x00, 0x02, 0x51, 0x82],
+    ),
+    (
+        &[
+            0x01, 0x80, 0x02, 0x51, 99, 0, 0, 0, 0, 0, 0, 0, 2, 0x10, 0, 0, 0,
+        ],
+        &[0x01, 0x00, 0x02, 0x51, 0x81],
+    ),
+    (
+        &[
+            0x01, 0x80, 0x02, 0x51, 0, 0, 0, 0, 0x10, 0, 0, 0, 0, 0x10, 0, 1, 0,
+        ],
+        &[0x01, 0x00, 0x02, 0x51, 0x83],
+    ),
+    (
+        &[
+            0x01, 0x80, 0x02, 0x51, 0, 0, 0, 0, 0x13, 0, 0, 0, 0, 0x10, 0, 0, 0,
+        ],
+        &[0x01, 0x00, 0x02, 0x51, 0x80],
+    ),
+    (
+        &[
+            0x01, 0x80, 0x02, 0x51, 0, 0, 0, 0, 0, 0, 0, 0, 0, 0x10, 0, 0, 0,
+        ],
+        &[0x01, 0x00, 0x02, 0x51, 0x80],
+    ),
+];
+
+/// The first request that a terminus answers otherwise.
+fn first_wrong<'a, T: Terminus>(terminus: &mut T, rows: &[(&'a [u8], &[u8])]) -> Option<&'a [u8]> {
     let mut out = ArrayVec::new();
-    let rows: [(&[u8], &[u8]); 8] = [
-        (
-            &[0x01, 0x80, 0x00, 0x02],
-            &[0x01, 0x00, 0x00, 0x02, 0x00, 0x01],
-        ),
-        (
-            &[0x01, 0x80, 0x00, 0x01, 0xff],
-            &[0x01, 0x00, 0x00, 0x01, 0x02],
-        ),
-        (
-            &[0x01, 0x80, 0x00, 0x01, 0x05],
-            &[0x01, 0x00, 0x00, 0x01, 0x00],
-        ),
-        (
-            &[0x01, 0x80, 0x00, 0x02],
-            &[0x01, 0x00, 0x00, 0x02, 0x00, 0x05],
-        ),
-        (
-            &[0x01, 0x80, 0x00, 0x04],
-            &[0x01, 0x00, 0x00, 0x04, 0x00, 0x05, 0, 0, 0, 0, 0, 0, 0],
-        ),
-        (&[0x01, 0x80, 0x04, 0x01], &[0x01, 0x00, 0x04, 0x01, 0x20]),
-        (&[0x01, 0x80, 0x02, 0x50], &[0x01, 0x00, 0x02, 0x50, 0x05]),
-        (
-            &[0x01, 0xa3, 0x00, 0x02, 0x00],
-            &[0x01, 0x03, 0x00, 0x02, 0x03],
-        ),
-    ];
     for (request, answer) in rows {
-        assert!(rt; terminus.answer(request, &mut out));
-        assert_eq!(rt; out.as_slice(), answer);
+        let is_answered = terminus.answer(*request, &mut out);
+        if is_answered == answer.is_empty() || out.as_slice() != *answer {
+            return Some(*request);
+        }
     }
-    for request in [
-        [0x01, 0xc0, 0x00, 0x02],
-        [0x01, 0x00, 0x00, 0x02],
-        [0x01, 0x40, 0x00, 0x02],
-        [0x00, 0x80, 0x00, 0x02],
-    ] {
-        assert!(rt; !terminus.answer(&request, &mut out));
-        assert!(rt; out.is_empty());
-    }
+    None
 }
 
 #[test]
@@ -116,106 +194,20 @@ fn either_kind_answers_the_base_commands(rt: HostRuntime) -> Result<(), Fail> {
     let alloc = rt.alloc();
     let list = list_over(alloc, one_record(alloc)?)?.ok_or("lawful")?;
     let mut terminus: Box<dyn Terminus> = Box::new(alloc, list)?;
-    answers_the_base_commands(&rt, &mut terminus);
+    assert_eq!(rt; first_wrong(&mut terminus, &BASE), None);
     let block = block_over(alloc, one_record(alloc)?)?.ok_or("lawful")?;
     let mut terminus: Box<dyn Terminus> = Box::new(alloc, block)?;
-    answers_the_base_commands(&rt, &mut terminus);
+    assert_eq!(rt; first_wrong(&mut terminus, &BASE), None);
     Ok(())
-}
-
-/// The rows of GetPDR, at a terminus over the one record.
-fn gives_a_record_in_parts<T: Terminus>(rt: &impl Abort, terminus: &mut T) {
-    let mut out = ArrayVec::new();
-    let rows: [(&[u8], &[u8]); 11] = [
-        (
-            &[
-                0x01, 0x80, 0x02, 0x51, 0, 0, 0, 0, 0, 0, 0, 0, 1, 0x10, 0, 0, 0,
-            ],
-            &[
-                0x01, 0x00, 0x02, 0x51, 0, 0, 0, 0, 0, 0x10, 0, 0, 0, 0, 0x10, 0, 0x01, 0, 0, 0,
-                0x01, 0x01, 0, 0, 0x09, 0, 0x01, 0, 0x01, 0x01, 0, 0,
-            ],
-        ),
-        (
-            &[
-                0x01, 0x81, 0x02, 0x51, 0, 0, 0, 0, 0x10, 0, 0, 0, 0, 0x10, 0, 0, 0,
-            ],
-            &[
-                0x01, 0x01, 0x02, 0x51, 0, 0, 0, 0, 0, 0, 0, 0, 0, 0x04, 0x03, 0, 0x01, 0x01, 0x0a,
-                0xa6,
-            ],
-        ),
-        (
-            &[
-                0x01, 0x80, 0x02, 0x51, 0, 0, 0, 0, 0, 0, 0, 0, 1, 0x13, 0, 0, 0,
-            ],
-            &[
-                0x01, 0x00, 0x02, 0x51, 0, 0, 0, 0, 0, 0, 0, 0, 0, 0x05, 0x13, 0, 0x01, 0, 0, 0,
-                0x01, 0x01, 0, 0, 0x09, 0, 0x01, 0, 0x01, 0x01, 0, 0, 0x01, 0x01, 0x0a,
-            ],
-        ),
-        (
-            &[
-                0x01, 0x80, 0x02, 0x51, 0, 0, 0, 0, 0, 0, 0, 0, 1, 0x10, 0, 0,
-            ],
-            &[0x01, 0x00, 0x02, 0x51, 0x03],
-        ),
-        (
-            &[
-                0x01, 0x80, 0x02, 0x51, 0, 0, 0, 0, 0, 0, 0, 0, 2, 0x10, 0, 0, 0,
-            ],
-            &[0x01, 0x00, 0x02, 0x51, 0x81],
-        ),
-        (
-            &[
-                0x01, 0x80, 0x02, 0x51, 0, 0, 0, 0, 0, 0, 0, 0, 1, 0, 0, 0, 0,
-            ],
-            &[0x01, 0x00, 0x02, 0x51, 0x02],
-        ),
-        (
-            &[
-                0x01, 0x80, 0x02, 0x51, 99, 0, 0, 0, 0, 0, 0, 0, 1, 0x10, 0, 0, 0,
-            ],
-            &[0x01, 0x00, 0x02, 0x51, 0x82],
-        ),
-        (
-            &[
-                0x01, 0x80, 0x02, 0x51, 99, 0, 0, 0, 0, 0, 0, 0, 2, 0x10, 0, 0, 0,
-            ],
-            &[0x01, 0x00, 0x02, 0x51, 0x81],
-        ),
-        (
-            &[
-                0x01, 0x80, 0x02, 0x51, 0, 0, 0, 0, 0x10, 0, 0, 0, 0, 0x10, 0, 1, 0,
-            ],
-            &[0x01, 0x00, 0x02, 0x51, 0x83],
-        ),
-        (
-            &[
-                0x01, 0x80, 0x02, 0x51, 0, 0, 0, 0, 0x13, 0, 0, 0, 0, 0x10, 0, 0, 0,
-            ],
-            &[0x01, 0x00, 0x02, 0x51, 0x80],
-        ),
-        (
-            &[
-                0x01, 0x80, 0x02, 0x51, 0, 0, 0, 0, 0, 0, 0, 0, 0, 0x10, 0, 0, 0,
-            ],
-            &[0x01, 0x00, 0x02, 0x51, 0x80],
-        ),
-    ];
-    for (request, answer) in rows {
-        assert!(rt; terminus.answer(request, &mut out));
-        assert_eq!(rt; out.as_slice(), answer);
-    }
 }
 
 #[test]
 fn either_kind_gives_a_record_in_parts(rt: HostRuntime) -> Result<(), Fail> {
     let alloc = rt.alloc();
     let mut list = list_over(alloc, one_record(alloc)?)?.ok_or("lawful")?;
-    gives_a_record_in_parts(&rt, &mut list);
+    assert_eq!(rt; first_wrong(&mut list, &PARTS), None);
     let mut block = block_over(alloc, one_record(alloc)?)?.ok_or("lawful")?;
-    gives_a_record_in_parts(&rt, &mut block);
+    assert_eq!(rt; first_wrong(&mut block, &PARTS), None);
     Ok(())
 }
 

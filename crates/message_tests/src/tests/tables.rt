@@ -3,10 +3,10 @@ ghost use Rattle.std.specs.Prelude.{◌≤◌, All, length};
 
 use super::spelling::is_written_as;
 use mctp_bridge::{
-    DecidingNode, Decision, Hop, Neighbor, Obstacle, Progress, RangeTable, TableFault, TableRow,
-    decide, route_entries,
+    DecidingNode, Decision, DeviceKind, Hop, Obstacle, Progress, RangeTable, TableFault, TableRow,
+    decide,
 };
-use mctp_control::{DeviceKind, RouteEntry};
+use mctp_control::{Neighbor, RouteEntry, route_entries};
 use mctp_transport::{Eid, Header, Reserved, Seq, Tag};
 use std::alloc::Global;
 use std::process::Abort;

@@ -1,16 +1,16 @@
 //! C15: what is wrong with a terminus locator.
 ghost use Rattle.std.specs.Prelude.{◌≡◌, ◌≢◌, ℕ, List, [], ◌∷◌, length, ◌↔◌, IsTrue, IfSome, IsSomeAnd, Some, None, MatchOption, option_map, slice_get};
-ghost use Rattle.net_check.specs.Routing.{Holds};
-ghost use Rattle.net_check.specs.Repositories.{terminus_of};
-ghost use Rattle.net_check.specs.Locators.{IsEidLocator, HasOneByteAsEid, IsHeldByTerminus};
-ghost use Rattle.net_check.specs.declared.rule.Rule.TheVariants.{C15};
+ghost use Rattle.net_tables.specs.Routing.{Holds};
+ghost use Rattle.net_tables.specs.Repositories.{terminus_of};
+ghost use Rattle.net_rules.specs.Locators.{IsEidLocator, HasOneByteAsEid, IsHeldByTerminus};
+ghost use Rattle.net_rules.specs.declared.rule.Rule.TheVariants.{C15};
 ghost use Rattle.net_explained.specs.Causes.{IsCauseAt};
 
 use crate::cause::Cause;
 use crate::holders::holder_before;
 use mctp_transport::{Eid, Wire};
-use net_check::lookup::{holds, record_at, terminus_at};
 use net_plan::{Plan, PlannedRecord};
+use net_tables::lookup::{holds, record_at, terminus_at};
 use pdr_record::{Body, TerminusLocator};
 
 /// Where the type stands in the common header of a record (DSP0248).

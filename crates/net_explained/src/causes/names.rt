@@ -1,7 +1,7 @@
 //! C01: the earlier node that has a node's name.
 ghost use Rattle.std.specs.Prelude.{◌<◌, ◌↔◌, IsTrue, length, None};
-ghost use Rattle.net_check.specs.Names.{HaveOneName};
-ghost use Rattle.net_check.specs.declared.rule.Rule.TheVariants.{C01};
+ghost use Rattle.net_rules.specs.Names.{HaveOneName};
+ghost use Rattle.net_rules.specs.declared.rule.Rule.TheVariants.{C01};
 ghost use Rattle.net_explained.specs.Searches.{IsFirstBelow};
 ghost use Rattle.net_explained.specs.Causes.{IsCauseAt};
 
@@ -9,7 +9,7 @@ use crate::cause::Cause;
 use net_plan::Plan;
 
 /// The first earlier node that has the node's name.
-#[tactic(auto, unfolding(net_check::specs::Names::HasNewName))]
+#[tactic(auto, unfolding(net_rules::specs::Names::HasNewName))]
 pub fn shared_name(plan: &Plan, node: usize) -> Option<Cause>
     ensures { IsCauseAt plan.now (record { rule = C01; node = node; entry = None; eid = None }) result }
 {

@@ -1,18 +1,19 @@
 //! C07: what is wrong with a node's owner.
 ghost use Rattle.std.specs.Prelude.{◌≡◌, ◌↔◌, ◌==◌, IsTrue, Some, None};
 ghost use Rattle.std.specs.List.{list_any};
-ghost use Rattle.net_check.specs.Routing.{IsBridge, ports_of};
-ghost use Rattle.net_check.specs.Owners.{IsOwnedBy, ShareBus};
-ghost use Rattle.net_check.specs.declared.rule.Rule.TheVariants.{C07};
+ghost use Rattle.net_tables.specs.Routing.{IsBridge, ports_of};
+ghost use Rattle.net_tables.specs.Ownership.{IsOwnedBy};
+ghost use Rattle.net_rules.specs.Owners.{ShareBus};
+ghost use Rattle.net_rules.specs.declared.rule.Rule.TheVariants.{C07};
 ghost use Rattle.net_explained.specs.declared.cause.Cause.TheVariants.{OwnerSharesNoBus};
 ghost use Rattle.net_explained.specs.Causes.{IsCauseAt};
 
 use crate::cause::Cause;
-use net_check::lookup::{is_bridge, is_on_bus, owner_at, ports_at};
 use net_plan::{Plan, Port};
+use net_tables::lookup::{is_bridge, is_on_bus, owner_at, ports_at};
 
 /// Why the node's owner can't own it: it is no bridge, or it is one that shares no bus with the node.
-#[tactic(auto, unfolding(net_check::specs::Owners::HasBridgeAsOwner))]
+#[tactic(auto, unfolding(net_rules::specs::Owners::HasBridgeAsOwner))]
 pub fn unfit(plan: &Plan, node: usize) -> Option<Cause>
     ensures { IsCauseAt plan.now (record { rule = C07; node = node; entry = None; eid = None }) result }
 {
@@ -23,7 +24,7 @@ pub fn unfit(plan: &Plan, node: usize) -> Option<Cause>
 }
 
 /// Why this owner of the node can't own it.
-#[tactic(auto, unfolding(net_check::specs::Owners::HasBridgeAsOwner))]
+#[tactic(auto, unfolding(net_rules::specs::Owners::HasBridgeAsOwner))]
 fn unfit_owner(plan: &Plan, node: usize, owner: usize) -> Option<Cause>
     requires { IsOwnedBy plan.now node owner }
     ensures cause { IsCauseAt plan.now (record { rule = C07; node = node; entry = None; eid = None }) result }

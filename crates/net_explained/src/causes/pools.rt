@@ -1,21 +1,23 @@
 //! C08 and C09: whose pool an endpoint ID should lie in and doesn't, or shouldn't and does, and what is wrong with a
 //! node's own pool.
 ghost use Rattle.std.specs.Prelude.{◌≡◌, ℕ, ◌+◌, ◌≤◌, ◌↔◌, IsTrue, Some, None, MatchOption};
-ghost use Rattle.net_check.specs.Routing.{IsBridge};
-ghost use Rattle.net_check.specs.Owners.{owner_of, IsOwnedBy};
-ghost use Rattle.net_check.specs.Pools.{pool_of, IsInPool, IsInPoolOf, IsInOwnersPool, IsPoolInRange, LiesInOwnersPool};
-ghost use Rattle.net_check.specs.declared.rule.Rule.TheVariants.{C08, C09};
+ghost use Rattle.net_tables.specs.Routing.{IsBridge};
+ghost use Rattle.net_tables.specs.Ownership.{owner_of, IsOwnedBy, pool_of, IsInPool, IsInPoolOf};
+ghost use Rattle.net_rules.specs.Pools.{IsInOwnersPool, IsPoolInRange, LiesInOwnersPool};
+ghost use Rattle.net_rules.specs.declared.rule.Rule.TheVariants.{C08, C09};
 ghost use Rattle.net_explained.specs.declared.cause.Cause.TheVariants.{PoolOutOfRange, PoolBeyondOwners, PoolsMeet, InPeersPool};
 ghost use Rattle.net_explained.specs.Searches.{IsFirst, IsLeastEid, IsFirstWithEid};
 ghost use Rattle.net_explained.specs.Causes.{IsCauseAt};
 
 use crate::cause::Cause;
 use mctp_transport::Eid;
-use net_check::lookup::{holds, is_bridge, is_in_pool, is_in_pool_of, owner_at, pool_at, pool_end};
 use net_plan::{Plan, Pool};
+use net_tables::lookup::{
+    holds, is_bridge, is_in_pool, is_in_pool_of, owner_at, pool_at, pool_end,
+};
 
 /// Whose pool the node's endpoint ID lies outside of, or whose it lies in.
-#[tactic(auto, unfolding(net_check::specs::Pools::IsInItsPool, net_check::specs::Pools::IsInNoPeersPool))]
+#[tactic(auto, unfolding(net_rules::specs::Pools::IsInItsPool, net_rules::specs::Pools::IsInNoPeersPool))]
 pub fn eid_out_of_its_pool(plan: &Plan, node: usize, eid: Eid) -> Option<Cause>
     ensures cause { IsCauseAt plan.now (record { rule = C08; node = node; entry = None; eid = Some eid.value }) result }
     ensures peer { (peer : ℕ) → result ≡ Some (InPeersPool peer) → IsInOwnersPool plan.now node eid.value }
@@ -33,7 +35,7 @@ pub fn eid_out_of_its_pool(plan: &Plan, node: usize, eid: Eid) -> Option<Cause>
 }
 
 /// The node's owner, if it hasn't the endpoint ID in its pool.
-#[tactic(auto, unfolding(net_check::specs::Pools::IsInOwnersPool))]
+#[tactic(auto, unfolding(net_rules::specs::Pools::IsInOwnersPool))]
 fn owner_without(plan: &Plan, node: usize, eid: Eid) -> Option<usize>
     ensures { MatchOption result (IsInOwnersPool plan.now node eid.value) (λ owner. IsOwnedBy plan.now node owner × ¬ IsInPoolOf plan.now owner eid.value) }
 {
@@ -60,7 +62,7 @@ fn peer_with(plan: &Plan, node: usize, eid: Eid) -> Option<usize>
 }
 
 /// Why the node may not have its pool.
-#[tactic(auto, unfolding(net_check::specs::Pools::HasLawfulPool))]
+#[tactic(auto, unfolding(net_rules::specs::Pools::HasLawfulPool))]
 pub fn unlawful(plan: &Plan, node: usize) -> Option<Cause>
     ensures { IsCauseAt plan.now (record { rule = C09; node = node; entry = None; eid = None }) result }
 {
@@ -94,7 +96,7 @@ fn unlawful_pool(plan: &Plan, node: usize, pool: Pool) -> Option<Cause>
 }
 
 /// Whether the pool has an endpoint ID, and only such as can be held.
-#[tactic(auto, unfolding(net_check::specs::Pools::IsPoolInRange))]
+#[tactic(auto, unfolding(net_rules::specs::Pools::IsPoolInRange))]
 fn is_pool_in_range(pool: Pool) -> bool
     ensures { IsTrue result ↔ IsPoolInRange pool }
 {
@@ -102,7 +104,7 @@ fn is_pool_in_range(pool: Pool) -> bool
 }
 
 /// The node's owner and the pool's least endpoint ID that the owner hasn't in its own.
-#[tactic(auto, unfolding(net_check::specs::Pools::LiesInOwnersPool))]
+#[tactic(auto, unfolding(net_rules::specs::Pools::LiesInOwnersPool))]
 fn beyond_owners(plan: &Plan, node: usize, pool: Pool) -> Option<(usize, Eid)>
     requires { pool.first.value + pool.size ≤ 256 }
     ensures { MatchOption result (LiesInOwnersPool plan.now node pool) (λ found. IsOwnedBy plan.now node found.0 × IsInPool pool found.1.value × ¬ IsInPoolOf plan.now found.0 found.1.value) }

@@ -1,17 +1,18 @@
 //! C12 and C13: what is wrong with a terminus without records, with a handle, and with a record's bytes.
-ghost use Rattle.std.specs.Prelude.{◌≡◌, ℕ, ◌↔◌, IsTrue, Some, None, MatchOption};
+ghost use Rattle.std.specs.Prelude.{◌≡◌, ℕ, ◌↔◌, IsTrue, Some, None, MatchResult};
 ghost use Rattle.pdr_repository.specs.Records.{IsRecordOf};
-ghost use Rattle.net_check.specs.declared.rule.Rule.TheVariants.{C12, C13};
+ghost use Rattle.net_rules.specs.declared.rule.Rule.TheVariants.{C12, C13};
 ghost use Rattle.net_explained.specs.Searches.{IsFirstBelow};
-ghost use Rattle.net_explained.specs.Causes.{IsCauseAt, HasRecordThat, IsEmptyTerminus, AreNoRecord};
+ghost use Rattle.net_explained.specs.Causes.{IsCauseAt, HasRecordThat, IsEmptyTerminus, AreNoRecordFor};
 
 use crate::cause::Cause;
 use mctp_transport::Wire;
-use net_check::lookup::{record_at, terminus_at};
 use net_plan::{Plan, PlannedRecord};
+use net_tables::lookup::{record_at, terminus_at};
+use pdr_record::RecordError;
 
 /// That the node's terminus has no records.
-#[tactic(auto, unfolding(net_check::specs::Repositories::HasRecords))]
+#[tactic(auto, unfolding(net_tables::specs::Repositories::HasRecords))]
 pub fn none(plan: &Plan, node: usize) -> Option<Cause>
     ensures { IsCauseAt plan.now (record { rule = C12; node = node; entry = None; eid = None }) result }
 {
@@ -81,20 +82,20 @@ pub fn unreadable(plan: &Plan, node: usize, index: usize) -> Option<Cause>
 {
     match record_at(plan, node, index) {
         Some(listed) => match handle_in(&listed.bytes) {
-            Some(handle) if handle == listed.handle => None,
-            Some(handle) => Some(Cause::OtherHandle { handle }),
-            None => Some(Cause::UnreadableRecord),
+            Ok(handle) if handle == listed.handle => None,
+            Ok(handle) => Some(Cause::OtherHandle { handle }),
+            Err(why) => Some(Cause::UnreadableRecord { why }),
         },
         None => None,
     }
 }
 
-/// The handle in the header, if the bytes are those of a record, all of them.
-fn handle_in(bytes: &[u8]) -> Option<u32>
-    ensures { MatchOption result (AreNoRecord bytes.now) (λ handle. (other : ℕ) → IsRecordOf other bytes.now ↔ (other ≡ handle)) }
+/// The handle in the header, if the bytes are those of a record, all of them; or why they are not.
+fn handle_in(bytes: &[u8]) -> Result<u32, RecordError>
+    ensures { MatchResult result (λ handle. (other : ℕ) → IsRecordOf other bytes.now ↔ (other ≡ handle)) (λ why. AreNoRecordFor why bytes.now) }
 {
     match pdr_record::Record::read(bytes) {
-        Ok(read) => Some(read.handle),
-        Err(_) => None,
+        Ok(read) => Ok(read.handle),
+        Err(why) => Err(why),
     }
 }

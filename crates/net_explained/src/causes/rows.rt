@@ -1,18 +1,21 @@
 //! C04 to C06: what is wrong with a row.
 ghost use Rattle.std.specs.Prelude.{◌≡◌, ◌≢◌, ◌≤◌, ℕ, ◌↔◌, IsTrue, Option, Some, None, slice_get};
-ghost use Rattle.net_check.specs.Routing.{rows_of, Covers, IsBridge};
-ghost use Rattle.net_check.specs.Rows.{IsInRange, IsJoined, bus_of};
-ghost use Rattle.net_check.specs.declared.rule.Rule.TheVariants.{C04, C05, C06};
+ghost use Rattle.net_tables.specs.Routing.{rows_of, Covers, IsBridge};
+ghost use Rattle.net_tables.specs.Rows.{IsInRange, IsJoined, bus_of};
+ghost use Rattle.net_rules.specs.declared.rule.Rule.TheVariants.{C04, C05, C06};
 ghost use Rattle.net_explained.specs.declared.cause.Cause.TheVariants.{NextIsItself, NoSuchPort, EndpointForSeveral};
 ghost use Rattle.net_explained.specs.Searches.{IsFirst, IsLeastEid, IsFirstWithEid};
 ghost use Rattle.net_explained.specs.Causes.{IsCauseAt};
-ghost use Rattle.net_explained.specs.Rows.{CoversAt, IsFittingPort};
+ghost use Rattle.net_explained.specs.Rows.{CoversAt, HandsOut, IsFittingNext, IsFittingPort, WouldLeadTo};
 
 use crate::cause::Cause;
 use crate::rest::rest_of;
 use mctp_transport::Eid;
-use net_check::lookup::{bus_at, covers, is_bridge, is_on_bus, ports_at, row_at, row_end};
 use net_plan::{Plan, Row};
+use net_tables::lookup::{
+    bus_at, covers, holds, is_bridge, is_in_pool_of, is_on_bus, owner_at, port_at, ports_at,
+    row_at, row_end,
+};
 
 /// That the node's row covers nothing, or more than can be assigned.
 #[tactic(auto, using(crate::proofs::Items::of_item, crate::proofs::Items::of_no_item, crate::proofs::Items::not_of_item))]
@@ -26,7 +29,7 @@ pub fn out_of_range(plan: &Plan, node: usize, row: usize) -> Option<Cause>
 }
 
 /// Whether a row covers an endpoint ID, and only such as can be held.
-#[tactic(auto, unfolding(net_check::specs::Rows::IsInRange))]
+#[tactic(auto, unfolding(net_tables::specs::Rows::IsInRange))]
 fn is_in_range(row: &Row) -> bool
     ensures { IsTrue result ↔ IsInRange row.now }
 {
@@ -39,11 +42,16 @@ pub fn overlapped(plan: &Plan, node: usize, row: usize) -> Option<Cause>
 {
     let found = row_at(plan, node, row)?;
     match first_overlapping(plan, node, row, found) {
-        Some((earlier, eid)) => Some(Cause::OverlappedRow {
-            earlier,
-            eid,
-            rest: rest_of(plan, node, row),
-        }),
+        Some((earlier, eid)) => {
+            let rest = rest_of(plan, node, row);
+            let earlier_rest = rest_of(plan, node, earlier);
+            Some(Cause::OverlappedRow {
+                earlier,
+                eid,
+                rest,
+                earlier_rest,
+            })
+        }
         None => None,
     }
 }
@@ -97,15 +105,16 @@ pub fn no_neighbor(plan: &Plan, node: usize, row: usize) -> Option<Cause>
 }
 
 /// Why the row, as one of the node's, names no neighbor: the first cause in the order of the tests.
-#[tactic(auto, unfolding(net_check::specs::Rows::NamesNeighbor, net_check::specs::Rows::IsJoined))]
+#[tactic(auto, unfolding(net_tables::specs::Rows::NamesNeighbor, net_tables::specs::Rows::IsJoined))]
 fn no_neighbor_in(plan: &Plan, node: usize, row: &Row) -> Option<Cause>
     ensures cause { (r : ℕ) → slice_get (rows_of plan.now node) r ≡ Some row.now → IsCauseAt plan.now (record { rule = C06; node = node; entry = Some r; eid = None }) result }
-    ensures itself { row.now.next ≡ node → result ≡ Some NextIsItself }
+    ensures itself { row.now.next ≡ node → (next : Option ℕ) × (result ≡ Some (NextIsItself next)) }
     ensures port { row.now.next ≢ node → bus_of plan.now node row.now.port ≡ None → (fitting : Option ℕ) × (result ≡ Some (NoSuchPort fitting)) }
-    ensures several { result ≡ Some EndpointForSeveral → IsJoined plan.now node row.now.port row.now.next }
+    ensures several { (next : Option ℕ) → result ≡ Some (EndpointForSeveral next) → IsJoined plan.now node row.now.port row.now.next }
 {
+    let next = fitting_next(plan, node, row);
     if row.next == node {
-        return Some(Cause::NextIsItself);
+        return Some(Cause::NextIsItself { next });
     }
     match bus_at(plan, node, row.port) {
         None => Some(Cause::NoSuchPort {
@@ -114,14 +123,15 @@ fn no_neighbor_in(plan: &Plan, node: usize, row: &Row) -> Option<Cause>
         Some(bus) if !is_on_bus(plan, row.next, bus) => Some(Cause::NextNotOnBus {
             bus,
             fitting: fitting_port(plan, node, row),
+            next,
         }),
         Some(_) if is_bridge_for_several(plan, row) => None,
-        Some(_) => Some(Cause::EndpointForSeveral),
+        Some(_) => Some(Cause::EndpointForSeveral { next }),
     }
 }
 
 /// The first port by which the row, as one of the node's, would name a neighbor.
-#[tactic(auto, unfolding(net_check::specs::Rows::NamesNeighbor))]
+#[tactic(auto, unfolding(net_tables::specs::Rows::NamesNeighbor))]
 fn fitting_port(plan: &Plan, node: usize, row: &Row) -> Option<usize>
     ensures { IsFittingPort plan.now node row.now result }
 {
@@ -132,6 +142,37 @@ fn fitting_port(plan: &Plan, node: usize, row: &Row) -> Option<usize>
         return None;
     }
     first_joined(plan, node, row.next)
+}
+
+/// The first node that the row, as one of the node's, could lead to by its port, and that has the row's first endpoint ID
+/// itself or in its pool.
+fn fitting_next(plan: &Plan, node: usize, row: &Row) -> Option<usize>
+    ensures { IsFittingNext plan.now node row.now result }
+{
+    for next in 0..plan.nodes.len() {
+        if would_lead_to(plan, node, row, next) {
+            return Some(next);
+        }
+    }
+    None
+}
+
+/// Whether it could lead to this one, which has the row's first endpoint ID so.
+#[tactic(auto, unfolding(net_tables::specs::Rows::NamesNeighbor))]
+fn would_lead_to(plan: &Plan, node: usize, row: &Row, next: usize) -> bool
+    ensures { IsTrue result ↔ WouldLeadTo plan.now node row.now next }
+{
+    next != node
+        && is_joined(plan, node, usize::from(row.port), next)
+        && (row.size < 2 || is_bridge(plan, next))
+        && (holds(plan, next, row.first) || hands_out(plan, node, row, next))
+}
+
+/// Whether the next node has the row's first endpoint ID in its pool, and isn't the node's owner, from which it comes.
+fn hands_out(plan: &Plan, node: usize, row: &Row, next: usize) -> bool
+    ensures { IsTrue result ↔ HandsOut plan.now node row.now next }
+{
+    is_in_pool_of(plan, next, row.first) && owner_at(plan, node) != Some(next)
 }
 
 /// The first port of a node on whose bus another is.
@@ -147,11 +188,11 @@ fn first_joined(plan: &Plan, node: usize, next: usize) -> Option<usize>
 }
 
 /// Whether a node has this port, and the other node is on its bus.
-#[tactic(auto, unfolding(net_check::specs::Rows::IsJoined))]
+#[tactic(auto, unfolding(net_tables::specs::Rows::IsJoined))]
 fn is_joined(plan: &Plan, node: usize, port: usize, next: usize) -> bool
     ensures { IsTrue result ↔ IsJoined plan.now node port next }
 {
-    match ports_at(plan, node).get(port) {
+    match port_at(plan, node, port) {
         Some(port) => is_on_bus(plan, next, port.bus),
         None => false,
     }

@@ -1,16 +1,16 @@
 //! C11: why a row leads what another node holds nowhere.
 ghost use Rattle.std.specs.Prelude.{◌≢◌, ◌↔◌, ◌⊎◌, ⊤, IsTrue, Some, MatchOption};
-ghost use Rattle.net_check.specs.Routing.{Holds, IsBridge, HasRow};
-ghost use Rattle.net_check.specs.TwoPlans.{one_plan};
-ghost use Rattle.net_check.specs.HeldEids.{IsLedOn};
-ghost use Rattle.net_check.specs.declared.rule.Rule.TheVariants.{C11};
+ghost use Rattle.net_tables.specs.Routing.{Holds, IsBridge, HasRow};
+ghost use Rattle.net_tables.specs.TwoPlans.{one_plan};
+ghost use Rattle.net_rules.specs.HeldEids.{IsLedOn};
+ghost use Rattle.net_rules.specs.declared.rule.Rule.TheVariants.{C11};
 ghost use Rattle.net_explained.specs.Searches.{IsFirst};
 ghost use Rattle.net_explained.specs.Causes.{IsCauseAt};
 
 use crate::cause::Cause;
 use mctp_transport::Eid;
-use net_check::lookup::{covers, has_row, holds, is_bridge, row_at};
 use net_plan::Plan;
+use net_tables::lookup::{covers, has_row, holds, is_bridge, row_at};
 
 /// Who holds the endpoint ID that the node's row leads to a node that neither holds it nor leads it on.
 pub fn cut(plan: &Plan, node: usize, row: usize, eid: Eid) -> Option<Cause>
@@ -29,7 +29,7 @@ pub fn cut(plan: &Plan, node: usize, row: usize, eid: Eid) -> Option<Cause>
 }
 
 /// The first node other than this one that holds the endpoint ID, where the next node neither holds it nor leads it on.
-#[tactic(auto, unfolding(net_check::specs::HeldEids::IsLedOn))]
+#[tactic(auto, unfolding(net_rules::specs::HeldEids::IsLedOn))]
 fn holder_cut_off(plan: &Plan, node: usize, eid: Eid, next: usize) -> Option<usize>
     ensures cut { MatchOption result (IsLedOn (one_plan plan.now) node eid.value next) (λ _. ¬ Holds plan.now next eid.value × ¬ (IsBridge plan.now next × HasRow plan.now next eid.value)) }
     ensures first { MatchOption result ⊤ (λ holder. IsFirst (λ m. Holds plan.now m eid.value × (m ≢ node)) (Some holder)) }

@@ -1,12 +1,12 @@
 //! H04: whether a terminus has a locator of its own.
 ghost use Rattle.std.specs.Prelude.{◌≡◌, ◌↔◌, ℕ, List, [], ◌∷◌, IsTrue, IfSome, IsSomeAnd, Some, slice_get};
-ghost use Rattle.net_check.specs.Locators.{IsEidLocator};
+ghost use Rattle.net_rules.specs.Locators.{IsEidLocator};
 ghost use Rattle.net_questions.specs.Lint.{HasLocator, IsUnlocated, LacksLocator};
 
 use crate::lookup::eid_at;
 use mctp_transport::{Eid, Wire};
-use net_check::lookup::{records_at, terminus_at};
 use net_plan::{Plan, PlannedRecord};
+use net_tables::lookup::{records_at, terminus_at};
 use pdr_record::{Body, TerminusLocator};
 
 /// Where the type stands in the common header of a record (DSP0248).

@@ -1,15 +1,15 @@
 //! H08, H09 and H12: rows, pools, and whom rows lead to.
 ghost use Rattle.std.specs.Prelude.{◌<◌, ◌⊎◌, ◌↔◌, ℕ, IsTrue, length};
-ghost use Rattle.net_check.specs.Routing.{Holds, Covers};
-ghost use Rattle.net_check.specs.Pools.{IsInPool, IsInPoolOf};
+ghost use Rattle.net_tables.specs.Routing.{Holds, Covers};
+ghost use Rattle.net_tables.specs.Ownership.{IsInPool, IsInPoolOf};
 ghost use Rattle.net_questions.specs.Lint.{LeadsToNobody, HasIdleRow, IsHeld, LeavesHeld, NobodyHasRow, IsUnknown, IsIsolated};
 
 use crate::lookup::eid_at;
 use mctp_transport::Eid;
-use net_check::lookup::{
+use net_plan::{Plan, Pool, Row};
+use net_tables::lookup::{
     covers, has_row, holds, is_bridge, is_in_pool, is_in_pool_of, pool_at, row_at, rows_at,
 };
-use net_plan::{Plan, Pool, Row};
 
 /// Whether a node's row leads to nobody: no node holds any of its endpoint IDs, and none lies in a pool.
 pub fn has_idle_row(plan: &Plan, node: usize, row: usize) -> bool

@@ -8,8 +8,8 @@ ghost use Rattle.net_questions.specs.Lint.{sensor_id_of, IsSensorRecord, HasEarl
 ghost use Rattle.net_questions.specs.Lint.{number_of, flipped, position_of, IsOver, IsNumericSensor, HasEmptyRange, HasEmptyReadableRange};
 
 use mctp_transport::Wire;
-use net_check::lookup::{record_at, records_at};
 use net_plan::{Plan, PlannedRecord};
+use net_tables::lookup::{record_at, records_at};
 use pdr_record::{Body, NumericSensor, SensorDataSize};
 
 /// Where the type stands in the common header of a record (DSP0248).

@@ -1,6 +1,6 @@
 //! One event of a network with walkers.
-ghost use Rattle.std.specs.Prelude.{◌≡◌, MatchResult, None};
-ghost use Rattle.net_check.specs.Walkers.{Happened};
+ghost use Rattle.std.specs.Prelude.{◌≡◌, OnErr, MatchResult, None};
+ghost use Rattle.net_runs.specs.Walkers.{Happened};
 ghost use Rattle.net_sim.specs.Effects.{effect_value};
 ghost use Rattle.net_sim.specs.Outcomes.{outcome_value};
 
@@ -20,6 +20,7 @@ impl<'a, T: Terminus> Network<'a, T> {
     ghost use Rattle.net_sim.specs.Outcomes.{event_value};
     ghost use Rattle.net_sim.specs.WalkedStanding.{WalkedPlays, WalkedWants};
     ghost use Rattle.net_sim.specs.Networks.{network_value, checked_of};
+    ghost use Rattle.net_sim.specs.LackingRooms.{NetworkLacksRoom};
 
     /// Plays an event. Where memory runs out, nothing has changed.
     pub fn play(&mut self, event: &Event) -> Result<Outcome, AllocError>
@@ -31,6 +32,7 @@ impl<'a, T: Terminus> Network<'a, T> {
             (λ _. WalkedWants (checked_of self.old).0
             (network_value T.tid T.records self.old) (event_value event.now)
             (network_value T.tid T.records self.new)) }
+        ensures full { OnErr result (NetworkLacksRoom self.old (event_value event.now)) }
     {
         match event {
             Event::Put { node, bytes } => Ok(happened(self.traffic.put(*node, bytes)?)),

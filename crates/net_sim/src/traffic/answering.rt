@@ -1,7 +1,7 @@
 //! Termini that answer.
-ghost use Rattle.std.specs.Prelude.{◌≡◌, All, ◌+◌, ◌*◌, ◌-◌, ◌<◌, ◌≤◌, MatchResult, length, Some, false};
+ghost use Rattle.std.specs.Prelude.{◌≡◌, All, ◌+◌, ◌*◌, ◌-◌, ◌<◌, ◌≤◌, MatchResult, OnErr, length, Some, false};
 ghost use Rattle.mctp_transport.specs.Packets.{key_value};
-ghost use Rattle.net_check.specs.States.{unit_of};
+ghost use Rattle.net_runs.specs.States.{unit_of};
 ghost use Rattle.net_sim.specs.Flights.{slots_of, room_of};
 ghost use Rattle.net_sim.specs.Payloads.{IsRoomFor};
 
@@ -16,11 +16,12 @@ use pdr_repository::Terminus;
 use std::alloc::AllocError;
 
 impl<'a, T: Terminus> Traffic<'a, T> {
-    ghost use Rattle.net_check.specs.Events.{most_flights, AnswerAt};
+    ghost use Rattle.net_runs.specs.Events.{most_flights, AnswerAt};
     ghost use Rattle.net_sim.specs.Effects.{effect_value};
     ghost use Rattle.net_sim.specs.Standing.{Plays, Wants};
     ghost use Rattle.net_sim.specs.Traffics.{traffic_value};
     ghost use Rattle.net_sim.specs.Sending.{Sends};
+    ghost use Rattle.net_sim.specs.LackingRooms.{LacksRoom};
 
     /// Lets the terminus of a node answer the oldest message that waits there.
     pub fn answer(&mut self, node: usize) -> Result<Effect, AllocError>
@@ -32,6 +33,7 @@ impl<'a, T: Terminus> Traffic<'a, T> {
             (λ _. Wants self.old.router.tables
             (traffic_value T.tid T.records self.old) (AnswerAt node)
             (traffic_value T.tid T.records self.new)) }
+        ensures full { OnErr result (LacksRoom self.old (AnswerAt node)) }
     {
         if !self.has_node(node) {
             return Ok(Effect::Refused(Refusal::NoNode));

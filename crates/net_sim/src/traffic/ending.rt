@@ -9,7 +9,7 @@ use mctp_transport::Key;
 use pdr_repository::Terminus;
 
 impl<'a, T: Terminus> Traffic<'a, T> {
-    ghost use Rattle.net_check.specs.Events.{Lose, Expire};
+    ghost use Rattle.net_runs.specs.Events.{Lose, Expire};
     ghost use Rattle.net_sim.specs.Effects.{effect_value};
     ghost use Rattle.net_sim.specs.Standing.{Plays};
     ghost use Rattle.net_sim.specs.Traffics.{traffic_value};

@@ -1,7 +1,7 @@
 //! Packets on their way, and what comes of one that enters a node.
-ghost use Rattle.std.specs.Prelude.{◌≡◌, ℕ, ◌+◌, ◌-◌, ◌<◌, ◌≤◌, [], MatchResult, MatchOption, None, IfOk, OnOk, length, Some, false, true};
+ghost use Rattle.std.specs.Prelude.{◌≡◌, ℕ, ◌+◌, ◌-◌, ◌<◌, ◌≤◌, [], MatchResult, MatchOption, None, IfSome, IfOk, OnOk, OnErr, ◌⊎◌, length, Some, false, true};
 ghost use Rattle.mctp_transport.specs.Packets.{key_value};
-ghost use Rattle.net_check.specs.States.{Flight};
+ghost use Rattle.net_runs.specs.States.{Flight};
 ghost use Rattle.net_sim.specs.Flights.{slots_of, flight_value, room_of};
 ghost use Rattle.net_sim.specs.Receiving.{HasRoomAfter};
 
@@ -24,13 +24,14 @@ struct Room {
 }
 
 impl<'a, T: Terminus> Traffic<'a, T> {
-    ghost use Rattle.net_check.specs.Events.{Move};
+    ghost use Rattle.net_runs.specs.Events.{Move};
     ghost use Rattle.net_sim.specs.Effects.{effect_value};
     ghost use Rattle.net_sim.specs.Standing.{StandsFor, Plays, Wants, Receives};
     ghost use Rattle.net_sim.specs.Traffics.{traffic_value, HasRoomAt};
     ghost use Rattle.net_sim.specs.Arrivals.{Arrives};
+    ghost use Rattle.net_sim.specs.LackingRooms.{LacksRoom, ArrivesAt};
     ghost use Rattle.mctp_transport.specs.Frames.{KeyValue};
-    ghost use Rattle.net_check.specs.States.{NetworkState};
+    ghost use Rattle.net_runs.specs.States.{NetworkState};
 
     /// Moves a flight, or a copy of it.
     pub fn move_flight(&mut self, number: u32, keep: bool) -> Result<Effect, AllocError>
@@ -42,6 +43,7 @@ impl<'a, T: Terminus> Traffic<'a, T> {
             (λ _. Wants self.old.router.tables
             (traffic_value T.tid T.records self.old) (Move number keep)
             (traffic_value T.tid T.records self.new)) }
+        ensures full { OnErr result (LacksRoom self.old (Move number keep)) }
     {
         if keep {
             self.move_copy(number)
@@ -60,6 +62,7 @@ impl<'a, T: Terminus> Traffic<'a, T> {
             (λ _. Wants self.old.router.tables
             (traffic_value T.tid T.records self.old) (Move number false)
             (traffic_value T.tid T.records self.new)) }
+        ensures full { OnErr result (LacksRoom self.old (Move number false)) }
     {
         let Some(flight) = self.flights.get(number) else {
             return Ok(Effect::Refused(Refusal::NoFlight));
@@ -99,6 +102,7 @@ impl<'a, T: Terminus> Traffic<'a, T> {
             (λ _. Wants self.old.router.tables
             (traffic_value T.tid T.records self.old) (Move number true)
             (traffic_value T.tid T.records self.new)) }
+        ensures full { OnErr result (LacksRoom self.old (Move number true)) }
     {
         let Some(flight) = self.flights.get(number) else {
             return Ok(Effect::Refused(Refusal::NoFlight));
@@ -147,6 +151,7 @@ impl<'a, T: Terminus> Traffic<'a, T> {
         ensures told { IfOk result (λ room. (room.told.items ≡ []) × HasRoomAfter header room.told) }
         ensures kept { IfOk result (λ room. (room.kept.items ≡ []) × HasRoomAfter header room.kept) }
         ensures queue { OnOk result (HasRoomAt self.new node) }
+        ensures full { OnErr result ((header.eom ≡ true) ⊎ ¬ HasRoomAt self.old node) }
     {
         let told = room_for_message(self.alloc, header)?;
         let kept = room_for_message(self.alloc, header)?;
@@ -190,9 +195,10 @@ impl<'a, T: Terminus> Traffic<'a, T> {
     /// The node into which the move of a flight brings its packet, and the packet's key. None where it is refused, or the
     /// flight goes on or ends on its way.
     pub fn arrival(&self, number: u32, keep: bool) -> Option<(usize, Key)>
-        ensures { (w : NetworkState) → StandsFor (traffic_value T.tid T.records self.now) w
+        ensures arrives { (w : NetworkState) → StandsFor (traffic_value T.tid T.records self.now) w
             → MatchOption result ((node : ℕ) (key : KeyValue) → ¬ Arrives self.now.router.tables w number keep node key)
             (λ at. Arrives self.now.router.tables w number keep at.0 (key_value at.1)) }
+        ensures there { IfSome result (λ at. ArrivesAt self.now number at.0 (key_value at.1)) }
     {
         if keep && self.left() < 1 {
             return None;

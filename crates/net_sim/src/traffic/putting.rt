@@ -1,7 +1,7 @@
 //! Packets that are put in.
-ghost use Rattle.std.specs.Prelude.{◌≡◌, ◌+◌, ◌-◌, ◌<◌, ◌≤◌, ◌++◌, MatchResult, length, map, Some};
+ghost use Rattle.std.specs.Prelude.{◌≡◌, ◌+◌, ◌-◌, ◌<◌, ◌≤◌, ◌++◌, MatchResult, OnErr, length, map, Some};
 ghost use Rattle.mctp_transport.specs.Packets.{key_value};
-ghost use Rattle.net_check.specs.States.{Flight};
+ghost use Rattle.net_runs.specs.States.{Flight};
 ghost use Rattle.net_sim.specs.Flights.{slots_of, begun, room_of};
 ghost use Rattle.net_sim.specs.Payloads.{HaveRooms};
 
@@ -15,12 +15,13 @@ use pdr_repository::Terminus;
 use std::alloc::AllocError;
 
 impl<'a, T: Terminus> Traffic<'a, T> {
-    ghost use Rattle.net_check.specs.Events.{most_flights, Put};
+    ghost use Rattle.net_runs.specs.Events.{most_flights, Put};
     ghost use Rattle.mctp_transport.specs.PacketsLeft.{frames_left};
     ghost use Rattle.net_sim.specs.Effects.{effect_value};
     ghost use Rattle.net_sim.specs.Standing.{Plays, Wants};
     ghost use Rattle.net_sim.specs.Traffics.{traffic_value};
     ghost use Rattle.net_sim.specs.Sending.{PutsOne};
+    ghost use Rattle.net_sim.specs.LackingRooms.{LacksRoom};
 
     /// Puts the packet of these bytes in at a node.
     pub fn put(&mut self, node: usize, bytes: &[u8]) -> Result<Effect, AllocError>
@@ -32,6 +33,7 @@ impl<'a, T: Terminus> Traffic<'a, T> {
             (λ _. Wants self.old.router.tables
             (traffic_value T.tid T.records self.old) (Put node bytes.now)
             (traffic_value T.tid T.records self.new)) }
+        ensures full { OnErr result (LacksRoom self.old (Put node bytes.now)) }
     {
         if !self.has_node(node) {
             return Ok(Effect::Refused(Refusal::NoNode));

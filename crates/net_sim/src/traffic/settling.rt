@@ -10,9 +10,9 @@ use pdr_repository::Terminus;
 impl<'a, T: Terminus> Traffic<'a, T> {
     ghost use Rattle.net_sim.specs.Standing.{StandsFor};
     ghost use Rattle.net_sim.specs.Traffics.{traffic_value};
-    ghost use Rattle.net_check.specs.States.{NetworkState};
-    ghost use Rattle.net_check.specs.Routing.{Holds};
-    ghost use Rattle.net_check.specs.ExactMessages.{IsSettled};
+    ghost use Rattle.net_runs.specs.States.{NetworkState};
+    ghost use Rattle.net_tables.specs.Routing.{Holds};
+    ghost use Rattle.net_runs.specs.ExactMessages.{IsSettled};
     ghost use Rattle.net_sim.specs.Settling.{IsClearAt};
 
     /// Whether no node with a terminus holds the endpoint ID.

@@ -1,11 +1,11 @@
 //! What a command answers, and how it is told.
-ghost use Rattle.std.specs.Prelude.{◌≡◌, ◌≢◌, ◌⊎◌, ◌+◌, ◌<◌, ◌^◌, ◌-◌, IfOk, IfErr, OnOk, OnErr, string_bytes};
+ghost use Rattle.std.specs.Prelude.{◌≡◌, ◌≢◌, ◌⊎◌, IfOk, IfErr, OnOk, OnErr, string_bytes};
 ghost use Rattle.std.specs.Cow.{cow_str_bytes};
 ghost use Rattle.std.specs.Io.KnownBytes.{Appends};
-ghost use Rattle.net_plan.specs.Stream.{AppendsBeginning};
+ghost use Rattle.net_plan.specs.Stream.{HasRoom, HasFailed, AppendsBeginning};
 ghost use Rattle.plan_commands.specs.declared.refused.Refused.TheVariants.{Unwritten};
 ghost use Rattle.plan_commands.specs.declared.status.Status.TheVariants.{Yes, Fault, Unreadable, NoMemory};
-ghost use Rattle.plan_commands.specs.Answers.{stream, Refuses};
+ghost use Rattle.plan_commands.specs.Answers.{stream, BreaksOff, Refuses};
 ghost use Rattle.plan_commands.specs.Linting.{clean_line};
 ghost use Rattle.plan_commands.specs.Statuses.{status_of, refusal_text, IsReportedFor, yes_line};
 ghost use Rattle.plan_commands.specs.Told.{IsTold};
@@ -42,14 +42,14 @@ impl Answer {
         }
     }
 
-    /// A text of the program itself that was asked for.
-    pub fn known(text: &'static str) -> Answer
+    /// A text that was asked for, of the program itself or one that was made.
+    pub fn said(text: CowStr<'static>) -> Answer
         ensures status { result.status ≡ Yes }
-        ensures text { cow_str_bytes result.text ≡ text.now }
+        ensures text { cow_str_bytes result.text ≡ cow_str_bytes text.entry }
     {
         Answer {
             status: Status::Yes,
-            text: CowStr::Borrowed(text),
+            text,
         }
     }
 
@@ -100,10 +100,10 @@ impl Answer {
 
 /// Says on `errors` why the program gives no answer, and how the run ends.
 pub fn refuse<E: Sink>(alloc: Global, refused: Refused, errors: &mut E) -> Status
-    requires { E.failures errors.old < 2 ^ 64 - 1 }
+    requires { HasRoom (E.account errors.old) }
     ensures status { (result ≡ status_of refused) ⊎ (result ≡ NoMemory) }
     ensures unwritten { refused ≡ Unwritten → result ≡ Unreadable }
-    ensures refuses { let said = stream (E.contents errors.old) (E.failures errors.old) (E.contents errors.new) (E.failures errors.new) in
+    ensures refuses { let said = stream E.account errors.old errors.new in
         Refuses refused result said }
 {
     let (reported, line) = report_of(alloc, refused);
@@ -125,14 +125,26 @@ fn report_of(alloc: Global, refused: Refused) -> (Refused, CowStr<'static>)
 
 /// Writes the line of an answer.
 pub fn print<O: Sink>(output: &mut O, line: &str) -> Result<(), Refused>
-    requires { O.failures output.old < 2 ^ 64 - 1 }
-    ensures written { OnOk result (Appends (O.contents output.old) (O.contents output.new) line.now) }
+    requires { HasRoom (O.account output.old) }
+    ensures written { OnOk result (Appends (O.account output.old).bytes (O.account output.new).bytes line.now) }
     ensures unwritten { IfErr result (λ refused. refused ≡ Unwritten) }
-    ensures beginning { OnErr result (AppendsBeginning (O.contents output.old) (O.contents output.new) line.now) }
-    ensures fails { OnErr result (O.failures output.new ≡ O.failures output.old + 1) }
-    ensures kept { OnOk result (O.failures output.new ≡ O.failures output.old) }
+    ensures beginning { OnErr result (AppendsBeginning (O.account output.old).bytes (O.account output.new).bytes line.now) }
+    ensures fails { OnErr result (HasFailed (O.account output.old) (O.account output.new) 1) }
+    ensures kept { OnOk result ((O.account output.new).failures ≡ (O.account output.old).failures) }
 {
     write_whole(output, line.as_bytes()).map_err(|_| Refused::Unwritten)
+}
+
+/// Writes an answer, and tells how a run ends that gives it.
+pub fn give<O: Sink>(answer: &Answer, output: &mut O) -> Result<Status, Refused>
+    requires { HasRoom (O.account output.old) }
+    ensures given { IfOk result (λ status. (status ≡ answer.now.status)
+        × Appends (O.account output.old).bytes (O.account output.new).bytes (cow_str_bytes answer.now.text)) }
+    ensures broken { IfErr result (λ why. (why ≡ Unwritten)
+        × BreaksOff (λ text. text ≡ cow_str_bytes answer.now.text) (stream O.account output.old output.new)) }
+{
+    print(output, &answer.text)?;
+    Ok(answer.status)
 }
 
 /// Tells the answer on `output`, or on `errors` why there is none or why it was not told.
@@ -142,16 +154,16 @@ pub fn tell<O: Sink, E: Sink>(
     output: &mut O,
     errors: &mut E,
 ) -> Status
-    requires output { O.failures output.old < 2 ^ 64 - 1 }
-    requires errors { E.failures errors.old < 2 ^ 64 - 1 }
-    ensures told { let outputs = stream (O.contents output.old) (O.failures output.old) (O.contents output.new) (O.failures output.new) in
-        let said = stream (E.contents errors.old) (E.failures errors.old) (E.contents errors.new) (E.failures errors.new) in
+    requires output { HasRoom (O.account output.old) }
+    requires errors { HasRoom (E.account errors.old) }
+    ensures told { let outputs = stream O.account output.old output.new in
+        let said = stream E.account errors.old errors.new in
         IfOk answered (λ answer. IsTold answer.status (cow_str_bytes answer.text) result outputs said) }
-    ensures refuses { let said = stream (E.contents errors.old) (E.failures errors.old) (E.contents errors.new) (E.failures errors.new) in
+    ensures refuses { let said = stream E.account errors.old errors.new in
         IfErr answered (λ why. Refuses why result said) }
     ensures untouched { OnErr answered (output.new ≡ output.old) }
     ensures silent { (result ≡ Yes) ⊎ (result ≡ Fault) → errors.new ≡ errors.old }
-    ensures quiet { IfOk answered (λ _. O.failures output.new ≡ O.failures output.old → errors.new ≡ errors.old) }
+    ensures quiet { IfOk answered (λ _. (O.account output.new).failures ≡ (O.account output.old).failures → errors.new ≡ errors.old) }
     ensures no_memory { result ≡ NoMemory → output.new ≡ output.old }
 {
     match answered {

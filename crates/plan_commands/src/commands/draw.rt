@@ -1,57 +1,29 @@
 //! The command `draw`: a planned network in Graphviz' DOT language.
-ghost use Rattle.std.specs.Prelude.{◌≡◌, ◌≢◌, ◌⊎◌, ◌<◌, ◌^◌, ◌-◌, IfOk, IfErr, Some, None, string_bytes};
+ghost use Rattle.std.specs.Prelude.{◌≡◌, ◌≢◌, IfOk, Some, None, string_bytes};
 ghost use Rattle.std.specs.Cow.{cow_str_bytes};
-ghost use Rattle.plan_commands.specs.declared.status.Status.TheVariants.{Yes, Fault, Unreadable, NoMemory};
-ghost use Rattle.plan_commands.specs.Answers.{stream, BreaksOff, IsPlanUnread};
+ghost use Rattle.plan_commands.specs.declared.status.Status.TheVariants.{Yes};
 ghost use Rattle.plan_texts.specs.DrawingLines.{IsDrawing};
-ghost use Rattle.plan_commands.specs.Drawing.{IsPlanDrawing, IsDrawAnswer, DrawsSo, Draws, loop_nodes, owner_loop_nodes};
-ghost use Rattle.net_check.specs.declared.certify_error.CertifyError.TheVariants.{OutOfMemory};
+ghost use Rattle.plan_commands.specs.Drawing.{IsCertifiedDrawing, IsPlanDrawing, loop_nodes, owner_loop_nodes};
+ghost use Rattle.net_rules.specs.declared.certify_error.CertifyError.TheVariants.{OutOfMemory};
 
-pub mod certified;
-
-use crate::commands::answer::{Answer, tell};
-use crate::commands::inputs::given_plan;
-use crate::refused::Refused;
-use crate::status::Status;
-use net_check::{CertifyError, certify};
-use net_plan::{Plan, Sink, Source};
+use crate::commands::answer::Answer;
+use net_check::{CertifyError, Checked, certify};
+use net_plan::Plan;
 use plan_texts::drawing;
 use std::alloc::{AllocError, Global};
 
-/// Draws a plan on `output` as it stands. A loop that rules certificates out, of rows or of owners, is red. Where the plan
-/// can't be read, says so on `errors`.
-pub fn run_draw<P: Source, O: Sink, E: Sink>(
-    alloc: Global,
-    plan: &mut P,
-    output: &mut O,
-    errors: &mut E,
-) -> Status
-    requires plan { P.failures plan.old < 2 ^ 64 - 1 }
-    requires output { O.failures output.old < 2 ^ 64 - 1 }
-    requires errors { E.failures errors.old < 2 ^ 64 - 1 }
-    ensures draws { let plans = stream (P.remaining plan.old) (P.failures plan.old) (P.remaining plan.new) (P.failures plan.new) in
-        let outputs = stream (O.contents output.old) (O.failures output.old) (O.contents output.new) (O.failures output.new) in
-        let said = stream (E.contents errors.old) (E.failures errors.old) (E.contents errors.new) (E.failures errors.new) in
-        Draws result plans outputs said }
-    ensures silent { (result ≡ Yes) ⊎ (result ≡ Fault) → errors.new ≡ errors.old }
-    ensures unwritten { let plans = stream (P.remaining plan.old) (P.failures plan.old) (P.remaining plan.new) (P.failures plan.new) in
-        let outputs = stream (O.contents output.old) (O.failures output.old) (O.contents output.new) (O.failures output.new) in
-        result ≡ Unreadable → (output.new ≡ output.old) ⊎ BreaksOff (IsDrawAnswer plans) outputs }
-    ensures no_memory { result ≡ NoMemory → output.new ≡ output.old }
+/// The drawing of a checked plan with its certificate.
+pub fn certified_drawing(alloc: Global, checked: &Checked) -> Result<String, AllocError>
+    ensures { IfOk result (λ text. IsCertifiedDrawing checked.now.0 checked.now.1 (string_bytes text)) }
 {
-    let answered = answer_draw(alloc, plan);
-    tell(alloc, answered, output, errors)
+    drawing(alloc, checked.plan(), &[], &[], Some(checked.certificate()))
 }
 
-fn answer_draw<P: Source>(alloc: Global, plan: &mut P) -> Result<Answer, Refused>
-    requires { P.failures plan.old < 2 ^ 64 - 1 }
-    ensures answers { let plans = stream (P.remaining plan.old) (P.failures plan.old) (P.remaining plan.new) (P.failures plan.new) in
-        IfOk result (λ answer. DrawsSo plans answer.status (cow_str_bytes answer.text)) }
-    ensures unread { let plans = stream (P.remaining plan.old) (P.failures plan.old) (P.remaining plan.new) (P.failures plan.new) in
-        IfErr result (λ why. IsPlanUnread why plans) }
+/// The drawing of a plan as it stands.
+pub fn drawing_of_plan(alloc: Global, plan: &Plan) -> Result<Answer, AllocError>
+    ensures { IfOk result (λ answer. (answer.status ≡ Yes) × IsPlanDrawing plan.now (cow_str_bytes answer.text)) }
 {
-    let plan = given_plan(alloc, plan)?;
-    Ok(Answer::found(plan_drawing(alloc, &plan)?))
+    Ok(Answer::found(plan_drawing(alloc, plan)?))
 }
 
 /// The drawing of a plan, with the loop in red that rules certificates out, if it is a loop that does.

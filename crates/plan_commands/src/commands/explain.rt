@@ -1,11 +1,13 @@
 //! The command `explain`: what `certify` answers of a plan, and why.
-ghost use Rattle.std.specs.Prelude.{◌≡◌, ◌≢◌, ◌⊎◌, ◌<◌, ◌^◌, ◌-◌, IfOk, IfErr, string_bytes};
+ghost use Rattle.std.specs.Prelude.{◌≡◌, ◌≢◌, ◌⊎◌, IfOk, IfErr, string_bytes};
 ghost use Rattle.std.specs.Cow.{cow_str_bytes};
-ghost use Rattle.net_check.specs.Certificates.{NamesObstacle, RulesOutCertificates};
-ghost use Rattle.plan_commands.specs.declared.status.Status.TheVariants.{Yes, Fault, NoMemory};
-ghost use Rattle.plan_commands.specs.declared.refused.Refused.{Refused};
-ghost use Rattle.plan_commands.specs.Answers.{stream};
-ghost use Rattle.plan_commands.specs.Explaining.{IsObstacleText, IsSummedUp, IsExplained, ExplainsSo, Explains};
+ghost use Rattle.net_rules.specs.Certificates.{NamesObstacle, RulesOutCertificates};
+ghost use Rattle.net_plan.specs.Stream.{HasRoom};
+ghost use Rattle.plan_commands.specs.declared.status.Status.TheVariants.{Yes, Fault, Unreadable, NoMemory};
+ghost use Rattle.plan_commands.specs.declared.refused.Refused.TheVariants as refused;
+ghost use Rattle.plan_commands.specs.Answers.{stream, BreaksOff};
+ghost use Rattle.plan_commands.specs.Explaining.{IsObstacleText, IsSummedUp, IsExplained, ExplainsSo};
+ghost use Rattle.plan_commands.specs.Told.{Gives, IsSomeAnswer, Ends};
 
 pub mod certified;
 mod unread;
@@ -29,15 +31,17 @@ pub fn run_explain<P: Source, O: Sink, E: Sink>(
     output: &mut O,
     errors: &mut E,
 ) -> Status
-    requires plan { P.failures plan.old < 2 ^ 64 - 1 }
-    requires output { O.failures output.old < 2 ^ 64 - 1 }
-    requires errors { E.failures errors.old < 2 ^ 64 - 1 }
-    ensures explains { let plans = stream (P.remaining plan.old) (P.failures plan.old) (P.remaining plan.new) (P.failures plan.new) in
-        let outputs = stream (O.contents output.old) (O.failures output.old) (O.contents output.new) (O.failures output.new) in
-        let said = stream (E.contents errors.old) (E.failures errors.old) (E.contents errors.new) (E.failures errors.new) in
-        Explains result plans outputs said }
+    requires plan { HasRoom (P.account plan.old) }
+    requires output { HasRoom (O.account output.old) }
+    requires errors { HasRoom (E.account errors.old) }
+    ensures explains { let plans = stream P.account plan.old plan.new in
+        Ends (ExplainsSo plans) (λ why. why ≡ refused.NoMemory) result
+        (stream O.account output.old output.new) (stream E.account errors.old errors.new) }
     ensures silent { (result ≡ Yes) ⊎ (result ≡ Fault) → errors.new ≡ errors.old }
-    ensures quiet { result ≢ NoMemory → O.failures output.new ≡ O.failures output.old → errors.new ≡ errors.old }
+    ensures quiet { result ≢ NoMemory → (O.account output.new).failures ≡ (O.account output.old).failures → errors.new ≡ errors.old }
+    ensures unwritten { let plans = stream P.account plan.old plan.new in
+        let outputs = stream O.account output.old output.new in
+        result ≡ Unreadable → Gives (ExplainsSo plans) Unreadable outputs ⊎ BreaksOff (IsSomeAnswer (ExplainsSo plans)) outputs }
     ensures no_memory { result ≡ NoMemory → output.new ≡ output.old }
 {
     let answered = answer_explain(alloc, plan);
@@ -45,10 +49,10 @@ pub fn run_explain<P: Source, O: Sink, E: Sink>(
 }
 
 fn answer_explain<P: Source>(alloc: Global, plan: &mut P) -> Result<Answer, Refused>
-    requires { P.failures plan.old < 2 ^ 64 - 1 }
-    ensures answers { let plans = stream (P.remaining plan.old) (P.failures plan.old) (P.remaining plan.new) (P.failures plan.new) in
+    requires { HasRoom (P.account plan.old) }
+    ensures answers { let plans = stream P.account plan.old plan.new in
         IfOk result (λ answer. ExplainsSo plans answer.status (cow_str_bytes answer.text)) }
-    ensures refused { IfErr result (λ why. why ≡ Refused.NoMemory) }
+    ensures refused { IfErr result (λ why. why ≡ refused.NoMemory) }
 {
     match plan_or_text(alloc, plan) {
         Ok(plan) => explained_plan(alloc, &plan),
@@ -59,7 +63,7 @@ fn answer_explain<P: Source>(alloc: Global, plan: &mut P) -> Result<Answer, Refu
 /// The answer on a plan.
 fn explained_plan(alloc: Global, plan: &Plan) -> Result<Answer, Refused>
     ensures answers { IfOk result (λ answer. IsExplained plan.now answer.status (cow_str_bytes answer.text)) }
-    ensures refused { IfErr result (λ why. why ≡ Refused.NoMemory) }
+    ensures refused { IfErr result (λ why. why ≡ refused.NoMemory) }
 {
     match certify(alloc, plan) {
         Ok(certificate) => Ok(Answer::found(sound_text(alloc, plan, &certificate)?)),

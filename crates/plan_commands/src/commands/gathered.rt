@@ -1,7 +1,7 @@
 //! Lines that are gathered, so that many are written at once.
-ghost use Rattle.std.specs.Prelude.{◌≡◌, ◌+◌, ◌<◌, ◌^◌, ◌-◌, ◌++◌, [], OnOk, OnErr, IfErr, string_bytes};
+ghost use Rattle.std.specs.Prelude.{◌≡◌, ◌++◌, [], OnOk, OnErr, IfErr, string_bytes};
 ghost use Rattle.std.specs.Io.KnownBytes.{Appends};
-ghost use Rattle.net_plan.specs.Stream.{AppendsBeginning};
+ghost use Rattle.net_plan.specs.Stream.{HasRoom, HasFailed, AppendsBeginning};
 ghost use Rattle.plan_commands.specs.declared.refused.Refused.TheVariants.{Unwritten};
 ghost use Rattle.plan_commands.specs.Gathering.{AppendsAllBut};
 
@@ -32,13 +32,13 @@ impl Gathered {
     /// Adds a line, and writes all that wait where they are enough. Where there is no memory for it to wait, it is
     /// written.
     pub fn add<O: Sink>(&mut self, line: &str, output: &mut O) -> Result<(), Refused>
-        requires { O.failures output.old < 2 ^ 64 - 1 }
-        ensures added { OnOk result (AppendsAllBut (string_bytes self.new.lines) (O.contents output.old) (O.contents output.new)
+        requires { HasRoom (O.account output.old) }
+        ensures added { OnOk result (AppendsAllBut (string_bytes self.new.lines) (O.account output.old).bytes (O.account output.new).bytes
             (string_bytes self.old.lines ++ line.now)) }
         ensures unwritten { IfErr result (λ refused. refused ≡ Unwritten) }
-        ensures beginning { OnErr result (AppendsBeginning (O.contents output.old) (O.contents output.new) (string_bytes self.old.lines ++ line.now)) }
-        ensures fails { OnErr result (O.failures output.new ≡ O.failures output.old + 1) }
-        ensures kept { OnOk result (O.failures output.new ≡ O.failures output.old) }
+        ensures beginning { OnErr result (AppendsBeginning (O.account output.old).bytes (O.account output.new).bytes (string_bytes self.old.lines ++ line.now)) }
+        ensures fails { OnErr result (HasFailed (O.account output.old) (O.account output.new) 1) }
+        ensures kept { OnOk result ((O.account output.new).failures ≡ (O.account output.old).failures) }
     {
         if self.lines.push_str(line).is_err() {
             self.write(output)?;
@@ -52,13 +52,13 @@ impl Gathered {
 
     /// Writes all lines that wait.
     pub fn write<O: Sink>(&mut self, output: &mut O) -> Result<(), Refused>
-        requires { O.failures output.old < 2 ^ 64 - 1 }
-        ensures written { OnOk result (Appends (O.contents output.old) (O.contents output.new) (string_bytes self.old.lines)) }
+        requires { HasRoom (O.account output.old) }
+        ensures written { OnOk result (Appends (O.account output.old).bytes (O.account output.new).bytes (string_bytes self.old.lines)) }
         ensures none_waits { OnOk result (string_bytes self.new.lines ≡ []) }
         ensures unwritten { IfErr result (λ refused. refused ≡ Unwritten) }
-        ensures beginning { OnErr result (AppendsBeginning (O.contents output.old) (O.contents output.new) (string_bytes self.old.lines)) }
-        ensures fails { OnErr result (O.failures output.new ≡ O.failures output.old + 1) }
-        ensures kept { OnOk result (O.failures output.new ≡ O.failures output.old) }
+        ensures beginning { OnErr result (AppendsBeginning (O.account output.old).bytes (O.account output.new).bytes (string_bytes self.old.lines)) }
+        ensures fails { OnErr result (HasFailed (O.account output.old) (O.account output.new) 1) }
+        ensures kept { OnOk result ((O.account output.new).failures ≡ (O.account output.old).failures) }
     {
         print(output, &self.lines)?;
         self.lines.clear();

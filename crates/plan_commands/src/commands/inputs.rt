@@ -1,5 +1,6 @@
 //! The files that commands read.
-ghost use Rattle.std.specs.Prelude.{◌≡◌, ◌<◌, ◌^◌, ◌-◌, IfOk, IfErr};
+ghost use Rattle.std.specs.Prelude.{◌≡◌, IfOk, IfErr};
+ghost use Rattle.net_plan.specs.Stream.{HasRoom};
 ghost use Rattle.plan_commands.specs.Answers.{stream, IsWithoutPlan, GavePlan, GaveCertificate, IsPlanUnread, IsCertificateUnread, AreGiven, AreUnread};
 ghost use Rattle.net_plan.specs.CertificateText.{IsCertificateOf};
 ghost use Rattle.net_plan.specs.CertificateValues.{certificate_value};
@@ -19,10 +20,10 @@ use std::alloc::Global;
 
 /// The plan that a source gives.
 pub fn given_plan<P: Source>(alloc: Global, plan: &mut P) -> Result<Plan, Refused>
-    requires { P.failures plan.old < 2 ^ 64 - 1 }
-    ensures given { let plans = stream (P.remaining plan.old) (P.failures plan.old) (P.remaining plan.new) (P.failures plan.new) in
+    requires { HasRoom (P.account plan.old) }
+    ensures given { let plans = stream P.account plan.old plan.new in
         IfOk result (λ read. GavePlan plans read) }
-    ensures unread { let plans = stream (P.remaining plan.old) (P.failures plan.old) (P.remaining plan.new) (P.failures plan.new) in
+    ensures unread { let plans = stream P.account plan.old plan.new in
         IfErr result (λ refused. IsPlanUnread refused plans) }
 {
     match read_plan(alloc, plan) {
@@ -46,10 +47,10 @@ pub enum Unread {
 
 /// The plan that a source gives, or why it gives none, with the text that it gave.
 pub fn plan_or_text<P: Source>(alloc: Global, plan: &mut P) -> Result<Plan, Unread>
-    requires { P.failures plan.old < 2 ^ 64 - 1 }
-    ensures given { let plans = stream (P.remaining plan.old) (P.failures plan.old) (P.remaining plan.new) (P.failures plan.new) in
+    requires { HasRoom (P.account plan.old) }
+    ensures given { let plans = stream P.account plan.old plan.new in
         IfOk result (λ read. GavePlan plans read) }
-    ensures unread { let plans = stream (P.remaining plan.old) (P.failures plan.old) (P.remaining plan.new) (P.failures plan.new) in
+    ensures unread { let plans = stream P.account plan.old plan.new in
         IfErr result (IsNoPlanBy plans) }
     ensures none { IfErr result (StandsForNothing IsPlanOf) }
 {
@@ -77,12 +78,10 @@ pub fn certificate_or_text<C: Source>(
     plan: &Plan,
     certificate: &mut C,
 ) -> Result<Certificate, Unread>
-    requires { C.failures certificate.old < 2 ^ 64 - 1 }
-    ensures given { let certificates = stream (C.remaining certificate.old) (C.failures certificate.old)
-        (C.remaining certificate.new) (C.failures certificate.new) in
+    requires { HasRoom (C.account certificate.old) }
+    ensures given { let certificates = stream C.account certificate.old certificate.new in
         IfOk result (λ read. GaveCertificate plan.now certificates read) }
-    ensures unread { let certificates = stream (C.remaining certificate.old) (C.failures certificate.old)
-        (C.remaining certificate.new) (C.failures certificate.new) in
+    ensures unread { let certificates = stream C.account certificate.old certificate.new in
         IfErr result (IsNoCertificateBy plan.now certificates) }
     ensures none { IfErr result (StandsForNothing (IsCertificateOf (plan_value plan.now))) }
 {
@@ -121,12 +120,10 @@ fn given_certificate<C: Source>(
     plan: &Plan,
     certificate: &mut C,
 ) -> Result<Certificate, Refused>
-    requires { C.failures certificate.old < 2 ^ 64 - 1 }
-    ensures given { let certificates = stream (C.remaining certificate.old) (C.failures certificate.old)
-        (C.remaining certificate.new) (C.failures certificate.new) in
+    requires { HasRoom (C.account certificate.old) }
+    ensures given { let certificates = stream C.account certificate.old certificate.new in
         IfOk result (λ read. GaveCertificate plan.now certificates read) }
-    ensures unread { let certificates = stream (C.remaining certificate.old) (C.failures certificate.old)
-        (C.remaining certificate.new) (C.failures certificate.new) in
+    ensures unread { let certificates = stream C.account certificate.old certificate.new in
         IfErr result (λ refused. IsCertificateUnread refused plan.now certificates) }
 {
     match read_certificate(alloc, plan, certificate) {
@@ -141,10 +138,10 @@ pub fn given_events<V: Source>(
     plan: &Plan,
     events: &mut V,
 ) -> Result<Vec<Event>, Refused>
-    requires { V.failures events.old < 2 ^ 64 - 1 }
-    ensures given { let happenings = stream (V.remaining events.old) (V.failures events.old) (V.remaining events.new) (V.failures events.new) in
+    requires { HasRoom (V.account events.old) }
+    ensures given { let happenings = stream V.account events.old events.new in
         IfOk result (λ read. GaveEvents plan.now happenings read.items) }
-    ensures unread { let happenings = stream (V.remaining events.old) (V.failures events.old) (V.remaining events.new) (V.failures events.new) in
+    ensures unread { let happenings = stream V.account events.old events.new in
         IfErr result (λ refused. AreEventsUnread refused plan.now happenings) }
 {
     match read_events(alloc, plan, events) {
@@ -160,17 +157,15 @@ pub fn read_inputs<P: Source, C: Source>(
     plan: &mut P,
     certificate: &mut C,
 ) -> Result<(Plan, Certificate), Refused>
-    requires plan { P.failures plan.old < 2 ^ 64 - 1 }
-    requires certificate { C.failures certificate.old < 2 ^ 64 - 1 }
-    ensures given { let plans = stream (P.remaining plan.old) (P.failures plan.old) (P.remaining plan.new) (P.failures plan.new) in
-        let certificates = stream (C.remaining certificate.old) (C.failures certificate.old)
-        (C.remaining certificate.new) (C.failures certificate.new) in
+    requires plan { HasRoom (P.account plan.old) }
+    requires certificate { HasRoom (C.account certificate.old) }
+    ensures given { let plans = stream P.account plan.old plan.new in
+        let certificates = stream C.account certificate.old certificate.new in
         IfOk result (λ read. AreGiven plans certificates read.0 read.1) }
-    ensures unread { let plans = stream (P.remaining plan.old) (P.failures plan.old) (P.remaining plan.new) (P.failures plan.new) in
-        let certificates = stream (C.remaining certificate.old) (C.failures certificate.old)
-        (C.remaining certificate.new) (C.failures certificate.new) in
+    ensures unread { let plans = stream P.account plan.old plan.new in
+        let certificates = stream C.account certificate.old certificate.new in
         IfErr result (λ refused. AreUnread refused plans certificates) }
-    ensures in_order { let plans = stream (P.remaining plan.old) (P.failures plan.old) (P.remaining plan.new) (P.failures plan.new) in
+    ensures in_order { let plans = stream P.account plan.old plan.new in
         IsWithoutPlan plans → certificate.new ≡ certificate.old }
 {
     let plan = given_plan(alloc, plan)?;
@@ -187,22 +182,20 @@ pub fn read_move<P: Source, Q: Source, C: Source>(
     after: &mut Q,
     certificate: &mut C,
 ) -> Result<(Plan, Plan, Certificate), Refused>
-    requires before { P.failures before.old < 2 ^ 64 - 1 }
-    requires after { Q.failures after.old < 2 ^ 64 - 1 }
-    requires certificate { C.failures certificate.old < 2 ^ 64 - 1 }
-    ensures given { let befores = stream (P.remaining before.old) (P.failures before.old) (P.remaining before.new) (P.failures before.new) in
-        let afters = stream (Q.remaining after.old) (Q.failures after.old) (Q.remaining after.new) (Q.failures after.new) in
-        let certificates = stream (C.remaining certificate.old) (C.failures certificate.old)
-        (C.remaining certificate.new) (C.failures certificate.new) in
+    requires before { HasRoom (P.account before.old) }
+    requires after { HasRoom (Q.account after.old) }
+    requires certificate { HasRoom (C.account certificate.old) }
+    ensures given { let befores = stream P.account before.old before.new in
+        let afters = stream Q.account after.old after.new in
+        let certificates = stream C.account certificate.old certificate.new in
         IfOk result (λ read. IsMoveGiven befores afters certificates read.0 read.1 read.2) }
-    ensures unread { let befores = stream (P.remaining before.old) (P.failures before.old) (P.remaining before.new) (P.failures before.new) in
-        let afters = stream (Q.remaining after.old) (Q.failures after.old) (Q.remaining after.new) (Q.failures after.new) in
-        let certificates = stream (C.remaining certificate.old) (C.failures certificate.old)
-        (C.remaining certificate.new) (C.failures certificate.new) in
+    ensures unread { let befores = stream P.account before.old before.new in
+        let afters = stream Q.account after.old after.new in
+        let certificates = stream C.account certificate.old certificate.new in
         IfErr result (λ refused. IsMoveUnread refused befores afters certificates) }
-    ensures in_order { let befores = stream (P.remaining before.old) (P.failures before.old) (P.remaining before.new) (P.failures before.new) in
+    ensures in_order { let befores = stream P.account before.old before.new in
         IsWithoutPlan befores → (after.new ≡ after.old) × (certificate.new ≡ certificate.old) }
-    ensures after_in_order { let afters = stream (Q.remaining after.old) (Q.failures after.old) (Q.remaining after.new) (Q.failures after.new) in
+    ensures after_in_order { let afters = stream Q.account after.old after.new in
         IsWithoutPlan afters → certificate.new ≡ certificate.old }
 {
     let before = given_plan(alloc, before)?;

@@ -1,5 +1,6 @@
 //! The commands `guide` and `code`, whose texts stand in the program.
-ghost use Rattle.std.specs.Prelude.{◌≡◌, ◌<◌, ◌^◌, ◌-◌};
+ghost use Rattle.std.specs.Prelude.{◌≡◌};
+ghost use Rattle.net_plan.specs.Stream.{HasRoom};
 ghost use Rattle.plan_commands.specs.declared.status.Status.TheVariants.{Yes};
 ghost use Rattle.plan_commands.specs.Answers.{stream};
 ghost use Rattle.plan_commands.specs.Told.{IsTold};
@@ -8,6 +9,7 @@ use crate::commands::answer::{Answer, tell};
 use crate::status::Status;
 use net_plan::Sink;
 use std::alloc::Global;
+use std::borrow::CowStr;
 
 /// Tells a text of the program itself on `output`.
 pub fn run_known<O: Sink, E: Sink>(
@@ -16,12 +18,17 @@ pub fn run_known<O: Sink, E: Sink>(
     output: &mut O,
     errors: &mut E,
 ) -> Status
-    requires output { O.failures output.old < 2 ^ 64 - 1 }
-    requires errors { E.failures errors.old < 2 ^ 64 - 1 }
-    ensures told { let outputs = stream (O.contents output.old) (O.failures output.old) (O.contents output.new) (O.failures output.new) in
-        let said = stream (E.contents errors.old) (E.failures errors.old) (E.contents errors.new) (E.failures errors.new) in
+    requires output { HasRoom (O.account output.old) }
+    requires errors { HasRoom (E.account errors.old) }
+    ensures told { let outputs = stream O.account output.old output.new in
+        let said = stream E.account errors.old errors.new in
         IsTold Yes text.now result outputs said }
     ensures silent { result ≡ Yes → errors.new ≡ errors.old }
 {
-    tell(alloc, Ok(Answer::known(text)), output, errors)
+    tell(
+        alloc,
+        Ok(Answer::said(CowStr::Borrowed(text))),
+        output,
+        errors,
+    )
 }

@@ -1,6 +1,6 @@
 //! The node that a name stands for.
 ghost use Rattle.std.specs.Prelude.{◌≡◌, ◌≢◌, ℕ, Some, MatchOption, MatchBool, string_bytes};
-ghost use Rattle.net_check.specs.Names.{name_of};
+ghost use Rattle.net_rules.specs.Names.{name_of};
 ghost use Rattle.plan_commands.specs.Walking.{IsFirstNamed};
 
 use net_plan::{Node, Plan};

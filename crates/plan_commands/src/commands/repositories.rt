@@ -2,11 +2,11 @@
 ghost use Rattle.std.specs.Prelude.{◌≡◌, ◌==◌, ◌++◌, ◌<◌, ℕ, if◌then◌else◌, Some, None, IfOk, OnOk, length, map, option_map, slice_get, slice_index_or};
 ghost use Rattle.std.specs.Option.{option_and_then, option_or, option_to_list};
 ghost use Rattle.pdr_repository.specs.Records.{entries};
-ghost use Rattle.net_check.specs.Repositories.{entry_of, records_by_place};
+ghost use Rattle.net_tables.specs.Repositories.{entry_of, records_by_place};
 ghost use Rattle.plan_commands.specs.Ordering.{AreFirstAt};
 
-use net_check::lookup::{places_at, records_at};
 use net_plan::{Certificate, Plan, PlannedRecord, RecordPlace};
+use net_tables::lookup::{places_at, records_at};
 use std::alloc::{AllocError, Global};
 
 /// The records of a node's terminus by place, as handles and bytes; none where it has no terminus.

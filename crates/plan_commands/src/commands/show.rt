@@ -1,9 +1,11 @@
 //! The command `show`: what bytes are, or why they are nothing.
-ghost use Rattle.std.specs.Prelude.{◌≡◌, ◌⊎◌, ◌<◌, ◌^◌, ◌-◌, IfOk, IfErr};
+ghost use Rattle.std.specs.Prelude.{◌≡◌, ◌⊎◌, IfOk, IfErr};
 ghost use Rattle.std.specs.Cow.{cow_str_bytes};
+ghost use Rattle.net_plan.specs.Stream.{HasRoom};
 ghost use Rattle.plan_commands.specs.declared.status.Status.TheVariants.{Yes, Fault, Unreadable, NoMemory};
 ghost use Rattle.plan_commands.specs.Answers.{stream, BreaksOff};
-ghost use Rattle.plan_commands.specs.Show.{IsDecoded, IsNoHex, IsShown, ShowsSo, IsShowAnswer, Shows};
+ghost use Rattle.plan_commands.specs.Show.{IsDecoded, IsNotShown, IsShown, ShowsSo};
+ghost use Rattle.plan_commands.specs.Told.{IsSomeAnswer, Ends};
 
 use crate::commands::answer::{Answer, tell};
 use crate::refused::Refused;
@@ -31,14 +33,13 @@ pub fn run_show<O: Sink, E: Sink>(
     output: &mut O,
     errors: &mut E,
 ) -> Status
-    requires output { O.failures output.old < 2 ^ 64 - 1 }
-    requires errors { E.failures errors.old < 2 ^ 64 - 1 }
-    ensures shows { let outputs = stream (O.contents output.old) (O.failures output.old) (O.contents output.new) (O.failures output.new) in
-        let said = stream (E.contents errors.old) (E.failures errors.old) (E.contents errors.new) (E.failures errors.new) in
-        Shows result kind hex.now outputs said }
+    requires output { HasRoom (O.account output.old) }
+    requires errors { HasRoom (E.account errors.old) }
+    ensures shows { Ends (ShowsSo kind hex.now) (IsNotShown hex.now) result
+        (stream O.account output.old output.new) (stream E.account errors.old errors.new) }
     ensures silent { (result ≡ Yes) ⊎ (result ≡ Fault) → errors.new ≡ errors.old }
-    ensures unwritten { let outputs = stream (O.contents output.old) (O.failures output.old) (O.contents output.new) (O.failures output.new) in
-        result ≡ Unreadable → (output.new ≡ output.old) ⊎ BreaksOff (IsShowAnswer kind hex.now) outputs }
+    ensures unwritten { result ≡ Unreadable → (output.new ≡ output.old)
+        ⊎ BreaksOff (IsSomeAnswer (ShowsSo kind hex.now)) (stream O.account output.old output.new) }
     ensures no_memory { result ≡ NoMemory → output.new ≡ output.old }
 {
     let answered = answer_show(alloc, kind, hex);
@@ -47,7 +48,7 @@ pub fn run_show<O: Sink, E: Sink>(
 
 fn answer_show(alloc: Global, kind: ShownKind, hex: &str) -> Result<Answer, Refused>
     ensures answers { IfOk result (λ answer. ShowsSo kind hex.now answer.status (cow_str_bytes answer.text)) }
-    ensures no_hex { IfErr result (λ why. (why ≡ Refused.NoMemory) ⊎ ((why ≡ Refused.UnreadableHex) × IsNoHex hex.now)) }
+    ensures no_hex { IfErr result (IsNotShown hex.now) }
 {
     let bytes = decode(alloc, hex)?;
     Ok(shown(alloc, kind, &bytes)?)
@@ -56,7 +57,7 @@ fn answer_show(alloc: Global, kind: ShownKind, hex: &str) -> Result<Answer, Refu
 /// The bytes of a hex text.
 fn decode(alloc: Global, text: &str) -> Result<Vec<u8>, Refused>
     ensures decoded { IfOk result (λ bytes. IsDecoded text.now bytes.items) }
-    ensures refused { IfErr result (λ refused. (refused ≡ Refused.NoMemory) ⊎ ((refused ≡ Refused.UnreadableHex) × IsNoHex text.now)) }
+    ensures refused { IfErr result (IsNotShown text.now) }
 {
     match hex::decode(alloc, text) {
         Ok(bytes) => Ok(bytes),

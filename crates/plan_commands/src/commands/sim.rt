@@ -1,9 +1,10 @@
 //! The command `sim`: what comes of events in the network of a checked plan.
-ghost use Rattle.std.specs.Prelude.{◌≡◌, ℕ, ◌<◌, ◌≤◌, ◌^◌, ◌-◌, List, length, map, take, false};
+ghost use Rattle.std.specs.Prelude.{◌≡◌, ℕ, List, length, map, take, false};
+ghost use Rattle.net_plan.specs.Stream.{HasRoom};
 ghost use Rattle.plan_commands.specs.declared.status.Status.TheVariants.{Yes};
 ghost use Rattle.net_plan.specs.declared.certificate.Certificate.{Certificate};
-ghost use Rattle.net_check.specs.TwoPlans.{Tables, one_plan, moving};
-ghost use Rattle.net_check.specs.Walkers.{WalkedState, WalkedEvent, walked_at_start};
+ghost use Rattle.net_tables.specs.TwoPlans.{Tables, one_plan, moving};
+ghost use Rattle.net_runs.specs.Walkers.{WalkedState, WalkedEvent, walked_at_start};
 ghost use Rattle.net_sim.specs.Dealing.{resting, at_rest, planned_termini};
 ghost use Rattle.net_sim.specs.Outcomes.{event_value, outcome_value};
 ghost use Rattle.net_sim.specs.Played.{IsRunOf};
@@ -11,7 +12,7 @@ ghost use Rattle.net_sim.specs.Promised.{IsPromised};
 ghost use Rattle.net_sim.specs.WalkedStanding.{NetworkValue, without_walkers};
 ghost use Rattle.net_sim.specs.Walks.{HaveWalked};
 ghost use Rattle.plan_commands.specs.Answers.{stream};
-ghost use Rattle.plan_commands.specs.Simulating.{IsRunText, ShowsRun, ShowsBeginning, ShowsWalks, ShowsBegunWalks, IsWalksText, ShowsAllOr, EndsShowing, ReportsPlay, SimulatesFrom, SimulatesBy, Simulates, AreFirstLines, AreLinesAtMost, ShowsLines, ShowsOutcomes, ShowsAtMost};
+ghost use Rattle.plan_commands.specs.Simulating.{ShowsAllOr, PlaysFrom, PlaysBy, ReportsPlay, SimulatesFrom, SimulatesBy, AreFirstLines, ShowsLines};
 
 pub mod files;
 pub mod moves;
@@ -42,23 +43,20 @@ pub fn run_sim<T: Terminus, O: Sink, E: Sink>(
     output: &mut O,
     errors: &mut E,
 ) -> Status
-    requires output { O.failures output.old < 2 ^ 64 - 1 }
-    requires errors { E.failures errors.old < 2 ^ 64 - 1 }
+    requires output { HasRoom (O.account output.old) }
+    requires errors { HasRoom (E.account errors.old) }
     requires termini { length termini.items ≡ length (planned_termini checked.0 checked.1) }
-    ensures plays { let outputs = stream (O.contents output.old) (O.failures output.old) (O.contents output.new) (O.failures output.new) in
+    ensures plays { let outputs = stream O.account output.old output.new in
         map (resting T.tid T.records) termini.items ≡ planned_termini checked.entry.0 checked.entry.1
-        → Simulates checked.entry.0 checked.entry.1 (map event_value events.now) result outputs }
-    ensures rests { let outputs = stream (O.contents output.old) (O.failures output.old) (O.contents output.new) (O.failures output.new) in
+        → SimulatesBy (one_plan checked.entry.0) checked.entry.1 (map event_value events.now) result outputs }
+    ensures rests { let outputs = stream O.account output.old output.new in
         SimulatesFrom (one_plan checked.entry.0) (without_walkers (at_rest checked.entry.0 (map (resting T.tid T.records) termini.items)))
         (map event_value events.now) result outputs }
-    ensures lists { let outputs = stream (O.contents output.old) (O.failures output.old) (O.contents output.new) (O.failures output.new) in
-        EndsShowing result (ShowsAtMost checked.entry.0 (length events.now) outputs) (ShowsOutcomes checked.entry.0 (length events.now) outputs)
-        (AreLinesAtMost checked.entry.0 (length events.now)) outputs }
     // Every run of the network with its walkers keeps the headline, and what is promised of deliveries.
     ensures promises { IsPromised (one_plan checked.entry.0) checked.entry.1 }
     ensures silent { result ≡ Yes → errors.new ≡ errors.old }
     // Where not all lines are out, standard error has the line that says why.
-    ensures reports { let said = stream (E.contents errors.old) (E.failures errors.old) (E.contents errors.new) (E.failures errors.new) in
+    ensures reports { let said = stream E.account errors.old errors.new in
         ReportsPlay result said }
 {
     match answer_sim(alloc, checked, termini, events, output) {
@@ -67,28 +65,22 @@ pub fn run_sim<T: Terminus, O: Sink, E: Sink>(
     }
 }
 
-fn answer_sim<T: Terminus, O: Sink>(
+/// The same without standard error.
+pub fn answer_sim<T: Terminus, O: Sink>(
     alloc: Global,
     checked: Checked,
     termini: Vec<T>,
     events: &[Event],
     output: &mut O,
 ) -> Result<(), Refused>
-    requires output { O.failures output.old < 2 ^ 64 - 1 }
+    requires output { HasRoom (O.account output.old) }
     requires termini { length termini.items ≡ length (planned_termini checked.0 checked.1) }
-    ensures plays { let outputs = stream (O.contents output.old) (O.failures output.old) (O.contents output.new) (O.failures output.new) in
+    ensures plays { let outputs = stream O.account output.old output.new in
         map (resting T.tid T.records) termini.items ≡ planned_termini checked.entry.0 checked.entry.1
-        → ShowsAllOr result (ShowsBegunWalks (one_plan checked.entry.0) checked.entry.1 (map event_value events.now) outputs)
-        (ShowsWalks (one_plan checked.entry.0) checked.entry.1 (map event_value events.now) outputs)
-        (IsWalksText (one_plan checked.entry.0) checked.entry.1 (map event_value events.now)) outputs }
-    ensures rests { let outputs = stream (O.contents output.old) (O.failures output.old) (O.contents output.new) (O.failures output.new) in
+        → PlaysBy (one_plan checked.entry.0) checked.entry.1 (map event_value events.now) result outputs }
+    ensures rests { let outputs = stream O.account output.old output.new in
         let start = without_walkers (at_rest checked.entry.0 (map (resting T.tid T.records) termini.items)) in
-        ShowsAllOr result (ShowsBeginning (one_plan checked.entry.0) start (map event_value events.now) outputs)
-        (ShowsRun (one_plan checked.entry.0) start (map event_value events.now) outputs)
-        (IsRunText (one_plan checked.entry.0) start (map event_value events.now)) outputs }
-    ensures lists { let outputs = stream (O.contents output.old) (O.failures output.old) (O.contents output.new) (O.failures output.new) in
-        ShowsAllOr result (ShowsAtMost checked.entry.0 (length events.now) outputs) (ShowsOutcomes checked.entry.0 (length events.now) outputs)
-        (AreLinesAtMost checked.entry.0 (length events.now)) outputs }
+        PlaysFrom (one_plan checked.entry.0) start (map event_value events.now) result outputs }
     ensures promises { IsPromised (one_plan checked.entry.0) checked.entry.1 }
 {
     let plan = checked.plan();
@@ -111,23 +103,20 @@ pub fn run_simmove<T: Terminus, O: Sink, E: Sink>(
     output: &mut O,
     errors: &mut E,
 ) -> Status
-    requires output { O.failures output.old < 2 ^ 64 - 1 }
-    requires errors { E.failures errors.old < 2 ^ 64 - 1 }
+    requires output { HasRoom (O.account output.old) }
+    requires errors { HasRoom (E.account errors.old) }
     requires termini { length termini.items ≡ length (planned_termini checked.0 checked.2) }
-    ensures plays { let outputs = stream (O.contents output.old) (O.failures output.old) (O.contents output.new) (O.failures output.new) in
+    ensures plays { let outputs = stream O.account output.old output.new in
         map (resting T.tid T.records) termini.items ≡ planned_termini checked.entry.0 checked.entry.2
         → SimulatesBy (moving checked.entry.0 checked.entry.1) checked.entry.2 (map event_value events.now) result outputs }
-    ensures rests { let outputs = stream (O.contents output.old) (O.failures output.old) (O.contents output.new) (O.failures output.new) in
+    ensures rests { let outputs = stream O.account output.old output.new in
         SimulatesFrom (moving checked.entry.0 checked.entry.1) (without_walkers (at_rest checked.entry.0 (map (resting T.tid T.records) termini.items)))
         (map event_value events.now) result outputs }
-    ensures lists { let outputs = stream (O.contents output.old) (O.failures output.old) (O.contents output.new) (O.failures output.new) in
-        EndsShowing result (ShowsAtMost checked.entry.0 (length events.now) outputs) (ShowsOutcomes checked.entry.0 (length events.now) outputs)
-        (AreLinesAtMost checked.entry.0 (length events.now)) outputs }
     // Every run of the network with its walkers keeps the headline, and what is promised of deliveries.
     ensures promises { IsPromised (moving checked.entry.0 checked.entry.1) checked.entry.2 }
     ensures silent { result ≡ Yes → errors.new ≡ errors.old }
     // Where not all lines are out, standard error has the line that says why.
-    ensures reports { let said = stream (E.contents errors.old) (E.failures errors.old) (E.contents errors.new) (E.failures errors.new) in
+    ensures reports { let said = stream E.account errors.old errors.new in
         ReportsPlay result said }
 {
     match answer_simmove(alloc, checked, termini, events, output) {
@@ -136,28 +125,22 @@ pub fn run_simmove<T: Terminus, O: Sink, E: Sink>(
     }
 }
 
-fn answer_simmove<T: Terminus, O: Sink>(
+/// The same without standard error.
+pub fn answer_simmove<T: Terminus, O: Sink>(
     alloc: Global,
     checked: CheckedMove,
     termini: Vec<T>,
     events: &[Event],
     output: &mut O,
 ) -> Result<(), Refused>
-    requires output { O.failures output.old < 2 ^ 64 - 1 }
+    requires output { HasRoom (O.account output.old) }
     requires termini { length termini.items ≡ length (planned_termini checked.0 checked.2) }
-    ensures plays { let outputs = stream (O.contents output.old) (O.failures output.old) (O.contents output.new) (O.failures output.new) in
+    ensures plays { let outputs = stream O.account output.old output.new in
         map (resting T.tid T.records) termini.items ≡ planned_termini checked.entry.0 checked.entry.2
-        → ShowsAllOr result (ShowsBegunWalks (moving checked.entry.0 checked.entry.1) checked.entry.2 (map event_value events.now) outputs)
-        (ShowsWalks (moving checked.entry.0 checked.entry.1) checked.entry.2 (map event_value events.now) outputs)
-        (IsWalksText (moving checked.entry.0 checked.entry.1) checked.entry.2 (map event_value events.now)) outputs }
-    ensures rests { let outputs = stream (O.contents output.old) (O.failures output.old) (O.contents output.new) (O.failures output.new) in
+        → PlaysBy (moving checked.entry.0 checked.entry.1) checked.entry.2 (map event_value events.now) result outputs }
+    ensures rests { let outputs = stream O.account output.old output.new in
         let start = without_walkers (at_rest checked.entry.0 (map (resting T.tid T.records) termini.items)) in
-        ShowsAllOr result (ShowsBeginning (moving checked.entry.0 checked.entry.1) start (map event_value events.now) outputs)
-        (ShowsRun (moving checked.entry.0 checked.entry.1) start (map event_value events.now) outputs)
-        (IsRunText (moving checked.entry.0 checked.entry.1) start (map event_value events.now)) outputs }
-    ensures lists { let outputs = stream (O.contents output.old) (O.failures output.old) (O.contents output.new) (O.failures output.new) in
-        ShowsAllOr result (ShowsAtMost checked.entry.0 (length events.now) outputs) (ShowsOutcomes checked.entry.0 (length events.now) outputs)
-        (AreLinesAtMost checked.entry.0 (length events.now)) outputs }
+        PlaysFrom (moving checked.entry.0 checked.entry.1) start (map event_value events.now) result outputs }
     ensures promises { IsPromised (moving checked.entry.0 checked.entry.1) checked.entry.2 }
 {
     let before = checked.before();
@@ -173,21 +156,18 @@ fn tell_played<O: Sink>(
     played: &Played,
     output: &mut O,
 ) -> Result<(), Refused>
-    requires { O.failures output.old < 2 ^ 64 - 1 }
-    ensures tells { let outputs = stream (O.contents output.old) (O.failures output.old) (O.contents output.new) (O.failures output.new) in
+    requires { HasRoom (O.account output.old) }
+    ensures tells { let outputs = stream O.account output.old output.new in
         (tables : Tables) (w : WalkedState) (events : List WalkedEvent) (new : NetworkValue) → plan.now ≡ tables.plan
         → (played.now.stopped ≡ false → length played.now.outcomes.items ≡ length events)
         → IsRunOf tables w (take (length played.now.outcomes.items) events) (map outcome_value played.now.outcomes.items) new
-        → ShowsAllOr result (ShowsBeginning tables w events outputs) (ShowsRun tables w events outputs) (IsRunText tables w events) outputs }
-    ensures walks { let outputs = stream (O.contents output.old) (O.failures output.old) (O.contents output.new) (O.failures output.new) in
+        → PlaysFrom tables w events result outputs }
+    ensures walks { let outputs = stream O.account output.old output.new in
         (tables : Tables) (cert : Certificate) (events : List WalkedEvent) (new : NetworkValue) → plan.now ≡ tables.plan
         → (played.now.stopped ≡ false → length played.now.outcomes.items ≡ length events)
         → (run : IsRunOf tables (walked_at_start tables.plan cert) (take (length played.now.outcomes.items) events) (map outcome_value played.now.outcomes.items) new)
         → HaveWalked tables cert run.turns
-        → ShowsAllOr result (ShowsBegunWalks tables cert events outputs) (ShowsWalks tables cert events outputs) (IsWalksText tables cert events) outputs }
-    ensures lists { let outputs = stream (O.contents output.old) (O.failures output.old) (O.contents output.new) (O.failures output.new) in
-        (count : ℕ) → length played.now.outcomes.items ≤ count → (played.now.stopped ≡ false → length played.now.outcomes.items ≡ count)
-        → ShowsAllOr result (ShowsAtMost plan.now count outputs) (ShowsOutcomes plan.now count outputs) (AreLinesAtMost plan.now count) outputs }
+        → PlaysBy tables cert events result outputs }
 {
     print_outcomes(alloc, plan, &played.outcomes, output)?;
     if played.stopped {
@@ -203,8 +183,8 @@ fn print_outcomes<O: Sink>(
     outcomes: &[Outcome],
     output: &mut O,
 ) -> Result<(), Refused>
-    requires { O.failures output.old < 2 ^ 64 - 1 }
-    ensures { let outputs = stream (O.contents output.old) (O.failures output.old) (O.contents output.new) (O.failures output.new) in
+    requires { HasRoom (O.account output.old) }
+    ensures { let outputs = stream O.account output.old output.new in
         ShowsAllOr result ((shown : ℕ) × ShowsLines plan.now (map outcome_value outcomes.now) shown outputs)
         (ShowsLines plan.now (map outcome_value outcomes.now) (length outcomes.now) outputs)
         (AreFirstLines plan.now (map outcome_value outcomes.now)) outputs }

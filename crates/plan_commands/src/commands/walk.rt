@@ -1,26 +1,20 @@
 //! The command `walk`: the records that a walk over a node's terminus collects.
-ghost use Rattle.std.specs.Prelude.{◌≡◌, ◌↔◌, ◌⊎◌, ◌<◌, ◌≤◌, ◌^◌, ◌-◌, Some, IsSome, IfSome, IfOk, IfErr, string_bytes};
-ghost use Rattle.net_check.specs.Repositories.{terminus_of, records_by_place};
-ghost use Rattle.net_check.specs.Rules.{Accepts};
-ghost use Rattle.std.specs.Cow.{cow_str_bytes};
-ghost use Rattle.plan_commands.specs.declared.status.Status.TheVariants.{Yes, Fault, Unreadable, NoMemory};
-ghost use Rattle.plan_commands.specs.Answers.{stream, IsWithoutPlan, BreaksOff, IsAnswerOf};
+ghost use Rattle.std.specs.Prelude.{◌≡◌, ◌↔◌, ◌⊎◌, ◌≤◌, Some, IsSome, IfSome, IfOk, IfErr, string_bytes};
+ghost use Rattle.net_tables.specs.Repositories.{terminus_of, records_by_place};
+ghost use Rattle.net_rules.specs.Rules.{Accepts};
+ghost use Rattle.plan_commands.specs.declared.refused.Refused.TheVariants.{NoMemory, TooMuch};
 ghost use Rattle.plan_commands.specs.Collecting.{EndsEarlyFor};
-ghost use Rattle.plan_commands.specs.Walking.{walk_text, WalksSo, IsWalkText, IsUnwalkedFor, Walks};
+ghost use Rattle.plan_commands.specs.Walking.{HasTerminusNamed, HasTooManyBytes, IsWalkText, walk_text};
 
 mod collecting;
 mod naming;
 mod ordering;
 
-use crate::commands::answer::{Answer, tell};
-use crate::commands::faults::fault_answer;
-use crate::commands::inputs::read_inputs;
 use crate::refused::Refused;
-use crate::status::Status;
 use collecting::collect;
-use naming::named_terminus;
-use net_check::check;
-use net_plan::{Certificate, Plan, PlannedTerminus, Sink, Source};
+pub use naming::named_terminus;
+use net_check::Checked;
+use net_plan::{Certificate, Plan, PlannedTerminus};
 use ordering::terminus_by_place;
 use plan_texts::walk_text;
 use std::alloc::Global;
@@ -46,71 +40,23 @@ impl PartSize {
     }
 }
 
-/// Tells on `output` which records a walk over the terminus of the node of this name collects, by parts of so many
-/// bytes. Where a file can't be read, or then where no node of the name has a terminus, says so on `errors`.
-pub fn run_walk<P: Source, C: Source, O: Sink, E: Sink>(
+/// What is told of a walk over the terminus of the node of this name, by parts of so many bytes.
+pub fn records_text(
     alloc: Global,
-    plan: &mut P,
-    certificate: &mut C,
-    node: &str,
+    checked: &Checked,
+    name: &str,
     part: PartSize,
-    output: &mut O,
-    errors: &mut E,
-) -> Status
-    requires plan { P.failures plan.old < 2 ^ 64 - 1 }
-    requires certificate { C.failures certificate.old < 2 ^ 64 - 1 }
-    requires output { O.failures output.old < 2 ^ 64 - 1 }
-    requires errors { E.failures errors.old < 2 ^ 64 - 1 }
-    ensures walks { let plans = stream (P.remaining plan.old) (P.failures plan.old) (P.remaining plan.new) (P.failures plan.new) in
-        let certificates = stream (C.remaining certificate.old) (C.failures certificate.old)
-        (C.remaining certificate.new) (C.failures certificate.new) in
-        let outputs = stream (O.contents output.old) (O.failures output.old) (O.contents output.new) (O.failures output.new) in
-        let said = stream (E.contents errors.old) (E.failures errors.old) (E.contents errors.new) (E.failures errors.new) in
-        Walks result node.now part.bytes plans certificates outputs said }
-    ensures silent { (result ≡ Yes) ⊎ (result ≡ Fault) → errors.new ≡ errors.old }
-    ensures unwritten { let plans = stream (P.remaining plan.old) (P.failures plan.old) (P.remaining plan.new) (P.failures plan.new) in
-        let certificates = stream (C.remaining certificate.old) (C.failures certificate.old)
-        (C.remaining certificate.new) (C.failures certificate.new) in
-        let outputs = stream (O.contents output.old) (O.failures output.old) (O.contents output.new) (O.failures output.new) in
-        result ≡ Unreadable → (output.new ≡ output.old) ⊎ BreaksOff (IsAnswerOf (IsWalkText node.now part.bytes) plans certificates) outputs }
-    ensures no_memory { result ≡ NoMemory → output.new ≡ output.old }
-    ensures in_order { let plans = stream (P.remaining plan.old) (P.failures plan.old) (P.remaining plan.new) (P.failures plan.new) in
-        IsWithoutPlan plans → certificate.new ≡ certificate.old }
+) -> Result<String, Refused>
+    requires { HasTerminusNamed checked.now.0 name.now }
+    ensures text { IfOk result (λ text. IsWalkText name.now part.bytes checked.now.0 checked.now.1 (string_bytes text)) }
+    ensures early { IfErr result (λ why. (why ≡ NoMemory) ⊎ ((why ≡ TooMuch) × HasTooManyBytes name.now checked.now.0 checked.now.1)) }
 {
-    let answered = answer_walk(alloc, plan, certificate, node, part);
-    tell(alloc, answered, output, errors)
-}
-
-fn answer_walk<P: Source, C: Source>(
-    alloc: Global,
-    plan: &mut P,
-    certificate: &mut C,
-    node: &str,
-    part: PartSize,
-) -> Result<Answer, Refused>
-    requires plan { P.failures plan.old < 2 ^ 64 - 1 }
-    requires certificate { C.failures certificate.old < 2 ^ 64 - 1 }
-    ensures answers { let plans = stream (P.remaining plan.old) (P.failures plan.old) (P.remaining plan.new) (P.failures plan.new) in
-        let certificates = stream (C.remaining certificate.old) (C.failures certificate.old)
-        (C.remaining certificate.new) (C.failures certificate.new) in
-        IfOk result (λ answer. WalksSo node.now part.bytes plans certificates answer.status (cow_str_bytes answer.text)) }
-    ensures unwalked { let plans = stream (P.remaining plan.old) (P.failures plan.old) (P.remaining plan.new) (P.failures plan.new) in
-        let certificates = stream (C.remaining certificate.old) (C.failures certificate.old)
-        (C.remaining certificate.new) (C.failures certificate.new) in
-        IfErr result (λ why. IsUnwalkedFor why node.now plans certificates) }
-    ensures in_order { let plans = stream (P.remaining plan.old) (P.failures plan.old) (P.remaining plan.new) (P.failures plan.new) in
-        IsWithoutPlan plans → certificate.new ≡ certificate.old }
-{
-    let (plan, certificate) = read_inputs(alloc, plan, certificate)?;
-    let Some((index, terminus)) = named_terminus(&plan, node) else {
-        return Err(Refused::UnknownNode);
-    };
-    match check(alloc, &plan, &certificate) {
-        Ok(_) => {
-            let text = walked_text(alloc, &plan, &certificate, index, terminus, part)?;
-            Ok(Answer::found(text))
+    let plan = checked.plan();
+    match named_terminus(plan, name) {
+        Some((index, terminus)) => {
+            walked_text(alloc, plan, checked.certificate(), index, terminus, part)
         }
-        Err(error) => fault_answer(alloc, &plan, &error),
+        None => Err(Refused::UnknownNode),
     }
 }
 

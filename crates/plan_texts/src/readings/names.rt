@@ -1,15 +1,19 @@
 //! A name that is that of nothing: where it stands, and the nearest name that exists.
-ghost use Rattle.std.specs.Prelude.{◌≡◌, ◌≤◌, [], Some, length, map, get_or, IfOk, IfSome, option_map, string_bytes};
+ghost use Rattle.std.specs.Prelude.{◌≡◌, ◌≤◌, [], true, is_some, length, map, get_or, IfOk, string_bytes};
+ghost use Rattle.net_plan.specs.Finding.{located, names_of, step_value};
+ghost use Rattle.net_plan.specs.Grammar.{grammar, known_view};
 ghost use Rattle.net_plan.specs.Trees.{view};
-ghost use Rattle.net_pointers.specs.KnownNames.{known_view};
-ghost use Rattle.net_pointers.specs.Views.{located_among, step_value};
-ghost use Rattle.plan_texts.specs.TroubleLines.{IsUnknownNameTold, names_for, named_noun, nearest_line, missing_words, unknown_line};
+ghost use Rattle.json.specs.Value.{value_view};
+ghost use Rattle.net_pointers.specs.Offsets.{IsTextOf};
+ghost use Rattle.net_pointers.specs.Pointers.{value_at};
+ghost use Rattle.plan_texts.specs.TroubleLines.{IsUnknownNameTold, named_there, named_noun, nearest_line, missing_words, unknown_line};
 
 use super::joined::joined;
 use super::positions::{pointer_text, position_text};
-use super::values::{text_of, value_at};
+use super::values::{offset_there, text_of, value_at};
 use json::Value;
-use net_pointers::{Found, KnownNames, Part, PointerStep, nearest_name, offset_among};
+use net_plan::{Found, KnownNames, Named, PointerStep, Shape, Word};
+use net_pointers::nearest_name;
 use std::alloc::{AllocError, Global};
 
 /// The lines of a name that is none of those that are known.
@@ -20,14 +24,16 @@ pub fn unknown_name_lines(
     known: &KnownNames<'_>,
     found: &Found,
 ) -> Result<String, AllocError>
-    ensures { IfOk result (λ lines. IsUnknownNameTold text.now (view value.now) (names_for (known_view known.now) found.now.part)
-        (named_noun found.now.part) (located_among (Some (known_view known.now)) found.now) (string_bytes lines)) }
+    requires text { IsTextOf text.now (value_view value.now) }
+    requires leads { is_some (value_at (located found.now).pointer (view value.now)) ≡ true }
+    ensures { IfOk result (λ lines. IsUnknownNameTold text.now (view value.now) (known_view known.now) (located found.now) (string_bytes lines)) }
 {
-    let offset = offset_among(alloc, Some(known), text, found);
+    let offset = offset_there(alloc, text, value, found.pointer.as_slice())?;
     let name = text_of(value_at(value, found.pointer.as_slice()));
-    let names = names_for(known, found.part);
+    let named = named_there(found.shape);
+    let names = names_of(known, named);
     let nearest = nearest_name(alloc, name, names)?;
-    let mut lines = unknown_line(alloc, text, offset, found, name)?;
+    let mut lines = unknown_line(alloc, text, offset, found.pointer.as_slice(), name, named)?;
     lines.push_str(&nearest_line(alloc, names, nearest)?)?;
     Ok(lines)
 }
@@ -35,17 +41,18 @@ pub fn unknown_name_lines(
 fn unknown_line(
     alloc: Global,
     text: &[u8],
-    offset: Option<usize>,
-    found: &Found,
+    offset: usize,
+    pointer: &[PointerStep],
     name: &str,
+    named: Named,
 ) -> Result<String, AllocError>
-    requires { IfSome offset (λ at. at ≤ length text.now) }
-    ensures { IfOk result (λ line. string_bytes line ≡ unknown_line text.now offset (map step_value found.now.pointer.items) name.now (named_noun found.now.part)) }
+    requires { offset ≤ length text.now }
+    ensures { IfOk result (λ line. string_bytes line ≡ unknown_line text.now offset (map step_value pointer.now) name.now (named_noun named)) }
 {
-    let position = position_text(alloc, text, offset)?;
-    let pointer = pointer_text(alloc, found.pointer.as_slice())?;
+    let position = position_text(alloc, text, Some(offset))?;
+    let pointer = pointer_text(alloc, pointer)?;
     let stands = format!(in alloc; "{position}{pointer} is {name}")?;
-    let missing = missing_words(alloc, named_noun(found.part))?;
+    let missing = missing_words(alloc, named_noun(named))?;
     joined(alloc, &stands, &missing)
 }
 
@@ -78,22 +85,32 @@ fn name_at<'n>(names: &[&'n str], index: usize) -> &'n str
     }
 }
 
-/// The names among which one is looked for.
-fn names_for<'k, 't>(known: &'k KnownNames<'t>, part: Part) -> &'k [&'t str]
-    ensures { map (λ name. name.now) result.now ≡ names_for (known_view known.now) part }
+/// Whose name may stand there.
+fn named_there(shape: &Shape) -> Named
+    ensures { result ≡ named_there (grammar shape.now) }
 {
-    match part {
-        Part::NamedBus => known.buses.as_slice(),
-        _ => known.nodes.as_slice(),
+    match shape {
+        Shape::Plain(Word::Named(names)) => *names,
+        _ => Named::Nodes,
+    }
+}
+
+/// The names among which one is looked for.
+fn names_of<'k, 't>(known: &'k KnownNames<'t>, named: Named) -> &'k [&'t str]
+    ensures { map (λ name. name.now) result.now ≡ names_of named (known_view known.now) }
+{
+    match named {
+        Named::Buses => known.buses.as_slice(),
+        Named::Nodes => known.nodes.as_slice(),
     }
 }
 
 /// What would have the name.
-fn named_noun(part: Part) -> &'static str
-    ensures { result.now ≡ named_noun part }
+fn named_noun(named: Named) -> &'static str
+    ensures { result.now ≡ named_noun named }
 {
-    match part {
-        Part::NamedBus => "bus",
-        _ => "node",
+    match named {
+        Named::Buses => "bus",
+        Named::Nodes => "node",
     }
 }

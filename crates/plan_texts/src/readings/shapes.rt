@@ -1,70 +1,45 @@
-//! What is wrong with a value, and what may stand there.
+//! What may stand where a value stands.
 ghost use Rattle.std.specs.Prelude.{◌≡◌, Some, map, IfOk, string_bytes};
 ghost use Rattle.std.specs.List.{flat_map};
-ghost use Rattle.net_pointers.specs.PlanShapes.{shape, fields_view};
-ghost use Rattle.net_pointers.specs.Views.{step_value};
-ghost use Rattle.plan_texts.specs.ReadingLines.{fault_words, key_words, key_noun, step_noun, number_noun, number_words, list_words, object_words, shape_words};
+ghost use Rattle.net_plan.specs.Finding.{step_value};
+ghost use Rattle.net_plan.specs.Grammar.{grammar, fields_view};
+ghost use Rattle.net_plan.specs.declared.shape.Field.{out-Field};
+ghost use Rattle.plan_texts.specs.ReadingLines.{key_words, key_noun, step_noun, number_noun, number_words, word_words, list_words, rule_words, object_words, shape_words};
 
-use net_plan::ValueFault;
-use net_pointers::{Field, Part, PointerStep, fields_of};
+use net_plan::{Field, PointerStep, Rule, Shape, Word};
 use std::alloc::{AllocError, Global};
 
 /// How a name is spelled.
 const NAME: &str = "a name has 1 to 32 letters, digits, '-', '_' or '.'";
 
-/// What is wrong with a value, where nothing more is known of it.
-pub fn fault_words(fault: ValueFault) -> &'static str
-    ensures { result.now ≡ fault_words fault }
+/// What may stand there.
+pub fn shape_words(alloc: Global, noun: &str, shape: &'static Shape) -> Result<String, AllocError>
+    ensures { IfOk result (λ words. string_bytes words ≡ shape_words noun.now (grammar shape.now)) }
 {
-    match fault {
-        ValueFault::WrongKind => "is of another kind than may stand there",
-        ValueFault::MissingKey => "lacks a key that belongs there",
-        ValueFault::UnknownKey => "has a key that doesn't belong there",
-        ValueFault::OutOfRange => "is out of its range",
-        ValueFault::UnknownName => "is the name of nothing",
-        ValueFault::BadHex => "is no hex",
-        ValueFault::OverLimit => "is too long",
-        ValueFault::Doubled => "stands there twice",
-        ValueFault::OutOfMemory => "is too large for the memory",
+    match shape {
+        Shape::Plain(word) => word_words(alloc, noun, *word),
+        Shape::List { most, item: _ } => list_words(alloc, *most),
+        Shape::Optional(other) => {
+            let words = shape_words(alloc, noun, other)?;
+            format!(in alloc; "null stands there, or {words}")
+        }
+        Shape::Object { rule, fields } => {
+            let words = object_words(alloc, fields)?;
+            let rule = rule_words(*rule);
+            format!(in alloc; "{words}{rule}")
+        }
     }
 }
 
-/// What may stand there.
-pub fn shape_words(alloc: Global, noun: &str, part: Part) -> Result<String, AllocError>
-    ensures { IfOk result (λ words. string_bytes words ≡ shape_words noun.now (shape part)) }
+fn word_words(alloc: Global, noun: &str, word: Word) -> Result<String, AllocError>
+    ensures { IfOk result (λ words. string_bytes words ≡ word_words noun.now word) }
 {
-    match part {
-        Part::Number { least, most } => number_words(alloc, noun, least, most),
-        Part::BusName | Part::NodeName | Part::NamedBus | Part::NamedNode => NAME.to_string(alloc),
-        Part::Owner => format!(in alloc; "null stands there, or {NAME}"),
-        Part::Kind => "a kind is \"bridge\" or \"endpoint\"".to_string(alloc),
-        Part::Hex => "bytes are in hex, two digits each".to_string(alloc),
-        Part::Address => "an address has at most 8 bytes in hex, two digits each".to_string(alloc),
-        Part::Buses | Part::Nodes => list_words(alloc, 64),
-        Part::Ports => list_words(alloc, 32),
-        Part::Rows => list_words(alloc, 256),
-        Part::Records => list_words(alloc, 4096),
-        Part::Levels | Part::Places | Part::AllPlaces | Part::Ranges | Part::AllRanks => {
-            "a list stands there".to_string(alloc)
-        }
-        Part::Pool | Part::Terminus => {
-            let words = object_words(alloc, fields_of(part))?;
-            format!(in alloc; "null stands there, or {words}")
-        }
-        Part::Bus
-        | Part::Port
-        | Part::Row
-        | Part::Record
-        | Part::Node
-        | Part::Plan(_)
-        | Part::Level
-        | Part::NodePlaces
-        | Part::NodeRanks
-        | Part::Certificate => object_words(alloc, fields_of(part)),
-        Part::Range => {
-            let words = object_words(alloc, fields_of(part))?;
-            format!(in alloc; "{words}, and first + size is at most 256")
-        }
+    match word {
+        Word::Number { least, most } => number_words(alloc, noun, least, most),
+        Word::Name | Word::Named(_) => NAME.to_string(alloc),
+        Word::Kind => "a kind is \"bridge\" or \"endpoint\"".to_string(alloc),
+        Word::Hex => "bytes are in hex, two digits each".to_string(alloc),
+        Word::Address => "an address has at most 8 bytes in hex, two digits each".to_string(alloc),
     }
 }
 
@@ -106,10 +81,24 @@ fn number_words(alloc: Global, noun: &str, least: u64, most: u64) -> Result<Stri
     format!(in alloc; "{noun} is {least} to {most}")
 }
 
-fn list_words(alloc: Global, most: usize) -> Result<String, AllocError>
+/// How long a list may be.
+fn list_words(alloc: Global, most: Option<usize>) -> Result<String, AllocError>
     ensures { IfOk result (λ words. string_bytes words ≡ list_words most) }
 {
-    format!(in alloc; "a list there has at most {most} items")
+    match most {
+        Some(most) => format!(in alloc; "a list there has at most {most} items"),
+        None => "a list stands there".to_string(alloc),
+    }
+}
+
+/// What else is asked of an object.
+fn rule_words(rule: Rule) -> &'static str
+    ensures { result.now ≡ rule_words rule }
+{
+    match rule {
+        Rule::None => "",
+        Rule::EndsInTime => ", and first + size is at most 256",
+    }
 }
 
 fn object_words(alloc: Global, fields: &[Field]) -> Result<String, AllocError>
@@ -120,7 +109,7 @@ fn object_words(alloc: Global, fields: &[Field]) -> Result<String, AllocError>
 }
 
 fn keys_words(alloc: Global, fields: &[Field]) -> Result<String, AllocError>
-    ensures { IfOk result (λ words. string_bytes words ≡ flat_map (λ f. key_words f.key.now) fields.now) }
+    ensures { IfOk result (λ words. string_bytes words ≡ flat_map (λ f. key_words (out-Field f).key.now) fields.now) }
 {
     let mut words = String::new(alloc);
     for field in fields {
@@ -130,7 +119,7 @@ fn keys_words(alloc: Global, fields: &[Field]) -> Result<String, AllocError>
 }
 
 fn key_words(alloc: Global, field: &Field) -> Result<String, AllocError>
-    ensures { IfOk result (λ words. string_bytes words ≡ key_words field.now.key.now) }
+    ensures { IfOk result (λ words. string_bytes words ≡ key_words (out-Field field.now).key.now) }
 {
     let key = field.key;
     format!(in alloc; "{key}, ")

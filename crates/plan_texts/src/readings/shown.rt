@@ -1,5 +1,5 @@
 //! What stands at an offset of a text, as far as it is shown.
-ghost use Rattle.std.specs.Prelude.{◌≡◌, ◌≤◌, length, drop, get_or, IfOk, IfSome, string_bytes};
+ghost use Rattle.std.specs.Prelude.{◌≡◌, ◌≤◌, length, drop, get_or, IfOk, IfSome, string_bytes, IsUtf8};
 ghost use Rattle.plan_texts.specs.Standing.{first_characters, ends_word, is_escaped, ends_quoted, ends_bracketed, ends_at, IsShownLength, IsShownOf, IsShown, dots_after, is_unprintable, printable, printed, key_beginning, key_dots, shown_key};
 
 use std::alloc::{AllocError, Global};
@@ -7,14 +7,15 @@ use std::alloc::{AllocError, Global};
 /// How many characters are shown: with three dots behind them, 40.
 const MOST_SHOWN: usize = 37;
 
-/// The text from an offset on, where the offset is in it and UTF-8 follows.
-pub fn rest_at(text: &[u8], offset: usize) -> Option<&str>
-    ensures { IfSome result (λ rest. (offset ≤ length text.now) × (rest.now ≡ drop offset text.now)) }
+/// The text from an offset on.
+pub fn rest_at(text: &[u8], offset: usize) -> &str
+    requires { (offset ≤ length text.now) × IsUtf8 (drop offset text.now) }
+    ensures { result.now ≡ drop offset text.now }
 {
-    if offset > text.len() {
-        return None;
+    match simdutf8::compat::from_utf8(&text[offset..]) {
+        Ok(rest) => rest,
+        Err(_) => unreachable!(),
     }
-    simdutf8::compat::from_utf8(&text[offset..]).ok()
 }
 
 /// What a text begins with, as far as it is shown.

@@ -1,19 +1,19 @@
 //! What stands twice, and where both stand.
-ghost use Rattle.std.specs.Prelude.{◌≡◌, ◌≤◌, length, map, get_or, [], IfOk, IfSome, IsTrue, Some, option_map, string_bytes};
+ghost use Rattle.std.specs.Prelude.{◌≡◌, ◌≤◌, ◌<◌, length, map, get_or, [], IfOk, IfSome, Some, option_map, string_bytes};
 ghost use Rattle.json.specs.Strict.{keys};
 ghost use Rattle.json.specs.Value.{value_view, members_view};
+ghost use Rattle.net_plan.specs.Finding.{step_value};
 ghost use Rattle.net_plan.specs.Trees.{view};
-ghost use Rattle.net_pointers.specs.Doubles.{part_at};
-ghost use Rattle.net_pointers.specs.Offsets.{LeadsTo, LeadsToKey};
-ghost use Rattle.net_pointers.specs.Views.{step_value};
-ghost use Rattle.plan_texts.specs.TroubleLines.{first_text, BeginsQuoted, StandsTwice, AreOffsets, AreApart, two_lines, IsDoubledNameTold, name_line, again_line, IsDoubledKeyTold, key_at, part_step, path_text, object_text, keys_in, key_line, key_again_line, IsOverlapTold, range_pointer, range_line, next_range_line};
+ghost use Rattle.net_pointers.specs.CertificateTroubles.{DoOverlap};
+ghost use Rattle.net_pointers.specs.Doubles.{HasDoubledKey, part_at};
+ghost use Rattle.net_pointers.specs.Offsets.{IsTextOf, LeadsToKey};
+ghost use Rattle.plan_texts.specs.TroubleLines.{two_lines, entry_pointer, IsDoubledNameTold, name_line, again_line, IsDoubledKeyTold, key_at, part_step, path_text, object_text, keys_in, key_line, key_again_line, IsOverlapTold, range_pointer, range_line, next_range_line};
 
 use super::positions::{pointer_text, position_text};
-use super::values::{text_of, value_at};
-use json::{Reader, Scratch, Token, Value};
-use net_pointers::{
-    DoubledKey, Overlap, PointerStep, TwoIndices, offset_of_key, offset_of_pointer, part_after,
-};
+use super::values::{offset_there, text_of, value_at};
+use json::Value;
+use net_plan::PointerStep;
+use net_pointers::{DoubledKey, Overlap, TwoIndices, offset_of_key, offset_of_pointer, part_after};
 use std::alloc::{AllocError, Global};
 
 /// The lines of a name that stands at two items of a list. `why` says why it may not.
@@ -26,23 +26,28 @@ pub fn doubled_name_lines(
     why: &str,
     indices: TwoIndices,
 ) -> Result<String, AllocError>
+    requires { IsTextOf text.now (value_view value.now) }
     ensures { IfOk result (λ lines. IsDoubledNameTold text.now (view value.now) list.now key.now why.now indices (string_bytes lines)) }
 {
-    let one = [
-        PointerStep::Key(list),
-        PointerStep::Index(indices.first),
-        PointerStep::Key(key),
-    ];
-    let other = [
-        PointerStep::Key(list),
-        PointerStep::Index(indices.second),
-        PointerStep::Key(key),
-    ];
+    let one = entry_pointer(list, indices.first, key);
+    let other = entry_pointer(list, indices.second, key);
+    let first = offset_of_pointer(alloc, text, value, &one)?;
+    let second = offset_of_pointer(alloc, text, value, &other)?;
     let name = text_of(value_at(value, &one));
-    let offsets = offsets_of(alloc, text, name, &one, &other);
     let one = name_line(alloc, &one, name)?;
     let other = again_line(alloc, &other, name, why)?;
-    two_lines(alloc, text, offsets, &one, &other)
+    two_lines(alloc, text, first, second, &one, &other)
+}
+
+/// The pointer to a value at a key of an item of a list.
+fn entry_pointer(list: &'static str, index: usize, key: &'static str) -> [PointerStep; 3]
+    ensures { map step_value result ≡ entry_pointer list.now index key.now }
+{
+    [
+        PointerStep::Key(list),
+        PointerStep::Index(index),
+        PointerStep::Key(key),
+    ]
 }
 
 fn name_line(alloc: Global, pointer: &[PointerStep], name: &str) -> Result<String, AllocError>
@@ -64,88 +69,21 @@ fn again_line(
     format!(in alloc; "{pointer} is {name} too.\n{why}.\n")
 }
 
-/// The offsets of the values of two pointers, where the same text stands in quotes at both.
-fn offsets_of(
-    alloc: Global,
-    text: &[u8],
-    quoted: &str,
-    one: &[PointerStep],
-    other: &[PointerStep],
-) -> Option<(usize, usize)>
-    ensures { AreOffsets text.now quoted.now (LeadsTo text.now (map step_value one.now)) (LeadsTo text.now (map step_value other.now)) result }
-{
-    let first = offset_of_pointer(alloc, text, one)?;
-    let second = offset_of_pointer(alloc, text, other)?;
-    quoted_at(alloc, text, quoted, first, second)
-}
-
-/// Two offsets, where the same text stands in quotes at both, one behind the other.
-fn quoted_at(
-    alloc: Global,
-    text: &[u8],
-    quoted: &str,
-    first: usize,
-    second: usize,
-) -> Option<(usize, usize)>
-    ensures { IfSome result (λ o. (o.0 ≡ first) × (o.1 ≡ second) × StandsTwice text.now quoted.now first second) }
-{
-    if !stands_twice(alloc, text, quoted, first, second) {
-        return None;
-    }
-    Some((first, second))
-}
-
-/// Whether a text stands in quotes at two offsets, one behind the other.
-fn stands_twice(alloc: Global, text: &[u8], quoted: &str, first: usize, second: usize) -> bool
-    ensures { IsTrue result → StandsTwice text.now quoted.now first second }
-{
-    first < second
-        && second <= text.len()
-        && begins_quoted(alloc, &text[first..], quoted)
-        && begins_quoted(alloc, &text[second..], quoted)
-}
-
-/// Whether a text begins with this one in quotes.
-fn begins_quoted(alloc: Global, text: &[u8], quoted: &str) -> bool
-    ensures { IsTrue result → BeginsQuoted text.now quoted.now }
-{
-    let Ok(text) = simdutf8::compat::from_utf8(text) else {
-        return false;
-    };
-    let mut scratch = Scratch::new(alloc);
-    let Ok(mut reader) = Reader::new(text, &mut scratch) else {
-        return false;
-    };
-    match first_text(&mut reader) {
-        Some(stands) => stands == quoted,
-        None => false,
-    }
-}
-
-/// The text in quotes that the next token is, as a value or as a key.
-fn first_text<'t>(reader: &mut Reader<'t>) -> Option<&'t str>
-    ensures { option_map (λ s. s.now) result ≡ first_text reader.old }
-{
-    match reader.next() {
-        Some(Token::String(text)) => Some(text),
-        Some(Token::Key(text)) => Some(text),
-        _ => None,
-    }
-}
-
-/// Two lines, each with its line and column, where they are known.
+/// Two lines, each with its line and column, where they are told.
 fn two_lines(
     alloc: Global,
     text: &[u8],
-    offsets: Option<(usize, usize)>,
+    first: Option<usize>,
+    second: Option<usize>,
     one: &str,
     other: &str,
 ) -> Result<String, AllocError>
-    requires { IfSome offsets (λ o. (o.0 ≤ length text.now) × (o.1 ≤ length text.now)) }
-    ensures { IfOk result (λ lines. string_bytes lines ≡ two_lines text.now offsets one.now other.now) }
+    requires first { IfSome first (λ at. at ≤ length text.now) }
+    requires second { IfSome second (λ at. at ≤ length text.now) }
+    ensures { IfOk result (λ lines. string_bytes lines ≡ two_lines text.now first second one.now other.now) }
 {
-    let first = position_text(alloc, text, offsets.map(|both| both.0))?;
-    let second = position_text(alloc, text, offsets.map(|both| both.1))?;
+    let first = position_text(alloc, text, first)?;
+    let second = position_text(alloc, text, second)?;
     format!(in alloc; "{first}{one}{second}{other}")
 }
 
@@ -156,15 +94,18 @@ pub fn doubled_key_lines(
     value: &Value<'_>,
     doubled: &DoubledKey,
 ) -> Result<String, AllocError>
+    requires text { IsTextOf text.now (value_view value.now) }
+    requires doubled { HasDoubledKey (value_view value.now) doubled.now }
     ensures { IfOk result (λ lines. IsDoubledKeyTold text.now (value_view value.now) doubled.now (string_bytes lines)) }
 {
     let path = doubled.path.as_slice();
+    let first = key_offset(alloc, text, value, path, doubled.members.first)?;
+    let second = key_offset(alloc, text, value, path, doubled.members.second)?;
     let key = key_of(value, path, doubled.members.first);
-    let offsets = key_offsets(alloc, text, key, doubled);
     let object = object_text(alloc, value, path)?;
     let one = key_line(alloc, &object, key)?;
     let other = key_again_line(alloc, &object, key)?;
-    two_lines(alloc, text, offsets, &one, &other)
+    two_lines(alloc, text, Some(first), Some(second), &one, &other)
 }
 
 fn key_line(alloc: Global, object: &str, key: &str) -> Result<String, AllocError>
@@ -179,19 +120,22 @@ fn key_again_line(alloc: Global, object: &str, key: &str) -> Result<String, Allo
     format!(in alloc; "{object} has the key {key} again.\nAn object has a key once.\n")
 }
 
-fn key_offsets(
+/// The offset of the key of a member of the object to which a path leads.
+fn key_offset(
     alloc: Global,
     text: &[u8],
-    key: &str,
-    doubled: &DoubledKey,
-) -> Option<(usize, usize)>
-    ensures { AreOffsets text.now key.now (LeadsToKey text.now doubled.now.path.items doubled.now.members.first)
-        (LeadsToKey text.now doubled.now.path.items doubled.now.members.second) result }
+    value: &Value<'_>,
+    path: &[usize],
+    member: usize,
+) -> Result<usize, AllocError>
+    requires text { IsTextOf text.now (value_view value.now) }
+    requires there { member < length (keys_in (part_at path.now (value_view value.now))) }
+    ensures { IfOk result (LeadsToKey text.now path.now member) }
 {
-    let path = doubled.path.as_slice();
-    let first = offset_of_key(alloc, text, path, doubled.members.first)?;
-    let second = offset_of_key(alloc, text, path, doubled.members.second)?;
-    quoted_at(alloc, text, key, first, second)
+    match offset_of_key(alloc, text, path, member)? {
+        Some(offset) => Ok(offset),
+        None => unreachable!(),
+    }
 }
 
 /// The key of a member of the object to which a path leads.
@@ -268,7 +212,14 @@ fn part_step(alloc: Global, value: &Value<'_>, index: usize) -> Result<String, A
 }
 
 /// The lines of two ranges of a node, of which the second begins before the first has ended.
-pub fn overlap_lines(alloc: Global, text: &[u8], overlap: Overlap) -> Result<String, AllocError>
+pub fn overlap_lines(
+    alloc: Global,
+    text: &[u8],
+    value: &Value<'_>,
+    overlap: Overlap,
+) -> Result<String, AllocError>
+    requires text { IsTextOf text.now (value_view value.now) }
+    requires overlap { DoOverlap (view value.now) overlap }
     ensures { IfOk result (λ lines. IsOverlapTold text.now overlap (string_bytes lines)) }
 {
     let Some(next) = overlap.range.checked_add(1) else {
@@ -277,10 +228,11 @@ pub fn overlap_lines(alloc: Global, text: &[u8], overlap: Overlap) -> Result<Str
     };
     let one = range_pointer(overlap.entry, overlap.range);
     let other = range_pointer(overlap.entry, next);
-    let offsets = offsets_apart(alloc, text, &one, &other);
+    let first = offset_there(alloc, text, value, &one)?;
+    let second = offset_there(alloc, text, value, &other)?;
     let one = range_line(alloc, &one)?;
     let other = next_range_line(alloc, &other)?;
-    two_lines(alloc, text, offsets, &one, &other)
+    two_lines(alloc, text, Some(first), Some(second), &one, &other)
 }
 
 fn range_pointer(entry: usize, range: usize) -> [PointerStep; 4]
@@ -292,23 +244,6 @@ fn range_pointer(entry: usize, range: usize) -> [PointerStep; 4]
         PointerStep::Key("ranges"),
         PointerStep::Index(range),
     ]
-}
-
-/// The offsets of the values of two pointers, where the second stands behind the first.
-fn offsets_apart(
-    alloc: Global,
-    text: &[u8],
-    one: &[PointerStep],
-    other: &[PointerStep],
-) -> Option<(usize, usize)>
-    ensures { AreApart text.now (map step_value one.now) (map step_value other.now) result }
-{
-    let first = offset_of_pointer(alloc, text, one)?;
-    let second = offset_of_pointer(alloc, text, other)?;
-    if first < second && second <= text.len() {
-        return Some((first, second));
-    }
-    None
 }
 
 fn range_line(alloc: Global, pointer: &[PointerStep]) -> Result<String, AllocError>

@@ -1,29 +1,34 @@
 //! A value that is wrong in itself: where it stands, what is wrong with it, and what may stand there.
-ghost use Rattle.std.specs.Prelude.{◌≡◌, ◌≤◌, ◌++◌, ℕ, List, length, map, codes, true, is_some, Some, IfOk, IfSome, option_map, drop, string_bytes};
+ghost use Rattle.std.specs.Prelude.{◌≡◌, ◌≤◌, length, map, true, is_some, IfOk, option_map, drop, string_bytes, IsUtf8};
 ghost use Rattle.std.specs.List.{list_any};
 ghost use Rattle.std.specs.Str.{bytes_eq};
 ghost use Rattle.serde_json.specs.Find.{at, get_item};
+ghost use Rattle.net_plan.specs.Finding.{located, step_value};
+ghost use Rattle.net_plan.specs.Grammar.{grammar, fields_of, fields_view, keys_of};
 ghost use Rattle.net_plan.specs.Json.{is_among};
 ghost use Rattle.net_plan.specs.Names.{text_found};
 ghost use Rattle.json.specs.Find as written;
 ghost use Rattle.json.specs.Value.{value_view, members_view};
 ghost use Rattle.json.specs.Value.{items_view as tree_items};
 ghost use Rattle.net_plan.specs.Trees.{view, items_view};
-ghost use Rattle.net_pointers.specs.PlanShapes.{shape, fields_view};
+ghost use Rattle.net_plan.specs.declared.shape.Field.{out-Field};
+ghost use Rattle.net_pointers.specs.Offsets.{IsTextOf, LeadsTo};
 ghost use Rattle.net_pointers.specs.Pointers.{value_at, value_after};
-ghost use Rattle.net_pointers.specs.Shapes.{fields_of, keys_of};
-ghost use Rattle.net_pointers.specs.Views.{located, step_value};
-ghost use Rattle.plan_texts.specs.Standing.{IsShown};
-ghost use Rattle.plan_texts.specs.TroubleLines.{StandsAt, IsStandingTold, first_unknown, unknown_key_words, tree_at, tree_after, IsLengthTold, IsWrongTold, IsLineOf, IsValueTold, lacked_key, lack_words, unknown_words, value_line};
+ghost use Rattle.plan_texts.specs.TroubleLines.{IsStandingTold, first_unknown, unknown_key_words, tree_at, tree_after, IsLengthTold, IsWrongTold, IsLineOf, IsValueTold, lacked_key, lack_words, unknown_words, value_line};
 
 use super::joined::joined;
 use super::positions::{pointer_text, position_text};
-use super::shapes::{fault_words, number_noun, shape_words};
+use super::shapes::{number_noun, shape_words};
 use super::shown::{rest_at, shown_key, shown_text};
 use json::Value;
-use net_plan::{ValueFault, at};
-use net_pointers::{Field, Found, PointerStep, fields_of, offset_of};
+use net_plan::{Field, Found, PointerStep, ValueFault, at, fields_of};
+use net_pointers::offset_of_pointer;
 use std::alloc::{AllocError, Global};
+
+/// The words of a key that an object lacks, or has and should not, where the key isn't found.
+const LACKS_A_KEY: &str = "lacks a key that belongs there";
+
+const UNKNOWN_KEY: &str = "has a key that doesn't belong there";
 
 /// The line of a value that has a fault in itself: where it stands, what is wrong with it, and what may stand there.
 pub fn value_line(
@@ -32,26 +37,33 @@ pub fn value_line(
     value: &Value<'_>,
     found: &Found,
 ) -> Result<String, AllocError>
-    requires { is_some (value_at (located found.now).pointer (view value.now)) ≡ true }
+    requires text { IsTextOf text.now (value_view value.now) }
+    requires leads { is_some (value_at (located found.now).pointer (view value.now)) ≡ true }
     ensures { IfOk result (λ line. IsValueTold text.now (value_view value.now) (located found.now) (string_bytes line)) }
 {
-    let Some(stands) = value_at(value, found.pointer.as_slice()) else {
+    let pointer = found.pointer.as_slice();
+    let Some(stands) = value_at(value, pointer) else {
         unreachable!();
     };
-    match standing(alloc, text, found) {
-        Some((offset, rest)) => line_of(alloc, text, found, stands, Some(offset), Some(rest)),
-        None => line_of(alloc, text, found, stands, None, None),
-    }
+    let offset = offset_there(alloc, text, value, pointer)?;
+    line_of(alloc, text, found, stands, offset)
 }
 
-/// The offset at which a value with the fault begins, and the text from there on, where they are known.
-fn standing<'t>(alloc: Global, text: &'t [u8], found: &Found) -> Option<(usize, &'t str)>
-    ensures at { IfSome result (λ s. StandsAt text.now (Some s.0) (located found.now)) }
-    ensures rest { IfSome result (λ s. s.1.now ≡ drop s.0 text.now) }
+/// The offset at which the value begins to which a pointer leads.
+pub fn offset_there(
+    alloc: Global,
+    text: &[u8],
+    value: &Value<'_>,
+    pointer: &[PointerStep],
+) -> Result<usize, AllocError>
+    requires text { IsTextOf text.now (value_view value.now) }
+    requires leads { is_some (value_at (map step_value pointer.now) (view value.now)) ≡ true }
+    ensures { IfOk result (LeadsTo text.now (map step_value pointer.now)) }
 {
-    let offset = offset_of(alloc, text, found)?;
-    let rest = rest_at(text, offset)?;
-    Some((offset, rest))
+    match offset_of_pointer(alloc, text, value, pointer)? {
+        Some(offset) => Ok(offset),
+        None => unreachable!(),
+    }
 }
 
 fn line_of(
@@ -59,13 +71,12 @@ fn line_of(
     text: &[u8],
     found: &Found,
     stands: &Value<'_>,
-    offset: Option<usize>,
-    rest: Option<&str>,
+    offset: usize,
 ) -> Result<String, AllocError>
-    requires { IfSome offset (λ at. at ≤ length text.now) }
-    ensures { IfOk result (λ line. IsLineOf text.now (located found.now) (value_view stands.now) offset (option_map (λ r. r.now) rest.entry) (string_bytes line)) }
+    requires { (offset ≤ length text.now) × IsUtf8 (drop offset text.now) }
+    ensures { IfOk result (λ line. IsLineOf text.now (located found.now) (value_view stands.now) offset (string_bytes line)) }
 {
-    let words = wrong_words(alloc, found, stands, rest)?;
+    let words = wrong_words(alloc, found, stands, rest_at(text, offset))?;
     value_text(alloc, text, found, offset, &words)
 }
 
@@ -73,17 +84,17 @@ fn value_text(
     alloc: Global,
     text: &[u8],
     found: &Found,
-    offset: Option<usize>,
+    offset: usize,
     words: &str,
 ) -> Result<String, AllocError>
-    requires { IfSome offset (λ at. at ≤ length text.now) }
+    requires { offset ≤ length text.now }
     ensures { IfOk result (λ line. string_bytes line ≡ value_line text.now offset (located found.now) words.now) }
 {
-    let position = position_text(alloc, text, offset)?;
+    let position = position_text(alloc, text, Some(offset))?;
     let pointer = pointer_text(alloc, found.pointer.as_slice())?;
     let stands = format!(in alloc; "{position}{pointer} {words}")?;
     let noun = number_noun(found.pointer.as_slice());
-    let shape = shape_words(alloc, noun, found.part)?;
+    let shape = shape_words(alloc, noun, found.shape)?;
     joined(alloc, &stands, &shape)
 }
 
@@ -92,50 +103,37 @@ fn wrong_words(
     alloc: Global,
     found: &Found,
     stands: &Value<'_>,
-    rest: Option<&str>,
+    rest: &str,
 ) -> Result<String, AllocError>
-    ensures { IfOk result (λ words. IsWrongTold (fields_of (shape found.now.part)) found.now.fault (value_view stands.now)
-        (option_map (λ r. r.now) rest.entry) (string_bytes words)) }
+    ensures { IfOk result (λ words. IsWrongTold (fields_of (grammar found.now.shape.now)) found.now.fault (value_view stands.now)
+        rest.now (string_bytes words)) }
 {
     match found.fault {
-        ValueFault::MissingKey => lack_words(alloc, lacked_key(fields_of(found.part), stands)),
-        ValueFault::UnknownKey => unknown_key_words(alloc, fields_of(found.part), stands),
+        ValueFault::MissingKey => lack_words(alloc, lacked_key(fields_of(found.shape), stands)),
+        ValueFault::UnknownKey => unknown_key_words(alloc, fields_of(found.shape), stands),
         ValueFault::OverLimit => length_words(alloc, stands, rest),
-        fault => standing_words(alloc, fault, rest),
+        _ => standing_words(alloc, rest),
     }
 }
 
-/// What stands there, as it is shown, or what is wrong with it, where it isn't known where it stands.
-fn standing_words(
-    alloc: Global,
-    fault: ValueFault,
-    rest: Option<&str>,
-) -> Result<String, AllocError>
-    ensures { IfOk result (λ words. IsStandingTold fault (option_map (λ r. r.now) rest.entry) (string_bytes words)) }
-{
-    match rest {
-        Some(rest) => shown_words(alloc, rest),
-        None => fault_words(fault).to_string(alloc),
-    }
-}
-
-fn shown_words(alloc: Global, rest: &str) -> Result<String, AllocError>
-    ensures { IfOk result (λ words. (shown : List ℕ) × IsShown rest.now shown × (string_bytes words ≡ codes "is " ++ shown)) }
+/// What stands there, as it is shown.
+fn standing_words(alloc: Global, rest: &str) -> Result<String, AllocError>
+    ensures { IfOk result (λ words. IsStandingTold rest.now (string_bytes words)) }
 {
     let shown = shown_text(alloc, rest)?;
     format!(in alloc; "is {shown}")
 }
 
 /// How long a list is; of anything else what stands there.
-fn length_words(alloc: Global, stands: &Value<'_>, rest: Option<&str>) -> Result<String, AllocError>
-    ensures { IfOk result (λ words. IsLengthTold (view stands.now) (option_map (λ r. r.now) rest.entry) (string_bytes words)) }
+fn length_words(alloc: Global, stands: &Value<'_>, rest: &str) -> Result<String, AllocError>
+    ensures { IfOk result (λ words. IsLengthTold (view stands.now) rest.now (string_bytes words)) }
 {
     match stands {
         Value::Array(items) => {
             let count = items.len();
             format!(in alloc; "is a list of {count} items")
         }
-        _ => standing_words(alloc, ValueFault::OverLimit, rest),
+        _ => standing_words(alloc, rest),
     }
 }
 
@@ -156,7 +154,7 @@ fn lack_words(alloc: Global, key: Option<&str>) -> Result<String, AllocError>
 {
     match key {
         Some(key) => format!(in alloc; "lacks the key {key}"),
-        None => fault_words(ValueFault::MissingKey).to_string(alloc),
+        None => LACKS_A_KEY.to_string(alloc),
     }
 }
 
@@ -170,7 +168,7 @@ fn unknown_key_words(
 {
     match stands {
         Value::Object(members) => key_words_of(alloc, unknown_key(fields, members)),
-        _ => fault_words(ValueFault::UnknownKey).to_string(alloc),
+        _ => UNKNOWN_KEY.to_string(alloc),
     }
 }
 
@@ -182,7 +180,7 @@ fn key_words_of(alloc: Global, key: Option<&str>) -> Result<String, AllocError>
             let key = shown_key(alloc, key)?;
             format!(in alloc; "has the key {key}")
         }
-        None => fault_words(ValueFault::UnknownKey).to_string(alloc),
+        None => UNKNOWN_KEY.to_string(alloc),
     }
 }
 
@@ -206,7 +204,7 @@ fn is_among(fields: &[Field], key: &str) -> bool
 }
 
 fn is_one_of(fields: &[Field], key: &str) -> bool
-    ensures { result ≡ list_any (λ f. bytes_eq key.now f.key.now) fields.now }
+    ensures { result ≡ list_any (λ f. bytes_eq key.now (out-Field f).key.now) fields.now }
 {
     fields.iter().any(|field| key == field.key)
 }

@@ -1,7 +1,7 @@
 //! A network over a boxed terminus that is as planned: what it plays are runs from the plan's start.
 ghost use Rattle.std.specs.Prelude.{◌≡◌, ◌≤◌, ◌∷◌, [], IsTrue, IfOk, IfSome, MatchOption, Some, None, length, map, take};
 ghost use Rattle.pdr_repository.specs.Records.{entries, IsLawful};
-ghost use Rattle.net_check.specs.Repositories.{entry_of, terminus_of};
+ghost use Rattle.net_tables.specs.Repositories.{entry_of, terminus_of};
 ghost use Rattle.net_sim.specs.Dealing.{resting, planned_termini};
 ghost use Rattle.net_sim.specs.Outcomes.{event_value, outcome_value};
 ghost use Rattle.run_tests.specs.Planned.{IsRunFromStart, IsAlone};

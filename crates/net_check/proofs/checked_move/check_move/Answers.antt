@@ -1,6 +1,6 @@
-use Rattle.net_check.specs.States.{unit_of}
-use Rattle.net_check.specs.TwoPlans.{moving}
-use Rattle.net_check.proofs.Exact.{sent_by}
+use Rattle.net_runs.specs.States.{unit_of}
+use Rattle.net_tables.specs.TwoPlans.{moving}
+use Rattle.net_runs.proofs.Exact.{sent_by}
 use Rattle.net_check.proofs.Whole.{move_headline}
 use Rattle.net_check.proofs.checked_move.check_move.Goals as goal
 

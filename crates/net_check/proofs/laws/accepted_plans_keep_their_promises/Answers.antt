@@ -1,6 +1,5 @@
-use Rattle.net_check.proofs.Ends.{ends_within_rank}
-use Rattle.net_check.proofs.Whole.{whole_headline, accepted_delivers}
-use Rattle.net_check.proofs.WalksOver.{walks_over_networks}
+use Rattle.net_rules.proofs.Ends.{ends_within_rank}
+use Rattle.net_check.proofs.Whole.{whole_headline, accepted_delivers, walks_over_networks}
 use Rattle.net_check.proofs.laws.accepted_plans_keep_their_promises.Goals as goal
 
 pub returns : goal.returns

@@ -1,4 +1,4 @@
-use Rattle.net_check.proofs.WalkedPromises.{plans_walked_delivers, moves_walked_delivers}
+use Rattle.net_check.proofs.Whole.{plans_walked_delivers, moves_walked_delivers}
 use Rattle.net_check.proofs.laws.walked_deliveries.Goals as goal
 
 pub returns : goal.returns

@@ -1,4 +1,4 @@
-use Rattle.net_check.proofs.Played.{plans_can_be_played, moves_can_be_played}
+use Rattle.net_check.proofs.Whole.{plans_can_be_played, moves_can_be_played}
 use Rattle.net_check.proofs.laws.walks_can_be_played_to_their_end.Goals as goal
 
 pub returns : goal.returns

@@ -1,5 +1,5 @@
 use Rattle.std.proofs.Common.{ℕ, ◌<◌}
-use Rattle.net_check.specs.Routing.{Holds}
+use Rattle.net_tables.specs.Routing.{Holds}
 use Rattle.net_explained.proofs.holders.holder_before.Given as goal
 
 abbrev pub invariant-loop-node : goal.invariant-loop-node

@@ -17,7 +17,7 @@ returns-then-limit-filled-clause-too_long g c = λ _.
     let ys = c.pull_into.new.text.items in
     let fits : f + n ≤ length ys = search (rules, places) in (
       take (f + n) ys,
-      grown (g.S.Source.remaining c.args.source.now) (g.S.Source.remaining l.source) (g.S.Source.remaining c.pull_into.new.source) l.text.items ys f n
+      grown (g.S.Source.account c.args.source.now).bytes (g.S.Source.account l.source).bytes (g.S.Source.account c.pull_into.new.source).bytes l.text.items ys f n
           (c.pull_into.ensures.front ∙ c.in_ok-make_room.ensures.front) l.invariant.0 c.in_ok-count.ensures.bytes,
       search (rules, length-take-le (f + n) ys fits),
     )
@@ -29,7 +29,7 @@ pieces-preserved g c =
     let n = c.in_ok-count.count in
     let ys = c.pull_into.new.text.items in
     let fits : f + n ≤ length ys = search (rules, places) in (
-      grown (g.S.Source.remaining c.args.source.now) (g.S.Source.remaining l.source) (g.S.Source.remaining c.pull_into.new.source) l.text.items ys f n
+      grown (g.S.Source.account c.args.source.now).bytes (g.S.Source.account l.source).bytes (g.S.Source.account c.pull_into.new.source).bytes l.text.items ys f n
           (c.pull_into.ensures.front ∙ c.in_ok-make_room.ensures.front) l.invariant.0 c.in_ok-count.ensures.bytes,
       fits,
       search rules,

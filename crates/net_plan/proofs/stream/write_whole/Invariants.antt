@@ -5,8 +5,8 @@ use Rattle.net_plan.proofs.stream.write_whole.Given as goal
 
 abbrev pub invariant-loop-at : goal.invariant-loop-at
 invariant-loop-at g l = (l.at ≤ length l.bytes)
-    × Appends (g.S.Sink.contents l.initial.sink) (g.S.Sink.contents l.sink) (take l.at l.bytes)
-    × (g.S.Sink.failures l.sink ≡ g.S.Sink.failures l.initial.sink)
+    × Appends (g.S.Sink.account l.initial.sink).bytes (g.S.Sink.account l.sink).bytes (take l.at l.bytes)
+    × ((g.S.Sink.account l.sink).failures ≡ (g.S.Sink.account l.initial.sink).failures)
 
 abbrev pub decreases-loop-at : goal.decreases-loop-at
 decreases-loop-at g l = length l.bytes - l.at

@@ -1,16 +1,15 @@
 use Rattle.std.proofs.Common.{rules, ◌≡◌, codes, true, Some, None, map, sym, subst}
 use Rattle.json.specs.Value.{value_view}
 use Rattle.serde_json.specs.Find.{get}
+use Rattle.net_plan.specs.Finding.{first_fault, located}
+use Rattle.net_plan.specs.Grammar.{Known, known_view}
 use Rattle.net_plan.specs.PlanValues.{node_value, node_names}
 use Rattle.net_plan.specs.SingleKeys.{single}
+use Rattle.net_plan.specs.Tables.{a_certificate}
 use Rattle.net_plan.specs.Trees.{view}
 use Rattle.net_pointers.specs.Ascending.{ranks_ascend}
-use Rattle.net_pointers.specs.CertificateShapes.{a_certificate}
 use Rattle.net_pointers.specs.CertificateTroubles.{known_nodes, nodes_at, list_key}
 use Rattle.net_pointers.specs.Doubles.{IsFirstDoubled}
-use Rattle.net_pointers.specs.KnownNames.{Known, known_view}
-use Rattle.net_pointers.specs.Pointers.{first_fault}
-use Rattle.net_pointers.specs.Views.{located_among}
 use Rattle.net_pointers.proofs.Doubling.{first_differs, not_true}
 use Rattle.net_pointers.proofs.LateCertificates.{AreSingle, node_doubled, overlapping, well_but_names, unknown_node, is_read}
 use Rattle.net_pointers.proofs.Leads.{leads}
@@ -42,14 +41,14 @@ pub returns-in-Some-3 : goal.returns-in-Some-3
 returns-in-Some-3 c =
     let nodes = node_names (map node_value c.args.nodes.now) in
     let d = view c.args.certificate.now in
-    let found = c.in-Some-3.found in
+    let l = located c.in-Some-3.found in
     let once : AreSingle nodes d c.requires = search rules in
     let apart : ranks_ascend (get (codes "ranks") d) ≡ true = search rules in
-    let told : first_fault (a_certificate (Some (known_view c.in_ok-known.known))) d ≡ Some (located_among (Some (known_view c.in_ok-known.known)) found) = search rules in
-    let first : first_fault (a_certificate (Some (known_nodes nodes))) d ≡ Some (located_among (Some (known_nodes nodes)) found) = subst (λ (k : Known). first_fault (a_certificate (Some k)) d ≡ Some (located_among (Some k) found)) c.in_ok-known.ensures told in
-    let p = unknown_node nodes d c.requires once apart (located_among (Some (known_nodes nodes)) found) first in
+    let told : first_fault (Some (known_view c.in_ok-known.known)) a_certificate d ≡ Some l = search rules in
+    let first : first_fault (Some (known_nodes nodes)) a_certificate d ≡ Some l = subst (λ (k : Known). first_fault (Some k) a_certificate d ≡ Some l) c.in_ok-known.ensures told in
+    let p = unknown_node nodes d c.requires once apart l first in
     let keys : single (value_view c.args.certificate.now) ≡ true = search rules in
-    (p.0, keys, record { leads = leads (a_certificate (Some (known_nodes nodes))) d (located_among (Some (known_nodes nodes)) found) first; first = first; fault = p.1 })
+    (p.0, keys, record { leads = leads (Some (known_nodes nodes)) a_certificate d l first; first = first; fault = p.1 })
 
 pub returns : goal.returns
 returns c =
@@ -57,8 +56,8 @@ returns c =
     let d = view c.args.certificate.now in
     let once : AreSingle nodes d c.requires = search rules in
     let apart : ranks_ascend (get (codes "ranks") d) ≡ true = search rules in
-    let told : first_fault (a_certificate (Some (known_view c.in_ok-known.known))) d ≡ None = search rules in
-    let none : first_fault (a_certificate (Some (known_nodes nodes))) d ≡ None = subst (λ (k : Known). first_fault (a_certificate (Some k)) d ≡ None) c.in_ok-known.ensures told in
+    let told : first_fault (Some (known_view c.in_ok-known.known)) a_certificate d ≡ None = search rules in
+    let none : first_fault (Some (known_nodes nodes)) a_certificate d ≡ None = subst (λ (k : Known). first_fault (Some k) a_certificate d ≡ None) c.in_ok-known.ensures told in
     let keys : single (value_view c.args.certificate.now) ≡ true = search rules in
     let r = is_read nodes d c.requires once apart none in
     (keys, r.0, r.1)

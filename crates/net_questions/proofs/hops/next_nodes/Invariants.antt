@@ -1,4 +1,4 @@
-use Rattle.net_check.specs.RoutingLoops.{AreNexts}
+use Rattle.net_rules.specs.RoutingLoops.{AreNexts}
 use Rattle.net_questions.proofs.hops.next_nodes.Given as goal
 
 abbrev pub invariant-loop-node : goal.invariant-loop-node

@@ -1,5 +1,5 @@
 use Rattle.std.proofs.Common.{ℕ, ◌<◌}
-use Rattle.net_check.specs.Routing.{OfItem, Covers}
+use Rattle.net_tables.specs.Routing.{OfItem, Covers}
 use Rattle.net_questions.proofs.lookup.row_for.Given as goal
 
 abbrev pub invariant-loop-row : goal.invariant-loop-row

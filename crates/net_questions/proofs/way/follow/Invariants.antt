@@ -1,5 +1,5 @@
 use Rattle.std.proofs.Common.{◌-◌, length}
-use Rattle.net_check.specs.Ranks.{rank}
+use Rattle.net_tables.specs.Ranks.{rank}
 use Rattle.net_questions.specs.Ways.{Follows}
 use Rattle.net_questions.proofs.way.follow.Given as goal
 

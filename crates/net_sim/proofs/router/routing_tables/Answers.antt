@@ -6,7 +6,7 @@ use Rattle.mctp_bridge.specs.Rows.{HasSameRoutes}
 use Rattle.net_plan.specs.declared.nodes.Node.{Node}
 use Rattle.net_plan.specs.declared.nodes.Row.{Row}
 use Rattle.net_plan.specs.declared.plan.Plan.{Plan}
-use Rattle.net_check.specs.Tables.{AreRows, table_row}
+use Rattle.net_tables.specs.Tables.{AreRows, table_row}
 use Rattle.net_sim.specs.Routers.{AreTabled}
 use Rattle.net_sim.proofs.Tabled.{none_tabled, more_tabled}
 use Rattle.net_sim.proofs.router.routing_tables.Goals as goal

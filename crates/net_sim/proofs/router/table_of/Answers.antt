@@ -1,7 +1,7 @@
 use Rattle.std.proofs.Common.{List, subst, sym, ◌∙◌}
 use Rattle.mctp_bridge.specs.declared.row.TableRow as bridge
 use Rattle.mctp_bridge.specs.Rows as rule
-use Rattle.net_check.proofs.TableLaws.{lawful_rows, no_fault}
+use Rattle.net_tables.proofs.TableLaws.{lawful_rows, no_fault}
 use Rattle.net_sim.proofs.router.table_of.Goals as goal
 
 pub returns-in-Ok : goal.returns-in-Ok

@@ -1,8 +1,8 @@
 //! A walker's request is put in.
-ghost use Rattle.std.specs.Prelude.{◌≡◌, ◌↔◌, ◌<◌, ℕ, length, IsTrue, MatchOption, MatchResult};
-ghost use Rattle.net_check.specs.Routing.{Holds};
-ghost use Rattle.net_check.specs.States.{NetworkState};
-ghost use Rattle.net_check.specs.Walkers.{IsOver, AreSettled};
+ghost use Rattle.std.specs.Prelude.{◌≡◌, ◌↔◌, ◌<◌, ℕ, length, IsTrue, OnErr, MatchOption, MatchResult};
+ghost use Rattle.net_tables.specs.Routing.{Holds};
+ghost use Rattle.net_runs.specs.States.{NetworkState};
+ghost use Rattle.net_runs.specs.Walkers.{IsOver, AreSettled};
 ghost use Rattle.net_sim.specs.Standing.{StandsFor};
 ghost use Rattle.net_sim.specs.Traffics.{traffic_value, traffic_checked, HasNumberAndRoom};
 ghost use Rattle.net_sim.specs.NetworkWalkers.{walker_value};
@@ -19,10 +19,11 @@ use pdr_repository::Terminus;
 use std::alloc::AllocError;
 
 impl<'a, T: Terminus> Network<'a, T> {
-    ghost use Rattle.net_check.specs.Walkers.{Ask};
+    ghost use Rattle.net_runs.specs.Walkers.{Ask};
     ghost use Rattle.net_sim.specs.Outcomes.{outcome_value};
     ghost use Rattle.net_sim.specs.WalkedStanding.{WalkedPlays, WalkedWants};
     ghost use Rattle.net_sim.specs.Networks.{network_value, checked_of};
+    ghost use Rattle.net_sim.specs.LackingRooms.{NetworkLacksRoom};
 
     /// Puts the request of the walker of this number in at its node: the next one, or once more the outstanding one.
     pub(super) fn ask(&mut self, number: u32) -> Result<Outcome, AllocError>
@@ -34,6 +35,7 @@ impl<'a, T: Terminus> Network<'a, T> {
             (λ _. WalkedWants (checked_of self.old).0
             (network_value T.tid T.records self.old) (Ask number)
             (network_value T.tid T.records self.new)) }
+        ensures full { OnErr result (NetworkLacksRoom self.old (Ask number)) }
     {
         if self.traffic.left() < 1 {
             return Ok(Outcome::Refused(WalkRefusal::Shared(Refusal::NoNumbers)));

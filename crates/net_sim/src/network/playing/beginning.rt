@@ -14,7 +14,7 @@ use std::alloc::AllocError;
 const LEAST_COUNT: u16 = 8;
 
 impl<'a, T: Terminus> Network<'a, T> {
-    ghost use Rattle.net_check.specs.Walkers.{WalkedState, BeginWalk};
+    ghost use Rattle.net_runs.specs.Walkers.{WalkedState, BeginWalk};
     ghost use Rattle.net_sim.specs.Requests.{WhyNot};
     ghost use Rattle.net_sim.specs.Outcomes.{outcome_value, walk_refusal_value};
     ghost use Rattle.net_sim.specs.NetworkWalkers.{walker_value, IsAt};

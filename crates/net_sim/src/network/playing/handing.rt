@@ -1,5 +1,5 @@
 //! A flight moves, and a message that comes is handed to the walker that it is for.
-ghost use Rattle.std.specs.Prelude.{◌≡◌, ◌<◌, ℕ, All, length, slice_get, option_map, Some, IfSome, MatchOption, MatchResult};
+ghost use Rattle.std.specs.Prelude.{◌≡◌, ◌<◌, ℕ, All, length, slice_get, option_map, Some, IfSome, OnErr, MatchOption, MatchResult};
 ghost use Rattle.net_sim.specs.Effects.{effect_value};
 ghost use Rattle.net_sim.specs.Outcomes.{handed_value};
 ghost use Rattle.net_sim.specs.NetworkWalkers.{walker_value, IsReady, HandsOver};
@@ -16,13 +16,14 @@ use std::alloc::AllocError;
 impl<'a, T: Terminus> Network<'a, T> {
     ghost use Rattle.mctp_transport.specs.Packets.{key_value};
     ghost use Rattle.mctp_transport.specs.Frames.{KeyValue};
-    ghost use Rattle.net_check.specs.Events.{Move};
-    ghost use Rattle.net_check.specs.Walkers.{WalkerValue, WalkedState, Happening, answering_key};
+    ghost use Rattle.net_runs.specs.Events.{Move};
+    ghost use Rattle.net_runs.specs.Walkers.{WalkerValue, WalkedState, Happening, answering_key};
     ghost use Rattle.net_sim.specs.Outcomes.{outcome_value};
     ghost use Rattle.net_sim.specs.Arrivals.{Arrives};
     ghost use Rattle.net_sim.specs.NetworkWalkers.{Listens, ListensAt};
     ghost use Rattle.net_sim.specs.WalkedStanding.{StandsForWalked, WalkedPlays, WalkedWants};
     ghost use Rattle.net_sim.specs.Networks.{network_value, checked_of};
+    ghost use Rattle.net_sim.specs.LackingRooms.{ArrivesAt, NetworkLacksRoom};
 
     /// Moves a flight, or a copy of it. A message that comes with it is handed to the walker that it is for, whose room is
     /// made before.
@@ -35,6 +36,7 @@ impl<'a, T: Terminus> Network<'a, T> {
             (λ _. WalkedWants (checked_of self.old).0
             (network_value T.tid T.records self.old) (Happening (Move number keep))
             (network_value T.tid T.records self.new)) }
+        ensures full { OnErr result (NetworkLacksRoom self.old (Happening (Move number keep))) }
     {
         let Some(index) = self.listener(number, keep) else {
             let effect = self.traffic.move_flight(number, keep)?;
@@ -58,6 +60,7 @@ impl<'a, T: Terminus> Network<'a, T> {
             (λ index. (walker : WalkerValue) × (slice_get (network_value T.tid T.records self.now).walkers index ≡ Some walker)
             × Arrives (checked_of self.now).0 w.network number keep walker.node (answering_key walker)) }
         ensures within { IfSome result (λ index. index < length self.now.walkers.items) }
+        ensures there { IfSome result (λ index. (at : ℕ × KeyValue) × ArrivesAt self.now.traffic number at.0 at.1 × ListensAt at.0 at.1 self.now.walkers.items index) }
     {
         let (node, key) = self.traffic.arrival(number, keep)?;
         self.listener_at(node, key)

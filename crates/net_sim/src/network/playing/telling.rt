@@ -7,7 +7,7 @@ use crate::walk_refusal::WalkRefusal;
 use pdr_repository::Terminus;
 
 impl<'a, T: Terminus> Network<'a, T> {
-    ghost use Rattle.net_check.specs.Walkers.{TellWalk};
+    ghost use Rattle.net_runs.specs.Walkers.{TellWalk};
     ghost use Rattle.net_sim.specs.Outcomes.{outcome_value};
     ghost use Rattle.net_sim.specs.WalkedStanding.{WalkedPlays};
     ghost use Rattle.net_sim.specs.Networks.{network_value, checked_of};

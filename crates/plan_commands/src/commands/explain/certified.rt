@@ -1,12 +1,14 @@
 //! The command `explain` of a plan with its certificate: what `check` answers, and why.
-ghost use Rattle.std.specs.Prelude.{◌≡◌, ◌≢◌, ◌⊎◌, ◌<◌, ◌^◌, ◌-◌, IfOk, IfErr, string_bytes};
+ghost use Rattle.std.specs.Prelude.{◌≡◌, ◌≢◌, ◌⊎◌, IfOk, IfErr, string_bytes};
 ghost use Rattle.std.specs.Cow.{cow_str_bytes};
 ghost use Rattle.net_check.specs.Errors.{NamesFirstFault};
-ghost use Rattle.net_check.specs.Faults.{IsFirstFault, site_of};
+ghost use Rattle.net_rules.specs.Faults.{IsFirstFault, site_of};
+ghost use Rattle.net_plan.specs.Stream.{HasRoom};
 ghost use Rattle.plan_commands.specs.declared.refused.Refused.TheVariants as refused;
 ghost use Rattle.plan_commands.specs.declared.status.Status.TheVariants as status;
-ghost use Rattle.plan_commands.specs.Answers.{stream, IsWithoutPlan};
-ghost use Rattle.plan_commands.specs.Explaining.{IsFaultExplained, IsFaultTold, IsRemedyTold, IsCertificateTold, IsBothExplained, IsExplainedWith, ExplainsWithSo, ExplainsWith};
+ghost use Rattle.plan_commands.specs.Answers.{stream, IsWithoutPlan, BreaksOff};
+ghost use Rattle.plan_commands.specs.Explaining.{IsFaultExplained, IsFaultTold, IsRemedyTold, IsCertificateTold, IsBothExplained, IsExplainedWith, ExplainsWithSo};
+ghost use Rattle.plan_commands.specs.Told.{Gives, IsSomeAnswer, Ends};
 
 use super::unread::{unread_certificate, unread_plan};
 use super::{obstacle_text, sound_text};
@@ -29,20 +31,23 @@ pub fn run_explain_certified<P: Source, C: Source, O: Sink, E: Sink>(
     output: &mut O,
     errors: &mut E,
 ) -> Status
-    requires plan { P.failures plan.old < 2 ^ 64 - 1 }
-    requires certificate { C.failures certificate.old < 2 ^ 64 - 1 }
-    requires output { O.failures output.old < 2 ^ 64 - 1 }
-    requires errors { E.failures errors.old < 2 ^ 64 - 1 }
-    ensures explains { let plans = stream (P.remaining plan.old) (P.failures plan.old) (P.remaining plan.new) (P.failures plan.new) in
-        let certificates = stream (C.remaining certificate.old) (C.failures certificate.old)
-        (C.remaining certificate.new) (C.failures certificate.new) in
-        let outputs = stream (O.contents output.old) (O.failures output.old) (O.contents output.new) (O.failures output.new) in
-        let said = stream (E.contents errors.old) (E.failures errors.old) (E.contents errors.new) (E.failures errors.new) in
-        ExplainsWith result plans certificates outputs said }
+    requires plan { HasRoom (P.account plan.old) }
+    requires certificate { HasRoom (C.account certificate.old) }
+    requires output { HasRoom (O.account output.old) }
+    requires errors { HasRoom (E.account errors.old) }
+    ensures explains { let plans = stream P.account plan.old plan.new in
+        let certificates = stream C.account certificate.old certificate.new in
+        Ends (ExplainsWithSo plans certificates) (λ why. why ≡ refused.NoMemory) result
+        (stream O.account output.old output.new) (stream E.account errors.old errors.new) }
     ensures silent { (result ≡ status.Yes) ⊎ (result ≡ status.Fault) → errors.new ≡ errors.old }
-    ensures quiet { result ≢ status.NoMemory → O.failures output.new ≡ O.failures output.old → errors.new ≡ errors.old }
+    ensures quiet { result ≢ status.NoMemory → (O.account output.new).failures ≡ (O.account output.old).failures → errors.new ≡ errors.old }
+    ensures unwritten { let plans = stream P.account plan.old plan.new in
+        let certificates = stream C.account certificate.old certificate.new in
+        let outputs = stream O.account output.old output.new in
+        result ≡ status.Unreadable → Gives (ExplainsWithSo plans certificates) status.Unreadable outputs
+        ⊎ BreaksOff (IsSomeAnswer (ExplainsWithSo plans certificates)) outputs }
     ensures no_memory { result ≡ status.NoMemory → output.new ≡ output.old }
-    ensures in_order { let plans = stream (P.remaining plan.old) (P.failures plan.old) (P.remaining plan.new) (P.failures plan.new) in
+    ensures in_order { let plans = stream P.account plan.old plan.new in
         IsWithoutPlan plans → certificate.new ≡ certificate.old }
 {
     let answered = answer_explain_certified(alloc, plan, certificate);
@@ -54,14 +59,13 @@ fn answer_explain_certified<P: Source, C: Source>(
     plan: &mut P,
     certificate: &mut C,
 ) -> Result<Answer, Refused>
-    requires plan { P.failures plan.old < 2 ^ 64 - 1 }
-    requires certificate { C.failures certificate.old < 2 ^ 64 - 1 }
-    ensures answers { let plans = stream (P.remaining plan.old) (P.failures plan.old) (P.remaining plan.new) (P.failures plan.new) in
-        let certificates = stream (C.remaining certificate.old) (C.failures certificate.old)
-        (C.remaining certificate.new) (C.failures certificate.new) in
+    requires plan { HasRoom (P.account plan.old) }
+    requires certificate { HasRoom (C.account certificate.old) }
+    ensures answers { let plans = stream P.account plan.old plan.new in
+        let certificates = stream C.account certificate.old certificate.new in
         IfOk result (λ answer. ExplainsWithSo plans certificates answer.status (cow_str_bytes answer.text)) }
     ensures refused { IfErr result (λ why. why ≡ refused.NoMemory) }
-    ensures in_order { let plans = stream (P.remaining plan.old) (P.failures plan.old) (P.remaining plan.new) (P.failures plan.new) in
+    ensures in_order { let plans = stream P.account plan.old plan.new in
         IsWithoutPlan plans → certificate.new ≡ certificate.old }
 {
     match plan_or_text(alloc, plan) {
@@ -76,9 +80,8 @@ fn answer_of_certificate<C: Source>(
     plan: &Plan,
     certificate: &mut C,
 ) -> Result<Answer, Refused>
-    requires { C.failures certificate.old < 2 ^ 64 - 1 }
-    ensures answers { let certificates = stream (C.remaining certificate.old) (C.failures certificate.old)
-        (C.remaining certificate.new) (C.failures certificate.new) in
+    requires { HasRoom (C.account certificate.old) }
+    ensures answers { let certificates = stream C.account certificate.old certificate.new in
         IfOk result (λ answer. IsExplainedWith plan.now certificates answer.status (cow_str_bytes answer.text)) }
     ensures refused { IfErr result (λ why. why ≡ refused.NoMemory) }
 {

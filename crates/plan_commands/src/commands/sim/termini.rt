@@ -2,13 +2,13 @@
 ghost use Rattle.std.specs.Prelude.{◌≡◌, ◌++◌, IfOk, OnOk, map, option_map};
 ghost use Rattle.std.specs.Option.{option_to_list};
 ghost use Rattle.pdr_repository.specs.BlockTermini.{block_tid, block_records};
-ghost use Rattle.net_check.specs.Repositories.{terminus_of, RecordsHaveOrder};
-ghost use Rattle.net_check.specs.Termini.{terminus_at_start};
+ghost use Rattle.net_tables.specs.Repositories.{terminus_of, RecordsHaveOrder};
+ghost use Rattle.net_runs.specs.Termini.{terminus_at_start};
 ghost use Rattle.net_sim.specs.Dealing.{resting, planned_termini};
 
 use crate::commands::repositories::records_by_place;
-use net_check::lookup::terminus_at;
 use net_plan::{Certificate, Plan};
+use net_tables::lookup::terminus_at;
 use pdr_repository::BlockTerminus;
 use pldm_message::Tid;
 use std::alloc::{AllocError, Global};

@@ -8,8 +8,8 @@ ghost use Rattle.plan_commands.specs.Tracing.{IsEidWord, IsDestination, NameTheE
 
 use crate::commands::naming::first_named;
 use mctp_transport::Eid;
-use net_check::lookup::eid_at;
 use net_plan::Plan;
+use net_tables::lookup::eid_at;
 
 /// The index of the node that the one word names, and the endpoint ID that the other word names.
 #[tactic(auto, using(crate::proofs::Ends::no_sender, crate::proofs::Ends::no_destination))]

@@ -1,11 +1,11 @@
 //! The terminus that a node's name stands for.
 ghost use Rattle.std.specs.Prelude.{◌≡◌, Some, MatchOption};
-ghost use Rattle.net_check.specs.Repositories.{terminus_of};
+ghost use Rattle.net_tables.specs.Repositories.{terminus_of};
 ghost use Rattle.plan_commands.specs.Walking.{IsTerminusNamed, HasTerminusNamed};
 
 use crate::commands::naming::first_named;
-use net_check::lookup::terminus_at;
 use net_plan::{Plan, PlannedTerminus};
+use net_tables::lookup::terminus_at;
 
 /// The terminus of the first node of the name, if it has one, and the index of that node.
 #[tactic(auto, using(crate::proofs::Naming::no_terminus))]

@@ -1,7 +1,7 @@
 //! The terminus that a walk asks, with its records in the order of a certificate's places.
 ghost use Rattle.std.specs.Prelude.{◌≡◌, ◌≤◌, Some, length, IfOk};
-ghost use Rattle.net_check.specs.Repositories.{terminus_of, records_by_place};
-ghost use Rattle.net_check.specs.Rules.{Accepts};
+ghost use Rattle.net_tables.specs.Repositories.{terminus_of, records_by_place};
+ghost use Rattle.net_rules.specs.Rules.{Accepts};
 ghost use Rattle.pdr_repository.specs.ListTermini.{list_records};
 ghost use Rattle.pdr_repository.specs.Records.{IsLawful};
 

@@ -1,5 +1,5 @@
 use Rattle.std.proofs.Common.{◌≡◌, ◌∙◌, ◌==◌, position, ap, sym}
-use Rattle.plan_texts.specs.ExplanationLines.{record_before}
+use Rattle.plan_texts.specs.Explanations.{record_before}
 use Rattle.plan_texts.proofs.explanations.record_before.Goals as goal
 
 pub returns-in-Some : goal.returns-in-Some

@@ -1,5 +1,5 @@
 use Rattle.std.proofs.Common.{refl, arith, below_more}
-use Rattle.net_check.proofs.OtherSearches.{held_by, not_held_by}
+use Rattle.net_rules.proofs.OtherSearches.{held_by, not_held_by}
 use Rattle.net_explained.proofs.causes.locators.is_held_by_terminus.Goals as goal
 
 pub returns-then-is_holder : goal.returns-then-is_holder

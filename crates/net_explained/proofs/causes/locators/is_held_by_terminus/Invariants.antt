@@ -1,7 +1,7 @@
 use Rattle.std.proofs.Common.{◌≡◌, ℕ, ◌<◌, Some}
 use Rattle.std.specs.Prelude.{option_map}
-use Rattle.net_check.specs.Routing.{Holds}
-use Rattle.net_check.specs.Repositories.{terminus_of}
+use Rattle.net_tables.specs.Routing.{Holds}
+use Rattle.net_tables.specs.Repositories.{terminus_of}
 use Rattle.net_explained.proofs.causes.locators.is_held_by_terminus.Given as goal
 
 abbrev pub invariant-loop-node : goal.invariant-loop-node

@@ -1,7 +1,7 @@
 use Rattle.std.proofs.Common.{◌≢◌, ℕ, List, length, refl, sym}
 use Rattle.net_plan.specs.declared.terminus.PlannedRecord as listed
-use Rattle.net_check.specs.Repositories.{records_of}
-use Rattle.net_check.specs.Locators.{IsEidLocator, HasOneByteAsEid}
+use Rattle.net_tables.specs.Repositories.{records_of}
+use Rattle.net_rules.specs.Locators.{IsEidLocator, HasOneByteAsEid}
 use Rattle.net_explained.proofs.Items.{of_item, not_of_item}
 use Rattle.net_explained.proofs.causes.locators.long.Goals as goal
 

@@ -3,9 +3,9 @@ use Rattle.std.proofs.lemmas.Bool.{cases_lt}
 use Rattle.std.proofs.lemmas.Option.{same_Some, none-some, slice_get_past}
 use Rattle.net_plan.specs.declared.plan.Plan.{Plan}
 use Rattle.net_plan.specs.declared.terminus.PlannedRecord as listed
-use Rattle.net_check.specs.Routing.{Holds}
-use Rattle.net_check.specs.Repositories.{records_of}
-use Rattle.net_check.specs.Locators.{IsEidLocator, IsHeldByTerminus, LocatesTerminus}
+use Rattle.net_tables.specs.Routing.{Holds}
+use Rattle.net_tables.specs.Repositories.{records_of}
+use Rattle.net_rules.specs.Locators.{IsEidLocator, IsHeldByTerminus, LocatesTerminus}
 use Rattle.net_explained.proofs.Items.{of_item, not_of_item}
 use Rattle.net_explained.proofs.causes.locators.misleading.Goals as goal
 

@@ -1,5 +1,5 @@
 use Rattle.std.proofs.Common.{ℕ, List, [], ◌∷◌, sym, subst}
-use Rattle.net_check.specs.Locators.{IsEidLocator}
+use Rattle.net_rules.specs.Locators.{IsEidLocator}
 use Rattle.net_explained.proofs.causes.locators.tid_located.Goals as goal
 
 pub returns-in-None : goal.returns-in-None

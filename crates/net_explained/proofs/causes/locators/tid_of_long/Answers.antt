@@ -1,5 +1,5 @@
 use Rattle.std.proofs.Common.{ℕ, List, length, sym, subst, ap, arith}
-use Rattle.net_check.specs.Locators.{IsEidLocator, HasOneByteAsEid}
+use Rattle.net_rules.specs.Locators.{IsEidLocator, HasOneByteAsEid}
 use Rattle.net_explained.proofs.causes.locators.tid_of_long.Goals as goal
 
 pub returns-then-locator-eq1 : goal.returns-then-locator-eq1

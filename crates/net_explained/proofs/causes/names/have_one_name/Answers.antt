@@ -4,7 +4,7 @@ use Rattle.std.specs.Cmp.Lexicographic.{bytes_decides}
 use Rattle.std.proofs.lemmas.Option.{slice_get-get_or, same_Some}
 use Rattle.net_plan.specs.declared.plan.Plan.{Plan}
 use Rattle.net_plan.specs.declared.nodes.Node.{Node}
-use Rattle.net_check.specs.Names.{name_of, HaveOneName}
+use Rattle.net_rules.specs.Names.{name_of, HaveOneName}
 use Rattle.net_explained.proofs.causes.names.have_one_name.Goals as goal
 
 name_at : (plan : Plan) (n : ℕ) (d : Node) → n < length plan.nodes.items → d ≡ get_or plan.nodes.items n d → name_of plan n ≡ Some (string_bytes d.name.text)

@@ -1,4 +1,4 @@
-use Rattle.net_check.proofs.SharedBuses.{shared_bus}
+use Rattle.net_rules.proofs.SharedBuses.{shared_bus}
 use Rattle.net_explained.proofs.causes.owners.share_bus.Goals as goal
 
 pub returns : goal.returns

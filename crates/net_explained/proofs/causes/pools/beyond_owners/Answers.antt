@@ -1,6 +1,7 @@
 use Rattle.std.proofs.Common.{ℕ, ◌∙◌, subst}
 use Rattle.std.proofs.lemmas.Option.{same_Some}
-use Rattle.net_check.specs.Pools.{IsInPool, IsInPoolOf, LiesInOwnersPool}
+use Rattle.net_tables.specs.Ownership.{IsInPool, IsInPoolOf}
+use Rattle.net_rules.specs.Pools.{LiesInOwnersPool}
 use Rattle.net_explained.proofs.PoolFaults.{lies_in}
 use Rattle.net_explained.proofs.causes.pools.beyond_owners.Goals as goal
 

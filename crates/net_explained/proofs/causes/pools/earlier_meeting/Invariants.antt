@@ -1,6 +1,5 @@
 use Rattle.std.proofs.Common.{◌≡◌, ℕ, ◌<◌}
-use Rattle.net_check.specs.Owners.{owner_of}
-use Rattle.net_check.specs.Pools.{IsInPool, IsInPoolOf}
+use Rattle.net_tables.specs.Ownership.{owner_of, IsInPool, IsInPoolOf}
 use Rattle.net_explained.proofs.causes.pools.earlier_meeting.Given as goal
 
 abbrev pub invariant-loop-earlier : goal.invariant-loop-earlier

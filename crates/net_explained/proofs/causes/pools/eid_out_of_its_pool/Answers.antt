@@ -1,5 +1,5 @@
 use Rattle.std.proofs.Common.{refl}
-use Rattle.net_check.specs.Pools.{IsInItsPool, IsInOwnersPool}
+use Rattle.net_rules.specs.Pools.{IsInItsPool, IsInOwnersPool}
 use Rattle.net_explained.proofs.causes.pools.eid_out_of_its_pool.Goals as goal
 
 pub returns-in-Some-clause-cause : goal.returns-in-Some-clause-cause

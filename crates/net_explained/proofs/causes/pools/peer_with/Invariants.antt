@@ -1,7 +1,6 @@
 use Rattle.std.proofs.Common.{◌≡◌, ℕ, ◌<◌}
-use Rattle.net_check.specs.Routing.{IsBridge}
-use Rattle.net_check.specs.Owners.{owner_of}
-use Rattle.net_check.specs.Pools.{IsInPoolOf}
+use Rattle.net_tables.specs.Routing.{IsBridge}
+use Rattle.net_tables.specs.Ownership.{owner_of, IsInPoolOf}
 use Rattle.net_explained.proofs.causes.pools.peer_with.Given as goal
 
 abbrev pub invariant-loop-peer : goal.invariant-loop-peer

@@ -1,5 +1,5 @@
 use Rattle.std.proofs.Common.{refl, sym}
-use Rattle.net_check.specs.Repositories.{records_of, HasNewHandle}
+use Rattle.net_tables.specs.Repositories.{records_of, HasNewHandle}
 use Rattle.net_explained.proofs.Items.{of_item, not_of_item}
 use Rattle.net_explained.proofs.causes.records.old_handle.Goals as goal
 

@@ -1,5 +1,5 @@
 use Rattle.std.proofs.Common.{ℕ, ◌<◌}
-use Rattle.net_check.specs.Rows.{IsJoined}
+use Rattle.net_tables.specs.Rows.{IsJoined}
 use Rattle.net_explained.proofs.causes.rows.first_joined.Given as goal
 
 abbrev pub invariant-loop-port : goal.invariant-loop-port

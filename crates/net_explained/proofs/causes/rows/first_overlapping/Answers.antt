@@ -1,5 +1,5 @@
 use Rattle.std.proofs.Common.{ℕ, arith, below_more}
-use Rattle.net_check.specs.Routing.{Covers}
+use Rattle.net_tables.specs.Routing.{Covers}
 use Rattle.net_explained.specs.Rows.{CoversAt}
 use Rattle.net_explained.proofs.causes.rows.first_overlapping.Goals as goal
 

@@ -1,5 +1,5 @@
 use Rattle.std.proofs.Common.{ℕ, ◌<◌}
-use Rattle.net_check.specs.Routing.{Covers}
+use Rattle.net_tables.specs.Routing.{Covers}
 use Rattle.net_explained.specs.Rows.{CoversAt}
 use Rattle.net_explained.proofs.causes.rows.first_overlapping.Given as goal
 

@@ -2,8 +2,8 @@ use Rattle.std.proofs.Common.{ℕ, ◌≤◌, refl, sym, ◌∙◌, subst, arith
 use Rattle.std.proofs.lemmas.Bool.{cases_lt}
 use Rattle.std.proofs.lemmas.Option.{same_Some, none-some}
 use Rattle.net_plan.specs.declared.nodes.Row.{Row}
-use Rattle.net_check.specs.Routing.{rows_of, IsBridge}
-use Rattle.net_check.specs.Rows.{IsOnBus, IsJoined, NamesNeighbor}
+use Rattle.net_tables.specs.Routing.{rows_of, IsBridge}
+use Rattle.net_tables.specs.Rows.{IsOnBus, IsJoined, NamesNeighbor}
 use Rattle.net_explained.proofs.Items.{not_of_item}
 use Rattle.net_explained.proofs.causes.rows.no_neighbor_in.Goals as goal
 
@@ -11,7 +11,7 @@ pub returns-then-row-node-clause-cause : goal.returns-then-row-node-clause-cause
 unfolding NamesNeighbor
 returns-then-row-node-clause-cause c = λ r is.
     let plan = c.args.plan.now in (
-      (refl, (c.args.row.now, is, c.if-row-node.true)),
+      (refl, (c.args.row.now, is, (c.if-row-node.true, c.fitting_next-next.ensures))),
       not_of_item (rows_of plan c.args.node) r (λ (row : Row). NamesNeighbor plan c.args.node row) c.args.row.now (sym is) (λ names. names.0 c.if-row-node.true),
     )
 
@@ -31,7 +31,7 @@ returns-in-Some-clause-cause c = λ r is.
     let row = c.args.row.now in
     let bus = c.in-Some.bus in
     let out : ¬ IsOnBus plan row.next bus = λ on. cc (c.is_on_bus.ensures, on, c.if-not-is_on_bus.true) in (
-      (refl, (row, is, (sym c.in-Some.ensures, out, c.fitting_port-in-Some.ensures))),
+      (refl, (row, is, (sym c.in-Some.ensures, out, c.fitting_port-in-Some.ensures, c.fitting_next-next.ensures))),
       not_of_item (rows_of plan c.args.node) r (λ (row : Row). NamesNeighbor plan c.args.node row) row (sym is)
           (λ names. out (subst (λ (b : ℕ). IsOnBus plan row.next b) (same_Some names.1.0 bus (sym names.1.1 ∙ sym c.in-Some.ensures)) names.1.2)),
     )
@@ -46,6 +46,6 @@ returns-in-Some-3-clause-cause c = λ r is.
       | inl one ↦ absurd (not (λ two. absurd (omega (arith, one, two))))
       | inr two ↦ two
     ] in (
-      (refl, (row, is, (several, λ bridge. not (λ _. bridge)))),
+      (refl, (row, is, (several, (λ bridge. not (λ _. bridge)), c.fitting_next-next.ensures))),
       not_of_item (rows_of plan c.args.node) r (λ (row : Row). NamesNeighbor plan c.args.node row) row (sym is) (λ names. not names.2),
     )

@@ -3,8 +3,8 @@ use Rattle.std.specs.Prelude.{slice_get}
 use Rattle.std.proofs.lemmas.List.{get_or-take, length-take}
 use Rattle.std.proofs.lemmas.Option.{slice_get_within, get_or_from_slice_get, slice_get-get_or}
 use Rattle.net_plan.specs.declared.nodes.Row.{Row}
-use Rattle.net_check.specs.Routing.{rows_of, Covers}
-use Rattle.net_check.specs.Rows.{AreApart, IsApartFromEarlier}
+use Rattle.net_tables.specs.Routing.{rows_of, Covers}
+use Rattle.net_tables.specs.Rows.{AreApart, IsApartFromEarlier}
 use Rattle.net_explained.proofs.Items.{has_item, of_item, not_of_item}
 use Rattle.net_explained.proofs.causes.rows.overlapped.Goals as goal
 
@@ -33,7 +33,7 @@ returns-in-Some c =
     let e = c.in-Some.eid.value in
     let found = c.in-Some.ensures in
     let other = found.1.0 in (
-      (refl, ((found.0, other, has_item rows c.args.row (λ (r : Row). Covers r e) row c.in_ok-found.ensures found.1.1), c.rest_of.ensures)),
+      (refl, ((found.0, other, has_item rows c.args.row (λ (r : Row). Covers r e) row c.in_ok-found.ensures found.1.1), c.rest_of-rest.ensures, c.rest_of-earlier_rest.ensures)),
       not_of_item rows c.args.row (IsApartFromEarlier rows c.args.row) row c.in_ok-found.ensures
           (not_apart rows c.args.row c.in-Some.earlier e row other.0 found.0 other.1 found.1.1 other.2),
     )

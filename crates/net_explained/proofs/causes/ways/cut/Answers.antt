@@ -1,9 +1,9 @@
 use Rattle.std.proofs.Common.{◌≢◌, ℕ, refl, sym, inl, inr}
 use Rattle.net_plan.specs.declared.plan.Plan.{Plan}
 use Rattle.net_plan.specs.declared.nodes.Row.{Row}
-use Rattle.net_check.specs.Routing.{rows_of, Covers, Holds, IsBridge, HasRow}
-use Rattle.net_check.specs.TwoPlans.{one_plan}
-use Rattle.net_check.specs.HeldEids.{IsLedOn}
+use Rattle.net_tables.specs.Routing.{rows_of, Covers, Holds, IsBridge, HasRow}
+use Rattle.net_tables.specs.TwoPlans.{one_plan}
+use Rattle.net_rules.specs.HeldEids.{IsLedOn}
 use Rattle.net_explained.proofs.Items.{not_of_item}
 use Rattle.net_explained.proofs.causes.ways.cut.Goals as goal
 

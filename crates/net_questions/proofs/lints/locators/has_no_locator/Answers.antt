@@ -1,5 +1,5 @@
 use Rattle.std.proofs.Common.{refl, arith, [], ◌∷◌}
-use Rattle.net_check.specs.Locators.{IsEidLocator}
+use Rattle.net_rules.specs.Locators.{IsEidLocator}
 use Rattle.net_questions.proofs.Exists.{found_item, item_not_found, item_more}
 use Rattle.net_questions.proofs.lints.locators.has_no_locator.Goals as goal
 

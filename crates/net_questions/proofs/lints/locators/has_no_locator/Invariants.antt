@@ -1,6 +1,6 @@
 use Rattle.std.proofs.Common.{ℕ, ◌<◌, [], ◌∷◌}
-use Rattle.net_check.specs.Routing.{OfItem}
-use Rattle.net_check.specs.Locators.{IsEidLocator}
+use Rattle.net_tables.specs.Routing.{OfItem}
+use Rattle.net_rules.specs.Locators.{IsEidLocator}
 use Rattle.net_questions.proofs.lints.locators.has_no_locator.Given as goal
 
 abbrev pub invariant-loop-listed : goal.invariant-loop-listed

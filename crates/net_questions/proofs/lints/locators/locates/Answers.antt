@@ -1,5 +1,5 @@
 use Rattle.std.proofs.Common.{ℕ, List, [], ◌∷◌, sym, subst}
-use Rattle.net_check.specs.Locators.{IsEidLocator}
+use Rattle.net_rules.specs.Locators.{IsEidLocator}
 use Rattle.net_questions.proofs.lints.locators.locates.Goals as goal
 
 pub returns-in-Some : goal.returns-in-Some

@@ -1,5 +1,5 @@
 use Rattle.std.proofs.Common.{ℕ, ◌<◌}
-use Rattle.net_check.specs.Routing.{OfItem}
+use Rattle.net_tables.specs.Routing.{OfItem}
 use Rattle.net_questions.specs.Lint.{IsAddressedOn}
 use Rattle.net_questions.proofs.lints.ports.has_address_on.Given as goal
 

@@ -1,5 +1,5 @@
 use Rattle.std.proofs.Common.{ℕ, ◌<◌}
-use Rattle.net_check.specs.Routing.{OfItem}
+use Rattle.net_tables.specs.Routing.{OfItem}
 use Rattle.net_questions.specs.Lint.{IsOtherOn}
 use Rattle.net_questions.proofs.lints.ports.has_other_on.Given as goal
 

@@ -1,5 +1,5 @@
 use Rattle.std.proofs.Common.{length, arith, below_more}
-use Rattle.net_check.specs.Routing.{Holds}
+use Rattle.net_tables.specs.Routing.{Holds}
 use Rattle.net_questions.proofs.Exists.{found, not_found}
 use Rattle.net_questions.proofs.Within.{holder_within}
 use Rattle.net_questions.proofs.lints.rows.is_held.Goals as goal

@@ -1,5 +1,5 @@
 use Rattle.std.proofs.Common.{ℕ, ◌<◌}
-use Rattle.net_check.specs.Routing.{Holds}
+use Rattle.net_tables.specs.Routing.{Holds}
 use Rattle.net_questions.proofs.lints.rows.is_held.Given as goal
 
 abbrev pub invariant-loop-node : goal.invariant-loop-node

@@ -1,8 +1,8 @@
 use Rattle.std.proofs.Common.{ℕ, ◌≤◌, ◌<◌, ◌⊎◌, inl, inr, length, refl, arith, below_more}
 use Rattle.net_plan.specs.declared.plan.Plan.{Plan}
 use Rattle.net_plan.specs.declared.nodes.Row.{Row}
-use Rattle.net_check.specs.Routing.{Holds, Covers}
-use Rattle.net_check.specs.Pools.{IsInPoolOf}
+use Rattle.net_tables.specs.Routing.{Holds, Covers}
+use Rattle.net_tables.specs.Ownership.{IsInPoolOf}
 use Rattle.net_questions.specs.Lint.{LeadsToNobody}
 use Rattle.net_questions.proofs.Within.{holder_within, pool_within}
 use Rattle.net_questions.proofs.lints.rows.leads_to_nobody.Goals as goal

@@ -1,4 +1,4 @@
-use Rattle.net_check.proofs.PoolsOf.{in_pool_of, in_no_pool}
+use Rattle.net_tables.proofs.PoolsOf.{in_pool_of, in_no_pool}
 use Rattle.net_questions.proofs.lints.rows.meets_pool_of.Goals as goal
 
 pub returns-in-Some : goal.returns-in-Some

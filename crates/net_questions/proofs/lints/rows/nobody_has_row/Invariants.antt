@@ -1,5 +1,5 @@
 use Rattle.std.proofs.Common.{ℕ, ◌<◌}
-use Rattle.net_check.specs.Routing.{HasRow}
+use Rattle.net_tables.specs.Routing.{HasRow}
 use Rattle.net_questions.proofs.lints.rows.nobody_has_row.Given as goal
 
 abbrev pub invariant-loop-node : goal.invariant-loop-node

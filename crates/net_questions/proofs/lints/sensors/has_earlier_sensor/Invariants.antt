@@ -1,5 +1,5 @@
 use Rattle.std.proofs.Common.{ℕ, ◌<◌}
-use Rattle.net_check.specs.Routing.{OfItem}
+use Rattle.net_tables.specs.Routing.{OfItem}
 use Rattle.net_questions.specs.Lint.{IsSensorRecord}
 use Rattle.net_questions.proofs.lints.sensors.has_earlier_sensor.Given as goal
 

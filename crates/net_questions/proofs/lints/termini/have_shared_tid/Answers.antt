@@ -1,4 +1,4 @@
-use Rattle.net_check.specs.Repositories.{terminus_of}
+use Rattle.net_tables.specs.Repositories.{terminus_of}
 use Rattle.net_questions.specs.Lint.{HasItsTid}
 use Rattle.net_questions.proofs.Exists.{of_some, of_none}
 use Rattle.net_questions.proofs.lints.termini.have_shared_tid.Goals as goal

@@ -1,6 +1,6 @@
 use Rattle.std.proofs.Common.{ℕ, refl, subst, arith, add-one, length}
-use Rattle.net_check.specs.Moves.{Leads}
-use Rattle.net_check.proofs.Circling.{one_more}
+use Rattle.net_rules.specs.Moves.{Leads}
+use Rattle.net_rules.proofs.Circling.{one_more}
 use Rattle.net_questions.specs.Lint.{GoesOn}
 use Rattle.net_questions.proofs.FirstRows.{goes_only, goes_within}
 use Rattle.net_questions.proofs.Walks.{short_walk, not_within_more, ends_elsewhere}

@@ -1,4 +1,4 @@
-use Rattle.net_check.specs.Moves.{Leads}
+use Rattle.net_rules.specs.Moves.{Leads}
 use Rattle.net_questions.specs.Lint.{GoesOn}
 use Rattle.net_questions.proofs.Walks.{NotWithin}
 use Rattle.net_questions.proofs.lints.ways.comes_to.Given as goal

@@ -1,10 +1,10 @@
 use Rattle.std.proofs.Common.{ℕ, sym, subst, ap, ◌∙◌, Some, arith, add-one, length}
 use Rattle.std.proofs.lemmas.Option.{same_Some, none-some}
-use Rattle.net_check.specs.Moves.{IsEnd}
-use Rattle.net_check.specs.Owners.{IsOwnedBy}
-use Rattle.net_check.proofs.Circling.{one_more}
-use Rattle.net_check.proofs.LevelLaws.{one_owner, owner_within}
-use Rattle.net_check.proofs.Lines.{end_is_near}
+use Rattle.net_rules.specs.Moves.{IsEnd}
+use Rattle.net_tables.specs.Ownership.{IsOwnedBy}
+use Rattle.net_rules.proofs.Circling.{one_more}
+use Rattle.net_rules.proofs.LevelLaws.{one_owner, owner_within}
+use Rattle.net_rules.proofs.Lines.{end_is_near}
 use Rattle.net_questions.specs.Lint.{OwnersEndAt}
 use Rattle.net_questions.proofs.Walks.{leads_on, one_end}
 use Rattle.net_questions.proofs.lints.ways.last_owner.Goals as goal

@@ -1,5 +1,5 @@
-use Rattle.net_check.specs.Moves.{Leads}
-use Rattle.net_check.specs.Owners.{IsOwnedBy}
+use Rattle.net_rules.specs.Moves.{Leads}
+use Rattle.net_tables.specs.Ownership.{IsOwnedBy}
 use Rattle.net_questions.proofs.lints.ways.last_owner.Given as goal
 
 abbrev pub invariant-loop-owners : goal.invariant-loop-owners

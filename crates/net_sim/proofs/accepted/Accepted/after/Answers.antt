@@ -1,6 +1,6 @@
 use Rattle.std.proofs.Common.{sym, subst}
 use Rattle.net_plan.specs.declared.plan.Plan.{Plan}
-use Rattle.net_check.specs.MoveRules.{AcceptsMove}
+use Rattle.net_rules.specs.MoveRules.{AcceptsMove}
 use Rattle.net_sim.specs.declared.accepted.Accepted.{Accepted}
 use Rattle.net_sim.specs.Accepted.{tables_of, certificate_of}
 use Rattle.net_sim.proofs.accepted.Accepted.after.Goals as goal

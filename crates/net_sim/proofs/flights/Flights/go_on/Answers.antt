@@ -1,7 +1,7 @@
 use Rattle.std.proofs.Common.{◌≡◌, ℕ, ◌<◌, true, false, is_some, Option, option_map, sym, ◌∙◌, ap, subst}
 use Rattle.std.specs.Prelude.{slice_set, IfSome}
 use Rattle.std.specs.List.{HoldsAt}
-use Rattle.net_check.specs.States as state
+use Rattle.net_runs.specs.States as state
 use Rattle.net_sim.specs.declared.flights.Slot.{Slot}
 use Rattle.net_sim.specs.Flights.{flight_value, slots_of, gone_on}
 use Rattle.net_sim.proofs.Keeping.{none_at, slot_at, set_means, few_hops}

@@ -1,6 +1,6 @@
 use Rattle.std.proofs.Common.{rules, of_calls, ◌↔◌, All, IsTrue, Option, option_map}
 use Rattle.mctp_transport.specs.Packets.{key_value}
-use Rattle.net_check.specs.States as state
+use Rattle.net_runs.specs.States as state
 use Rattle.net_sim.specs.Flights.{flight_value}
 use Rattle.net_sim.specs.Settling.{IsNotTo}
 use Rattle.net_sim.specs.declared.flights.Slot.{Slot}

@@ -1,7 +1,7 @@
 use Rattle.std.proofs.Common.{◌∷◌, ◌++◌, ◌<◌, [], ℕ, List, All, length, map, ap, sym, subst, ◌∙◌, arith}
 use Rattle.std.proofs.lemmas.List.{length-map, map-append}
 use Rattle.std.proofs.lemmas.List.Elements.{All-push}
-use Rattle.net_check.specs.Walkers.{WalkerValue}
+use Rattle.net_runs.specs.Walkers.{WalkerValue}
 use Rattle.net_sim.specs.declared.network_walker.NetworkWalker.{NetworkWalker}
 use Rattle.net_sim.specs.NetworkWalkers.{walker_value}
 use Rattle.net_sim.proofs.Begins.{begins}

@@ -1,16 +1,18 @@
-use Rattle.std.proofs.Common.{◌≡◌, ◌+◌, List, map, Some, refl, sym, ◌∙◌, ap, subst, arith}
+use Rattle.std.proofs.Common.{◌≡◌, ◌+◌, inl, inr, List, map, Some, refl, sym, ◌∙◌, ap, subst, arith}
 use Rattle.std.specs.Prelude.{slice_get, slice_set, option_map}
 use Rattle.std.proofs.lemmas.List.{length-set, map-set}
 use Rattle.std.proofs.lemmas.Option.{slice_get_read, slice_get-map, same_Some}
-use Rattle.net_check.specs.Events.{Move}
-use Rattle.net_check.specs.Walkers.{WalkerValue}
-use Rattle.net_check.proofs.Elements.{set_there}
+use Rattle.net_runs.specs.Events.{Move}
+use Rattle.net_runs.specs.Walkers.{WalkerValue}
+use Rattle.net_tables.proofs.Elements.{set_there}
 use Rattle.net_sim.specs.Effects.{effect_value}
 use Rattle.net_sim.specs.Outcomes.{handed_value}
-use Rattle.net_sim.specs.NetworkWalkers.{walker_value, HandsOver}
+use Rattle.net_sim.specs.declared.network_walker.NetworkWalker.{NetworkWalker}
+use Rattle.net_sim.specs.NetworkWalkers.{walker_value, HandsOver, Listens}
 use Rattle.net_sim.proofs.Entering.{map_set_same}
 use Rattle.net_sim.proofs.Walking.{err_told, happens_wants}
 use Rattle.net_sim.proofs.Hands.{comes_to_none, arrival_wants, hands}
+use Rattle.net_sim.proofs.Lacking.{err_lacks}
 use Rattle.net_sim.proofs.network.Network.move_flight.Goals as goal
 
 pub returns-in_err-effect-clause-plays : goal.returns-in_err-effect-clause-plays
@@ -67,3 +69,20 @@ returns-clause-plays g c =
     c.in_ok-effect-2.ensures.plays (subst (λ (z : WalkerValue). HandsOver z (i + 1) outcome handed (walker_value taken)) same c.hand-handed.ensures)
     (map-set walker_value (slice_set items i ready) i taken
     ∙ ap (λ (xs : List WalkerValue). slice_set xs i (walker_value taken)) (map_set_same walker_value items i x ready there c.reserve.ensures.value))
+
+pub returns-in_err-effect-clause-full : goal.returns-in_err-effect-clause-full
+returns-in_err-effect-clause-full g c = err_lacks _ c.from_residual.result c.from_residual.ensures.0 (inl c.in_err-effect.ensures.full)
+
+pub returns-in_err-reserve-clause-full : goal.returns-in_err-reserve-clause-full
+returns-in_err-reserve-clause-full g c =
+    let items = c.args.self.now.walkers.items in
+    let x = c.index_mut.result.now in
+    let there : slice_get items c.in-Some.index ≡ Some x = slice_get_read items _ _ x refl c.in-Some.ensures.within c.index_mut.ensures.value in
+    let (at, arrives, (y, here, listens)) = c.in-Some.ensures.there in
+    let same : y ≡ x = same_Some y x (sym here ∙ there) in
+    err_lacks _ c.from_residual-in_err-reserve.result c.from_residual-in_err-reserve.ensures.0
+    (inr (at.0, at.1, arrives, c.in-Some.index, x, there, subst (λ (z : NetworkWalker). Listens at.0 at.1 (walker_value z)) same listens, c.in_err-reserve.ensures.full))
+
+pub returns-in_err-effect-2-clause-full : goal.returns-in_err-effect-2-clause-full
+returns-in_err-effect-2-clause-full g c =
+    err_lacks _ c.from_residual-in_err-effect-2.result c.from_residual-in_err-effect-2.ensures.0 (inl c.in_err-effect-2.ensures.full)

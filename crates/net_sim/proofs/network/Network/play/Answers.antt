@@ -1,10 +1,12 @@
-use Rattle.std.proofs.Common.{refl, sym, ◌∙◌, ap}
-use Rattle.net_check.specs.Events.{Put, Lose, Expire, AnswerAt, Switch}
-use Rattle.net_check.specs.Walkers.{Happening}
+use Rattle.std.proofs.Common.{refl, sym, ◌∙◌, ap, subst}
+use Rattle.net_runs.specs.Events.{Put, Lose, Expire, AnswerAt, Switch}
+use Rattle.net_runs.specs.Walkers.{Happening}
 use Rattle.mctp_transport.specs.Packets.{key_value}
 use Rattle.net_sim.specs.Effects.{effect_value}
 use Rattle.net_sim.specs.Outcomes.{event_value}
 use Rattle.net_sim.proofs.Walking.{err_told, walked_as, wants_as, happens_apart, happens_wants}
+use Rattle.net_sim.specs.LackingRooms.{NetworkLacksRoom}
+use Rattle.net_sim.proofs.Lacking.{err_lacks}
 use Rattle.net_sim.proofs.network.Network.play.Goals as goal
 
 pub returns-in_err-put-in-Put-clause-plays : goal.returns-in_err-put-in-Put-clause-plays
@@ -53,3 +55,13 @@ returns-in-Switch-clause-plays g c =
 pub returns-in-Collected-clause-plays : goal.returns-in-Collected-clause-plays
 returns-in-Collected-clause-plays g c =
     walked_as c.args.self.now.traffic.router.tables _ _ _ _ _ _ (ap event_value (sym c.in-Collected.is)) refl c.tell.ensures
+
+pub returns-in_err-put-in-Put-clause-full : goal.returns-in_err-put-in-Put-clause-full
+returns-in_err-put-in-Put-clause-full g c =
+    let same = ap (λ bytes. Happening (Put c.in-Put.node bytes)) c.deref.ensures.value ∙ ap event_value (sym c.in-Put.is) in
+    err_lacks _ c.from_residual.result c.from_residual.ensures.0 (subst (λ e. NetworkLacksRoom c.args.self.now e) same c.in_err-put-in-Put.ensures.full)
+
+pub returns-in_err-answer-in-Answer-clause-full : goal.returns-in_err-answer-in-Answer-clause-full
+returns-in_err-answer-in-Answer-clause-full g c =
+    err_lacks _ c.from_residual-in_err-answer-in-Answer.result c.from_residual-in_err-answer-in-Answer.ensures.0
+    (subst (λ e. NetworkLacksRoom c.args.self.now e) (ap event_value (sym c.in-Answer.is)) c.in_err-answer-in-Answer.ensures.full)

@@ -1,5 +1,5 @@
 use Rattle.std.proofs.Common.{refl, ◌∙◌, ap, arith}
-use Rattle.net_check.specs.States.{unit_of}
+use Rattle.net_runs.specs.States.{unit_of}
 use Rattle.net_sim.specs.Networks.{checked_of}
 use Rattle.net_sim.proofs.PlayedRuns.{played_start, played_plays, played_next, stopped_plays, stopped_after}
 use Rattle.net_sim.proofs.AsSent.{plays_as_sent}

@@ -1,7 +1,7 @@
 use Rattle.std.proofs.Common.{◌≡◌, ℕ, None, refl, ap, inl, inr, arith}
 use Rattle.net_plan.specs.declared.plan.Plan.{Plan}
-use Rattle.net_check.specs.Routing.{Holds}
-use Rattle.net_check.specs.Walkers.{IsThere}
+use Rattle.net_tables.specs.Routing.{Holds}
+use Rattle.net_runs.specs.Walkers.{IsThere}
 use Rattle.net_sim.proofs.Begins.{is_there, is_among, begins_twice, begins_without_terminus, begins_with_wrong_count, may_begin}
 use Rattle.net_sim.proofs.network.Network.why_not_begin.Goals as goal
 use Rattle.net_sim.proofs.network.Network.why_not_begin.Goals.{then-count-lt-LEAST_COUNT-via-then-count-lt-LEAST_COUNT, then-count-lt-LEAST_COUNT-via-else-count-lt-LEAST_COUNT+then-five_packets-count}

@@ -1,6 +1,6 @@
 use Rattle.std.proofs.Common.{Option}
 use Rattle.std.specs.Prelude.{option_map}
-use Rattle.net_check.specs.States.{Flight}
+use Rattle.net_runs.specs.States.{Flight}
 use Rattle.net_sim.specs.Flights.{slots_of, flight_value}
 use Rattle.net_sim.specs.Placing.{IsPlaced}
 use Rattle.net_sim.proofs.Slots.{each_push, mapped_some}

@@ -1,7 +1,8 @@
 use Rattle.std.proofs.Common.{◌≡◌, ℕ, ◌<◌, length, List, Option, Some, refl, sym, ◌∙◌, ap, subst, arith}
 use Rattle.std.specs.Prelude.{slice_get}
+use Rattle.std.proofs.lemmas.Bool.{not-true, not-false}
 use Rattle.std.proofs.lemmas.Option.{slice_get_read}
-use Rattle.net_check.specs.States.{Flight}
+use Rattle.net_runs.specs.States.{Flight}
 use Rattle.mctp_transport.specs.Packets.{key_value}
 use Rattle.net_sim.specs.Flights.{slots_of}
 use Rattle.net_sim.specs.Effects.{effect_value}
@@ -10,13 +11,13 @@ use Rattle.net_sim.specs.Sending.{Sends}
 use Rattle.net_sim.proofs.Slots.{same_means}
 use Rattle.net_sim.proofs.Changes.{same_marks}
 use Rattle.net_sim.proofs.Entering.{queue_there}
-use Rattle.net_sim.proofs.Packing.{silent_by, sent_by, queue_set, some_out, not_false, not_true}
+use Rattle.net_sim.proofs.Packing.{silent_by, sent_by, queue_set, some_out}
 use Rattle.net_sim.proofs.traffic.Traffic.answer.Goals as goal
 
 pub send-requires-clause-some : goal.send-requires-clause-some
 send-requires-clause-some g c =
     subst (λ (bs : List ℕ). 0 < length bs) (sym c.deref.ensures.0)
-    (some_out _ _ _ c.in-Some-answer_at.asked.answered c.answer_at.new.out.items (not_false _ c.if-not-asked.false) c.in-Some-answer_at.ensures.asked)
+    (some_out _ _ _ c.in-Some-answer_at.asked.answered c.answer_at.new.out.items (not-false _ c.if-not-asked.false) c.in-Some-answer_at.ensures.asked)
 
 pub returns-then-not-asked-clause-plays : goal.returns-then-not-asked-clause-plays
 returns-then-not-asked-clause-plays g c =
@@ -27,7 +28,7 @@ returns-then-not-asked-clause-plays g c =
     let there = slice_get_read queues _ c.args.node c.index_mut.result.now refl short c.index_mut.ensures.value in
     let here = subst (λ ds. slice_get ds c.args.node ≡ Some c.index_mut.result.now) c.reserve.ensures.queues there in
     silent_by now.router.tables _ _ c.args.node within _ _ (queue_there _ now.queues.items c.args.node c.index_mut.result.now here) (key_value c.in-Some-answer_at.asked.key) (omega (arith, c.left.ensures, c.if-left-lt64.false)) c.reserve.ensures.assemblers
-    (queue_set _ _ _ _ _ c.reserve.ensures.queues) (same_marks _ _ c.reserve.ensures.router) c.in-Some-answer_at.asked.answered c.answer_at.new.out.items (not_true _ c.if-not-asked.true) c.in-Some-answer_at.ensures.asked
+    (queue_set _ _ _ _ _ c.reserve.ensures.queues) (same_marks _ _ c.reserve.ensures.router) c.in-Some-answer_at.asked.answered c.answer_at.new.out.items (not-true _ c.if-not-asked.true) c.in-Some-answer_at.ensures.asked
     c.reserve.ensures.flights
 
 pub returns-clause-plays : goal.returns-clause-plays
@@ -48,4 +49,4 @@ returns-clause-plays g c =
     sent_by now.router.tables _ _ c.args.node within _ _ (queue_there _ now.queues.items c.args.node c.index_mut.result.now here) key (omega (arith, c.left.ensures, c.if-left-lt64.false))
     (c.send.ensures.assemblers ∙ c.reserve.ensures.assemblers) (same_means _ _ _ c.send.ensures.queues ∙ queue_set _ _ _ _ _ c.reserve.ensures.queues)
     (same_marks _ _ (c.send.ensures.router ∙ c.reserve.ensures.router))
-    c.in-Some-answer_at.asked.answered out outcome (not_false _ c.if-not-asked.false) c.in-Some-answer_at.ensures.asked sent
+    c.in-Some-answer_at.asked.answered out outcome (not-false _ c.if-not-asked.false) c.in-Some-answer_at.ensures.asked sent

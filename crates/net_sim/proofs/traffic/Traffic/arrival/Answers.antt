@@ -3,8 +3,8 @@ use Rattle.net_sim.specs.Flights.{flight_value}
 use Rattle.net_sim.proofs.Arriving.{none_arrives_full}
 use Rattle.net_sim.proofs.traffic.Traffic.arrival.Goals as goal
 
-pub returns-then-left-lt1 : goal.returns-then-left-lt1
-returns-then-left-lt1 g c = λ w s node key.
+pub returns-then-left-lt1-clause-arrives : goal.returns-then-left-lt1-clause-arrives
+returns-then-left-lt1-clause-arrives g c = λ w s node key.
     none_arrives_full c.args.self.now.router.tables _ c.args.number (omega (arith, c.left.ensures, c.if-left-lt1.true)) w s c.args.keep c.if-keep.true node key
 
 pub eid_at-requires : goal.eid_at-requires

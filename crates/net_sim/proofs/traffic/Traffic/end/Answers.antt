@@ -1,5 +1,5 @@
 use Rattle.std.proofs.Common.{None}
-use Rattle.net_check.specs.States.{Flight}
+use Rattle.net_runs.specs.States.{Flight}
 use Rattle.net_sim.specs.Flights.{slots_of, flight_at}
 use Rattle.net_sim.specs.Placing.{IsPlaced}
 use Rattle.net_sim.proofs.Slots.{each_set, some_by, some_within}

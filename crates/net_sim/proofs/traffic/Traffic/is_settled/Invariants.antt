@@ -1,7 +1,7 @@
 use Rattle.std.proofs.Common.{ℕ, ◌<◌}
 use Rattle.mctp_transport.specs.Packets.{key_value}
-use Rattle.net_check.specs.Routing.{Holds}
-use Rattle.net_check.specs.States.{NetworkState}
+use Rattle.net_tables.specs.Routing.{Holds}
+use Rattle.net_runs.specs.States.{NetworkState}
 use Rattle.net_sim.specs.Traffics.{traffic_value}
 use Rattle.net_sim.specs.Standing.{StandsFor}
 use Rattle.net_sim.specs.Settling.{IsClearAt}

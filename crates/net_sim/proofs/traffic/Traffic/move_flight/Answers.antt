@@ -1,5 +1,5 @@
 use Rattle.std.proofs.Common.{sym, ap}
-use Rattle.net_check.specs.Events.{Move}
+use Rattle.net_runs.specs.Events.{Move}
 use Rattle.net_sim.proofs.Moving.{tells_as}
 use Rattle.net_sim.proofs.traffic.Traffic.move_flight.Goals as goal
 

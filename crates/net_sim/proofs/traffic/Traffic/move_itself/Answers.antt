@@ -1,7 +1,7 @@
 use Rattle.std.proofs.Common.{◌≡◌, ◌<◌, List, length, Option, Some, None, refl, sym, ◌∙◌, ap, subst, arith}
 use Rattle.std.specs.Prelude.{slice_get, slice_set, is_some, option_map, IfSome}
 use Rattle.std.proofs.lemmas.Option.{same_Some, none-some}
-use Rattle.net_check.specs.States.{Flight, destination}
+use Rattle.net_runs.specs.States.{Flight, destination}
 use Rattle.net_sim.specs.Routers.{RouterValue}
 use Rattle.net_sim.specs.Placing.{IsPlaced}
 use Rattle.net_sim.specs.Flights.{flight_value, flight_at, gone_on, slots_of}

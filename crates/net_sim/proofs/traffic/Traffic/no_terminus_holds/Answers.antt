@@ -1,6 +1,6 @@
 use Rattle.std.proofs.Common.{ℕ, ◌≡◌, ◌≢◌, length, Option, Some, None, refl, ◌∙◌, ap, arith, below_more}
 use Rattle.net_plan.specs.declared.plan.Plan.{Plan}
-use Rattle.net_check.specs.Routing.{Holds}
+use Rattle.net_tables.specs.Routing.{Holds}
 use Rattle.net_sim.proofs.Settled.{held_within}
 use Rattle.net_sim.proofs.traffic.Traffic.no_terminus_holds.Goals as goal
 

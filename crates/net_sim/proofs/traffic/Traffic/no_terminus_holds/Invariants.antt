@@ -1,6 +1,6 @@
 use Rattle.std.proofs.Common.{ℕ, ◌≡◌, ◌<◌, None}
-use Rattle.net_check.specs.Routing.{Holds}
-use Rattle.net_check.specs.States.{NetworkState}
+use Rattle.net_tables.specs.Routing.{Holds}
+use Rattle.net_runs.specs.States.{NetworkState}
 use Rattle.net_sim.specs.Traffics.{traffic_value}
 use Rattle.net_sim.specs.Standing.{StandsFor}
 use Rattle.net_sim.proofs.traffic.Traffic.no_terminus_holds.Given as goal

@@ -1,7 +1,7 @@
 use Rattle.std.proofs.Common.{◌∷◌, ◌++◌, [], List, Option, Some, length, ◌∙◌, ap, subst, arith}
 use Rattle.mctp_transport.specs.Packets.{frame_of}
 use Rattle.mctp_transport.specs.Frames.{Spelled}
-use Rattle.net_check.specs.States.{Flight}
+use Rattle.net_runs.specs.States.{Flight}
 use Rattle.net_sim.specs.Flights.{slots_of, flight_value}
 use Rattle.net_sim.proofs.Slots.{same_means}
 use Rattle.net_sim.proofs.Changes.{same_marks}

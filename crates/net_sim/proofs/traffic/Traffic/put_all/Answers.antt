@@ -3,7 +3,7 @@ use Rattle.std.proofs.lemmas.List.{append_assoc, length_push}
 use Rattle.mctp_transport.specs.Frames.{Frame}
 use Rattle.mctp_transport.specs.Packets.{frame_of}
 use Rattle.mctp_transport.specs.PacketsLeft.{frames_left}
-use Rattle.net_check.specs.States.{Flight}
+use Rattle.net_runs.specs.States.{Flight}
 use Rattle.net_sim.specs.Flights.{slots_of, begun}
 use Rattle.net_sim.specs.Payloads.{HaveRooms}
 use Rattle.net_sim.specs.Routers.{RouterValue}

@@ -7,8 +7,8 @@ use Rattle.net_sim.proofs.Slots.{same_means}
 use Rattle.net_sim.proofs.Rooms.{short_needs_none}
 use Rattle.net_sim.proofs.Changes.{same_marks}
 use Rattle.net_sim.proofs.Requesting.{puts_one}
-use Rattle.net_check.specs.States.{unit_of}
-use Rattle.net_check.proofs.Units.{least_unit}
+use Rattle.net_runs.specs.States.{unit_of}
+use Rattle.net_runs.proofs.Units.{least_unit}
 use Rattle.net_sim.proofs.Requesting.{as_cut}
 use Rattle.net_sim.proofs.traffic.Traffic.put_one.Goals as goal
 

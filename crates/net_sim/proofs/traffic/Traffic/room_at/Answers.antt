@@ -1,7 +1,7 @@
 use Rattle.std.proofs.Common.{◌<◌, length, refl, sym, ◌∙◌, subst, arith}
 use Rattle.std.proofs.lemmas.Option.{slice_get_read, same_Some}
 use Rattle.net_sim.specs.TerminusQueues.{HasRoomFor}
-use Rattle.net_check.proofs.Elements.{set_there}
+use Rattle.net_tables.proofs.Elements.{set_there}
 use Rattle.net_sim.proofs.Entering.{map_set_same}
 use Rattle.net_sim.proofs.traffic.Traffic.room_at.Goals as goal
 

@@ -9,8 +9,8 @@ use Rattle.net_plan.specs.declared.nodes.Node.{Node}
 use Rattle.net_sim.specs.Flights.{slots_of}
 use Rattle.net_sim.proofs.Packing.{begun_length}
 use Rattle.net_sim.proofs.Rooms.{enough_rooms}
-use Rattle.net_check.specs.States.{unit_of}
-use Rattle.net_check.proofs.Units.{least_unit}
+use Rattle.net_runs.specs.States.{unit_of}
+use Rattle.net_runs.proofs.Units.{least_unit}
 use Rattle.net_sim.proofs.Requesting.{as_cut}
 use Rattle.net_sim.proofs.traffic.Traffic.send.Goals as goal
 

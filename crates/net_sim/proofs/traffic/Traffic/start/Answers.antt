@@ -1,6 +1,6 @@
 use Rattle.std.proofs.Common.{◌≡◌, length, refl, ◌∙◌, ap}
 use Rattle.net_plan.specs.declared.plan.Plan.{Plan}
-use Rattle.net_check.specs.TwoPlans.{Tables}
+use Rattle.net_tables.specs.TwoPlans.{Tables}
 use Rattle.net_sim.specs.Accepted.{tables_of, certificate_of}
 use Rattle.net_sim.specs.Dealing.{IsIdleAssembler}
 use Rattle.net_sim.proofs.Dealt.{all_at, queues_long, no_flight_there, dealt_same, stands_at_rest, rest_is_start}

@@ -1,10 +1,23 @@
-use Rattle.plan_commands.proofs.Explained.{explains_so, quiet_told}
+use Rattle.std.proofs.Common.{◌≡◌}
+use Rattle.plan_commands.specs.declared.refused.Refused.TheVariants as refused
+use Rattle.plan_commands.specs.Answers.{stream}
+use Rattle.plan_commands.specs.Explaining.{ExplainsSo}
+use Rattle.plan_commands.proofs.Explained.{quiet_told}
+use Rattle.plan_commands.proofs.Told.{ends_so, breaks_or_gives}
 use Rattle.plan_commands.proofs.commands.explain.run_explain.Goals as goal
 
 pub returns-clause-explains : goal.returns-clause-explains
 returns-clause-explains g c =
     let answered = c.answer_explain-answered in
-    explains_so _ _ _ c.tell.result answered.result answered.ensures.answers answered.ensures.refused c.tell.ensures.told c.tell.ensures.refuses
+    let plans = stream g.P.Source.account c.args.plan.now answered.new.plan in
+    ends_so (ExplainsSo plans) c.tell.result _ _ (λ why. why ≡ refused.NoMemory) answered.result answered.ensures.answers answered.ensures.refused
+    c.tell.ensures.told c.tell.ensures.refuses
+
+pub returns-clause-unwritten : goal.returns-clause-unwritten
+returns-clause-unwritten g c =
+    let answered = c.answer_explain-answered in
+    let plans = stream g.P.Source.account c.args.plan.now answered.new.plan in
+    breaks_or_gives (ExplainsSo plans) c.tell.result _ _ answered.result answered.ensures.answers answered.ensures.refused c.tell.ensures.told c.tell.ensures.refuses
 
 pub returns-clause-quiet : goal.returns-clause-quiet
 returns-clause-quiet g c =

@@ -1,5 +1,5 @@
 use Rattle.std.proofs.Common.{ℕ, ◌<◌, ◌≢◌, Some}
-use Rattle.net_check.specs.Names.{name_of}
+use Rattle.net_rules.specs.Names.{name_of}
 use Rattle.plan_commands.proofs.commands.naming.first_named.Given as goal
 
 abbrev pub invariant-loop-index : goal.invariant-loop-index

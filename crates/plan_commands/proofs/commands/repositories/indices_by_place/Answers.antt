@@ -1,7 +1,7 @@
 use Rattle.std.proofs.Common.{◌≡◌, ◌∙◌, ◌==◌, ◌<◌, ◌+◌, ℕ, List, Option, Some, None, cond, length, map, take, ap, sym, subst, arith}
 use Rattle.std.specs.Option.{option_or}
 use Rattle.std.specs.Prelude.{position, slice_index_or}
-use Rattle.net_check.proofs.KnownEnds.{written_whole}
+use Rattle.net_rules.proofs.KnownEnds.{written_whole}
 use Rattle.net_plan.specs.declared.certificate.RecordPlace.{RecordPlace}
 use Rattle.plan_commands.specs.Ordering.{AreFirstAt}
 use Rattle.plan_commands.proofs.Repositories.{first_given_more}

@@ -2,7 +2,7 @@ use Rattle.std.proofs.Common.{◌≡◌, ◌∙◌, ◌<◌, Some, None, length,
 use Rattle.std.proofs.lemmas.Option.{slice_get_read, slice_get-get_or, same_Some}
 use Rattle.std.specs.Option.{option_and_then}
 use Rattle.std.specs.Prelude.{slice_get, slice_index_or}
-use Rattle.net_check.specs.Repositories.{places_of}
+use Rattle.net_tables.specs.Repositories.{places_of}
 use Rattle.plan_commands.specs.Ordering.{AreFirstAt}
 use Rattle.plan_commands.proofs.Repositories.{one_record_more}
 use Rattle.plan_commands.proofs.commands.repositories.records_by_place.Goals as goal

@@ -16,8 +16,8 @@ loop-index-preserved g c = (
 pub returns-in_err-add-in-Ok : goal.returns-in_err-add-in-Ok
 returns-in_err-add-in-Ok g c =
     let failed = c.in_err-add-in-Ok in
-    let middle = stream (g.O.Sink.contents c.loop-index.output) (g.O.Sink.failures c.loop-index.output) (g.O.Sink.contents c.add.new.output) (g.O.Sink.failures c.add.new.output) in
-    let output = stream (g.O.Sink.contents c.args.output.now) (g.O.Sink.failures c.args.output.now) (g.O.Sink.contents c.add.new.output) (g.O.Sink.failures c.add.new.output) in
+    let middle = stream g.O.Sink.account c.loop-index.output c.add.new.output in
+    let output = stream g.O.Sink.account c.args.output.now c.add.new.output in
     let ended : c.from_residual.result ≡ Err failed.field-0.0 = search rules in
     rw (ended ∙ ap Err failed.ensures.unwritten) (breaks_in_line c.args.plan.now c.args.outcomes.now c.loop-index.index c.index-outcomes-index.result
     c.loop-index-test.true c.index-outcomes-index.is c.deref.result.now (string_bytes c.loop-index.gathered.lines) output middle (c.deref.ensures ∙ c.in-Ok.ensures)
@@ -26,8 +26,8 @@ returns-in_err-add-in-Ok g c =
 pub returns-in_err-write-in-Err : goal.returns-in_err-write-in-Err
 returns-in_err-write-in-Err g c =
     let failed = c.in_err-write-in-Err in
-    let middle = stream (g.O.Sink.contents c.loop-index.output) (g.O.Sink.failures c.loop-index.output) (g.O.Sink.contents c.write.new.output) (g.O.Sink.failures c.write.new.output) in
-    let output = stream (g.O.Sink.contents c.args.output.now) (g.O.Sink.failures c.args.output.now) (g.O.Sink.contents c.write.new.output) (g.O.Sink.failures c.write.new.output) in
+    let middle = stream g.O.Sink.account c.loop-index.output c.write.new.output in
+    let output = stream g.O.Sink.account c.args.output.now c.write.new.output in
     let ended : c.from_residual-in_err-write-in-Err.result ≡ Err failed.field-0.0 = search rules in
     rw (ended ∙ ap Err failed.ensures.unwritten) (breaks_in_waiting c.args.plan.now (map outcome_value c.args.outcomes.now) c.loop-index.index
     (string_bytes c.loop-index.gathered.lines) output middle c.loop-index.invariant.0 failed.ensures.beginning
@@ -36,8 +36,8 @@ returns-in_err-write-in-Err g c =
 pub returns : goal.returns
 returns g c =
     let written = c.write-2.ensures in
-    let middle = stream (g.O.Sink.contents c.loop-index.output) (g.O.Sink.failures c.loop-index.output) (g.O.Sink.contents c.write-2.new.output) (g.O.Sink.failures c.write-2.new.output) in
-    let output = stream (g.O.Sink.contents c.args.output.now) (g.O.Sink.failures c.args.output.now) (g.O.Sink.contents c.write-2.new.output) (g.O.Sink.failures c.write-2.new.output) in
+    let middle = stream g.O.Sink.account c.loop-index.output c.write-2.new.output in
+    let output = stream g.O.Sink.account c.args.output.now c.write-2.new.output in
     ends_written _ c.args.plan.now (map outcome_value c.args.outcomes.now) c.loop-index.index (length c.args.outcomes.now) (string_bytes c.loop-index.gathered.lines)
     output middle c.write-2.result (omega (arith, c.loop-index-test.false, c.loop-index.auto.index-end)) c.loop-index.invariant.0 written.written written.unwritten
     written.beginning written.fails c.loop-index.invariant.1

@@ -6,5 +6,5 @@ use Rattle.plan_commands.proofs.commands.sim.print_outcomes.Given as goal
 
 abbrev pub invariant-loop-index : goal.invariant-loop-index
 invariant-loop-index g l =
-    AppendsAllBut (string_bytes l.gathered.lines) (g.O.Sink.contents l.initial.output) (g.O.Sink.contents l.output) (outcome_lines l.plan (take l.index (map outcome_value l.outcomes)))
-    × (g.O.Sink.failures l.output ≡ g.O.Sink.failures l.initial.output)
+    AppendsAllBut (string_bytes l.gathered.lines) (g.O.Sink.account l.initial.output).bytes (g.O.Sink.account l.output).bytes (outcome_lines l.plan (take l.index (map outcome_value l.outcomes)))
+    × ((g.O.Sink.account l.output).failures ≡ (g.O.Sink.account l.initial.output).failures)

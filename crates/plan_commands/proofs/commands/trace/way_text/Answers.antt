@@ -1,12 +1,12 @@
 use Rattle.std.proofs.Common.{◌≡◌, ◌≤◌, ℕ, List, length, string_bytes, Result, Ok, Err, IfOk, ap, ◌∙◌}
-use Rattle.net_check.specs.Ranks.{rank}
+use Rattle.net_tables.specs.Ranks.{rank}
 use Rattle.net_plan.specs.declared.plan.Plan.{Plan}
 use Rattle.net_plan.specs.declared.certificate.Certificate.{Certificate}
 use Rattle.net_questions.specs.declared.step.WayStep.{WayStep}
 use Rattle.net_questions.specs.declared.way.End.{End}
 use Rattle.net_questions.specs.Ways.{IsWay}
 use Rattle.net_questions.proofs.Packets.{keeps_to_ways}
-use Rattle.net_check.specs.Rules.{Accepts}
+use Rattle.net_rules.specs.Rules.{Accepts}
 use Rattle.plan_commands.specs.Tracing.{IsWayText}
 use Rattle.plan_texts.specs.WayLines.{trace_text}
 use Rattle.plan_commands.proofs.commands.trace.way_text.Goals as goal

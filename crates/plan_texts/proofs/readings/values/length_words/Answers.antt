@@ -1,4 +1,4 @@
-use Rattle.std.proofs.Common.{◌≡◌, ◌++◌, ℕ, option_map, string_bytes, codes, sym, ap, ◌∙◌, subst, arith}
+use Rattle.std.proofs.Common.{◌≡◌, ◌++◌, ℕ, string_bytes, codes, sym, ap, ◌∙◌, subst, arith}
 use Rattle.std.specs.Prelude.{IfOk}
 use Rattle.std.specs.Fmt.{decimal}
 use Rattle.serde_json.specs.Data.{Data, array}
@@ -14,5 +14,5 @@ returns-in-Array c =
     let items = c.in-Array.items in
     let is : view c.args.stands.now ≡ array (items_view items.items) = ap view c.in-Array.is ∙ view-Array items in
     let same : c.len-count.result ≡ items_count (items_view items.items) = grind (arith, items_counted) in
-    subst (λ (d : Data). IfOk c.format.result (λ words. IsLengthTold d (option_map (λ r. r.now) c.args.rest) (string_bytes words))) (sym is)
+    subst (λ (d : Data). IfOk c.format.result (λ words. IsLengthTold d c.args.rest.now (string_bytes words))) (sym is)
     (subst (λ (n : ℕ). IfOk c.format.result (λ words. string_bytes words ≡ codes "is a list of " ++ (decimal n ++ codes " items"))) same c.format.ensures.ok)

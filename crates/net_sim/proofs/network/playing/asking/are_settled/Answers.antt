@@ -2,10 +2,10 @@ use Rattle.std.proofs.Common.{◌≡◌, ◌↔◌, ℕ, sym, ◌∙◌, ap, sub
 use Rattle.std.proofs.lemmas.Option.{same_Some}
 use Rattle.mctp_transport.specs.Frames.{KeyValue}
 use Rattle.net_plan.specs.declared.plan.Plan.{Plan}
-use Rattle.net_check.specs.Routing.{Holds}
-use Rattle.net_check.specs.States.{NetworkState}
-use Rattle.net_check.specs.ExactMessages.{IsSettled}
-use Rattle.net_check.specs.Walkers.{asking_key}
+use Rattle.net_tables.specs.Routing.{Holds}
+use Rattle.net_runs.specs.States.{NetworkState}
+use Rattle.net_runs.specs.ExactMessages.{IsSettled}
+use Rattle.net_runs.specs.Walkers.{asking_key}
 use Rattle.net_sim.specs.NetworkWalkers.{walker_value}
 use Rattle.net_sim.proofs.network.playing.asking.are_settled.Goals as goal
 

@@ -1,10 +1,25 @@
-use Rattle.plan_commands.proofs.Explained.{explains_with_so, quiet_told}
+use Rattle.std.proofs.Common.{◌≡◌}
+use Rattle.plan_commands.specs.declared.refused.Refused.TheVariants as refused
+use Rattle.plan_commands.specs.Answers.{stream}
+use Rattle.plan_commands.specs.Explaining.{ExplainsWithSo}
+use Rattle.plan_commands.proofs.Explained.{quiet_told}
+use Rattle.plan_commands.proofs.Told.{ends_so, breaks_or_gives}
 use Rattle.plan_commands.proofs.commands.explain.certified.run_explain_certified.Goals as goal
 
 pub returns-clause-explains : goal.returns-clause-explains
 returns-clause-explains g c =
     let answered = c.answer_explain_certified-answered in
-    explains_with_so _ _ _ _ c.tell.result answered.result answered.ensures.answers answered.ensures.refused c.tell.ensures.told c.tell.ensures.refuses
+    let plans = stream g.P.Source.account c.args.plan.now answered.new.plan in
+    let certificates = stream g.C.Source.account c.args.certificate.now answered.new.certificate in
+    ends_so (ExplainsWithSo plans certificates) c.tell.result _ _ (λ why. why ≡ refused.NoMemory) answered.result answered.ensures.answers answered.ensures.refused
+    c.tell.ensures.told c.tell.ensures.refuses
+
+pub returns-clause-unwritten : goal.returns-clause-unwritten
+returns-clause-unwritten g c =
+    let answered = c.answer_explain_certified-answered in
+    let plans = stream g.P.Source.account c.args.plan.now answered.new.plan in
+    let certificates = stream g.C.Source.account c.args.certificate.now answered.new.certificate in
+    breaks_or_gives (ExplainsWithSo plans certificates) c.tell.result _ _ answered.result answered.ensures.answers answered.ensures.refused c.tell.ensures.told c.tell.ensures.refuses
 
 pub returns-clause-quiet : goal.returns-clause-quiet
 returns-clause-quiet g c =

@@ -1,101 +1,35 @@
-use Rattle.std.proofs.Common.{length, ap}
-use Rattle.net_check.specs.TwoPlans.{moving}
+use Rattle.std.proofs.Common.{rules, ◌≡◌, List, map, Err, refl, subst}
+use Rattle.net_plan.specs.declared.event.Event.{Event}
+use Rattle.net_sim.specs.Outcomes.{event_value}
 use Rattle.plan_commands.specs.Answers.{stream}
-use Rattle.plan_commands.proofs.MovePlayed.{tells_play_fault_in, play_fault_broken, move_played, move_broken, move_begun}
-use Rattle.net_sim.proofs.PlayedWalks.{promised}
-use Rattle.plan_commands.proofs.Simulated.{shown_in, simulates_in}
+use Rattle.plan_commands.specs.Moving.{IsMoveFaultText}
+use Rattle.plan_commands.specs.MoveSimulating.{MovesOn, IsMovePlayText, TellsMovedRun, IsPlayFault, IsPlayAnswer, IsPlayUnread}
+use Rattle.plan_commands.specs.Simulating.{PlaysSo}
+use Rattle.plan_commands.proofs.Playing.{plays_unread, plays_also}
 use Rattle.plan_commands.proofs.commands.sim.moves.answer_move_files.Goals as goal
 
-pub returns-in-Ok-clause-simulates : goal.returns-in-Ok-clause-simulates
-returns-in-Ok-clause-simulates g c =
-    let files = c.in_ok-before in
-    let ended = c.in_ok-play_move-in-Ok in
-    let befores = stream (g.P.Source.remaining c.args.before.now) (g.P.Source.failures c.args.before.now) (g.P.Source.remaining c.read_move_files.new.before) (g.P.Source.failures c.read_move_files.new.before) in
-    let afters = stream (g.Q.Source.remaining c.args.after.now) (g.Q.Source.failures c.args.after.now) (g.Q.Source.remaining c.read_move_files.new.after) (g.Q.Source.failures c.read_move_files.new.after) in
-    let certificates = stream (g.C.Source.remaining c.args.certificate.now) (g.C.Source.failures c.args.certificate.now) (g.C.Source.remaining c.read_move_files.new.certificate) (g.C.Source.failures c.read_move_files.new.certificate) in
-    let happenings = stream (g.V.Source.remaining c.args.events.now) (g.V.Source.failures c.args.events.now) (g.V.Source.remaining c.read_move_files.new.events) (g.V.Source.failures c.read_move_files.new.events) in
-    let output = stream (g.O.Sink.contents c.args.output.now) (g.O.Sink.failures c.args.output.now) (g.O.Sink.contents c.play_move.new.output) (g.O.Sink.failures c.play_move.new.output) in
-    move_played files.before files.after files.certificate befores afters certificates happenings output files.events.items files.ensures.given ended.field-0
-    c.in-Ok.ensures.accepted (shown_in files.before c.in-Ok.checked.0 (length files.events.items) (length c.deref.result.now) ended.field-0 output
-    (ap (λ r. r.0) c.in-Ok.ensures.checked) (ap (λ es. length es) c.deref.ensures.value) ended.ensures.lists) _ ended.ensures.reports
+pub returns-in_err-before-clause-plays : goal.returns-in_err-before-clause-plays
+returns-in_err-before-clause-plays g c =
+    let failed = c.in_err-before in
+    let befores = stream g.P.Source.account c.args.before.now c.read_move_files.new.before in
+    let afters = stream g.Q.Source.account c.args.after.now c.read_move_files.new.after in
+    let certificates = stream g.C.Source.account c.args.certificate.now c.read_move_files.new.certificate in
+    let happenings = stream g.V.Source.account c.args.events.now c.read_move_files.new.events in
+    let output = stream g.O.Sink.account c.args.output.now c.args.output.now in
+    let ended : c.from_residual.result ≡ Err failed.field-0.0 = search rules in
+    rw ended (plays_unread (TellsMovedRun befores afters certificates happenings) (IsPlayFault befores afters certificates happenings) (IsPlayAnswer befores afters certificates happenings) (λ why. IsPlayUnread why befores afters certificates happenings) _ output failed.field-0.0 (λ none. none) failed.ensures.unread refl)
 
-pub returns-in-Ok-clause-broken : goal.returns-in-Ok-clause-broken
-returns-in-Ok-clause-broken g c =
-    let files = c.in_ok-before in
-    let ended = c.in_ok-play_move-in-Ok in
-    let befores = stream (g.P.Source.remaining c.args.before.now) (g.P.Source.failures c.args.before.now) (g.P.Source.remaining c.read_move_files.new.before) (g.P.Source.failures c.read_move_files.new.before) in
-    let afters = stream (g.Q.Source.remaining c.args.after.now) (g.Q.Source.failures c.args.after.now) (g.Q.Source.remaining c.read_move_files.new.after) (g.Q.Source.failures c.read_move_files.new.after) in
-    let certificates = stream (g.C.Source.remaining c.args.certificate.now) (g.C.Source.failures c.args.certificate.now) (g.C.Source.remaining c.read_move_files.new.certificate) (g.C.Source.failures c.read_move_files.new.certificate) in
-    let happenings = stream (g.V.Source.remaining c.args.events.now) (g.V.Source.failures c.args.events.now) (g.V.Source.remaining c.read_move_files.new.events) (g.V.Source.failures c.read_move_files.new.events) in
-    let output = stream (g.O.Sink.contents c.args.output.now) (g.O.Sink.failures c.args.output.now) (g.O.Sink.contents c.play_move.new.output) (g.O.Sink.failures c.play_move.new.output) in
-    move_broken files.before files.after files.certificate befores afters certificates happenings output files.events.items files.ensures.given ended.field-0
-    c.in-Ok.ensures.accepted (simulates_in (moving files.before files.after) (moving c.in-Ok.checked.0 c.in-Ok.checked.1) files.certificate c.in-Ok.checked.2
-    files.events.items c.deref.result.now ended.field-0 output (ap (λ r. moving r.0 r.1) c.in-Ok.ensures.checked) (ap (λ r. r.2) c.in-Ok.ensures.checked)
-    c.deref.ensures.value ended.ensures.plays)
-
-pub returns-in-Ok-clause-beginning : goal.returns-in-Ok-clause-beginning
-returns-in-Ok-clause-beginning g c =
-    let files = c.in_ok-before in
-    let ended = c.in_ok-play_move-in-Ok in
-    let befores = stream (g.P.Source.remaining c.args.before.now) (g.P.Source.failures c.args.before.now) (g.P.Source.remaining c.read_move_files.new.before) (g.P.Source.failures c.read_move_files.new.before) in
-    let afters = stream (g.Q.Source.remaining c.args.after.now) (g.Q.Source.failures c.args.after.now) (g.Q.Source.remaining c.read_move_files.new.after) (g.Q.Source.failures c.read_move_files.new.after) in
-    let certificates = stream (g.C.Source.remaining c.args.certificate.now) (g.C.Source.failures c.args.certificate.now) (g.C.Source.remaining c.read_move_files.new.certificate) (g.C.Source.failures c.read_move_files.new.certificate) in
-    let happenings = stream (g.V.Source.remaining c.args.events.now) (g.V.Source.failures c.args.events.now) (g.V.Source.remaining c.read_move_files.new.events) (g.V.Source.failures c.read_move_files.new.events) in
-    let output = stream (g.O.Sink.contents c.args.output.now) (g.O.Sink.failures c.args.output.now) (g.O.Sink.contents c.play_move.new.output) (g.O.Sink.failures c.play_move.new.output) in
-    move_begun files.before files.after files.certificate befores afters certificates happenings output files.events.items files.ensures.given ended.field-0
-    c.in-Ok.ensures.accepted (shown_in files.before c.in-Ok.checked.0 (length files.events.items) (length c.deref.result.now) ended.field-0 output
-    (ap (λ r. r.0) c.in-Ok.ensures.checked) (ap (λ es. length es) c.deref.ensures.value) ended.ensures.lists)
-
-pub returns-clause-untouched : goal.returns-clause-untouched
-returns-clause-untouched g c =
-    let files = c.in_ok-before in
-    let befores = stream (g.P.Source.remaining c.args.before.now) (g.P.Source.failures c.args.before.now) (g.P.Source.remaining c.read_move_files.new.before) (g.P.Source.failures c.read_move_files.new.before) in
-    let afters = stream (g.Q.Source.remaining c.args.after.now) (g.Q.Source.failures c.args.after.now) (g.Q.Source.remaining c.read_move_files.new.after) (g.Q.Source.failures c.read_move_files.new.after) in
-    let certificates = stream (g.C.Source.remaining c.args.certificate.now) (g.C.Source.failures c.args.certificate.now) (g.C.Source.remaining c.read_move_files.new.certificate) (g.C.Source.failures c.read_move_files.new.certificate) in
-    let happenings = stream (g.V.Source.remaining c.args.events.now) (g.V.Source.failures c.args.events.now) (g.V.Source.remaining c.read_move_files.new.events) (g.V.Source.failures c.read_move_files.new.events) in
-    let output = stream (g.O.Sink.contents c.args.output.now) (g.O.Sink.failures c.args.output.now) (g.O.Sink.contents c.print_move_error.new.output) (g.O.Sink.failures c.print_move_error.new.output) in
-    play_fault_broken files.before files.after files.certificate befores afters certificates happenings output files.events.items files.ensures.given
-    c.in-Err.error _ c.print_move_error.result c.in-Err.ensures.first_fault c.print_move_error.ensures.untouched
-
-pub returns-clause-simulates : goal.returns-clause-simulates
-returns-clause-simulates g c =
-    let files = c.in_ok-before in
-    let befores = stream (g.P.Source.remaining c.args.before.now) (g.P.Source.failures c.args.before.now) (g.P.Source.remaining c.read_move_files.new.before) (g.P.Source.failures c.read_move_files.new.before) in
-    let afters = stream (g.Q.Source.remaining c.args.after.now) (g.Q.Source.failures c.args.after.now) (g.Q.Source.remaining c.read_move_files.new.after) (g.Q.Source.failures c.read_move_files.new.after) in
-    let certificates = stream (g.C.Source.remaining c.args.certificate.now) (g.C.Source.failures c.args.certificate.now) (g.C.Source.remaining c.read_move_files.new.certificate) (g.C.Source.failures c.read_move_files.new.certificate) in
-    let happenings = stream (g.V.Source.remaining c.args.events.now) (g.V.Source.failures c.args.events.now) (g.V.Source.remaining c.read_move_files.new.events) (g.V.Source.failures c.read_move_files.new.events) in
-    let output = stream (g.O.Sink.contents c.args.output.now) (g.O.Sink.failures c.args.output.now) (g.O.Sink.contents c.print_move_error.new.output) (g.O.Sink.failures c.print_move_error.new.output) in
-    tells_play_fault_in files.before files.after files.certificate befores afters certificates happenings output files.events.items files.ensures.given
-    c.in-Err.error c.print_move_error.result c.in-Err.ensures.first_fault c.print_move_error.ensures.written _
-
-pub returns-in-Ok-clause-runs : goal.returns-in-Ok-clause-runs
-returns-in-Ok-clause-runs g c = λ is.
-    let files = c.in_ok-before in
-    let ended = c.in_ok-play_move-in-Ok in
-    let output = stream (g.O.Sink.contents c.args.output.now) (g.O.Sink.failures c.args.output.now) (g.O.Sink.contents c.play_move.new.output) (g.O.Sink.failures c.play_move.new.output) in (
-      files.before,
-      files.after,
-      files.certificate,
-      files.events.items,
-      files.ensures.given,
-      c.in-Ok.ensures.accepted,
-      promised (moving files.before files.after) files.certificate c.in-Ok.ensures.accepted,
-      simulates_in (moving files.before files.after) (moving c.in-Ok.checked.0 c.in-Ok.checked.1) files.certificate c.in-Ok.checked.2 files.events.items c.deref.result.now
-          ended.field-0 output (ap (λ r. moving r.0 r.1) c.in-Ok.ensures.checked) (ap (λ r. r.2) c.in-Ok.ensures.checked) c.deref.ensures.value ended.ensures.plays,
-    )
-
-pub returns-in-Ok-clause-partly_runs : goal.returns-in-Ok-clause-partly_runs
-returns-in-Ok-clause-partly_runs g c = λ is.
-    let files = c.in_ok-before in
-    let ended = c.in_ok-play_move-in-Ok in
-    let output = stream (g.O.Sink.contents c.args.output.now) (g.O.Sink.failures c.args.output.now) (g.O.Sink.contents c.play_move.new.output) (g.O.Sink.failures c.play_move.new.output) in (
-      files.before,
-      files.after,
-      files.certificate,
-      files.events.items,
-      files.ensures.given,
-      c.in-Ok.ensures.accepted,
-      promised (moving files.before files.after) files.certificate c.in-Ok.ensures.accepted,
-      simulates_in (moving files.before files.after) (moving c.in-Ok.checked.0 c.in-Ok.checked.1) files.certificate c.in-Ok.checked.2 files.events.items c.deref.result.now
-          ended.field-0 output (ap (λ r. moving r.0 r.1) c.in-Ok.ensures.checked) (ap (λ r. r.2) c.in-Ok.ensures.checked) c.deref.ensures.value ended.ensures.plays,
-    )
+pub returns-clause-plays : goal.returns-clause-plays
+returns-clause-plays g c =
+    let read = c.in_ok-before in
+    let befores = stream g.P.Source.account c.args.before.now c.read_move_files.new.before in
+    let afters = stream g.Q.Source.account c.args.after.now c.read_move_files.new.after in
+    let certificates = stream g.C.Source.account c.args.certificate.now c.read_move_files.new.certificate in
+    let happenings = stream g.V.Source.account c.args.events.now c.read_move_files.new.events in
+    let output = stream g.O.Sink.account c.args.output.now c.play_move.new.output in
+    let events = map event_value read.events.items in
+    let same = c.play_move.new.output ≡ c.args.output.now in
+    let P : List Event → Type 0 = λ es. PlaysSo (MovesOn read.before read.after read.certificate (map event_value es)) (IsMoveFaultText read.before read.after read.certificate) (IsMovePlayText read.before read.after read.certificate (map event_value es)) (λ why. ⊥) same c.play_move.result output in
+    plays_also (MovesOn read.before read.after read.certificate events) (TellsMovedRun befores afters certificates happenings) (IsMoveFaultText read.before read.after read.certificate) (IsPlayFault befores afters certificates happenings) (IsMovePlayText read.before read.after read.certificate events) (IsPlayAnswer befores afters certificates happenings) (λ why. ⊥) (λ why. IsPlayUnread why befores afters certificates happenings)
+    same output (λ s runs. (read.before, read.after, read.certificate, read.events.items, read.ensures.given, runs)) (λ text is. (read.before, read.after, read.certificate, read.events.items, read.ensures.given, is)) (λ text is. (read.before, read.after, read.certificate, read.events.items, read.ensures.given, is)) (λ why none. absurd none)
+    c.play_move.result (subst P c.as_slice.ensures.value c.play_move.ensures)

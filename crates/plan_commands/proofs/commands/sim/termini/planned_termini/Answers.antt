@@ -1,5 +1,5 @@
 use Rattle.pdr_repository.specs.BlockTermini.{block_tid, block_records}
-use Rattle.net_check.specs.Termini.{terminus_at_start}
+use Rattle.net_runs.specs.Termini.{terminus_at_start}
 use Rattle.net_sim.specs.Dealing.{resting}
 use Rattle.plan_commands.proofs.Repositories.{one_terminus_more}
 use Rattle.plan_commands.proofs.commands.sim.termini.planned_termini.Goals as goal

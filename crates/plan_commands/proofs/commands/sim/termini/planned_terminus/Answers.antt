@@ -1,7 +1,7 @@
 use Rattle.std.proofs.Common.{◌≡◌, Some, length, option_map, ap, sym, ◌∙◌, arith}
 use Rattle.std.proofs.lemmas.List.{length-map}
 use Rattle.pdr_repository.specs.Records.{entries, entry_of}
-use Rattle.net_check.specs.Repositories.{terminus_of}
+use Rattle.net_tables.specs.Repositories.{terminus_of}
 use Rattle.plan_commands.proofs.Repositories.{has_terminus, lawful_records}
 use Rattle.plan_commands.proofs.commands.sim.termini.planned_terminus.Goals as goal
 

@@ -1,5 +1,0 @@
-use Rattle.net_check.specs.Certificates.{IsMadeBefore}
-use Rattle.net_check.proofs.certifying.certify.Given as goal
-
-abbrev pub invariant-loop-rule : goal.invariant-loop-rule
-invariant-loop-rule l = IsMadeBefore l.plan l.rule-index l.made

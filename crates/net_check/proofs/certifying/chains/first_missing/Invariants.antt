@@ -1,7 +1,0 @@
-use Rattle.std.proofs.Common.{ℕ, ◌<◌}
-use Rattle.net_check.specs.Routing.{OfItem}
-use Rattle.net_check.specs.RecordChains.{HasNext}
-use Rattle.net_check.proofs.certifying.chains.first_missing.Given as goal
-
-abbrev pub invariant-loop-j : goal.invariant-loop-j
-invariant-loop-j l = (k : ℕ) → k < l.j → OfItem l.records k (HasNext l.records)

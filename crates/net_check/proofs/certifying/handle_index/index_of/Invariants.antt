@@ -1,5 +1,0 @@
-use Rattle.net_check.proofs.IndexLaws.{IsIndexBelow}
-use Rattle.net_check.proofs.certifying.handle_index.index_of.Given as goal
-
-abbrev pub invariant-loop-at : goal.invariant-loop-at
-invariant-loop-at l = IsIndexBelow l.keys l.at l.index

@@ -1,6 +1,0 @@
-use Rattle.std.proofs.Common.{None}
-use Rattle.net_check.proofs.EidMoves.{nowhere}
-use Rattle.net_check.proofs.certifying.next_nodes.next_node.Goals as goal
-
-pub returns-in-None : goal.returns-in-None
-returns-in-None c = nowhere c.args.plan.now c.args.eid.value c.args.node (c.requires c.args.eid.value None c.in-None.ensures)

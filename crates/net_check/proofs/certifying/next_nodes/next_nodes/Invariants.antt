@@ -1,5 +1,0 @@
-use Rattle.net_check.specs.RoutingLoops.{AreNexts}
-use Rattle.net_check.proofs.certifying.next_nodes.next_nodes.Given as goal
-
-abbrev pub invariant-loop-node : goal.invariant-loop-node
-invariant-loop-node l = AreNexts l.plan l.eid.value l.node l.nexts.items

@@ -1,6 +1,0 @@
-use Rattle.std.proofs.Common.{ℕ, ◌<◌}
-use Rattle.net_check.specs.Circles.{MovesBy, IsOnCircle}
-use Rattle.net_check.proofs.certifying.walks.first_on_circle.Given as goal
-
-abbrev pub invariant-loop-index : goal.invariant-loop-index
-invariant-loop-index l = (n : ℕ) → n < l.index → ¬ IsOnCircle (MovesBy l.table) n

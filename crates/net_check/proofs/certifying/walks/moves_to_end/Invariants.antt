@@ -1,6 +1,0 @@
-use Rattle.net_check.specs.Moves.{Leads}
-use Rattle.net_check.specs.Circles.{MovesBy}
-use Rattle.net_check.proofs.certifying.walks.moves_to_end.Given as goal
-
-abbrev pub invariant-loop-count : goal.invariant-loop-count
-invariant-loop-count l = Leads (MovesBy l.table) l.start l.count l.at

@@ -1,5 +1,0 @@
-use Rattle.net_check.proofs.Sent.{six_are_too_many}
-use Rattle.net_check.proofs.laws.six_are_too_many.Goals as goal
-
-pub returns : goal.returns
-returns c = six_are_too_many

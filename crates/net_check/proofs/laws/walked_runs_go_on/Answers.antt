@@ -1,5 +1,0 @@
-use Rattle.net_check.proofs.WalkedGoings.{walked_runs_go_on}
-use Rattle.net_check.proofs.laws.walked_runs_go_on.Goals as goal
-
-pub returns : goal.returns
-returns c = walked_runs_go_on

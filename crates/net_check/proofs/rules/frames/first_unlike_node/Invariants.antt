@@ -1,6 +1,0 @@
-use Rattle.std.proofs.Common.{ℕ, ◌<◌}
-use Rattle.net_check.specs.MoveRules.{IsSameNode}
-use Rattle.net_check.proofs.rules.frames.first_unlike_node.Given as goal
-
-abbrev pub invariant-loop-node : goal.invariant-loop-node
-invariant-loop-node l = (k : ℕ) → k < l.node → IsSameNode l.before l.after k

@@ -1,6 +1,0 @@
-use Rattle.std.proofs.Common.{◌≡◌, ℕ, ◌<◌}
-use Rattle.net_check.specs.Routing.{Holds}
-use Rattle.net_check.proofs.rules.held_eids.is_held_by_another.Given as goal
-
-abbrev pub invariant-loop-holder : goal.invariant-loop-holder
-invariant-loop-holder l = (k : ℕ) → k < l.holder → Holds l.plan k l.eid.value → k ≡ l.node

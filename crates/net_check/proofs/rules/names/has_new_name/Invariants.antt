@@ -1,6 +1,0 @@
-use Rattle.std.proofs.Common.{ℕ, ◌<◌}
-use Rattle.net_check.specs.Names.{HaveOneName}
-use Rattle.net_check.proofs.rules.names.has_new_name.Given as goal
-
-abbrev pub invariant-loop-earlier : goal.invariant-loop-earlier
-invariant-loop-earlier l = (k : ℕ) → k < l.earlier → ¬ HaveOneName l.plan k l.node

@@ -1,8 +1,0 @@
-use Rattle.std.proofs.Common.{◌≡◌, ℕ, ◌<◌}
-use Rattle.net_check.specs.Routing.{IsBridge}
-use Rattle.net_check.specs.Owners.{owner_of}
-use Rattle.net_check.specs.Pools.{IsInPoolOf}
-use Rattle.net_check.proofs.rules.pools.is_in_no_peers_pool.Given as goal
-
-abbrev pub invariant-loop-peer : goal.invariant-loop-peer
-invariant-loop-peer l = (k : ℕ) → k < l.peer → IsBridge l.plan k → owner_of l.plan k ≡ owner_of l.plan l.node → ¬ IsInPoolOf l.plan k l.eid.value

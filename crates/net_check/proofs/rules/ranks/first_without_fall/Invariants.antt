@@ -1,7 +1,0 @@
-use Rattle.std.proofs.Common.{ℕ, ◌<◌}
-use Rattle.net_check.specs.Routing.{Covers}
-use Rattle.net_check.specs.Ranks.{Falls}
-use Rattle.net_check.proofs.rules.ranks.first_without_fall.Given as goal
-
-abbrev pub invariant-loop-number : goal.invariant-loop-number
-invariant-loop-number l = (e : ℕ) → e < l.number → Covers l.row e → Falls l.plan l.ranks l.node l.row e

@@ -1,8 +1,0 @@
--- Each node holds an EID of its own.
-use Rattle.std.specs.Prelude.{ℕ, ◌<◌}
-use Rattle.net_plan.specs.declared.plan.Plan.{Plan}
-use Rattle.net_check.specs.Routing.{Holds}
-
--- no earlier node holds e
-unfoldable pub IsNewlyHeld : Plan → ℕ → ℕ → Type 0
-IsNewlyHeld plan n e = (m : ℕ) → m < n → ¬ Holds plan m e

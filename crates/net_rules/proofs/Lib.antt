@@ -1,0 +1,42 @@
+mod Spots
+pub mod SharedBuses
+mod OtherSpots
+pub mod OtherSearches
+mod StretchLaws
+mod FollowingLaws
+mod HolderLaws
+mod RecordSpots
+mod Handles
+mod Filed
+mod NewHandles
+pub mod Beyond
+mod RuleOrder
+mod FaultRuns
+mod LocatorLaws
+mod EntryLaws
+mod SameItems
+mod MoveSearches
+mod MoveOrder
+pub mod Ends
+pub mod Pigeons
+pub mod Circling
+pub mod KnownEnds
+pub mod SameMoves
+pub mod Lines
+pub mod LevelLaws
+mod IndexLaws
+pub mod ChainLaws
+mod ChainPlaces
+pub mod EidMoves
+mod EidRuns
+mod AlikeLaws
+mod RankRunLaws
+mod Filters
+mod RankLaws
+mod CertificateLaws
+mod OneCertificate
+mod OneOrder
+mod Listed
+mod ExactCertificates
+mod Obstacles
+mod RowsInForce

@@ -1,0 +1,149 @@
+-- What is made of a certificate on the way, and what rules certificates out.
+use Rattle.std.proofs.Common.{◌≡◌, ◌≢◌, ℕ, ◌+◌, ◌<◌, Some, None, refl, sym, ◌∙◌, ap, subst, arith, inl, inr, Result, Ok, Err}
+use Rattle.std.specs.Prelude.{IfErr}
+use Rattle.std.proofs.lemmas.Bool.{cases_lt}
+use Rattle.net_rules.specs.declared.certify_error.CertifyError.{CertifyError}
+use Rattle.net_rules.specs.declared.certify_error.CertifyError.TheVariants as error
+use Rattle.net_rules.specs.declared.fault.Fault.{Fault}
+use Rattle.net_rules.specs.declared.rule.Rule.{Rule}
+use Rattle.net_rules.specs.declared.rule.Rule.TheVariants.{C04, C05, C07, C10, C12, C14}
+use Rattle.net_plan.specs.declared.plan.Plan.{Plan}
+use Rattle.net_plan.specs.declared.certificate.Certificate.{Certificate}
+use Rattle.net_tables.specs.Routing.{MovesTo}
+use Rattle.net_tables.specs.Ownership.{IsOwnedBy}
+use Rattle.net_tables.specs.Repositories.{records_of, places_given, places_of, HasRecords}
+use Rattle.net_rules.specs.RecordChains.{HaveNewHandles}
+use Rattle.net_rules.specs.Faults.{FaultSite, site_of, order_of, ComesBefore}
+use Rattle.net_rules.specs.PlanFaults.{PlanMeets, IsMetByPlan, IsFirstOfPlanRule}
+use Rattle.net_tables.specs.Rows.{RowsAreApart, RowsAreInRange}
+use Rattle.net_rules.specs.Certificates.{AreExactLevels, AreExactPlaces, AreExactRanks, IsMadeBefore, CanBeMetBefore, NamesOwnerLoop, NamesRoutingLoop, NamesBadChain, NamesObstacle, RulesOutCertificates}
+use Rattle.net_rules.proofs.RuleOrder.{one_order, below_more}
+use Rattle.net_rules.proofs.Circling.{circle_never_ends}
+use Rattle.net_rules.proofs.EidMoves.{moves_only, ends_from_rank}
+use Rattle.net_rules.proofs.LevelLaws.{one_owner, first_loop_breaks_levels}
+use Rattle.net_rules.proofs.ChainLaws.{bad_chain_breaks_places}
+use Rattle.net_rules.proofs.CertificateLaws.{looped_has_none}
+
+-- ---- what is made on the way
+
+-- the next part is made, or none is to be
+pub more_levels : (plan : Plan) (made new : Certificate) → IsMadeBefore plan (order_of C07) made → PlanMeets plan C07 → AreExactLevels plan new.levels.items → IsMadeBefore plan (order_of C07 + 1) new
+more_levels plan made new is met levels = record {
+  meets = below_more (PlanMeets plan) C07 is.meets met;
+  levels = λ lt. levels;
+  ranks = λ lt. absurd (omega arith);
+  places = λ lt. absurd (omega arith);
+}
+
+pub more_ranks : (plan : Plan) (made new : Certificate) → IsMadeBefore plan (order_of C10) made → PlanMeets plan C10 → new.levels ≡ made.levels → AreExactRanks plan new.ranks.items → IsMadeBefore plan (order_of C10 + 1) new
+more_ranks plan made new is met same ranks = record {
+  meets = below_more (PlanMeets plan) C10 is.meets met;
+  levels = λ lt. (let P : _ → Type 0 = λ given. AreExactLevels plan given.items in subst P (sym same) (is.levels (omega arith)));
+  ranks = λ lt. ranks;
+  places = λ lt. absurd (omega arith);
+}
+
+pub more_places : (plan : Plan) (made new : Certificate) → IsMadeBefore plan (order_of C14) made → PlanMeets plan C14 → new.levels ≡ made.levels → new.ranks ≡ made.ranks → AreExactPlaces plan new.places.items → IsMadeBefore plan (order_of C14 + 1) new
+more_places plan made new is met same same' places = record {
+  meets = below_more (PlanMeets plan) C14 is.meets met;
+  levels = λ lt. (let P : _ → Type 0 = λ given. AreExactLevels plan given.items in subst P (sym same) (is.levels (omega arith)));
+  ranks = λ lt. (let P : _ → Type 0 = λ given. AreExactRanks plan given.items in subst P (sym same') (is.ranks (omega arith)));
+  places = λ lt. places;
+}
+
+-- an order that is not that of another rule
+elsewhere : (rule part : Rule) → rule ≢ part → order_of part < order_of rule + 1 → order_of part < order_of rule
+elsewhere rule part differ less = elim (cases_lt (order_of part) (order_of rule)) [
+  | inl earlier ↦ earlier
+  | inr here ↦ absurd (differ (one_order rule part (omega (arith, less, here))))
+]
+
+pub more_alone : (plan : Plan) (rule : Rule) (made : Certificate) → IsMadeBefore plan (order_of rule) made → PlanMeets plan rule → rule ≢ C07 → rule ≢ C10 → rule ≢ C14 → IsMadeBefore plan (order_of rule + 1) made
+more_alone plan rule made is met no_levels no_ranks no_places = record {
+  meets = below_more (PlanMeets plan) rule is.meets met;
+  levels = λ lt. is.levels (elsewhere rule C07 no_levels lt);
+  ranks = λ lt. is.ranks (elsewhere rule C10 no_ranks lt);
+  places = λ lt. is.places (elsewhere rule C14 no_places lt);
+}
+
+-- nothing is made before the first rule
+pub none_made : (plan : Plan) (made : Certificate) → IsMadeBefore plan 0 made
+none_made plan made = record {
+  meets = λ rule lt. absurd (omega arith);
+  levels = λ lt. absurd (omega arith);
+  ranks = λ lt. absurd (omega arith);
+  places = λ lt. absurd (omega arith);
+}
+
+-- what the parts need of the rules before them
+pub made_apart : (plan : Plan) (made : Certificate) → IsMadeBefore plan (order_of C10) made → RowsAreApart plan
+made_apart plan made is n r = is.meets C05 (omega arith) n (Some r) None
+
+pub made_in_range : (plan : Plan) (made : Certificate) → IsMadeBefore plan (order_of C10) made → RowsAreInRange plan
+made_in_range plan made is n r = is.meets C04 (omega arith) n (Some r) None
+
+pub made_handles : (plan : Plan) (made : Certificate) → IsMadeBefore plan (order_of C14) made → (n : ℕ) → HaveNewHandles (records_of plan n)
+made_handles plan made is n j r at = is.meets C12 (omega arith) n (Some j) None r at
+
+pub made_records : (plan : Plan) (made : Certificate) → IsMadeBefore plan (order_of C14) made → (n : ℕ) → HasRecords plan n
+made_records plan made is n = is.meets C12 (omega arith) n None None
+
+-- the parts that are made leave no circle
+pub made_can : (plan : Plan) (order : ℕ) (made : Certificate) → IsMadeBefore plan order made → CanBeMetBefore plan order
+made_can plan order made is = record {
+  plan_meets = is.meets;
+  owners = λ lt n circle. (let level = (is.levels lt).levels n in circle_never_ends (IsOwnedBy plan) (one_owner plan) n _ level.0 circle level.1 level.2);
+  routes = λ lt e n circle.
+      let apart : RowsAreApart plan = λ m r. is.meets C05 (omega arith) m (Some r) None in
+      let ends = ends_from_rank plan n e _ ((is.ranks lt).ranks n e) in
+      circle_never_ends (MovesTo plan e) (moves_only plan e apart) n _ ends.0 circle ends.1 ends.2;
+  chains = λ lt n. (places_given made.places.items n, (is.places lt).places n);
+}
+
+-- ---- what the errors name
+
+pub fault_named : (plan : Plan) (rule : Rule) (made : Certificate) (fault : Fault) → IsMadeBefore plan (order_of rule) made → IsFirstOfPlanRule plan rule (Some fault) → NamesObstacle plan (error.Fault fault)
+fault_named plan rule made fault is (here, broken, first) =
+    let C : Rule → Type 0 = λ r. CanBeMetBefore plan (order_of r) in
+    (subst C (sym here) (made_can plan (order_of rule) made is), record { broken = broken; first = λ other before. earlier other before })
+  where
+    earlier : (other : FaultSite) → ComesBefore other (site_of fault) → IsMetByPlan plan other
+    earlier other before = elim before [
+      | inl less ↦ is.meets other.rule (let at = ap order_of here in omega (arith, less, at)) other.node other.entry other.eid
+      | inr (same, rest) ↦ first other (one_order other.rule fault.rule same ∙ here) (inr (same, rest))
+    ]
+
+pub owner_loop_named : (plan : Plan) (made : Certificate) (e : CertifyError) → IsMadeBefore plan (order_of C07) made → PlanMeets plan C07 → NamesOwnerLoop plan e → NamesObstacle plan e
+owner_loop_named plan made error.OutOfMemory is met named = named
+owner_loop_named plan made (error.Fault fault) is met named = absurd named
+owner_loop_named plan made (error.OwnerLoop nodes) is met named = (made_can plan (order_of C07) made is, met, named)
+owner_loop_named plan made (error.Loop eid nodes) is met named = absurd named
+owner_loop_named plan made (error.BadChain node fault) is met named = absurd named
+
+pub routing_loop_named : (plan : Plan) (made : Certificate) (e : CertifyError) → IsMadeBefore plan (order_of C10) made → NamesRoutingLoop plan e → NamesObstacle plan e
+routing_loop_named plan made error.OutOfMemory is named = named
+routing_loop_named plan made (error.Fault fault) is named = absurd named
+routing_loop_named plan made (error.OwnerLoop nodes) is named = absurd named
+routing_loop_named plan made (error.Loop eid nodes) is named = (made_can plan (order_of C10) made is, named)
+routing_loop_named plan made (error.BadChain node fault) is named = absurd named
+
+pub bad_chain_named : (plan : Plan) (made : Certificate) (e : CertifyError) → IsMadeBefore plan (order_of C14) made → NamesBadChain plan e → NamesObstacle plan e
+bad_chain_named plan made error.OutOfMemory is named = named
+bad_chain_named plan made (error.Fault fault) is named = absurd named
+bad_chain_named plan made (error.OwnerLoop nodes) is named = absurd named
+bad_chain_named plan made (error.Loop eid nodes) is named = absurd named
+bad_chain_named plan made (error.BadChain node fault) is named = (made_can plan (order_of C14) made is, named.0, named.1)
+
+-- what is named leaves no certificate
+pub ruled_out : (plan : Plan) (e : CertifyError) → NamesObstacle plan e → RulesOutCertificates plan e
+ruled_out plan error.OutOfMemory named = λ some. absurd (some refl)
+ruled_out plan (error.Fault fault) named = λ some cert accepted. (let p = site_of fault in named.1.broken ((accepted p.rule p.node p.entry p.eid).0))
+ruled_out plan (error.OwnerLoop nodes) named = λ some cert accepted. first_loop_breaks_levels plan nodes.items named.2 cert (λ n. (accepted C07 n None None).1)
+ruled_out plan (error.Loop eid nodes) named = λ some. looped_has_none plan eid.value nodes.items named.1
+ruled_out plan (error.BadChain node fault) named = λ some cert accepted.
+    bad_chain_breaks_places (records_of plan node) fault (λ j r is. (accepted C12 node (Some j) None).0 r is) named.1 (places_of cert node) (λ j r is. (accepted C14 node (Some j) None).1 r is)
+
+-- what follows of an error
+pub if_err : {A E : Type 0} (result : Result A E) (P Q : E → Type 0) → ((e : E) → P e → Q e) → IfErr result P → IfErr result Q
+if_err (Ok a) P Q follows holds = tt
+if_err (Err e) P Q follows holds = follows e holds

@@ -1,0 +1,118 @@
+-- The stretches of what is asked of the rows in force, whichever plan each node goes by.
+use Rattle.std.proofs.Common.{◌≡◌, ◌≢◌, ℕ, ◌<◌, ◌≤◌, List, length, Option, Some, None, sym, ◌∙◌, arith, inl, inr}
+use Rattle.std.specs.Prelude.{◌↔◌, MatchOption}
+use Rattle.mctp_transport.specs.declared.address.Eid.{Eid}
+use Rattle.net_plan.specs.declared.certificate.RankRange.{RankRange}
+use Rattle.net_plan.specs.declared.certificate.Certificate.{Certificate}
+use Rattle.net_plan.specs.declared.plan.Plan.{Plan}
+use Rattle.net_tables.specs.Routing.{Holds, HasRow, IsBridge, eid_number}
+use Rattle.net_tables.specs.TwoPlans.{Tables, moving, HasRowAlways, HasRowEver}
+use Rattle.net_rules.specs.HeldEids.{IsLedOn}
+use Rattle.net_rules.specs.Superfluous.{NeedsItsRank}
+use Rattle.net_rules.specs.Stretches.{IsStretch, HasOneRank, IsLeastFailure}
+use Rattle.net_tables.specs.Ranks.{ranges_of, rank_in, rank}
+use Rattle.net_rules.proofs.StretchLaws.{shorter, rank_of_ranges}
+
+pub both_alike : (before after : Plan) (n at a b less : ℕ) → IsStretch (HasRow before n) at a → IsStretch (HasRow after n) at b → at < less → less ≤ a → less ≤ b
+    → IsStretch (HasRowAlways (moving before after) n) at less
+both_alike before after n at a b less one other some le le' =
+    let old = shorter (HasRow before n) at a less some le one in
+    let new = shorter (HasRow after n) at b less some le' other in (
+      some,
+      λ e low high.
+          let o = old.1 e low high in
+          let w = new.1 e low high in
+          (λ has. (o.0 has.0, w.0 has.1), λ has. (o.1 has.0, w.1 has.1)),
+    )
+
+led_along : (tables : Tables) (n m d e : ℕ) → ((k : ℕ) → Holds tables.plan k d ↔ Holds tables.plan k e) → (HasRowAlways tables m d → HasRowAlways tables m e)
+    → IsLedOn tables n d m → IsLedOn tables n e m
+unfolding IsLedOn
+led_along tables n m d e held routed led = λ holder holds other. elim (led holder ((held holder).1 holds) other) [
+  | inl here ↦ inl ((held m).0 here)
+  | inr (bridge, row) ↦ inr (bridge, routed row)
+]
+
+pub led_alike : (tables : Tables) (n m at end last less : ℕ) → ((k : ℕ) → IsStretch (Holds tables.plan k) at end) → IsStretch (HasRowAlways tables m) at last → at < less
+    → less ≤ end → less ≤ last → IsStretch (λ e. IsLedOn tables n e m) at less
+led_alike tables n m at end last less holders rows some le le' =
+    let held : (k : ℕ) → IsStretch (Holds tables.plan k) at less = λ k. shorter (Holds tables.plan k) at end less some le (holders k) in
+    let routed : IsStretch (HasRowAlways tables m) at less = shorter (HasRowAlways tables m) at last less some le' rows in (
+      some,
+      λ e low high. (
+        led_along tables n m e at (λ k. (held k).1 e low high) ((routed.1 e low high).0),
+        led_along tables n m at e (λ k. (let h = (held k).1 e low high in (h.1, h.0))) ((routed.1 e low high).1),
+      ),
+    )
+
+led_by_row : (tables : Tables) (n m e : ℕ) → IsBridge tables.plan m → HasRowAlways tables m e → IsLedOn tables n e m
+unfolding IsLedOn
+led_by_row tables n m e bridge row = λ holder holds other. inr (bridge, row)
+
+pub led_along_rows : (tables : Tables) (n m at end : ℕ) → IsBridge tables.plan m → HasRowAlways tables m at → IsStretch (HasRowAlways tables m) at end
+    → IsStretch (λ e. IsLedOn tables n e m) at end
+led_along_rows tables n m at end bridge row rows = (
+  rows.0,
+  λ e low high. (λ _. led_by_row tables n m at bridge row, λ _. led_by_row tables n m e bridge ((rows.1 e low high).1 row)),
+)
+
+pub either_alike : (before after : Plan) (n at a b less : ℕ) → IsStretch (HasRow before n) at a → IsStretch (HasRow after n) at b → at < less → less ≤ a → less ≤ b
+    → IsStretch (HasRowEver (moving before after) n) at less
+either_alike before after n at a b less one other some le le' =
+    let old = shorter (HasRow before n) at a less some le one in
+    let new = shorter (HasRow after n) at b less some le' other in (
+      some,
+      λ e low high.
+          let o = old.1 e low high in
+          let w = new.1 e low high in (
+            λ has. elim has [ inl x ↦ inl (o.0 x) | inr y ↦ inr (w.0 y) ],
+            λ has. elim has [ inl x ↦ inl (o.1 x) | inr y ↦ inr (w.1 y) ],
+          ),
+    )
+
+-- that a node needs the rank that its ranges give, by one of the plans
+abbrev pub NeedsRankBy : Tables → ℕ → List RankRange → ℕ → Type 0
+NeedsRankBy tables n ranges e = rank_in ranges e ≢ 0 → ¬ Holds tables.plan n e × HasRowEver tables n e
+
+pub need_alike : (tables : Tables) (n : ℕ) (ranges : List RankRange) (at a b c less : ℕ) → HasOneRank ranges at a → IsStretch (HasRowEver tables n) at b
+    → IsStretch (Holds tables.plan n) at c → at < less → less ≤ a → less ≤ b → less ≤ c → IsStretch (NeedsRankBy tables n ranges) at less
+need_alike tables n ranges at a b c less here rows held some le le' le'' = (
+  some,
+  λ e low high.
+      let rank : rank_in ranges e ≡ rank_in ranges at = here.1 e low (omega arith) in
+      let holds = held.1 e low (omega arith) in
+      let row = rows.1 e low (omega arith) in (
+        λ need given. (let met = need (omega arith) in (λ h. met.0 (holds.1 h), row.0 met.1)),
+        λ need given. (let met = need (omega arith) in (λ h. met.0 (holds.0 h), row.1 met.1)),
+      ),
+)
+
+pub need_along_rows : (tables : Tables) (n : ℕ) (ranges : List RankRange) (at a b less : ℕ) → ¬ Holds tables.plan n at → HasRowEver tables n at
+    → IsStretch (HasRowEver tables n) at a → IsStretch (Holds tables.plan n) at b → at < less → less ≤ a → less ≤ b → IsStretch (NeedsRankBy tables n ranges) at less
+need_along_rows tables n ranges at a b less free has rows held some le le' = (
+  some,
+  λ e low high.
+      let holds = held.1 e low (omega arith) in
+      let row = rows.1 e low (omega arith) in
+      (λ _ _. (free, has), λ _ _. (λ h. free (holds.0 h), row.1 has)),
+)
+
+need_of_ranges : (tables : Tables) (cert : Certificate) (n : ℕ) (ranges : List RankRange) (e : ℕ) → rank_in ranges e ≡ rank cert n e → (e ≤ 255 → NeedsRankBy tables n ranges e)
+    → NeedsItsRank tables cert n e
+unfolding NeedsItsRank
+need_of_ranges tables cert n ranges e same need within small given = need small (λ none. given (sym same ∙ none))
+
+range_of_need : (tables : Tables) (cert : Certificate) (n : ℕ) (ranges : List RankRange) (e : ℕ) → rank_in ranges e ≡ rank cert n e → n < length tables.plan.nodes.items → e ≤ 255
+    → NeedsItsRank tables cert n e → NeedsRankBy tables n ranges e
+unfolding NeedsItsRank
+range_of_need tables cert n ranges e same within small need given = need within small (λ none. given (same ∙ none))
+
+pub first_of_all_eids : (tables : Tables) (cert : Certificate) (n : ℕ) (ranges : List RankRange) (found : Option Eid) → n < length tables.plan.nodes.items → ranges ≡ ranges_of cert n
+    → IsLeastFailure (NeedsRankBy tables n ranges) 0 256 (eid_number found)
+    → MatchOption found ((e : ℕ) → NeedsItsRank tables cert n e) (λ eid. ¬ NeedsItsRank tables cert n eid.value × ((d : ℕ) → d < eid.value → NeedsItsRank tables cert n d))
+first_of_all_eids tables cert n ranges None within same none =
+    λ e. need_of_ranges tables cert n ranges e (rank_of_ranges cert n e ranges same) (λ small. none e (omega arith) (omega arith))
+first_of_all_eids tables cert n ranges (Some eid) within same found = (
+  λ need. found.2 (range_of_need tables cert n ranges eid.value (rank_of_ranges cert n eid.value ranges same) within (omega arith) need),
+  λ d less. need_of_ranges tables cert n ranges d (rank_of_ranges cert n d ranges same) (λ small. found.3 d (omega arith) less),
+)

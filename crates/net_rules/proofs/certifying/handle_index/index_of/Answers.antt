@@ -1,0 +1,21 @@
+use Rattle.std.proofs.Common.{arith, sym, ◌∙◌, get_or}
+use Rattle.std.proofs.lemmas.Option.{slice_get-get_or}
+use Rattle.net_rules.proofs.IndexLaws.{index_new, index_kept, index_done, is_none_tells}
+use Rattle.net_rules.proofs.certifying.handle_index.index_of.Goals as goal
+use Rattle.net_rules.proofs.certifying.handle_index.index_of.Goals.{then-is_none+in_ok-insert, else-is_none}
+
+pub loop-at-preserved : goal.loop-at-preserved
+loop-at-preserved c =
+    let keys = c.args.keys.now in
+    let here = slice_get-get_or keys c.loop-at.at 0 c.loop-at-test.true in
+    elim c.if-is_none.branch [
+      | then-is_none+in_ok-insert w ↦ rw w.index-is (
+          index_new keys c.loop-at.at (get_or keys c.loop-at.at 0) c.loop-at.index c.loop-at.invariant here w.insert.new.self
+          (sym c.first_at.ensures ∙ is_none_tells c.first_at.result c.is_none.result c.is_none.ensures w.if-is_none.true)
+          w.in_ok-insert.ensures.updates)
+      | else-is_none w ↦ rw w.index-is (
+          index_kept keys c.loop-at.at (get_or keys c.loop-at.at 0) c.loop-at.index c.loop-at.invariant here (λ none. grind (arith, none, c.first_at.ensures, c.is_none.ensures, w.if-is_none.false)))
+    ]
+
+pub returns : goal.returns
+returns c = index_done c.args.keys.now c.loop-at.at c.loop-at.index (omega (arith, c.loop-at-test.false)) c.loop-at.invariant

@@ -1,0 +1,15 @@
+use Rattle.std.proofs.Common.{List, subst, sym, ◌∙◌}
+use Rattle.mctp_bridge.specs.declared.row.TableRow as bridge
+use Rattle.mctp_bridge.specs.Rows as rule
+use Rattle.net_tables.proofs.TableLaws.{lawful_rows, no_fault, sends_as}
+use Rattle.net_rules.proofs.certifying.tables.table_of.Goals as goal
+
+pub returns-in-Ok : goal.returns-in-Ok
+returns-in-Ok c = sends_as c.args.rows.now c.deref.result.now c.in-Ok.table (c.deref.ensures.value ∙ c.in_ok-rows.ensures) c.in-Ok.ensures.routes
+
+pub unreachable-requires : goal.unreachable-requires
+unreachable-requires c =
+    let rows = c.args.rows.now in
+    let P : List bridge.TableRow → Type 0 = rule.AreLawful in
+    let lawful : rule.AreLawful c.deref.result.now = subst P (sym (c.deref.ensures.value ∙ c.in_ok-rows.ensures)) (lawful_rows rows c.requires) in
+    c.in_default.not-Memory (no_fault c.deref.result.now c.in-Err.fault lawful c.in-Err.ensures.fault)

@@ -1,0 +1,24 @@
+use Rattle.std.proofs.Common.{◌≡◌, ◌≤◌, length, Some, refl, sym, arith}
+use Rattle.std.specs.Prelude.{slice_get}
+use Rattle.std.proofs.lemmas.Option.{slice_get_read}
+use Rattle.net_rules.proofs.FollowingLaws.{rank_past, rank_here, rank_later}
+use Rattle.net_rules.proofs.node_ranges.rank_by_halving.Goals as goal
+
+pub returns-then-ended-ranges : goal.returns-then-ended-ranges
+returns-then-ended-ranges c = sym (rank_past c.args.ranges.now c.requires c.args.eid.value c.ranges_ended_by-ended.result c.ranges_ended_by-ended.ensures (omega arith))
+
+pub returns-then-range-eid : goal.returns-then-range-eid
+returns-then-range-eid c =
+    let ranges = c.args.ranges.now in
+    let count = c.ranges_ended_by-ended.result in
+    let within : count ≤ length ranges = c.ranges_ended_by-ended.ensures.within in
+    let here : slice_get ranges count ≡ Some c.index-ranges-ended.result = slice_get_read ranges (length ranges) count c.index-ranges-ended.result refl (omega arith) c.index-ranges-ended.is in
+    sym (rank_here ranges c.requires c.args.eid.value count c.ranges_ended_by-ended.ensures c.index-ranges-ended.result here (omega arith))
+
+pub returns-else-range-eid : goal.returns-else-range-eid
+returns-else-range-eid c =
+    let ranges = c.args.ranges.now in
+    let count = c.ranges_ended_by-ended.result in
+    let within : count ≤ length ranges = c.ranges_ended_by-ended.ensures.within in
+    let here : slice_get ranges count ≡ Some c.index-ranges-ended.result = slice_get_read ranges (length ranges) count c.index-ranges-ended.result refl (omega arith) c.index-ranges-ended.is in
+    sym (rank_later ranges c.requires c.args.eid.value count c.ranges_ended_by-ended.ensures c.index-ranges-ended.result here (omega arith))

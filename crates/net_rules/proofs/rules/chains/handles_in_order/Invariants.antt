@@ -1,0 +1,6 @@
+use Rattle.net_rules.specs.Handles.{AreFiled}
+use Rattle.net_rules.proofs.Handles.{values}
+use Rattle.net_rules.proofs.rules.chains.handles_in_order.Given as goal
+
+abbrev pub invariant-loop-j : goal.invariant-loop-j
+invariant-loop-j l = AreFiled l.records (values l.places) l.j l.handles.items

@@ -1,0 +1,109 @@
+//! The search for the first fault of a move.
+ghost use Rattle.std.specs.Prelude.{◌≡◌, OnOk, IfErr};
+ghost use Rattle.net_rules.specs.PlanTables.{tables_of};
+ghost use Rattle.net_rules.specs.Rules.{AtRowEid, AtNodeOrEid};
+ghost use Rattle.net_rules.specs.HeldEids.{IsLedOn};
+ghost use Rattle.net_rules.specs.Superfluous.{NeedsWhatItIsGiven, NeedsItsRank};
+ghost use Rattle.net_rules.specs.MoveRules.{AcceptsMove};
+ghost use Rattle.net_rules.specs.MoveFaults.{NamesFirstMoveFault};
+ghost use Rattle.net_rules.specs.MoveSearch.{IsFirstByNode};
+
+use crate::asked::Asked;
+use crate::fault::Fault;
+use crate::first_fault::first_of_asked;
+use crate::holders::Holders;
+use crate::move_error::MoveError;
+use crate::move_fault::{MoveFault, MoveRule};
+use crate::plans::Plans;
+use crate::rules::frames::{first_unlike_node, have_same_frame};
+use crate::rules::held_eids::row_without_way_on;
+use crate::rules::superfluous::superfluous_entry;
+use net_plan::{Certificate, Plan};
+use std::alloc::{AllocError, Global};
+
+/// Whether each rule of a move holds. Otherwise the error is the first fault, or out of memory.
+pub fn meet_rules_of_move(
+    alloc: Global,
+    before: &Plan,
+    after: &Plan,
+    certificate: &Certificate,
+) -> Result<(), MoveError>
+    ensures accepted { OnOk result (AcceptsMove before.now after.now certificate.now) }
+    ensures first_fault { IfErr result (λ error. NamesFirstMoveFault before.now after.now certificate.now error) }
+{
+    if !have_same_frame(before, after) {
+        return Err(MoveError::Differ(None));
+    }
+    if let Some(node) = first_unlike_node(before, after) {
+        return Err(MoveError::Differ(Some(node)));
+    }
+    let holders = Holders::of(alloc, before)?;
+    let new_holders = Holders::of(alloc, after)?;
+    if let Some(fault) = first_of_asked(alloc, before, &holders, certificate, Asked::Before)? {
+        return Err(MoveError::Old(fault_of_plan(fault)));
+    }
+    if let Some(fault) = first_of_asked(alloc, after, &new_holders, certificate, Asked::After)? {
+        return Err(MoveError::New(fault_of_plan(fault)));
+    }
+    let plans = Plans {
+        plan: before,
+        after: Some(after),
+    };
+    if let Some(fault) = first_without_way_on(&plans, &holders, before) {
+        return Err(MoveError::Old(fault));
+    }
+    if let Some(fault) = first_without_way_on(&plans, &holders, after) {
+        return Err(MoveError::New(fault));
+    }
+    if let Some(fault) = first_superfluous(&plans, certificate) {
+        return Err(MoveError::Both(fault));
+    }
+    Ok(())
+}
+
+/// The fault of a rule of one plan, as a fault of the move.
+fn fault_of_plan(fault: Fault) -> MoveFault
+    ensures { result ≡ record { rule = MoveRule.OfPlan fault.rule; node = fault.node; entry = fault.entry; eid = fault.eid } }
+{
+    MoveFault {
+        rule: MoveRule::OfPlan(fault.rule),
+        node: fault.node,
+        entry: fault.entry,
+        eid: fault.eid,
+    }
+}
+
+/// The first fault of M02 along the rows of one of the plans.
+fn first_without_way_on(plans: &Plans<'_>, holders: &Holders<'_>, whose: &Plan) -> Option<MoveFault>
+    requires { holders.now ≡ plans.now.plan.now }
+    ensures { IsFirstByNode MoveRule.M02 (λ n. AtRowEid whose.now n (λ row e. IsLedOn (tables_of plans.now) n e row.next)) result }
+{
+    for node in 0..whose.nodes.len() {
+        if let Some(spot) = row_without_way_on(plans, holders, whose, node) {
+            return Some(MoveFault {
+                rule: MoveRule::M02,
+                node,
+                entry: spot.entry,
+                eid: spot.eid,
+            });
+        }
+    }
+    None
+}
+
+/// The first fault of M03.
+fn first_superfluous(plans: &Plans<'_>, certificate: &Certificate) -> Option<MoveFault>
+    ensures { IsFirstByNode MoveRule.M03 (λ n. AtNodeOrEid (NeedsWhatItIsGiven plans.now.plan.now certificate.now n) (NeedsItsRank (tables_of plans.now) certificate.now n)) result }
+{
+    for node in 0..plans.plan.nodes.len() {
+        if let Some(spot) = superfluous_entry(plans, certificate, node) {
+            return Some(MoveFault {
+                rule: MoveRule::M03,
+                node,
+                entry: spot.entry,
+                eid: spot.eid,
+            });
+        }
+    }
+    None
+}

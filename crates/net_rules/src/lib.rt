@@ -1,0 +1,37 @@
+//! The rules of a plan, of its certificate and of a move between two plans: the search for the first fault, and the one
+//! certificate that a plan can have.
+#![tactic(auto)]
+
+mod all_faults;
+mod asked;
+mod borders;
+mod certified_ranks;
+mod certify_error;
+mod certifying;
+mod fault;
+mod fault_run;
+mod first_fault;
+mod first_move_fault;
+mod holders;
+mod move_error;
+mod move_fault;
+mod node_ranges;
+mod plan_fault;
+mod plans;
+mod rows_in_force;
+mod rule;
+mod rules;
+mod spot;
+mod stretches;
+
+pub use all_faults::faults;
+pub use certify_error::CertifyError;
+pub use certifying::certify;
+pub use certifying::chains::ChainFault;
+pub use fault::Fault;
+pub use fault_run::{EidSpan, FaultRun};
+pub use first_fault::first_of_all;
+pub use first_move_fault::meet_rules_of_move;
+pub use move_error::MoveError;
+pub use move_fault::{MoveFault, MoveRule};
+pub use rule::Rule;

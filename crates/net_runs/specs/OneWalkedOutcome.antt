@@ -1,0 +1,19 @@
+-- That an event leaves one outcome and one next state with walkers too: which walker is handed a message, what it makes
+-- of it, and what each request is, are determined.
+use Rattle.std.specs.Prelude.{◌≡◌, List}
+use Rattle.net_plan.specs.declared.certificate.Certificate.{Certificate}
+use Rattle.net_tables.specs.TwoPlans.{Tables}
+use Rattle.net_runs.specs.Walkers.{WalkedState, WalkedEvent, WalkedOutcome}
+use Rattle.net_runs.specs.WalkedRuns.{WalkedStep, WalkedTurn, WalkedRunOf, walked_reached}
+
+-- What comes of the event, and the network and the walkers after it, are determined.
+abbrev pub HasOneWalkedOutcome : Tables → WalkedState → WalkedEvent → Type 0
+HasOneWalkedOutcome tables w event =
+    (a b : WalkedOutcome) (u v : WalkedState) → WalkedStep tables w event a u → WalkedStep tables w event b v
+    → (a ≡ b) × (u ≡ v)
+
+-- so it is at each moment of each run by the tables
+abbrev pub WalkedRunsHaveOneOutcome : Tables → Certificate → Type 0
+WalkedRunsHaveOneOutcome tables cert =
+    (turns : List WalkedTurn) (event : WalkedEvent) → WalkedRunOf tables cert turns
+    → HasOneWalkedOutcome tables (walked_reached tables.plan cert turns) event

@@ -1,0 +1,4 @@
+pub mod PoolsOf
+pub mod Elements
+pub mod TableLaws
+pub mod RowSearches

@@ -1,0 +1,23 @@
+use Rattle.std.proofs.Common.{refl, arith}
+use Rattle.net_plan.specs.declared.nodes.Row.{Row}
+use Rattle.net_tables.specs.Routing.{Covers}
+use Rattle.net_tables.proofs.RowSearches.{of_one_more, of_all_items, row_for, no_row_for}
+use Rattle.net_tables.proofs.lookup.has_row.Goals as goal
+
+pub returns-then-covers : goal.returns-then-covers
+returns-then-covers c =
+    let row = c.row-item.result in
+    (λ _. row_for c.args.plan.now c.args.node c.args.eid.value c.loop-row.row-index row c.rows_at-rows.result.now c.rows_at-rows.ensures (omega arith) c.row-item.is (c.covers.ensures.0 c.if-covers.true), λ _. refl)
+
+pub loop-row-preserved : goal.loop-row-preserved
+loop-row-preserved c =
+    of_one_more c.rows_at-rows.result.now c.loop-row.row-index c.row-item.result (λ (row : Row). ¬ Covers row c.args.eid.value) (omega arith) c.row-item.is
+    (λ covers. cc (c.covers.ensures.1 covers, c.if-covers.false)) c.loop-row.invariant
+
+pub returns : goal.returns
+returns c =
+    let rows = c.rows_at-rows.result.now in (
+      λ h. absurd (cc h),
+      λ has. absurd (no_row_for c.args.plan.now c.args.node c.args.eid.value rows c.rows_at-rows.ensures
+          (of_all_items rows c.loop-row.row-index (λ (row : Row). ¬ Covers row c.args.eid.value) (omega arith) c.loop-row.invariant) has),
+    )

@@ -1,0 +1,9 @@
+pub mod Routing
+pub mod TwoPlans
+pub mod EidRuns
+pub mod Rows
+pub mod Ranks
+pub mod Repositories
+pub mod Tables
+pub mod Lawful
+pub mod Ownership

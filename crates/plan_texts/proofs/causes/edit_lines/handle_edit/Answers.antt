@@ -1,4 +1,0 @@
-use Rattle.plan_texts.proofs.causes.edit_lines.handle_edit.Goals as goal
-
-pub returns : goal.returns
-returns c = rw (c.in_ok-entry.ensures, c.name_or_dash-name.ensures) at c.format.ensures.ok

@@ -1,4 +1,0 @@
-use Rattle.plan_texts.proofs.causes.names.shared_name.Goals as goal
-
-pub returns : goal.returns
-returns c = rw c.name_or_dash-name.ensures at c.format.ensures.ok

@@ -1,4 +1,0 @@
-use Rattle.plan_texts.proofs.causes.pools.outside_owners_pool.Goals as goal
-
-pub returns : goal.returns
-returns c = rw (c.name_or_dash-name.ensures, c.in_ok-eid.ensures, c.eid_of_fault.ensures, c.in_ok-span.ensures, c.name_or_dash-owner.ensures) at c.format.ensures.ok

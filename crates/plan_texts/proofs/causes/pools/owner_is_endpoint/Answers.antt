@@ -1,4 +1,0 @@
-use Rattle.plan_texts.proofs.causes.pools.owner_is_endpoint.Goals as goal
-
-pub returns : goal.returns
-returns c = rw (c.name_or_dash-name.ensures, c.name_or_dash-owner.ensures) at c.format.ensures.ok

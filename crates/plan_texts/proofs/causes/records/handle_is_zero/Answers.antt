@@ -1,4 +1,0 @@
-use Rattle.plan_texts.proofs.causes.records.handle_is_zero.Goals as goal
-
-pub returns : goal.returns
-returns c = rw (c.in_ok-entry.ensures, c.name_or_dash-name.ensures) at c.format.ensures.ok

@@ -1,4 +1,0 @@
-use Rattle.plan_texts.proofs.causes.records.no_records.Goals as goal
-
-pub returns : goal.returns
-returns c = rw c.name_or_dash-name.ensures at c.format.ensures.ok

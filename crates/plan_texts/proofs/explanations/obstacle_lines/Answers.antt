@@ -1,7 +1,0 @@
-use Rattle.plan_texts.proofs.Chains.{chain_handles}
-use Rattle.plan_texts.proofs.explanations.obstacle_lines.Goals as goal
-
-pub chain_lines-requires : goal.chain_lines-requires
-chain_lines-requires c =
-    let named = rw c.in-BadChain.is at c.requires in
-    record { handles = chain_handles c.args.plan.now _ named.0; bad = named.1 }

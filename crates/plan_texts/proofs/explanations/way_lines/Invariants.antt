@@ -1,7 +1,0 @@
-use Rattle.std.proofs.Common.{◌≡◌, string_bytes, take}
-use Rattle.std.specs.List.{flat_map}
-use Rattle.plan_texts.specs.ExplanationLines.{way_line}
-use Rattle.plan_texts.proofs.explanations.way_lines.Given as goal
-
-abbrev pub invariant-loop-node : goal.invariant-loop-node
-invariant-loop-node l = string_bytes l.lines ≡ flat_map (way_line l.plan l.eid.value) (take l.node-index l.nodes)
