@@ -1,10 +1,9 @@
--- The first fault of a plan's text, with its pointer.
-use Rattle.std.specs.Prelude.{◌≡◌, ◌⊎◌, ℕ, List, Err, Option, Some, None, MatchOption}
+-- The first fault of a plan, with its pointer.
+use Rattle.std.specs.Prelude.{◌≡◌, ◌⊎◌, Err, Option, Some, None, MatchOption}
 use Rattle.serde_json.specs.Data.{Data}
 use Rattle.net_plan.specs.Finding.{Located, first_fault}
 use Rattle.net_plan.specs.PlanReading.{plan, plan_format}
 use Rattle.net_plan.specs.Tables.{a_plan}
-use Rattle.net_plan.specs.Texts.{IsJson}
 use Rattle.net_plan.specs.declared.error.ValueFault.{ValueFault}
 use Rattle.net_plan.specs.declared.error.ValueFault.TheVariants.{UnknownName, Doubled}
 use Rattle.net_pointers.specs.Pointers.{HasFaultAt}
@@ -21,7 +20,3 @@ IsFaultOfPlan d l = (plan d ≡ Err l.fault) × HasFaultAt None (a_plan (plan_fo
 -- what is found in a plan
 abbrev pub IsFoundInPlan : Data → Option Located → Type 0
 IsFoundInPlan d found = MatchOption found (IsRightButForNames d) (IsFaultOfPlan d)
-
--- what is found in the text of a plan
-abbrev pub IsFoundInPlanText : List ℕ → Option Located → Type 0
-IsFoundInPlanText text found = (d : Data) × IsJson text d × IsFoundInPlan d found

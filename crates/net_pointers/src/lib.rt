@@ -21,7 +21,7 @@ pub use known::{known_names, names_at, names_of_nodes};
 pub use nearest::nearest_name;
 pub use offset::{offset_of_key, offset_of_pointer};
 pub use path::part_after;
-pub use plans::{PlanTrouble, plan_fault, plan_text_fault, plan_trouble};
+pub use plans::{PlanTrouble, plan_trouble};
 pub use position::{Position, position_of};
 pub use ranges::{Overlap, first_overlap};
 pub use syntax::{JsonFault, Wanted, json_fault};

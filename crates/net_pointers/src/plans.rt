@@ -1,45 +1,20 @@
 //! The first fault of a plan.
-ghost use Rattle.std.specs.Prelude.{◌≡◌, None, IfOk, IfErr, option_map};
+ghost use Rattle.std.specs.Prelude.{◌≡◌, None, IfOk, option_map};
 ghost use Rattle.json.specs.Value.{value_view};
 ghost use Rattle.net_plan.specs.Finding.{first_fault, located};
 ghost use Rattle.net_plan.specs.Grammar.{known_seen};
 ghost use Rattle.net_plan.specs.PlanReading.{plan_format};
-ghost use Rattle.net_plan.specs.Refusals.{IsNoValue};
 ghost use Rattle.net_plan.specs.Tables.{a_plan};
 ghost use Rattle.net_plan.specs.Trees.{view};
-ghost use Rattle.net_pointers.specs.Plans.{IsFoundInPlan, IsFoundInPlanText};
 ghost use Rattle.net_pointers.specs.PlanTroubles.{IsToldOfPlan};
 
 use crate::doubled::{DoubledKey, TwoIndices, doubled_key, first_doubled};
 use crate::known::known_names;
-use json::{Scratch, Value};
-use net_plan::{Found, KnownNames, PlanError, find_fault, format_of, json_of, plan_shape};
+use json::Value;
+use net_plan::{Found, KnownNames, find_fault, format_of, plan_shape};
 use std::alloc::{AllocError, Global};
 
-/// The first fault of the plan that a text is, in the order of tests, with the pointer to the value that has it. `None`
-/// where nothing but names is wrong: they stand twice, or are those of nothing.
-///
-/// The errors are those of a text that is no JSON value: `NotJson`, `OverLimit`, `OutOfMemory`.
-pub fn plan_text_fault(alloc: Global, text: &[u8]) -> Result<Option<Found>, PlanError>
-    ensures found { IfOk result (λ found. IsFoundInPlanText text.now (option_map located found)) }
-    ensures refused { IfErr result (λ e. IsNoValue text.now e) }
-{
-    let mut scratch = Scratch::new(alloc);
-    let value = json_of(alloc, text, &mut scratch)?;
-    match plan_fault(alloc, &value) {
-        Ok(found) => Ok(found),
-        Err(_) => Err(PlanError::OutOfMemory),
-    }
-}
-
-/// The first fault of a plan's value.
-#[tactic(auto, using(crate::proofs::Agrees::found_in_plan))]
-pub fn plan_fault(alloc: Global, value: &Value<'_>) -> Result<Option<Found>, AllocError>
-    ensures { IfOk result (λ found. IsFoundInPlan (view value.now) (option_map located found)) }
-{
-    fault_among(alloc, None, value)
-}
-
+/// The first fault of a plan's value, in the order of tests.
 fn fault_among(
     alloc: Global,
     known: Option<&KnownNames<'_>>,
