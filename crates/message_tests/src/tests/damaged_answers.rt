@@ -105,11 +105,12 @@ fn part(alloc: Global, request: &[u8]) -> Result<Vec<u8>, AllocError> {
     let [next, ..] = (if rest { end } else { 0 }).to_le_bytes();
     let [count, ..] = end.saturating_sub(start).to_le_bytes();
     let numbers = [0, 0, 0, 0, next, 0, 0, 0, flag, count, 0];
-    let check: &[u8] = if flag == 4 { &[0xa6] } else { &[] };
-    joined(
-        alloc,
-        &[&numbers, LOCATOR.get(start..end).unwrap_or(&[]), check],
-    )
+    let mut all = joined(alloc, &[&numbers])?;
+    all.extend_from_slice(LOCATOR.get(start..end).unwrap_or(&[]))?;
+    if flag == 4 {
+        all.push(0xa6)?;
+    }
+    Ok(all)
 }
 
 /// What follows the completion code of this answer.
@@ -219,7 +220,11 @@ struct Awaited<'a> {
 }
 
 /// The data of the record with those that the answer has.
-fn record_with(alloc: Global, before: &[u8], answer: &[u8]) -> Result<Vec<u8>, AllocError> {
+fn record_with<'a>(
+    alloc: Global,
+    before: &'a [u8],
+    answer: &'a [u8],
+) -> Result<Vec<u8>, AllocError> {
     let end = number16(answer, 14).saturating_add(16);
     joined(alloc, &[before, answer.get(16..end).unwrap_or(&[])])
 }
