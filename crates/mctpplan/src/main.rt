@@ -28,7 +28,7 @@ fn run(rt: &HostRuntime) -> Status {
 }
 
 /// Runs a command over files and the standard streams.
-fn run_command(rt: &HostRuntime, command: Subcommand) -> Status {
+fn run_command<'a>(rt: &'a HostRuntime, command: Subcommand<'a>) -> Status {
     let alloc = rt.alloc();
     let mut output = Counted::new(rt.stdout());
     let mut errors = Counted::new(rt.stderr());
@@ -104,7 +104,7 @@ fn run_command(rt: &HostRuntime, command: Subcommand) -> Status {
 }
 
 /// Explains a plan. Where its file can't be opened or read, standard error tells the path and the system's reason.
-fn explain(rt: &HostRuntime, plan: &str) -> Status {
+fn explain<'a>(rt: &'a HostRuntime, plan: &'a str) -> Status {
     let alloc = rt.alloc();
     let mut plan = file(rt, plan);
     let mut output = Counted::new(rt.stdout());
@@ -116,7 +116,7 @@ fn explain(rt: &HostRuntime, plan: &str) -> Status {
 }
 
 /// The same of a plan with its certificate.
-fn explain_certified(rt: &HostRuntime, plan: &str, certificate: &str) -> Status {
+fn explain_certified<'a>(rt: &'a HostRuntime, plan: &'a str, certificate: &'a str) -> Status {
     let alloc = rt.alloc();
     let mut plan = file(rt, plan);
     let mut certificate = file(rt, certificate);
