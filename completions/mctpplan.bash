@@ -1,9 +1,32 @@
-# Completions of mctpplan for bash: commands, files, names of the plan's nodes, and what `show` shows.
+# Completions of mctpplan for bash: commands, files, names of the plan's nodes, codes, and what `show` shows.
 # Source it, or put it into /usr/share/bash-completion/completions/mctpplan.
 
+# tools/made writes these codes
+_mctpplan_codes='A01 A02 A03 A04 A05 B01 B02 B03 B10 B11 B12 C01 C02 C03 C04 C05 C06 C07 C08 C09 C10 C11 C12 C13 C14
+C15 C16 D01 D02 D03 D04 D05 D06 E01 E02 E03 E04 E05 G01 G02 G03 G04 G05 G06 G07 G08 G09 G10 G11 H01
+H02 H03 H04 H05 H06 H07 H08 H09 H10 H11 H12 J01 J02 J03 J04 J05 J06 J07 J08 J09 K01 K02 K03 K04 L01
+L02 L03 L04 L05 L06 M01 M02 M03 N01 N02 N03 N04 N05 N06 N07 N08 N09 N10 N11 N12 N13 P01 P02 P03 P04'
+
+# The word without its quotes and backslashes. Nothing in it is run.
+_mctpplan_unquoted() {
+    local word=$1
+    case $word in
+        \'*) word=${word#\'} word=${word%\'} ;;
+        \"*) word=${word#\"} word=${word%\"} word=$(sed 's/\\\([\\"$`]\)/\1/g' <<<"$word") ;;
+        *) word=$(sed 's/\\\(.\)/\1/g' <<<"$word") word=${word/#~\//$HOME/} ;;
+    esac
+    printf '%s' "$word"
+}
+
+# The names of a plan's nodes. What has a binding is a bus.
+_mctpplan_nodes() {
+    tr -d '\r\n' <"$1" | sed 's/{[^{}]*"binding"[^{}]*}//g' | grep -o '"name"[[:space:]]*:[[:space:]]*"[^"]*"' | cut -d '"' -f 4
+}
+
 _mctpplan() {
-    local current=${COMP_WORDS[COMP_CWORD]} place=$COMP_CWORD command=${COMP_WORDS[1]-}
-    local files=0
+    local current place=$COMP_CWORD command=${COMP_WORDS[1]-}
+    local files=0 plan name
+    current=$(_mctpplan_unquoted "${COMP_WORDS[COMP_CWORD]}")
     COMPREPLY=()
     if [ "$place" -eq 1 ]; then
         mapfile -t COMPREPLY < <(compgen -W 'check certify move assign sim simmove walk reach trace draw explain faults lint show code guide' -- "$current")
@@ -14,6 +37,12 @@ _mctpplan() {
         check | assign | walk | reach | trace | draw | explain | faults) files=2 ;;
         move | sim) files=3 ;;
         simmove) files=4 ;;
+        code)
+            if [ "$place" -eq 2 ]; then
+                mapfile -t COMPREPLY < <(compgen -W "$_mctpplan_codes" -- "${current^^}")
+            fi
+            return
+            ;;
         show)
             if [ "$place" -eq 2 ]; then
                 mapfile -t COMPREPLY < <(compgen -W 'packet record' -- "$current")
@@ -24,11 +53,13 @@ _mctpplan() {
     if [ "$((place - 1))" -le "$files" ]; then
         compopt -o filenames 2>/dev/null
         mapfile -t COMPREPLY < <(compgen -d -- "$current"; compgen -f -X '!*.json' -- "$current")
-    elif [[ $command == walk && $place -eq 4 || $command == trace && $place -le 5 ]] && [ -f "${COMP_WORDS[2]}" ]; then
-        # (the names of buses are among them: in the text they look the same)
-        local names
-        names=$(grep -o '"name": *"[^"]*"' "${COMP_WORDS[2]}" | cut -d '"' -f 4)
-        mapfile -t COMPREPLY < <(compgen -W "$names" -- "$current")
+    elif [[ $command == walk && $place -eq 4 || $command == trace && $place -le 5 ]]; then
+        plan=$(_mctpplan_unquoted "${COMP_WORDS[2]}")
+        [ -f "$plan" ] || return
+        # (compgen would run what stands in a name)
+        while IFS= read -r name; do
+            [[ $name == "$current"* ]] && COMPREPLY+=("$(printf '%q' "$name")")
+        done < <(_mctpplan_nodes "$plan")
     fi
 }
 

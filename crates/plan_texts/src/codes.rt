@@ -1,4 +1,4 @@
-//! What each code means. `tools/codes` writes this file from docs/REFUSALS.md.
+//! What each code means. `tools/made` writes this file from docs/REFUSALS.md.
 
 /// What is said of a code, if it is one.
 pub fn text_of(code: &str) -> Option<&'static str> {

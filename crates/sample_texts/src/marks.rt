@@ -1,4 +1,4 @@
-//! Marks around the calls that are tried with growths of memory refused, which `tools/refuse-growths` does.
+//! Marks around the calls that are tried with growths of memory refused, which `tools/try growths` does.
 use std::alloc::Global;
 
 /// What a mark tells.

@@ -1,5 +1,5 @@
 //! A walk in which any growth of memory may be refused: an answer that is handed in again is then taken.
-//! `tools/refuse-growths` refuses the growths one after another.
+//! `tools/try growths` refuses the growths one after another.
 use super::repositories::{block_over, record_of};
 use arrayvec::ArrayVec;
 use pdr_repository::{Step, Terminus, WalkFault, Walker};

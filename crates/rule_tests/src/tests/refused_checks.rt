@@ -1,5 +1,5 @@
 //! Calls of which any growth of memory may be refused: each answers as it does with ample memory, or that it ran out.
-//! `tools/refuse-growths` refuses the growths one after another.
+//! `tools/try growths` refuses the growths one after another.
 use super::networks::{FaultAt, found, is_at};
 use mctp_transport::Eid;
 use net_check::{CertifyError, MoveError, MoveFault, MoveRule, Rule, certify, check_move};

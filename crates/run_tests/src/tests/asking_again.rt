@@ -1,4 +1,4 @@
-//! Events that are asked again where memory ran out. `tools/refuse-growths` refuses the growths one after another.
+//! Events that are asked again where memory ran out. `tools/try growths` refuses the growths one after another.
 use net_plan::Event;
 use net_sim::{Network, Outcome, Played};
 use sample_texts::marks::{Mark, set_mark};

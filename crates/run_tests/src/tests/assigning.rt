@@ -64,7 +64,7 @@ fn is_assigned_or_lacked(
     }
 }
 
-/// `tools/refuse-growths` refuses its growths one after another.
+/// `tools/try growths` refuses its growths one after another.
 #[test]
 fn refused_assign(rt: HostRuntime) -> Result<(), Fail> {
     let plan = plan_of(rt.alloc(), PLAN)?;

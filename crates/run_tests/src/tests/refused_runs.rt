@@ -1,5 +1,5 @@
 //! Networks in which any growth of memory may be refused. An event that is asked again then has the outcome that it has
-//! with ample memory. `tools/refuse-growths` refuses the growths one after another.
+//! with ample memory. `tools/try growths` refuses the growths one after another.
 use super::keys::are_there_and_back;
 use super::lists::{RUNS, SWITCHED};
 use super::networks::{certificate_of, moving_network_of, plan_of};

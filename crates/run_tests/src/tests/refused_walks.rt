@@ -1,5 +1,5 @@
 //! Walks in which any growth of memory may be refused. An event that is asked again then has the outcome that it has
-//! with ample memory. `tools/refuse-growths` refuses the growths one after another.
+//! with ample memory. `tools/try growths` refuses the growths one after another.
 use super::asking_again::step;
 use super::lists::WALKS;
 use super::networks::{certificate_of, network_of, plan_of};

@@ -1,5 +1,5 @@
 //! Calls of which any growth of memory may be refused: each answers as it does with ample memory, or that it ran out.
-//! `tools/refuse-growths` refuses the growths one after another.
+//! `tools/try growths` refuses the growths one after another.
 use super::events::are_the_riser_events;
 use super::plans::is_the_riser_network;
 use net_plan::{

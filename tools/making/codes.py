@@ -1,17 +1,9 @@
-#!/usr/bin/env python3
-"""Writes the texts that `mctpplan code` prints, crates/plan_texts/src/codes.rt, from docs/REFUSALS.md.
-
-    tools/codes            writes the file; rt fmt lays it out
-    tools/codes --check    says whether the file has the texts that the document has
-
-The last line counts: 'N passed, M failed'.
-"""
+"""The texts that `mctpplan code` prints, crates/plan_texts/src/codes.rt, of docs/REFUSALS.md. rt fmt lays the file out."""
 import os
 import re
-import sys
 import textwrap
 
-TOP = os.path.dirname(os.path.dirname(os.path.realpath(__file__)))
+TOP = os.path.dirname(os.path.dirname(os.path.dirname(os.path.realpath(__file__))))
 SOURCE = "docs/REFUSALS.md"
 TARGET = "crates/plan_texts/src/codes.rt"
 WIDTH = 100
@@ -60,22 +52,19 @@ def written():
     return [tuple(part.replace("\\n", "\n").replace('\\"', '"').replace("\\\\", "\\") for part in it) for it in found]
 
 
-def main(words):
-    if words not in ([], ["--check"]):
-        print(__doc__, end="")
-        return 2
+def wrong():
+    """How many texts there are, and what is told of those that are not as the document has them."""
     wanted = texts()
-    if words:
-        there = written()
-        wrong = sorted({code for code, _ in set(wanted) ^ set(there)})
-        for code in wrong:
-            print(f"codes: {code} is not as {SOURCE} has it: run tools/codes")
-        print(f"codes: {len(wanted) - len(wrong)} passed, {len(wrong)} failed")
-        return 1 if wrong else 0
+    stale = sorted({code for code, _ in set(wanted) ^ set(written())})
+    return len(wanted), [f"{code} is not as {SOURCE} has it" for code in stale]
+
+
+def write():
+    wanted = texts()
     letters = sorted({code[0] for code, _ in wanted})
     arms = "".join(f"        b'{letter}' => of_{letter.lower()}(code),\n" for letter in letters)
     made = [
-        "//! What each code means. `tools/codes` writes this file from docs/REFUSALS.md.\n",
+        "//! What each code means. `tools/made` writes this file from docs/REFUSALS.md.\n",
         "/// What is said of a code, if it is one.",
         "pub fn text_of(code: &str) -> Option<&'static str> {",
         f"    match code.as_bytes().first()? {{\n{arms}        _ => None,\n    }}\n}}",
@@ -85,8 +74,3 @@ def main(words):
         made.append(f"\nfn of_{letter.lower()}(code: &str) -> Option<&'static str> {{\n    match code {{\n{rows}        _ => None,\n    }}\n}}")
     with open(f"{TOP}/{TARGET}", "w", encoding="utf-8") as it:
         it.write("\n".join(made) + "\n")
-    return 0
-
-
-if __name__ == "__main__":
-    sys.exit(main(sys.argv[1:]))

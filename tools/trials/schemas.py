@@ -1,17 +1,13 @@
-#!/usr/bin/env python3
-"""Holds the files of the examples against the JSON schemas in docs/schema, and texts that each schema must refuse.
+"""The files of the examples against the JSON schemas in docs/schema, and texts that each schema must refuse.
 
 Which schema a file meets is told by its name: events*, certificate* and *-certificate*, and every other is a plan. The
-wrong texts are made by one change each of a right one. Prints what isn't as it has to be; the last line counts: 'N
-passed, M failed'. It needs the Python package jsonschema (Debian: python3-jsonschema), and says where that is missing.
+wrong texts are made by one change each of a right one. It needs the Python package jsonschema (Debian:
+python3-jsonschema), and says where that is missing.
 """
-
 import copy
 import json
-import pathlib
-import sys
 
-TOP = pathlib.Path(__file__).resolve().parent.parent
+from runner import TOP, kind_of
 
 PLAN = {
     "format": 1,
@@ -117,42 +113,25 @@ def changed(text, path, value):
     return text
 
 
-def kind_of(path):
-    if path.name.startswith("events"):
-        return "events"
-    return "certificate" if "certificate" in path.name else "plan"
+def texts():
+    """Each text with a name, the name of its schema, and whether the schema has to take it."""
+    for kind, text in RIGHT.items():
+        yield f"the right {kind}", kind, text, True
+    for path in sorted(TOP.glob("examples/*/*.json")):
+        yield str(path.relative_to(TOP)), kind_of(path), json.loads(path.read_text()), True
+    for kind, path, value in WRONG:
+        shown = "taken out" if value is TAKEN_OUT else f"{value!r:.40}"
+        yield f"{kind}: {'/'.join(map(str, path))}: {shown}", kind, changed(RIGHT[kind], path, value), False
 
 
-def main(words):
-    if words:
-        print(__doc__, end="")
-        return 2
+def try_all(trial):
     try:
         from jsonschema import Draft202012Validator as Validator
     except ImportError:
-        print("schemas: skipped, since the Python package jsonschema (4 or later) is not there\n0 passed, 0 failed")
-        return 0
-    failed, passed = [], 0
+        return trial.skip("the Python package jsonschema (4 or later) is not there")
     schemas = {it: json.loads((TOP / f"docs/schema/{it}.schema.json").read_text()) for it in SCHEMAS}
     for schema in schemas.values():
         Validator.check_schema(schema)
-    validators = {it: Validator(schema) for it, schema in schemas.items()}
-    texts = [(f"the right {kind}", kind, text, True) for kind, text in RIGHT.items()]
-    for path in sorted(TOP.glob("examples/*/*.json")):
-        texts.append((str(path.relative_to(TOP)), kind_of(path), json.loads(path.read_text()), True))
-    for kind, path, value in WRONG:
-        shown = "taken out" if value is TAKEN_OUT else f"{value!r:.40}"
-        texts.append((f"{kind}: {'/'.join(map(str, path))}: {shown}", kind, changed(RIGHT[kind], path, value), False))
-    for name, kind, text, is_right in texts:
-        faults = sorted(validators[kind.split()[0]].iter_errors(text), key=str)
-        if (not faults) == is_right:
-            passed += 1
-        else:
-            failed.append(f"{name}: {faults[0].message[:200] if faults else 'accepted'}")
-    print("".join(f"{it}\n" for it in failed), end="")
-    print(f"schemas: {passed} passed, {len(failed)} failed")
-    return 1 if failed or not passed else 0
-
-
-if __name__ == "__main__":
-    sys.exit(main(sys.argv[1:]))
+    for name, kind, text, is_right in filter(lambda it: trial.has(it[0]), texts()):
+        faults = sorted(Validator(schemas[kind.split()[0]]).iter_errors(text), key=str)
+        trial.note((not faults) == is_right, f"{name}: {faults[0].message[:200] if faults else 'accepted'}")

@@ -1,33 +1,15 @@
-#!/usr/bin/env python3
-"""Runs the rows in tests/ on the program: plans, certificates, events, and what is printed for them.
+"""The rows in tests/: plans, certificates and events, and what the program prints for them.
 
-One more row for each code runs `code`, which is to print what docs/REFUSALS.md says of it.
-
-    tools/try-rows [--unproved | --program FILE] [WORD..]
-
-Without --unproved or the file of a program it runs bin/mctpplan, which is built, and proved, where it isn't yet. With
---unproved the program is run as its sources stand, without any proof, by the build that bin/try keeps. With words only
-those files are tried whose names hold one; the rows of the codes are those of codes.rows.
+One more row for each code runs `code`, which is to print what docs/REFUSALS.md says of it: codes.rows.
 
 tests/README.md says how rows are written. All that is printed is compared, on standard output and on standard error,
-and the status. Prints each row that isn't as written; the last line counts the rows: 'N passed, M failed'.
+and the status.
 """
 import codecs
-import hashlib
 import importlib.machinery
-import os
-import pathlib
 import re
-import subprocess
-import sys
-import tempfile
-from concurrent.futures import ThreadPoolExecutor
 
-sys.dont_write_bytecode = True
-TOP = pathlib.Path(__file__).resolve().parent.parent
-PROGRAM = TOP / "bin/mctpplan"
-BUILT = TOP / "crates/mctpplan/out/mctpplan"
-SECONDS, SECONDS_UNPROVED = 120, 600  # that a run may take; with checks of each access a large text takes a minute
+from runner import TOP, Failed, each
 
 
 class Wrong(Exception):
@@ -72,7 +54,7 @@ class Case:
         if word not in self.texts:
             return word
         text = self.texts[word]
-        return text.decode() if word in self.scene.as_words else path_of(text)
+        return text.decode() if word in self.scene.as_words else path_of(word, text)
 
     def wrong(self, output, error, status):
         """The rows that are not as written, each with what came instead."""
@@ -221,50 +203,21 @@ def cases_of(scene):
 # ---- running
 
 
-def built():
-    """The words that run the built program."""
-    # (this builds it, which takes its time)
-    subprocess.run([PROGRAM], cwd=TOP, stdout=subprocess.DEVNULL, stderr=subprocess.DEVNULL)
-    if not BUILT.exists():
-        sys.exit("try-rows: the program could not be built\n0 passed, 1 failed")
-    return [BUILT]
-
-
-def unproved():
-    """The words that run the program as its sources stand."""
-    examples = importlib.machinery.SourceFileLoader("examples", str(TOP / "tools/try-examples")).load_module()
-    return examples.unproved()
-
-
-def run_all(cases, program, seconds):
-    """What the program prints for each case: standard output, standard error and the status."""
-    with tempfile.TemporaryDirectory(prefix="rows-") as room, ThreadPoolExecutor(os.cpu_count()) as pool:
-
-        def path_of(text):
-            path = pathlib.Path(room, hashlib.sha256(text).hexdigest()[:24])
-            path.write_bytes(text)
-            return str(path)
-
-        def run(words):
-            ran = subprocess.run([*program, *words], stdin=subprocess.DEVNULL, capture_output=True, timeout=seconds)
-            return ran.stdout.decode(), ran.stderr.decode(), ran.returncode
-
-        return [*pool.map(run, [it.words(path_of) for it in cases])]
-
-
-def read(files):
+def read(trial):
     """The cases of all files, each with its file's name."""
-    for file in files:
+    for file in sorted(it for it in TOP.glob("tests/*.rows") if trial.has(it.name)):
         try:
             for scene in scenes_of(file.read_text()):
                 yield from ((file.name, case) for case in cases_of(scene))
         except (Wrong, OSError, ValueError) as why:
-            sys.exit(f"tests/{file.name}: {why}\n0 passed, 1 failed")
+            raise Failed(f"tests/{file.name}: {why}") from why
+    if trial.has("codes.rows"):
+        yield from read_codes()
 
 
 def read_codes():
     """A case for each code: what `code` prints is what docs/REFUSALS.md says of it."""
-    codes = importlib.machinery.SourceFileLoader("codes", str(TOP / "tools/codes")).load_module()
+    codes = importlib.machinery.SourceFileLoader("codes", str(TOP / "tools/making/codes.py")).load_module()
     scene = Scene("docs/REFUSALS.md has this of the code")
     scene.words, scene.as_words = ["code", "CODE"], {"CODE"}
     for number, (code, text) in enumerate(codes.texts(), 1):
@@ -273,28 +226,16 @@ def read_codes():
         yield "codes.rows", Case(scene, {"CODE": code.encode()}, [row])
 
 
-def main(words):
-    is_unproved, given = words[:1] == ["--unproved"], words[1:2] if words[:1] == ["--program"] else []
-    wanted = words[1 + len(given) :] if is_unproved or given else words
-    if any(it.startswith("-") for it in wanted):
-        print(__doc__, end="")
-        return 2
-    files = sorted(it for it in TOP.glob("tests/*.rows") if not wanted or any(word in it.name for word in wanted))
-    named = [*read(files)]
-    if not wanted or any(word in "codes.rows" for word in wanted):
-        named += read_codes()
-    how = (unproved(), SECONDS_UNPROVED) if is_unproved else (given or built(), SECONDS)
-    came = run_all([case for _, case in named], *how)
-    passed, failed = 0, 0
-    for (name, case), answer in zip(named, came):
-        wrong = case.wrong(*answer)
-        passed, failed = passed + len(case.rows) - len(wrong), failed + len(wrong)
-        for row, instead in wrong:
+def try_all(trial):
+    named = [*read(trial)]
+
+    def run(case):
+        status, output, error = trial.run(case.words(trial.file))
+        return case.wrong(output.decode(), error.decode(), status)
+
+    for (name, case), wrong in zip(named, each(run, [case for _, case in named])):
+        instead = {row: came for row, came in wrong}
+        for row in case.rows:
             given, wants = "\n".join(row.given), "\n".join(row.wanted)
-            print(f"tests/{name}:{row.number}: {case.scene.title}\n{given}\nwanted:\n{wants}\nprinted:\n{instead}")
-    print(f"rows: {passed} passed, {failed} failed")
-    return 1 if failed or not passed else 0
-
-
-if __name__ == "__main__":
-    sys.exit(main(sys.argv[1:]))
+            told = f"tests/{name}:{row.number}: {case.scene.title}\n{given}\nwanted:\n{wants}\nprinted:\n{instead.get(row)}"
+            trial.note(row not in instead, told)

@@ -1,9 +1,4 @@
-#!/usr/bin/env python3
-"""Plays networks in more orders than can be written down, on the built program, and looks at what comes of each.
-
-    tools/try-orders
-
-It runs bin/mctpplan, which is built, and proved, where it isn't yet. Each order is one item:
+"""Networks in more orders than can be written down: what comes of each. Each order is one item:
 
     lines     a request along a line of bridges, for each length from 2 to 64
     switches  packets on their way while six bridges switch to new rows, in each of the 720 orders of switches
@@ -12,21 +7,15 @@ It runs bin/mctpplan, which is built, and proved, where it isn't yet. Each order
     walks     walks at length: 40 requests, an answer of five packets of which one comes twice, 32 walkers, 4,097 records,
               and walks over a network that loses each second packet and repeats every third
 
-What is wanted is told here by itself, and compared with the lines that sim and simmove print. Prints what is otherwise;
-the last line counts: 'N passed, M failed'.
+What is wanted is told here by itself, and compared with the lines that sim and simmove print.
 """
 import itertools
 import json
-import os
 import pathlib
 import subprocess
-import sys
-import tempfile
-from concurrent.futures import ThreadPoolExecutor
 
-TOP = pathlib.Path(__file__).resolve().parent.parent
-BUILT = TOP / "crates/mctpplan/out/mctpplan"
-RISER = TOP / "examples/riser"
+from runner import RISER, each
+
 UNIT = 64  # payload bytes of a packet
 HOST, NIC, SSD = 8, 17, 18  # endpoint IDs of the riser network
 
@@ -35,25 +24,21 @@ HOST, NIC, SSD = 8, 17, 18  # endpoint IDs of the riser network
 
 
 class Program:
-    """The built program, and a folder for the files that it is given."""
+    """The program, and what it prints."""
 
-    def __init__(self, room):
-        self.room, self.names = room, itertools.count()
+    def __init__(self, trial):
+        self.trial, self.names = trial, itertools.count()
 
     def file(self, text):
         """A file with this text; a path is one already."""
-        if isinstance(text, pathlib.Path):
-            return text
-        path = pathlib.Path(self.room, f"text-{next(self.names)}")
-        path.write_text(text)
-        return path
+        return text if isinstance(text, pathlib.Path) else self.trial.file(f"text-{next(self.names)}", text)
 
     def lines(self, *words):
         """What a command prints, a line each; it has to end with status 0."""
-        ran = subprocess.run([BUILT, *words], stdin=subprocess.DEVNULL, capture_output=True, text=True, timeout=120)
-        if ran.returncode or ran.stderr:
-            raise ValueError(f"{words[0]} ended with status {ran.returncode}: {ran.stdout[-200:]}{ran.stderr}")
-        return ran.stdout.splitlines()
+        status, output, error = self.trial.run(words)
+        if status or error:
+            raise ValueError(f"{words[0]} ended with status {status}: {output[-200:]}{error}")
+        return output.decode().splitlines()
 
     def certified(self, plan):
         """The file of a plan, and that of the certificate that it has."""
@@ -471,27 +456,11 @@ def tried(item):
         return f"{name}: {why}", False
 
 
-def main(words):
-    if words:
-        print(__doc__, end="")
-        return 2
-    # (this builds it, which takes its time)
-    subprocess.run([TOP / "bin/mctpplan"], cwd=TOP, stdout=subprocess.DEVNULL, stderr=subprocess.DEVNULL)
-    if not BUILT.exists():
-        sys.exit("try-orders: the program could not be built\n0 passed, 1 failed")
-    with tempfile.TemporaryDirectory(prefix="orders-") as room, ThreadPoolExecutor(os.cpu_count()) as pool:
-        program = Program(room)
-        results = [*pool.map(tried, items(program))]
-        try:
-            results += try_packets(program)
-        except (ValueError, IndexError, OSError, subprocess.TimeoutExpired) as why:
-            results.append((f"packets: {why}", False))
-    failed = [name for name, is_right in results if not is_right]
-    for name in failed[:20]:
-        print(f"{name}: not as wanted")
-    print(f"orders: {len(results) - len(failed)} passed, {len(failed)} failed")
-    return 1 if failed else 0
-
-
-if __name__ == "__main__":
-    sys.exit(main(sys.argv[1:]))
+def try_all(trial):
+    program = Program(trial)
+    results = each(tried, [it for it in items(program) if trial.has(it[0])])
+    if trial.has("packets"):
+        name, came = tried(("packets", lambda: [*try_packets(program)]))
+        results += came or [(name, False)]
+    for name, is_right in results:
+        trial.note(is_right, f"{name}: not as wanted")

@@ -1,0 +1,46 @@
+"""The commands that the documents show, run on their real files: what they print has to be what is shown.
+
+The documents are README.md, docs/*.md and the examples' README.md. In a block that begins ```console a line
+`$ COMMAND` is run, and the lines up to the next one are what it must print on standard output and standard error
+together. A line that ends with a backslash goes on in the next one. The commands of a document run one after another
+in a folder that stands for the top of the repository, so that what they write stays outside of it. With --program the
+commands that call bin/try are left out, since it builds a program of its own.
+"""
+import os
+import re
+import shlex
+import subprocess
+import tempfile
+
+from runner import TOP
+
+PROGRAM = "bin/mctpplan"
+
+
+def shown_commands(text):
+    """Each command with the output that is shown for it."""
+    for block in re.findall(r"^```console\n(.*?)^```$", text, re.M | re.S):
+        for part in re.split(r"^\$ ", block, flags=re.M)[1:]:
+            command, output = re.fullmatch(r"((?:.*\\\n)*.*)\n((?:.*\n)*)", part).groups()
+            yield command, output
+
+
+def printed(commands, stand_in):
+    """What each command of a document prints, with this program."""
+    with tempfile.TemporaryDirectory(prefix="desk-") as desk:
+        for entry in TOP.iterdir():
+            os.symlink(entry, f"{desk}/{entry.name}")
+        yield from (printed_at(desk, command.replace(PROGRAM, stand_in)) for command in commands)
+
+
+def printed_at(desk, command):
+    how = {"cwd": desk, "stdin": subprocess.DEVNULL, "stdout": subprocess.PIPE, "stderr": subprocess.STDOUT}
+    return subprocess.run(["bash", "-c", command], text=True, timeout=1200, **how).stdout
+
+
+def try_all(trial):
+    paths = [TOP / "README.md", *sorted(TOP.glob("docs/*.md")), *sorted(TOP.glob("examples/*/README.md"))]
+    for name in filter(trial.has, (str(it.relative_to(TOP)) for it in paths)):
+        rows = [it for it in shown_commands((TOP / name).read_text()) if not (trial.given and "bin/try" in it[0])]
+        for (command, output), answer in zip(rows, printed([it for it, _ in rows], shlex.join(trial.program))):
+            trial.note(answer == output, f"{name}: {command}\nshown:\n{output}printed:\n{answer}")

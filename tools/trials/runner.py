@@ -1,0 +1,113 @@
+"""What all parts of tools/try share: the program that they run, its commands, and what they count."""
+import functools
+import importlib.machinery
+import os
+import pathlib
+import subprocess
+import sys
+import tempfile
+import threading
+from concurrent.futures import ThreadPoolExecutor
+
+TOP = pathlib.Path(__file__).resolve().parent.parent.parent
+RISER, MOVE = TOP / "examples/riser", TOP / "examples/move"
+BUILT = TOP / "crates/mctpplan/out/mctpplan"
+
+
+class Failed(Exception):
+    """Why nothing can be tried."""
+
+
+class Trial:
+    """One part: its name, the words that it was given, and how many of its items passed and failed."""
+
+    def __init__(self, name="", *words):
+        self.name, self.passed, self.failed, self.is_skipped = name, 0, 0, False
+        self.is_unproved = words[:1] == ("--unproved",)
+        self.given = words[1] if words[:1] == ("--program",) and words[1:] else None
+        self.words = words[2 if self.given else self.is_unproved :]
+        self.lock, self.room = threading.Lock(), tempfile.TemporaryDirectory(prefix="try-")
+
+    @functools.cached_property
+    def program(self):
+        """The words that run the program."""
+        if self.is_unproved:
+            trial = importlib.machinery.SourceFileLoader("trial", str(TOP / "bin/try")).load_module()
+            try:
+                return trial.program()
+            except trial.Failed as why:
+                raise Failed(str(why)) from why
+        if self.given:
+            path = pathlib.Path(self.given).resolve()
+        else:
+            # (this builds it, which takes its time)
+            subprocess.run([TOP / "bin/mctpplan"], cwd=TOP, stdin=subprocess.DEVNULL, stdout=subprocess.DEVNULL)
+            path = BUILT
+        if not os.access(path, os.X_OK):
+            raise Failed(f"there is no program {path}")
+        return [str(path)]
+
+    def run(self, words, seconds=600, **how):
+        """Runs the program. Answers its status and what it wrote on standard output and on standard error, as bytes."""
+        how = {"stdin": subprocess.DEVNULL, "stdout": subprocess.PIPE, "stderr": subprocess.PIPE, "timeout": seconds, **how}
+        ran = subprocess.run([*self.program, *map(str, words)], **how)
+        return ran.returncode, ran.stdout, ran.stderr
+
+    def has(self, name):
+        """Whether the words choose this name."""
+        return not self.words or any(word in name for word in self.words)
+
+    def file(self, name, text):
+        """The path of a file with this text: the one of the name in this thread, so that large texts don't pile up."""
+        path = pathlib.Path(self.room.name, f"{threading.get_ident()}-{name}")
+        path.write_bytes(text if isinstance(text, bytes) else text.encode())
+        return path
+
+    def note(self, is_right, wrong):
+        """Counts an item, and prints what is wrong with it where it isn't right."""
+        with self.lock:
+            self.passed, self.failed = self.passed + bool(is_right), self.failed + (not is_right)
+            if not is_right:
+                print(wrong, flush=True)
+
+    def skip(self, why):
+        self.is_skipped = True
+        print(f"{self.name}: skipped, since {why}")
+
+
+def each(call, items):
+    """What a call answers for each item: as many at once as there are processors."""
+    with ThreadPoolExecutor(os.cpu_count()) as pool:
+        return [*pool.map(call, items)]
+
+
+def kind_of(path):
+    """Of which kind a file of the examples is, by its name."""
+    if path.name.startswith("events"):
+        return "events"
+    return "certificate" if "certificate" in path.name else "plan"
+
+
+def commands():
+    """The words of each command, each way that it may go."""
+    plan, certificate, loop = RISER / "plan.json", RISER / "certificate.json", TOP / "examples/refused/loop.json"
+    row, left, right, ranks = TOP / "examples/explained/c11-row.json", MOVE / "by-left.json", MOVE / "by-right.json", MOVE / "certificate-1.json"
+    for command, others in (
+        ("check", [[plan, certificate], [loop, TOP / "examples/refused/loop-certificate.json"]]),
+        ("certify", [[plan], [loop]]),
+        ("assign", [[plan, certificate]]),
+        ("sim", [[plan, certificate, RISER / it] for it in ("events-tid.json", "events-walk.json")]),
+        ("walk", [[plan, certificate, "nic", "16"]]),
+        ("reach", [[plan, certificate]]),
+        ("trace", [[plan, certificate, "host", "18"]]),
+        ("draw", [[plan], [loop], [plan, certificate]]),
+        ("explain", [[plan], [loop], [row], [plan, certificate]]),
+        ("faults", [[plan], [loop], [row], [plan, certificate]]),
+        ("lint", [[plan], [TOP / "examples/questions/plan-without-rows.json"]]),
+        ("move", [[left, right, ranks]]),
+        ("simmove", [[left, right, ranks, MOVE / "events.json"]]),
+        ("show", [["packet", "010a08cb01800002"], ["packet", "010a08"], ["record", "01000000010100000900010001010000010111"]]),
+        ("code", [["C08"]]),
+        ("guide", [[]]),
+    ):
+        yield from ([command, *it] for it in others)
