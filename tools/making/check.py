@@ -8,7 +8,6 @@ import re
 import textwrap
 
 TOP = pathlib.Path(__file__).resolve().parent.parent.parent
-PAGE, PROOFS = TOP / "docs/CHECK.md", TOP / "docs/PROOFS.md"
 HEAD = """# What `check` rests on
 
 The contract of `check`, and every definition that it names, or that these name, with the comment above it. What isn't
@@ -62,18 +61,7 @@ def wrapped(text, first=""):
 
 def made():
     """The page, and docs/PROOFS.md with the number of its definitions."""
-    text = page()
+    text, proofs = page(), (TOP / "docs/PROOFS.md").read_text(encoding="utf-8")
     count = re.search(r"In all these are (\d+) definitions", text)[1]
-    proofs = re.sub(r"\bthe \d+ definitions that it rests on", f"the {count} definitions that it rests on", PROOFS.read_text(encoding="utf-8"))
-    return {PAGE: text, PROOFS: proofs}
-
-
-def wrong():
-    """How many texts there are, and what is told of those that are not as they would be written."""
-    texts = made()
-    return len(texts), [f"docs/{it.name} is not as specs/ have it" for it, text in texts.items() if it.read_text(encoding="utf-8") != text]
-
-
-def write():
-    for it, text in made().items():
-        it.write_text(text, encoding="utf-8")
+    proofs = re.sub(r"\bthe \d+ definitions that it rests on", f"the {count} definitions that it rests on", proofs)
+    return {"docs/CHECK.md": text, "docs/PROOFS.md": proofs}

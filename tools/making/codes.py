@@ -1,4 +1,4 @@
-"""The texts that `mctpplan code` prints, crates/plan_texts/src/codes.rt, of docs/REFUSALS.md. rt fmt lays the file out."""
+"""The texts that `mctpplan code` prints, and the codes that the completions offer for it, of docs/REFUSALS.md."""
 import os
 import re
 import textwrap
@@ -6,6 +6,8 @@ import textwrap
 TOP = os.path.dirname(os.path.dirname(os.path.dirname(os.path.realpath(__file__))))
 SOURCE = "docs/REFUSALS.md"
 TARGET = "crates/plan_texts/src/codes.rt"
+COMPLETIONS = ["completions/mctpplan.bash", "completions/_mctpplan"]
+OFFERED = re.compile(r"(?m)^(# tools/made writes these codes\n_mctpplan_codes=')[^']*'")
 WIDTH = 100
 CODE = r"[A-Z][01]\d"
 BULLET = re.compile(rf"- (?:\*\*)?({CODE})(?:\*\*)?( \([^)]*\))?: (.*)|- `fault (?:old |new )?({CODE})\b[^:]*: (.*)", re.S)
@@ -44,23 +46,24 @@ def quoted(text):
     return f'"{escaped}"'
 
 
-def written():
-    """The codes and texts that the file has."""
-    with open(f"{TOP}/{TARGET}", encoding="utf-8") as it:
-        source = it.read()
-    found = re.findall(rf'"({CODE})" => Some\(\s*"((?:[^"\\]|\\.)*)",?\s*\)', source)
-    return [tuple(part.replace("\\n", "\n").replace('\\"', '"').replace("\\\\", "\\") for part in it) for it in found]
+def without_layout(text):
+    """The codes and texts that the program's file has; another text as it is."""
+    return re.findall(rf'"({CODE})" => Some\(\s*"((?:[^"\\]|\\.)*)",?\s*\)', text) or text
 
 
-def wrong():
-    """How many texts there are, and what is told of those that are not as the document has them."""
+def made():
+    """The text of each file."""
     wanted = texts()
-    stale = sorted({code for code, _ in set(wanted) ^ set(written())})
-    return len(wanted), [f"{code} is not as {SOURCE} has it" for code in stale]
+    offered = "\n".join(textwrap.wrap(" ".join(sorted(code for code, _ in wanted)), WIDTH))
+    found = {TARGET: program(wanted)}
+    for path in COMPLETIONS:
+        with open(f"{TOP}/{path}", encoding="utf-8") as it:
+            found[path] = OFFERED.sub(lambda met: f"{met[1]}{offered}'", it.read())
+    return found
 
 
-def write():
-    wanted = texts()
+def program(wanted):
+    """The file of the program."""
     letters = sorted({code[0] for code, _ in wanted})
     arms = "".join(f"        b'{letter}' => of_{letter.lower()}(code),\n" for letter in letters)
     made = [
@@ -72,5 +75,4 @@ def write():
     for letter in letters:
         rows = "".join(f"        {quoted(code)} => Some({quoted(text)}),\n" for code, text in sorted(wanted) if code[0] == letter)
         made.append(f"\nfn of_{letter.lower()}(code: &str) -> Option<&'static str> {{\n    match code {{\n{rows}        _ => None,\n    }}\n}}")
-    with open(f"{TOP}/{TARGET}", "w", encoding="utf-8") as it:
-        it.write("\n".join(made) + "\n")
+    return "\n".join(made) + "\n"

@@ -41,7 +41,7 @@ class Trial:
             path = pathlib.Path(self.given).resolve()
         else:
             # (this builds it, which takes its time)
-            subprocess.run([TOP / "bin/mctpplan"], cwd=TOP, stdin=subprocess.DEVNULL, stdout=subprocess.DEVNULL)
+            subprocess.run([TOP / "bin/mctpplan", "guide"], cwd=TOP, stdin=subprocess.DEVNULL, stdout=subprocess.DEVNULL)
             path = BUILT
         if not os.access(path, os.X_OK):
             raise Failed(f"there is no program {path}")
