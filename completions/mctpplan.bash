@@ -4,9 +4,10 @@
 _mctpplan() {
     local current=${COMP_WORDS[COMP_CWORD]} place=$COMP_CWORD command=${COMP_WORDS[1]-}
     local files=0
+    local commands='check certify move assign sim simmove walk reach trace draw explain faults lint show code schema guide version'
     COMPREPLY=()
     if [ "$place" -eq 1 ]; then
-        mapfile -t COMPREPLY < <(compgen -W 'check certify move assign sim simmove walk reach trace draw explain faults lint show code guide' -- "$current")
+        mapfile -t COMPREPLY < <(compgen -W "$commands" -- "$current")
         return
     fi
     case $command in
@@ -17,6 +18,18 @@ _mctpplan() {
         show)
             if [ "$place" -eq 2 ]; then
                 mapfile -t COMPREPLY < <(compgen -W 'packet record' -- "$current")
+            fi
+            return
+            ;;
+        schema)
+            if [ "$place" -eq 2 ]; then
+                mapfile -t COMPREPLY < <(compgen -W 'plan certificate events' -- "$current")
+            fi
+            return
+            ;;
+        guide)
+            if [ "$place" -eq 2 ]; then
+                mapfile -t COMPREPLY < <(compgen -W "$commands" -- "$current")
             fi
             return
             ;;

@@ -5,7 +5,7 @@ use crate::commands::show::ShownKind;
 use crate::commands::walk::PartSize;
 use crate::refused::Refused;
 use clap::{Arg, ArgAction, ArgMatches};
-use plan_texts::{GUIDE, text_of};
+use plan_texts::{GUIDE, VERSION, guide_to, schema_of, text_of};
 use std::alloc::{AllocError, Global};
 
 /// A command with its arguments. Files stand by their paths.
@@ -47,7 +47,7 @@ pub enum Subcommand<'a> {
         certificate: &'a str,
         events: &'a str,
     },
-    /// What does a code mean, or which commands are there? The text says it.
+    /// A text of the program itself: what a code means, a schema, a guide or the version.
     Known {
         text: &'static str,
     },
@@ -65,7 +65,7 @@ pub fn parse_command<'a>(alloc: Global, list: &'a [String]) -> Result<Subcommand
 }
 
 /// The name of each command, the names of its arguments, and those of the arguments that may be left out.
-const COMMANDS: [(&str, &[&str], &[&str]); 16] = [
+const COMMANDS: [(&str, &[&str], &[&str]); 18] = [
     ("check", &["plan", "certificate"], &[]),
     ("certify", &["plan"], &[]),
     ("assign", &["plan", "certificate"], &[]),
@@ -81,7 +81,9 @@ const COMMANDS: [(&str, &[&str], &[&str]); 16] = [
     ("lint", &["plan"], &[]),
     ("show", &["kind", "hex"], &[]),
     ("code", &["code"], &[]),
-    ("guide", &[], &[]),
+    ("schema", &["kind"], &[]),
+    ("guide", &[], &["command"]),
+    ("version", &[], &[]),
 ];
 
 /// The words of each command.
@@ -127,8 +129,10 @@ fn chosen<'a>(matches: &ArgMatches<'a>) -> Option<Subcommand<'a>> {
         "faults" => with_or_without(arguments, Question::Faults, PlanQuestion::Faults),
         "lint" => planned(arguments, PlanQuestion::Lint),
         "show" => showing(arguments),
-        "code" => telling(arguments),
-        "guide" => Some(Subcommand::Known { text: GUIDE }),
+        "code" => known(text_of(arguments.get_str("code")?)),
+        "schema" => known(schema_of(arguments.get_str("kind")?)),
+        "guide" => guiding(arguments),
+        "version" => known(Some(VERSION)),
         _ => None,
     }
 }
@@ -227,7 +231,15 @@ fn part_size_of(word: &str) -> Option<PartSize> {
     PartSize::of(word.parse().ok()?)
 }
 
-fn telling<'a>(arguments: &ArgMatches<'a>) -> Option<Subcommand<'a>> {
-    let text = text_of(arguments.get_str("code")?)?;
-    Some(Subcommand::Known { text })
+/// The guide to a command, or the list of all where none is named.
+fn guiding<'a>(arguments: &ArgMatches<'a>) -> Option<Subcommand<'a>> {
+    match arguments.get_str("command") {
+        Some(command) => known(guide_to(command)),
+        None => known(Some(GUIDE)),
+    }
+}
+
+/// A text of the program itself, where there is one.
+fn known(text: Option<&'static str>) -> Option<Subcommand<'static>> {
+    Some(Subcommand::Known { text: text? })
 }

@@ -21,6 +21,6 @@ pub use commands::sim::moves::simulate_move;
 pub use commands::sim::{run_sim, run_simmove};
 pub use commands::walk::PartSize;
 pub use files::FileAtPath;
-pub use plan_texts::GUIDE;
+pub use plan_texts::{GUIDE, VERSION};
 pub use refused::{Input, Refused};
 pub use status::Status;
