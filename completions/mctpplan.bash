@@ -4,7 +4,7 @@
 _mctpplan() {
     local current=${COMP_WORDS[COMP_CWORD]} place=$COMP_CWORD command=${COMP_WORDS[1]-}
     local files=0
-    local commands='check certify move assign sim simmove walk reach trace draw explain faults lint show code schema guide version'
+    local commands='check certify move assign sim simmove walk reach trace draw explain faults lint show describe record code schema guide version'
     COMPREPLY=()
     if [ "$place" -eq 1 ]; then
         mapfile -t COMPREPLY < <(compgen -W "$commands" -- "$current")
@@ -18,6 +18,12 @@ _mctpplan() {
         show)
             if [ "$place" -eq 2 ]; then
                 mapfile -t COMPREPLY < <(compgen -W 'packet record' -- "$current")
+            fi
+            return
+            ;;
+        record)
+            if [ "$place" -eq 2 ]; then
+                mapfile -t COMPREPLY < <(compgen -W 'terminus-locator numeric-sensor state-sensor entity-association other' -- "$current")
             fi
             return
             ;;

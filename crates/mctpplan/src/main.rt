@@ -4,7 +4,8 @@
 use net_plan::Counted;
 use plan_commands::{
     FileAtPath, Refused, Status, Subcommand, parse_command, refuse, run_certified, run_explain,
-    run_explain_certified, run_known, run_move, run_planned, run_show, simulate, simulate_move,
+    run_explain_certified, run_known, run_move, run_planned, run_show, run_worded, simulate,
+    simulate_move,
 };
 use std::env;
 use std::process::ExitCode;
@@ -99,6 +100,9 @@ fn run_command(rt: &HostRuntime, command: Subcommand) -> Status {
             &mut errors,
         ),
         Subcommand::Known { text } => run_known(alloc, text, &mut output, &mut errors),
+        Subcommand::Worded { question, words } => {
+            run_worded(alloc, question, words, &mut output, &mut errors)
+        }
         Subcommand::Show { kind, hex } => run_show(alloc, kind, hex, &mut output, &mut errors),
     }
 }

@@ -2,6 +2,7 @@ pub mod Statuses
 pub mod Answers
 pub mod Told
 pub mod Show
+pub mod Worded
 pub mod Certifying
 pub mod Assigning
 pub mod Ordering

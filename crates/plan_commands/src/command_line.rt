@@ -3,6 +3,7 @@ use crate::commands::certified::Question;
 use crate::commands::planned::PlanQuestion;
 use crate::commands::show::ShownKind;
 use crate::commands::walk::PartSize;
+use crate::commands::worded::WordQuestion;
 use crate::refused::Refused;
 use clap::{Arg, ArgAction, ArgMatches};
 use plan_texts::{GUIDE, VERSION, guide_to, schema_of, text_of};
@@ -51,6 +52,11 @@ pub enum Subcommand<'a> {
     Known {
         text: &'static str,
     },
+    /// A question that words answer.
+    Worded {
+        question: WordQuestion,
+        words: &'a [String],
+    },
     /// What are the bytes of a hex text?
     Show {
         kind: ShownKind,
@@ -60,8 +66,27 @@ pub enum Subcommand<'a> {
 
 /// The command that a list of words stands for. The first word is the program's name.
 pub fn parse_command<'a>(alloc: Global, list: &'a [String]) -> Result<Subcommand<'a>, Refused> {
+    if let Some(command) = worded(list) {
+        return Ok(command);
+    }
     let matches = grammar(alloc)?.try_get_matches_from(list)?;
     chosen(&matches).ok_or(Refused::Usage)
+}
+
+/// A command that takes any number of words, at least one.
+fn worded(list: &[String]) -> Option<Subcommand<'_>> {
+    let [_, command, words @ ..] = list else {
+        return None;
+    };
+    let question = match command.as_str() {
+        "describe" => WordQuestion::Describe,
+        "record" => WordQuestion::Record,
+        _ => return None,
+    };
+    if words.is_empty() {
+        return None;
+    }
+    Some(Subcommand::Worded { question, words })
 }
 
 /// The name of each command, the names of its arguments, and those of the arguments that may be left out.

@@ -21,3 +21,4 @@ pub mod show;
 pub mod sim;
 pub mod trace;
 pub mod walk;
+pub mod worded;

@@ -20,6 +20,7 @@ pub use commands::sim::files::simulate;
 pub use commands::sim::moves::simulate_move;
 pub use commands::sim::{run_sim, run_simmove};
 pub use commands::walk::PartSize;
+pub use commands::worded::{WordQuestion, run_worded};
 pub use files::FileAtPath;
 pub use plan_texts::{GUIDE, VERSION};
 pub use refused::{Input, Refused};

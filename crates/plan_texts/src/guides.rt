@@ -16,6 +16,8 @@ faults PLAN [CERT]           every fault of the plan, or of both, and how many t
 lint PLAN                    what is lawful in the plan and still looks wrong, or clean
 show packet HEX              what the bytes of a packet are
 show record HEX              what the bytes of a platform descriptor record are
+describe HEX..               every field of a record by its name, with the standard's words
+record KIND FIELD=VALUE..    the bytes of a record, from its fields
 code CODE                    what a code, as C08 or N03, means, and what to do
 schema plan|certificate|events
                              the JSON schema of such a text, for an editor
@@ -46,6 +48,8 @@ pub fn guide_to(command: &str) -> Option<&'static str> {
         "faults" => Some(OF_FAULTS),
         "lint" => Some(OF_LINT),
         "show" => Some(OF_SHOW),
+        "describe" => Some(OF_DESCRIBE),
+        "record" => Some(OF_RECORD),
         "code" => Some(OF_CODE),
         "schema" => Some(OF_SCHEMA),
         "guide" => Some(OF_GUIDE),
@@ -257,6 +261,39 @@ Status 1: why the bytes are no record, D01 to D06.
   $ mctpplan show record 01000000010100000900010001010000010110
   record handle 1 type 1 change 0 length 9
   terminus 1 validity 1 tid 1 container 0 locator 1 value 10
+"#;
+
+const OF_DESCRIBE: &str = r#"mctpplan describe HEX..
+
+Prints a line for each field of a Platform Descriptor Record: its name, what it holds, and for some
+the standard's word for that (DSP0248, DSP0249). The hex may stand in several words, with spaces,
+and with 0x before its numbers. Of a real number the bits stand first, and its decimal digits behind
+them.
+
+Status 0: the fields.
+Status 1: why the bytes are no record, D01 to D06.
+
+  $ mctpplan describe 01000000 01 01 0000 0900 0000 01 14 0000 01 01 25 | tail -n 4
+  tid 20
+  container-id 0
+  locator-type 1 MCTP endpoint ID
+  eid 37
+"#;
+
+const OF_RECORD: &str = r#"mctpplan record KIND FIELD=VALUE..
+
+Prints the hex of a Platform Descriptor Record. KIND is terminus-locator, numeric-sensor, state-
+sensor, entity-association or other, and each FIELD a name that describe prints of such a record. Of
+other the fields are type and bytes. A number is written in decimal digits, or in hexadecimal digits
+behind 0x; bytes in hex; a state set as its number and its possible states, 33:06; an entity as its
+type, its instance number and its container, 68/1/0. A state set or a contained entity may come
+several times. What no word names is 0 or empty, but for a valid locator, the locator type of an
+eid, and a resolution of 1.
+
+Status 0: the hex.
+
+  $ mctpplan record terminus-locator handle=1 tid=20 eid=37
+  01000000010100000900000001140000010125
 "#;
 
 const OF_CODE: &str = r#"mctpplan code CODE
