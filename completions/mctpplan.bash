@@ -4,7 +4,7 @@
 _mctpplan() {
     local current=${COMP_WORDS[COMP_CWORD]} place=$COMP_CWORD command=${COMP_WORDS[1]-}
     local files=0
-    local commands='check certify move assign sim simmove walk reach trace draw explain faults lint show describe record code schema guide version'
+    local commands='check certify move assign sim simmove walk reach matrix require trace draw explain faults lint show describe record code schema guide version'
     COMPREPLY=()
     if [ "$place" -eq 1 ]; then
         mapfile -t COMPREPLY < <(compgen -W "$commands" -- "$current")
@@ -12,7 +12,7 @@ _mctpplan() {
     fi
     case $command in
         certify | lint) files=1 ;;
-        check | assign | walk | reach | trace | draw | explain | faults) files=2 ;;
+        check | assign | walk | reach | matrix | require | trace | draw | explain | faults) files=2 ;;
         move | sim) files=3 ;;
         simmove) files=4 ;;
         show)

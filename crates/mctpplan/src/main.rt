@@ -4,8 +4,8 @@
 use net_plan::Counted;
 use plan_commands::{
     FileAtPath, Refused, Status, Subcommand, parse_command, refuse, run_certified, run_explain,
-    run_explain_certified, run_known, run_move, run_planned, run_show, run_worded, simulate,
-    simulate_move,
+    run_explain_certified, run_known, run_move, run_planned, run_require, run_show, run_worded,
+    simulate, simulate_move,
 };
 use std::env;
 use std::process::ExitCode;
@@ -61,6 +61,18 @@ fn run_command(rt: &HostRuntime, command: Subcommand) -> Status {
             plan,
             certificate: None,
         } => explain(rt, plan),
+        Subcommand::Require {
+            plan,
+            certificate,
+            wanted,
+        } => run_require(
+            alloc,
+            &mut file(rt, plan),
+            &mut file(rt, certificate),
+            &mut file(rt, wanted),
+            &mut output,
+            &mut errors,
+        ),
         Subcommand::Sim {
             plan,
             certificate,

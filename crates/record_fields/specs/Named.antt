@@ -2,7 +2,8 @@
 use Rattle.std.specs.Prelude.{ℕ, ◌+◌, ◌*◌, List, [], ◌∷◌, ◌++◌, length, map, codes, get_or}
 use Rattle.pdr_record.specs.Fields.{bytes_of}
 use Rattle.pdr_record.specs.Layouts.{EntityValue, SensorValue, TerminusValue, StateSetValue, StateValue}
-use Rattle.pdr_record.specs.Layouts.{AssociationValue, UnitsValue, PrecisionValue, TimingValue, RangesValue, NumericValue}
+use Rattle.pdr_record.specs.Layouts.{AssociationValue, UnitsValue, PrecisionValue, TimingValue, RangesValue}
+use Rattle.pdr_record.specs.Layouts.{NumericValue}
 use Rattle.pdr_record.specs.Records.{BodyValue, Terminus, Numeric, State, Association, Other}
 use Rattle.pdr_record.specs.Records.{RecordValue, type_of, body_fields}
 
