@@ -1,5 +1,9 @@
-# Completions of mctpplan for bash: commands, files, names of the plan's nodes, codes, and what `show` shows.
+# Completions of mctpplan for bash: commands, files, names of the plan's nodes, codes, and kinds of records and texts.
 # Source it, or put it into /usr/share/bash-completion/completions/mctpplan.
+
+# tools/made writes these commands
+_mctpplan_commands='check certify move assign sim simmove walk reach matrix require trace draw explain faults lint show
+describe record code schema guide version'
 
 # tools/made writes these codes
 _mctpplan_codes='A01 A02 A03 A04 A05 B01 B02 B03 B10 B11 B12 C01 C02 C03 C04 C05 C06 C07 C08 C09 C10 C11 C12 C13 C14
@@ -29,12 +33,12 @@ _mctpplan() {
     current=$(_mctpplan_unquoted "${COMP_WORDS[COMP_CWORD]}")
     COMPREPLY=()
     if [ "$place" -eq 1 ]; then
-        mapfile -t COMPREPLY < <(compgen -W 'check certify move assign sim simmove walk reach trace draw explain faults lint show code guide' -- "$current")
+        mapfile -t COMPREPLY < <(compgen -W "$_mctpplan_commands" -- "$current")
         return
     fi
     case $command in
         certify | lint) files=1 ;;
-        check | assign | walk | reach | trace | draw | explain | faults) files=2 ;;
+        check | assign | walk | reach | matrix | require | trace | draw | explain | faults) files=2 ;;
         move | sim) files=3 ;;
         simmove) files=4 ;;
         code)
@@ -49,10 +53,31 @@ _mctpplan() {
             fi
             return
             ;;
+        record)
+            if [ "$place" -eq 2 ]; then
+                mapfile -t COMPREPLY < <(compgen -W 'terminus-locator numeric-sensor state-sensor entity-association other' -- "$current")
+            fi
+            return
+            ;;
+        schema)
+            if [ "$place" -eq 2 ]; then
+                mapfile -t COMPREPLY < <(compgen -W 'plan certificate events' -- "$current")
+            fi
+            return
+            ;;
+        guide)
+            if [ "$place" -eq 2 ]; then
+                mapfile -t COMPREPLY < <(compgen -W "$_mctpplan_commands" -- "$current")
+            fi
+            return
+            ;;
     esac
     if [ "$((place - 1))" -le "$files" ]; then
         compopt -o filenames 2>/dev/null
         mapfile -t COMPREPLY < <(compgen -d -- "$current"; compgen -f -X '!*.json' -- "$current")
+    elif [[ $command == require && $place -eq 4 ]]; then
+        compopt -o filenames 2>/dev/null
+        mapfile -t COMPREPLY < <(compgen -f -- "$current")
     elif [[ $command == walk && $place -eq 4 || $command == trace && $place -le 5 ]]; then
         plan=$(_mctpplan_unquoted "${COMP_WORDS[2]}")
         [ -f "$plan" ] || return

@@ -68,9 +68,12 @@ def program(wanted):
     arms = "".join(f"        b'{letter}' => of_{letter.lower()}(code),\n" for letter in letters)
     made = [
         "//! What each code means. `tools/made` writes this file from docs/REFUSALS.md.\n",
-        "/// What is said of a code, if it is one.",
+        "/// What is said of a code, if it is one. Its letter may be a small one.",
         "pub fn text_of(code: &str) -> Option<&'static str> {",
-        f"    match code.as_bytes().first()? {{\n{arms}        _ => None,\n    }}\n}}",
+        "    let &[letter, tens, units] = code.as_bytes() else {\n        return None;\n    };",
+        "    let bytes = [letter.to_ascii_uppercase(), tens, units];",
+        "    let code = str::from_utf8(&bytes).ok()?;",
+        f"    match bytes[0] {{\n{arms}        _ => None,\n    }}\n}}",
     ]
     for letter in letters:
         rows = "".join(f"        {quoted(code)} => Some({quoted(text)}),\n" for code, text in sorted(wanted) if code[0] == letter)

@@ -75,8 +75,8 @@ def wanted_of(row, words):
     """What a row wants on standard output and on standard error, and its status."""
     errors = [it for it in row.wanted if it.startswith("unreadable ")]
     status = next((int(it.split()[1]) for it in row.wanted if it.startswith("status ")), 2 if errors else 0)
-    # (`explain` is asked why a text doesn't read, and answers on standard output)
-    errors = [] if words[0] == "explain" else errors
+    # (`explain` is asked why a text doesn't read, and answers on standard output; `require` does so of its wishes)
+    errors = [] if words[0] == "explain" else [it for it in errors if not it.startswith("unreadable wanted")]
     lines = [it for it in row.wanted if it not in errors and not it.startswith("status ")]
     return "".join(f"{it}\n" for it in lines), "".join(f"{it}\n" for it in errors), status
 
@@ -211,19 +211,22 @@ def read(trial):
                 yield from ((file.name, case) for case in cases_of(scene))
         except (Wrong, OSError, ValueError) as why:
             raise Failed(f"tests/{file.name}: {why}") from why
-    if trial.has("codes.rows"):
-        yield from read_codes()
+    if trial.has("known.rows"):
+        yield from known()
 
 
-def read_codes():
-    """A case for each code: what `code` prints is what docs/REFUSALS.md says of it."""
-    codes = importlib.machinery.SourceFileLoader("codes", str(TOP / "tools/making/codes.py")).load_module()
-    scene = Scene("docs/REFUSALS.md has this of the code")
-    scene.words, scene.as_words = ["code", "CODE"], {"CODE"}
-    for number, (code, text) in enumerate(codes.texts(), 1):
-        row = Row(number)
-        row.given, row.wanted = [code], text.splitlines()
-        yield "codes.rows", Case(scene, {"CODE": code.encode()}, [row])
+def known():
+    """A case for each text that the program has of documents: of a code, in both cases, a command, a schema, the version."""
+    codes, commands = (importlib.machinery.SourceFileLoader(it, str(TOP / f"tools/making/{it}.py")).load_module() for it in ("codes", "commands"))
+    rows = [(("code", word), text) for code, text in codes.texts() for word in (code, code.lower())]
+    rows += [(("guide", name), text) for name, text in commands.told(commands.entries()).items()]
+    rows += [(("schema", kind), commands.schema(kind)) for kind in commands.KINDS]
+    rows += [(("version",), commands.version())]
+    for number, (words, text) in enumerate(rows, 1):
+        scene, row = Scene("the documents have this of it"), Row(number)
+        scene.words = [*words]
+        row.given, row.wanted = [" ".join(words)], text.split("\n")[:-1]
+        yield "known.rows", Case(scene, {}, [row])
 
 
 def try_all(trial):

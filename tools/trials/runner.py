@@ -92,6 +92,7 @@ def commands():
     """The words of each command, each way that it may go."""
     plan, certificate, loop = RISER / "plan.json", RISER / "certificate.json", TOP / "examples/refused/loop.json"
     row, left, right, ranks = TOP / "examples/explained/c11-row.json", MOVE / "by-left.json", MOVE / "by-right.json", MOVE / "certificate-1.json"
+    record = "01000000010100000900010001010000010111"
     for command, others in (
         ("check", [[plan, certificate], [loop, TOP / "examples/refused/loop-certificate.json"]]),
         ("certify", [[plan], [loop]]),
@@ -99,6 +100,8 @@ def commands():
         ("sim", [[plan, certificate, RISER / it] for it in ("events-tid.json", "events-walk.json")]),
         ("walk", [[plan, certificate, "nic", "16"]]),
         ("reach", [[plan, certificate]]),
+        ("matrix", [[plan, certificate]]),
+        ("require", [[plan, certificate, TOP / "examples/questions/wanted.txt"]]),
         ("trace", [[plan, certificate, "host", "18"]]),
         ("draw", [[plan], [loop], [plan, certificate]]),
         ("explain", [[plan], [loop], [row], [plan, certificate]]),
@@ -106,8 +109,12 @@ def commands():
         ("lint", [[plan], [TOP / "examples/questions/plan-without-rows.json"]]),
         ("move", [[left, right, ranks]]),
         ("simmove", [[left, right, ranks, MOVE / "events.json"]]),
-        ("show", [["packet", "010a08cb01800002"], ["packet", "010a08"], ["record", "01000000010100000900010001010000010111"]]),
+        ("show", [["packet", "010a08cb01800002"], ["packet", "010a08"], ["record", record]]),
+        ("describe", [[record]]),
+        ("record", [["terminus-locator", "handle=1", "tid=20", "eid=37"]]),
         ("code", [["C08"]]),
-        ("guide", [[]]),
+        ("schema", [["plan"]]),
+        ("guide", [[], ["lint"]]),
+        ("version", [[]]),
     ):
         yield from ([command, *it] for it in others)

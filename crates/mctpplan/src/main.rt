@@ -4,7 +4,8 @@
 use net_plan::Counted;
 use plan_commands::{
     FileAtPath, Refused, Status, Subcommand, parse_command, refuse, run_certified, run_explain,
-    run_explain_certified, run_known, run_move, run_planned, run_show, simulate, simulate_move,
+    run_explain_certified, run_known, run_move, run_planned, run_require, run_show, run_worded,
+    simulate, simulate_move,
 };
 use std::env;
 use std::process::ExitCode;
@@ -60,6 +61,18 @@ fn run_command<'a>(rt: &'a HostRuntime, command: Subcommand<'a>) -> Status {
             plan,
             certificate: None,
         } => explain(rt, plan),
+        Subcommand::Require {
+            plan,
+            certificate,
+            wanted,
+        } => run_require(
+            alloc,
+            &mut file(rt, plan),
+            &mut file(rt, certificate),
+            &mut file(rt, wanted),
+            &mut output,
+            &mut errors,
+        ),
         Subcommand::Sim {
             plan,
             certificate,
@@ -99,6 +112,9 @@ fn run_command<'a>(rt: &'a HostRuntime, command: Subcommand<'a>) -> Status {
             &mut errors,
         ),
         Subcommand::Known { text } => run_known(alloc, text, &mut output, &mut errors),
+        Subcommand::Worded { question, words } => {
+            run_worded(alloc, question, words, &mut output, &mut errors)
+        }
         Subcommand::Show { kind, hex } => run_show(alloc, kind, hex, &mut output, &mut errors),
     }
 }

@@ -2,6 +2,7 @@ pub mod Statuses
 pub mod Answers
 pub mod Told
 pub mod Show
+pub mod Worded
 pub mod Certifying
 pub mod Assigning
 pub mod Ordering
@@ -16,6 +17,7 @@ pub mod UnreadTexts
 pub mod Explaining
 pub mod Drawing
 pub mod Planned
+pub mod Requiring
 pub mod Certified
 pub mod Simulating
 pub mod Moving

@@ -3,9 +3,10 @@ use crate::commands::certified::Question;
 use crate::commands::planned::PlanQuestion;
 use crate::commands::show::ShownKind;
 use crate::commands::walk::PartSize;
+use crate::commands::worded::WordQuestion;
 use crate::refused::Refused;
 use clap::{Arg, ArgAction, ArgMatches};
-use plan_texts::{GUIDE, text_of};
+use plan_texts::{GUIDE, VERSION, guide_to, schema_of, text_of};
 use std::alloc::{AllocError, Global};
 
 /// A command with its arguments. Files stand by their paths.
@@ -27,6 +28,12 @@ pub enum Subcommand<'a> {
         plan: &'a str,
         certificate: Option<&'a str>,
     },
+    /// Do the nodes of the plan in one file, certified by another, reach whom a text wants them to reach?
+    Require {
+        plan: &'a str,
+        certificate: &'a str,
+        wanted: &'a str,
+    },
     /// What comes of the events in a file?
     Sim {
         plan: &'a str,
@@ -47,9 +54,14 @@ pub enum Subcommand<'a> {
         certificate: &'a str,
         events: &'a str,
     },
-    /// What does a code mean, or which commands are there? The text says it.
+    /// A text of the program itself: what a code means, a schema, a guide or the version.
     Known {
         text: &'static str,
+    },
+    /// A question that words answer.
+    Worded {
+        question: WordQuestion,
+        words: &'a [String],
     },
     /// What are the bytes of a hex text?
     Show {
@@ -60,12 +72,31 @@ pub enum Subcommand<'a> {
 
 /// The command that a list of words stands for. The first word is the program's name.
 pub fn parse_command<'a>(alloc: Global, list: &'a [String]) -> Result<Subcommand<'a>, Refused> {
+    if let Some(command) = worded(list) {
+        return Ok(command);
+    }
     let matches = grammar(alloc)?.try_get_matches_from(list)?;
     chosen(&matches).ok_or(Refused::Usage)
 }
 
+/// A command that takes any number of words, at least one.
+fn worded(list: &[String]) -> Option<Subcommand<'_>> {
+    let [_, command, words @ ..] = list else {
+        return None;
+    };
+    let question = match command.as_str() {
+        "describe" => WordQuestion::Describe,
+        "record" => WordQuestion::Record,
+        _ => return None,
+    };
+    if words.is_empty() {
+        return None;
+    }
+    Some(Subcommand::Worded { question, words })
+}
+
 /// The name of each command, the names of its arguments, and those of the arguments that may be left out.
-const COMMANDS: [(&str, &[&str], &[&str]); 16] = [
+const COMMANDS: [(&str, &[&str], &[&str]); 20] = [
     ("check", &["plan", "certificate"], &[]),
     ("certify", &["plan"], &[]),
     ("assign", &["plan", "certificate"], &[]),
@@ -74,6 +105,8 @@ const COMMANDS: [(&str, &[&str], &[&str]); 16] = [
     ("simmove", &["old", "new", "certificate", "events"], &[]),
     ("walk", &["plan", "certificate", "node", "count"], &[]),
     ("reach", &["plan", "certificate"], &[]),
+    ("matrix", &["plan", "certificate"], &[]),
+    ("require", &["plan", "certificate", "wanted"], &[]),
     ("trace", &["plan", "certificate", "from", "to"], &[]),
     ("draw", &["plan"], &["certificate"]),
     ("explain", &["plan"], &["certificate"]),
@@ -81,7 +114,9 @@ const COMMANDS: [(&str, &[&str], &[&str]); 16] = [
     ("lint", &["plan"], &[]),
     ("show", &["kind", "hex"], &[]),
     ("code", &["code"], &[]),
-    ("guide", &[], &[]),
+    ("schema", &["kind"], &[]),
+    ("guide", &[], &["command"]),
+    ("version", &[], &[]),
 ];
 
 /// The words of each command.
@@ -121,14 +156,18 @@ fn chosen<'a>(matches: &ArgMatches<'a>) -> Option<Subcommand<'a>> {
         "simmove" => playing_moves(arguments),
         "walk" => walking(arguments),
         "reach" => certified(arguments, Question::Reach),
+        "matrix" => certified(arguments, Question::Matrix),
+        "require" => requiring(arguments),
         "trace" => tracing(arguments),
         "draw" => with_or_without(arguments, Question::Draw, PlanQuestion::Draw),
         "explain" => explaining(arguments),
         "faults" => with_or_without(arguments, Question::Faults, PlanQuestion::Faults),
         "lint" => planned(arguments, PlanQuestion::Lint),
         "show" => showing(arguments),
-        "code" => telling(arguments),
-        "guide" => Some(Subcommand::Known { text: GUIDE }),
+        "code" => known(text_of(arguments.get_str("code")?)),
+        "schema" => known(schema_of(arguments.get_str("kind")?)),
+        "guide" => guiding(arguments),
+        "version" => known(Some(VERSION)),
         _ => None,
     }
 }
@@ -145,6 +184,14 @@ fn planned<'a>(arguments: &ArgMatches<'a>, question: PlanQuestion) -> Option<Sub
     Some(Subcommand::Planned {
         question,
         plan: arguments.get_str("plan")?,
+    })
+}
+
+fn requiring<'a>(arguments: &ArgMatches<'a>) -> Option<Subcommand<'a>> {
+    Some(Subcommand::Require {
+        plan: arguments.get_str("plan")?,
+        certificate: arguments.get_str("certificate")?,
+        wanted: arguments.get_str("wanted")?,
     })
 }
 
@@ -227,7 +274,15 @@ fn part_size_of(word: &str) -> Option<PartSize> {
     PartSize::of(word.parse().ok()?)
 }
 
-fn telling<'a>(arguments: &ArgMatches<'a>) -> Option<Subcommand<'a>> {
-    let text = text_of(arguments.get_str("code")?)?;
-    Some(Subcommand::Known { text })
+/// The guide to a command, or the list of all where none is named.
+fn guiding<'a>(arguments: &ArgMatches<'a>) -> Option<Subcommand<'a>> {
+    match arguments.get_str("command") {
+        Some(command) => known(guide_to(command)),
+        None => known(Some(GUIDE)),
+    }
+}
+
+/// A text of the program itself, where there is one.
+fn known(text: Option<&'static str>) -> Option<Subcommand<'static>> {
+    Some(Subcommand::Known { text: text? })
 }

@@ -2,24 +2,30 @@
 ghost use Rattle.std.specs.Io.{ReadsAtMost};
 ghost use Rattle.std.specs.Io.KnownBytes.{ReadConsumes};
 ghost use Rattle.std.specs.Option.{option_and_then};
+ghost use Rattle.either.specs.Either.{either};
 ghost use Rattle.net_plan.specs.Stream.{HasRoom};
 
+use either::Either;
 use net_plan::{Sink, write_whole};
 use std::alloc::Global;
 use std::fs::File;
-use std::io::{self, Read};
+use std::io::{self, Input, Read};
 use std::rt::Files;
 
-/// The file at a path, opened at its first read. Where it can't be opened, that read fails.
+/// The path that stands for standard input.
+const STANDARD_INPUT: &str = "-";
+
+/// The file at a path, opened at its first read, or standard input where the path is `-`. Where it can't be opened,
+/// that read fails.
 #[derive(Drop)]
-pub struct FileAtPath<'a, R: Files> {
+pub struct FileAtPath<'a, R: Files + Input> {
     rt: &'a R,
     path: &'a str,
-    opened: Option<R::File>,
+    opened: Option<Either<R::File, R::Reader>>,
     failure: Option<io::Error>,
 }
 
-impl<'a, R: Files> FileAtPath<'a, R> {
+impl<'a, R: Files + Input> FileAtPath<'a, R> {
     /// The file at this path. Nothing is opened yet.
     pub fn new(rt: &'a R, path: &'a str) -> FileAtPath<'a, R> {
         FileAtPath {
@@ -45,9 +51,9 @@ impl<'a, R: Files> FileAtPath<'a, R> {
     }
 }
 
-impl<R: Files> Read for FileAtPath<'_, R> {
+impl<R: Files + Input> Read for FileAtPath<'_, R> {
     // The bytes of a file are known, if at all, once it is open.
-    ghost remaining = { λ s. option_and_then (λ file. R.File.remaining file) s.opened };
+    ghost remaining = { λ s. option_and_then (either R.File.remaining R.Reader.remaining) s.opened };
 
     fn read(&mut self, buf: &mut [u8]) -> io::Result<usize> {
         let read = read_opened(self, buf);
@@ -59,16 +65,24 @@ impl<R: Files> Read for FileAtPath<'_, R> {
 }
 
 /// Reads from a file, which is opened first where it isn't open yet.
-fn read_opened<R: Files>(file: &mut FileAtPath<'_, R>, buf: &mut [u8]) -> io::Result<usize>
+fn read_opened<R: Files + Input>(file: &mut FileAtPath<'_, R>, buf: &mut [u8]) -> io::Result<usize>
     ensures bound { ReadsAtMost result buf.new }
-    ensures bytes { let left_in = option_and_then (λ file. R.File.remaining file) in
+    ensures bytes { let left_in = option_and_then (either R.File.remaining R.Reader.remaining) in
         ReadConsumes (left_in file.old.opened) (left_in file.new.opened) result buf.new }
 {
     let mut opened = match file.opened.take() {
         Some(opened) => opened,
-        None => File::open(file.rt, file.path)?,
+        None => open(file.rt, file.path)?,
     };
     let read = opened.read(buf);
     file.opened = Some(opened);
     read
+}
+
+/// Standard input, or the file at a path.
+fn open<R: Files + Input>(rt: &R, path: &str) -> io::Result<Either<R::File, R::Reader>> {
+    if path == STANDARD_INPUT {
+        return Ok(Either::Right(rt.reader()));
+    }
+    Ok(Either::Left(File::open(rt, path)?))
 }

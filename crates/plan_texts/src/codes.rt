@@ -1,8 +1,13 @@
 //! What each code means. `tools/made` writes this file from docs/REFUSALS.md.
 
-/// What is said of a code, if it is one.
+/// What is said of a code, if it is one. Its letter may be a small one.
 pub fn text_of(code: &str) -> Option<&'static str> {
-    match code.as_bytes().first()? {
+    let &[letter, tens, units] = code.as_bytes() else {
+        return None;
+    };
+    let bytes = [letter.to_ascii_uppercase(), tens, units];
+    let code = str::from_utf8(&bytes).ok()?;
+    match bytes[0] {
         b'A' => of_a(code),
         b'B' => of_b(code),
         b'C' => of_c(code),

@@ -13,12 +13,14 @@ mod edits;
 mod explanations;
 mod fault_lists;
 mod findings;
+mod guides;
 mod lookups;
 mod moves;
 mod outcomes;
 mod pairs;
 mod pieces;
 mod readings;
+mod schemas;
 mod shown;
 mod summaries;
 mod walks;
@@ -31,6 +33,7 @@ pub use drawings::drawing;
 pub use explanations::{cause_lines, obstacle_lines};
 pub use fault_lists::{counted_line, fault_lines};
 pub use findings::lint_lines;
+pub use guides::{GUIDE, VERSION, guide_to};
 use mctp_transport::Eid;
 pub use moves::move_error_line;
 use net_plan::Plan;
@@ -38,6 +41,7 @@ use net_rules::{CertifyError, ChainFault, Fault};
 pub use outcomes::outcome_line;
 pub use pairs::reach_lines;
 pub use readings::{certificate_reading_lines, plan_reading_lines, unread_line};
+pub use schemas::schema_of;
 pub use shown::{packet_text, record_text, refused_text};
 use std::alloc::{AllocError, Global};
 use std::fmt;
@@ -52,27 +56,6 @@ pub const REMEDY: &str =
 /// What is said where a certificate is at fault, and its plan has none.
 pub const NO_CERTIFICATE: &str =
     "This plan has no certificate, whatever this one says. mctpplan certify says:\n";
-
-/// The commands, a line each with its words.
-pub const GUIDE: &str = "\
-check PLAN CERT              whether the certificate fits the plan
-certify PLAN                 the certificate of the plan, or why it has none
-move OLD NEW CERT            whether nodes may go over from the old plan's rows to the new one's
-assign PLAN CERT             the requests that give the nodes their endpoint IDs and pools
-sim PLAN CERT EVENTS         what comes of events in the planned network
-simmove OLD NEW CERT EVENTS  the same while nodes go over to new rows
-walk PLAN CERT NODE COUNT    the records that a walk over a node's terminus collects
-reach PLAN CERT              who reaches whom, and in how many hops
-trace PLAN CERT FROM TO      the way of a packet from a node to another, or to an endpoint ID
-draw PLAN [CERT]             the planned network as a drawing for Graphviz
-explain PLAN [CERT]          what certify says of the plan, or check of both, and why
-faults PLAN [CERT]           every fault of the plan, or of both, and how many they are
-lint PLAN                    what is lawful in the plan and still looks wrong, or clean
-show packet HEX              what the bytes of a packet are
-show record HEX              what the bytes of a platform descriptor record are
-code CODE                    what a code, as C08 or N03, means, and what to do
-guide                        this list
-";
 
 /// The answer where a plan has a fault.
 pub fn fault_line(alloc: Global, plan: &Plan, fault: &Fault) -> Result<String, AllocError>

@@ -1,7 +1,7 @@
 //! Which words are which command.
 
 use plan_commands::{
-    GUIDE, PartSize, PlanQuestion, Question, Refused, ShownKind, Subcommand, parse_command,
+    GUIDE, PartSize, PlanQuestion, Question, Refused, ShownKind, Subcommand, VERSION, parse_command,
 };
 use std::process::Abort;
 use std::test::Fail;
@@ -47,7 +47,7 @@ fn gives_the_command_or_usage(rt: HostRuntime) -> Result<(), Fail> {
     };
     let listed = planned(PlanQuestion::Faults);
     let listed_both = certified(Question::Faults);
-    let rows: [(&[&str], Result<Subcommand, Refused>); 65] = [
+    let rows: [(&[&str], Result<Subcommand, Refused>); 70] = [
         (&["mctpplan", "explain", "a"], Ok(explained)),
         (&["mctpplan", "explain", "a", "b"], Ok(both)),
         (&["mctpplan", "explain"], Err(Refused::Usage)),
@@ -66,10 +66,18 @@ fn gives_the_command_or_usage(rt: HostRuntime) -> Result<(), Fail> {
             &["mctpplan", "guide"],
             Ok(Subcommand::Known { text: GUIDE }),
         ),
-        (&["mctpplan", "guide", "check"], Err(Refused::Usage)),
+        (&["mctpplan", "guide", "nothing"], Err(Refused::Usage)),
+        (&["mctpplan", "guide", "check", "a"], Err(Refused::Usage)),
+        (
+            &["mctpplan", "version"],
+            Ok(Subcommand::Known { text: VERSION }),
+        ),
+        (&["mctpplan", "version", "a"], Err(Refused::Usage)),
+        (&["mctpplan", "schema"], Err(Refused::Usage)),
+        (&["mctpplan", "schema", "node"], Err(Refused::Usage)),
         (&["mctpplan", "code"], Err(Refused::Usage)),
         (&["mctpplan", "code", "C99"], Err(Refused::Usage)),
-        (&["mctpplan", "code", "c08"], Err(Refused::Usage)),
+        (&["mctpplan", "code", "c08 "], Err(Refused::Usage)),
         (&["mctpplan", "move", "a", "b", "c"], Ok(moving)),
         (&["mctpplan", "move", "a", "b"], Err(Refused::Usage)),
         (

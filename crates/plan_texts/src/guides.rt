@@ -1,0 +1,387 @@
+//! What is said of the commands. `tools/made` writes this file from docs/COMMANDS.md.
+
+/// The commands, a line each with its words.
+pub const GUIDE: &str = r#"check PLAN CERT              whether the certificate fits the plan
+certify PLAN                 the certificate of the plan, or why it has none
+move OLD NEW CERT            whether nodes may go over from the old plan's rows to the new one's
+assign PLAN CERT             the requests that give the nodes their endpoint IDs and pools
+sim PLAN CERT EVENTS         what comes of events in the planned network
+simmove OLD NEW CERT EVENTS  the same while nodes go over to new rows
+walk PLAN CERT NODE COUNT    the records that a walk over a node's terminus collects
+reach PLAN CERT              who reaches whom, and in how many hops
+matrix PLAN CERT             the same as a table that a person reads
+require PLAN CERT WANTED     whether the nodes reach whom a text wants them to reach
+trace PLAN CERT FROM TO      the way of a packet from a node to another, or to an endpoint ID
+draw PLAN [CERT]             the planned network as a drawing for Graphviz
+explain PLAN [CERT]          what certify says of the plan, or check of both, and why
+faults PLAN [CERT]           every fault of the plan, or of both, and how many they are
+lint PLAN                    what is lawful in the plan and still looks wrong, or clean
+show packet HEX              what the bytes of a packet are
+show record HEX              what the bytes of a platform descriptor record are
+describe HEX..               every field of a record by its name, with the standard's words
+record KIND FIELD=VALUE..    the bytes of a record, from its fields
+code CODE                    what a code, as C08 or N03, means, and what to do
+schema plan|certificate|events
+                             the JSON schema of such a text, for an editor
+guide [COMMAND]              this list, or more on one command
+version                      which version this is, and which formats it reads
+"#;
+
+/// The version, the formats that are read, and the kit.
+pub const VERSION: &str = r#"mctpplan unreleased
+reads plans of formats 1 and 2, certificates of format 1, events of formats 1 to 3
+proved with rattle-kit-13f logic dac8208d650f15bf
+"#;
+
+/// What is said of a command, if it is one.
+pub fn guide_to(command: &str) -> Option<&'static str> {
+    match command {
+        "check" => Some(OF_CHECK),
+        "certify" => Some(OF_CERTIFY),
+        "move" => Some(OF_MOVE),
+        "assign" => Some(OF_ASSIGN),
+        "sim" => Some(OF_SIM),
+        "simmove" => Some(OF_SIMMOVE),
+        "walk" => Some(OF_WALK),
+        "reach" => Some(OF_REACH),
+        "matrix" => Some(OF_MATRIX),
+        "require" => Some(OF_REQUIRE),
+        "trace" => Some(OF_TRACE),
+        "draw" => Some(OF_DRAW),
+        "explain" => Some(OF_EXPLAIN),
+        "faults" => Some(OF_FAULTS),
+        "lint" => Some(OF_LINT),
+        "show" => Some(OF_SHOW),
+        "describe" => Some(OF_DESCRIBE),
+        "record" => Some(OF_RECORD),
+        "code" => Some(OF_CODE),
+        "schema" => Some(OF_SCHEMA),
+        "guide" => Some(OF_GUIDE),
+        "version" => Some(OF_VERSION),
+        _ => None,
+    }
+}
+
+const OF_CHECK: &str = r#"mctpplan check PLAN CERT
+
+Prints yes if the plan and its certificate meet every rule, C01 to C16, or else the first fault.
+
+Status 0: yes.
+Status 1: a fault.
+
+  $ mctpplan check examples/riser/plan.json examples/riser/certificate.json
+  yes
+  $ mctpplan certify examples/riser/plan.json | mctpplan check examples/riser/plan.json -
+  yes
+"#;
+
+const OF_CERTIFY: &str = r#"mctpplan certify PLAN
+
+Prints the certificate of the plan in one line, or why there is none: a fault of the plan, a loop of
+owners, a routing loop, or a chain of records that is broken.
+
+Status 0: the certificate.
+Status 1: why there is none.
+
+  $ mctpplan certify examples/riser/plan.json > certificate.json
+"#;
+
+const OF_MOVE: &str = r#"mctpplan move OLD NEW CERT
+
+Prints yes if the nodes of a running network may go over from the rows of one plan to those of
+another, in any order and at any time, with one certificate for both; or else the first fault.
+
+Status 0: yes.
+Status 1: a fault.
+
+  $ mctpplan move examples/move/by-left.json examples/move/by-right.json examples/move/certificate-1.json
+  yes
+"#;
+
+const OF_ASSIGN: &str = r#"mctpplan assign PLAN CERT
+
+Prints the control messages by which the nodes get their endpoint IDs and pools, in the order in
+which they are sent. Each line has the bus, the node and the message in hex.
+
+Status 0: the requests.
+Status 1: a fault of the plan or the certificate.
+
+  $ mctpplan assign examples/riser/plan.json examples/riser/certificate.json
+  b0 riser 0080010010
+  b0 riser 008008000711
+  b1 nic 0080010011
+  b1 ssd 0080010012
+"#;
+
+const OF_SIM: &str = r#"mctpplan sim PLAN CERT EVENTS
+
+Plays events in the network of the plan, and prints for each event a line with its number and what
+came of it.
+
+Status 0: what came of the events, also where some were refused.
+Status 1: a fault of the plan or the certificate.
+
+  $ mctpplan sim examples/riser/plan.json examples/riser/certificate.json examples/riser/events-to-ssd.json
+  1 put 1 at host
+  2 moved 1 to riser hops 1
+  3 moved 1 to ssd hops 2
+  4 whole 1 at ssd bytes 01800002
+"#;
+
+const OF_SIMMOVE: &str = r#"mctpplan simmove OLD NEW CERT EVENTS
+
+Plays events in the network of the old plan, whose nodes go over to the rows of the new one by the
+event switch.
+
+Status 0: what came of the events, also where some were refused.
+Status 1: a fault of the move.
+
+  $ mctpplan simmove examples/move/by-left.json examples/move/by-right.json \
+      examples/move/certificate-1.json examples/move/events-first.json | tail -n 2
+  7 refused N03
+  8 whole 2 at x bytes 01800002
+"#;
+
+const OF_WALK: &str = r#"mctpplan walk PLAN CERT NODE COUNT
+
+Reads the records of the node's terminus with GetPDR requests of COUNT bytes each, 8 to 4079. Prints
+a line for each record, and then how many records and requests there were.
+
+Status 0: the records.
+Status 1: a fault of the plan or the certificate.
+
+  $ mctpplan walk examples/riser/plan.json examples/riser/certificate.json nic 16
+  record 1 length 9
+  records 1 requests 2
+"#;
+
+const OF_REACH: &str = r#"mctpplan reach PLAN CERT
+
+Prints for each two different nodes how many hops a packet of the first makes to the second, or
+none, and then how many pairs there are, how many have a way there, and how many of these have none
+back.
+
+Status 0: the pairs.
+Status 1: a fault of the plan or the certificate.
+
+  $ mctpplan reach examples/riser/plan.json examples/riser/certificate.json | tail -n 2
+  ssd nic none
+  pairs 12 reached 10 one-way 0
+"#;
+
+const OF_MATRIX: &str = r#"mctpplan matrix PLAN CERT
+
+Prints a table with a row and a column for each node, in the order of the plan and by number from 1:
+how many hops a packet of the row's node makes to the column's node, a dash where it doesn't arrive,
+and a dot for the node itself. Each row ends with its node's name.
+
+Status 0: the table.
+Status 1: a fault of the plan or the certificate.
+
+  $ mctpplan matrix examples/riser/plan.json examples/riser/certificate.json
+        1  2  3  4
+    1   .  1  2  2  host
+    2   1  .  1  1  riser
+    3   2  1  .  -  nic
+    4   2  1  -  .  ssd
+"#;
+
+const OF_REQUIRE: &str = r#"mctpplan require PLAN CERT WANTED
+
+Prints yes if packets reach whom they are to reach and nobody else that is named, or else each line
+of WANTED of which it isn't so. A line A B says that packets of node A are to reach node B, A -> *
+that they are to reach every node, and A -/> B that they must not reach B. A line that is empty or
+begins with # is a remark. Where WANTED can't be read, its line and column are told on standard
+output.
+
+Status 0: yes.
+Status 1: the lines that don't hold, or a fault of the plan or the certificate.
+Status 2: here also where WANTED can't be read, and where.
+
+  $ printf 'host -> *\nnic ssd\n' | mctpplan require examples/riser/plan.json examples/riser/certificate.json -
+  nic ssd
+"#;
+
+const OF_TRACE: &str = r#"mctpplan trace PLAN CERT FROM TO
+
+Prints the way of a packet that the node FROM sends, a line for each hop. TO is the name of a node,
+or else an endpoint ID, 8 to 254. The last line says that the packet arrives, or where it is dropped
+and why.
+
+Status 0: the way, also where the packet doesn't arrive.
+Status 1: a fault of the plan or the certificate.
+
+  $ mctpplan trace examples/riser/plan.json examples/riser/certificate.json host ssd
+  1 host port 0 bus b0 address 20 to riser
+  2 riser port 1 bus b1 address 32 to ssd
+  hops 2
+"#;
+
+const OF_DRAW: &str = r#"mctpplan draw PLAN [CERT]
+
+Prints the planned network in the language DOT of Graphviz: buses, nodes, ports and owners. The
+nodes of a loop that rules certificates out are red. With a certificate that fits the plan, levels
+and ranks are tooltips; where it does not fit, the first fault is printed.
+
+Status 0: the drawing, also of a plan with faults.
+Status 1: a fault of the plan or the certificate, where there is a certificate.
+
+  $ mctpplan draw examples/riser/plan.json > riser.dot
+"#;
+
+const OF_EXPLAIN: &str = r#"mctpplan explain PLAN [CERT]
+
+Prints the line that certify prints of the plan, with CERT that of check, and then why: the cause of
+a fault in the plan's own names and numbers, who else is involved, and edits that take the fault
+away; or the way round a loop, a line a hop. In place of a certificate stands yes, how many nodes,
+buses, rows and records there are, and between which two nodes the certificate allows most hops. Of
+a plan or a certificate that can't be read it tells the line and column of the first fault, the JSON
+pointer, what stands there, and what may stand there; of a name that nothing has the nearest name,
+and of what stands twice both lines. Of a file that can't be opened it tells the path and the
+system's reason on standard error.
+
+Status 0: nothing is wrong.
+Status 1: what is wrong, and why.
+Status 2: here also why a text can't be read.
+
+  $ mctpplan explain examples/explained/c08-peer.json
+  fault C08 node baseboard entry - eid 10
+  baseboard has endpoint ID 10.
+  It is in the pool of switch: 10 to 31.
+  Both are owned by bmc.
+  Edit: move or shrink the pool of switch, so that 10 is outside.
+"#;
+
+const OF_FAULTS: &str = r#"mctpplan faults PLAN [CERT]
+
+Prints every fault of the plan, with CERT of the plan and the certificate, a line each, and how many
+lines there are, or yes. Faults at neighboring endpoint IDs of a row, a record or a node are one
+line. Where a plan has no fault itself and still no certificate, the line that certify prints of it
+is the only one.
+
+Status 0: yes.
+Status 1: the faults.
+
+  $ mctpplan faults examples/riser/plan.json
+  yes
+"#;
+
+const OF_LINT: &str = r#"mctpplan lint PLAN
+
+Prints what is lawful in the plan and still looks wrong, a line each with a code, or clean. code
+tells what a code means.
+
+Status 0: clean.
+Status 1: what looks wrong.
+
+  $ mctpplan lint examples/riser/plan.json
+  clean
+"#;
+
+const OF_SHOW: &str = r#"mctpplan show packet HEX
+
+Prints the header fields and the payload of an MCTP packet of the baseline transmission unit.
+
+Status 0: the packet.
+Status 1: why the bytes are no packet, P01 to P04.
+
+  $ mctpplan show packet 011108cb01800002
+  packet reserved 0 destination 17 source 8 som 1 eom 1 number 0 owner 1 tag 3 payload 01800002
+
+mctpplan show record HEX
+
+Prints the header fields of a Platform Descriptor Record and, in a second line, what its type has.
+
+Status 0: the record.
+Status 1: why the bytes are no record, D01 to D06.
+
+  $ mctpplan show record 01000000010100000900010001010000010110
+  record handle 1 type 1 change 0 length 9
+  terminus 1 validity 1 tid 1 container 0 locator 1 value 10
+"#;
+
+const OF_DESCRIBE: &str = r#"mctpplan describe HEX..
+
+Prints a line for each field of a Platform Descriptor Record: its name, what it holds, and for some
+the standard's word for that (DSP0248, DSP0249). The hex may stand in several words, with spaces,
+and with 0x before its numbers. Of a real number the bits stand first, and its decimal digits behind
+them.
+
+Status 0: the fields.
+Status 1: why the bytes are no record, D01 to D06.
+
+  $ mctpplan describe 01000000 01 01 0000 0900 0000 01 14 0000 01 01 25 | tail -n 4
+  tid 20
+  container-id 0
+  locator-type 1 MCTP endpoint ID
+  eid 37
+"#;
+
+const OF_RECORD: &str = r#"mctpplan record KIND FIELD=VALUE..
+
+Prints the hex of a Platform Descriptor Record. KIND is terminus-locator, numeric-sensor, state-
+sensor, entity-association or other, and each FIELD a name that describe prints of such a record. Of
+other the fields are type and bytes. A number is written in decimal digits, or in hexadecimal digits
+behind 0x; bytes in hex; a state set as its number and its possible states, 33:06; an entity as its
+type, its instance number and its container, 68/1/0. A state set or a contained entity may come
+several times. What no word names is 0 or empty, but for a valid locator, the locator type of an
+eid, and a resolution of 1.
+
+Status 0: the hex.
+
+  $ mctpplan record terminus-locator handle=1 tid=20 eid=37
+  01000000010100000900000001140000010125
+"#;
+
+const OF_CODE: &str = r#"mctpplan code CODE
+
+Prints what a code means, as C08 or n03, its cause, and what to do.
+
+Status 0: the text.
+
+  $ mctpplan code p02
+  P02: exactly 4 bytes: no payload.
+  Hint: a packet has at least one payload byte.
+"#;
+
+const OF_SCHEMA: &str = r#"mctpplan schema plan|certificate|events
+
+Prints the JSON schema (draft 2020-12) of a plan, a certificate or a list of events. An editor that
+knows it completes the keys and marks most mistakes.
+
+Status 0: the schema.
+
+  $ mctpplan schema plan > plan.schema.json
+"#;
+
+const OF_GUIDE: &str = r#"mctpplan guide [COMMAND]
+
+Prints the commands, a line each; of one command its words, what it answers, its statuses and an
+example.
+
+Status 0: the text.
+
+  $ mctpplan guide lint
+  mctpplan lint PLAN
+
+  Prints what is lawful in the plan and still looks wrong, a line each with a code, or clean. code
+  tells what a code means.
+
+  Status 0: clean.
+  Status 1: what looks wrong.
+
+    $ mctpplan lint examples/riser/plan.json
+    clean
+"#;
+
+const OF_VERSION: &str = r#"mctpplan version
+
+Prints the version, the formats of plans, certificates and events that are read, and the kit by
+which the program is proved.
+
+Status 0: the lines.
+
+  $ mctpplan version | head -n 2
+  mctpplan unreleased
+  reads plans of formats 1 and 2, certificates of format 1, events of formats 1 to 3
+"#;

@@ -1,0 +1,818 @@
+//! The JSON schemas. `tools/made` writes this file from docs/schema.
+
+/// The schema of a kind of text, if it is one that the program reads.
+pub fn schema_of(kind: &str) -> Option<&'static str> {
+    match kind {
+        "plan" => Some(PLAN),
+        "certificate" => Some(CERTIFICATE),
+        "events" => Some(EVENTS),
+        _ => None,
+    }
+}
+
+const PLAN: &str = r##"{
+  "$schema": "https://json-schema.org/draft/2020-12/schema",
+  "title": "An MCTP network plan of mctpplan",
+  "description": "What a plan's text is, as far as a schema can say it (README.md). It says nothing of C01 to C16.",
+  "type": "object",
+  "properties": {
+    "format": {
+      "enum": [
+        1,
+        2
+      ]
+    },
+    "unit": {
+      "description": "The transmission unit (DSP0236): the most payload bytes of a packet. Format 2 alone says it; in format 1 it is the baseline of 64.",
+      "type": "integer",
+      "minimum": 64,
+      "maximum": 1024
+    },
+    "buses": {
+      "type": "array",
+      "items": {
+        "$ref": "#/$defs/bus"
+      },
+      "maxItems": 64
+    },
+    "nodes": {
+      "type": "array",
+      "items": {
+        "$ref": "#/$defs/node"
+      },
+      "maxItems": 64
+    }
+  },
+  "required": [
+    "format",
+    "buses",
+    "nodes"
+  ],
+  "additionalProperties": false,
+  "if": {
+    "properties": {
+      "format": {
+        "const": 2
+      }
+    }
+  },
+  "then": {
+    "required": [
+      "unit"
+    ]
+  },
+  "else": {
+    "properties": {
+      "unit": false
+    }
+  },
+  "$defs": {
+    "name": {
+      "description": "1 to 32 ASCII letters, digits, hyphens, underscores or dots.",
+      "type": "string",
+      "pattern": "^[A-Za-z0-9._-]{1,32}$"
+    },
+    "bus": {
+      "description": "An MCTP bus segment.",
+      "type": "object",
+      "properties": {
+        "name": {
+          "$ref": "#/$defs/name"
+        },
+        "binding": {
+          "description": "The physical transport binding identifier (DSP0239).",
+          "type": "integer",
+          "minimum": 0,
+          "maximum": 255
+        },
+        "media": {
+          "description": "The physical media identifier (DSP0239).",
+          "type": "integer",
+          "minimum": 0,
+          "maximum": 255
+        }
+      },
+      "required": [
+        "name",
+        "binding",
+        "media"
+      ],
+      "additionalProperties": false
+    },
+    "node": {
+      "description": "A device that holds an endpoint ID.",
+      "type": "object",
+      "properties": {
+        "name": {
+          "$ref": "#/$defs/name"
+        },
+        "kind": {
+          "description": "Whether it passes packets on.",
+          "enum": [
+            "bridge",
+            "endpoint"
+          ]
+        },
+        "eid": {
+          "description": "The endpoint ID; check asks for one of 8 to 254.",
+          "type": "integer",
+          "minimum": 0,
+          "maximum": 255
+        },
+        "owner": {
+          "description": "The node that gives this one its endpoint ID; null for a bus owner.",
+          "anyOf": [
+            {
+              "type": "null"
+            },
+            {
+              "$ref": "#/$defs/name"
+            }
+          ]
+        },
+        "pool": {
+          "description": "The endpoint IDs that a bridge hands out.",
+          "anyOf": [
+            {
+              "type": "null"
+            },
+            {
+              "$ref": "#/$defs/pool"
+            }
+          ]
+        },
+        "ports": {
+          "type": "array",
+          "items": {
+            "$ref": "#/$defs/port"
+          },
+          "maxItems": 32
+        },
+        "rows": {
+          "description": "The routing table.",
+          "type": "array",
+          "items": {
+            "$ref": "#/$defs/row"
+          },
+          "maxItems": 256
+        },
+        "terminus": {
+          "description": "The PLDM terminus, if the node has one.",
+          "anyOf": [
+            {
+              "type": "null"
+            },
+            {
+              "$ref": "#/$defs/terminus"
+            }
+          ]
+        }
+      },
+      "required": [
+        "name",
+        "kind",
+        "eid",
+        "owner",
+        "pool",
+        "ports",
+        "rows",
+        "terminus"
+      ],
+      "additionalProperties": false
+    },
+    "pool": {
+      "description": "A range of endpoint IDs.",
+      "type": "object",
+      "properties": {
+        "first": {
+          "description": "The first endpoint ID.",
+          "type": "integer",
+          "minimum": 0,
+          "maximum": 255
+        },
+        "size": {
+          "description": "How many from there.",
+          "type": "integer",
+          "minimum": 0,
+          "maximum": 255
+        }
+      },
+      "required": [
+        "first",
+        "size"
+      ],
+      "additionalProperties": false
+    },
+    "port": {
+      "description": "A node's place on a bus.",
+      "type": "object",
+      "properties": {
+        "bus": {
+          "$ref": "#/$defs/name"
+        },
+        "address": {
+          "description": "The physical address on the bus, at most 8 bytes in hex.",
+          "type": "string",
+          "pattern": "^([0-9A-Fa-f]{2}){0,8}$"
+        }
+      },
+      "required": [
+        "bus",
+        "address"
+      ],
+      "additionalProperties": false
+    },
+    "row": {
+      "description": "Where packets for a range of endpoint IDs go next.",
+      "type": "object",
+      "properties": {
+        "first": {
+          "description": "The first endpoint ID.",
+          "type": "integer",
+          "minimum": 0,
+          "maximum": 255
+        },
+        "size": {
+          "description": "How many from there.",
+          "type": "integer",
+          "minimum": 0,
+          "maximum": 255
+        },
+        "port": {
+          "description": "A place in the node's list of ports, from 0.",
+          "type": "integer",
+          "minimum": 0,
+          "maximum": 31
+        },
+        "next": {
+          "description": "The next node.",
+          "$ref": "#/$defs/name"
+        }
+      },
+      "required": [
+        "first",
+        "size",
+        "port",
+        "next"
+      ],
+      "additionalProperties": false
+    },
+    "terminus": {
+      "description": "A PLDM terminus.",
+      "type": "object",
+      "properties": {
+        "tid": {
+          "description": "The terminus ID (DSP0240), 0 where it has none yet.",
+          "type": "integer",
+          "minimum": 0,
+          "maximum": 254
+        },
+        "records": {
+          "type": "array",
+          "items": {
+            "$ref": "#/$defs/record"
+          },
+          "maxItems": 4096
+        }
+      },
+      "required": [
+        "tid",
+        "records"
+      ],
+      "additionalProperties": false
+    },
+    "record": {
+      "description": "A platform descriptor record.",
+      "type": "object",
+      "properties": {
+        "handle": {
+          "description": "The record handle.",
+          "type": "integer",
+          "minimum": 0,
+          "maximum": 4294967295
+        },
+        "next": {
+          "description": "The handle of the record that follows, 0 where none does.",
+          "type": "integer",
+          "minimum": 0,
+          "maximum": 4294967295
+        },
+        "bytes": {
+          "description": "The record with its common header (DSP0248), in hex.",
+          "type": "string",
+          "pattern": "^([0-9A-Fa-f]{2})*$"
+        }
+      },
+      "required": [
+        "handle",
+        "next",
+        "bytes"
+      ],
+      "additionalProperties": false
+    }
+  }
+}
+"##;
+
+const CERTIFICATE: &str = r##"{
+  "$schema": "https://json-schema.org/draft/2020-12/schema",
+  "title": "A certificate of a plan of mctpplan",
+  "description": "What a certificate's text is, as far as a schema can say it (README.md).",
+  "type": "object",
+  "properties": {
+    "format": {
+      "const": 1
+    },
+    "levels": {
+      "type": "array",
+      "items": {
+        "$ref": "#/$defs/level"
+      }
+    },
+    "places": {
+      "type": "array",
+      "items": {
+        "$ref": "#/$defs/places"
+      }
+    },
+    "ranks": {
+      "type": "array",
+      "items": {
+        "$ref": "#/$defs/ranks"
+      }
+    }
+  },
+  "required": [
+    "format",
+    "levels",
+    "places",
+    "ranks"
+  ],
+  "additionalProperties": false,
+  "$defs": {
+    "name": {
+      "description": "1 to 32 ASCII letters, digits, hyphens, underscores or dots.",
+      "type": "string",
+      "pattern": "^[A-Za-z0-9._-]{1,32}$"
+    },
+    "level": {
+      "description": "How many owners stand above a node.",
+      "type": "object",
+      "properties": {
+        "level": {
+          "type": "integer",
+          "minimum": 1,
+          "maximum": 63
+        },
+        "node": {
+          "$ref": "#/$defs/name"
+        }
+      },
+      "required": [
+        "level",
+        "node"
+      ],
+      "additionalProperties": false
+    },
+    "places": {
+      "description": "The places of a node's records along their next handles.",
+      "type": "object",
+      "properties": {
+        "node": {
+          "$ref": "#/$defs/name"
+        },
+        "places": {
+          "description": "A place for each record, in the order of the node's list.",
+          "type": "array",
+          "items": {
+            "type": "integer",
+            "minimum": 0,
+            "maximum": 4095
+          }
+        }
+      },
+      "required": [
+        "node",
+        "places"
+      ],
+      "additionalProperties": false
+    },
+    "ranks": {
+      "description": "How many moves are left at a node.",
+      "type": "object",
+      "properties": {
+        "node": {
+          "$ref": "#/$defs/name"
+        },
+        "ranges": {
+          "type": "array",
+          "items": {
+            "$ref": "#/$defs/range"
+          }
+        }
+      },
+      "required": [
+        "node",
+        "ranges"
+      ],
+      "additionalProperties": false
+    },
+    "range": {
+      "description": "One rank for a range of endpoint IDs.",
+      "type": "object",
+      "properties": {
+        "first": {
+          "description": "The first endpoint ID.",
+          "type": "integer",
+          "minimum": 0,
+          "maximum": 255
+        },
+        "rank": {
+          "type": "integer",
+          "minimum": 1,
+          "maximum": 255
+        },
+        "size": {
+          "description": "How many from there.",
+          "type": "integer",
+          "minimum": 1,
+          "maximum": 255
+        }
+      },
+      "required": [
+        "first",
+        "rank",
+        "size"
+      ],
+      "additionalProperties": false
+    }
+  }
+}
+"##;
+
+const EVENTS: &str = r##"{
+  "$schema": "https://json-schema.org/draft/2020-12/schema",
+  "title": "Events for mctpplan",
+  "description": "What a text of events is, as far as a schema can say it (README.md).",
+  "type": "object",
+  "properties": {
+    "format": {
+      "enum": [
+        1,
+        2,
+        3
+      ]
+    },
+    "events": {
+      "type": "array",
+      "maxItems": 100000
+    }
+  },
+  "required": [
+    "format",
+    "events"
+  ],
+  "additionalProperties": false,
+  "allOf": [
+    {
+      "if": {
+        "properties": {
+          "format": {
+            "const": 1
+          }
+        }
+      },
+      "then": {
+        "properties": {
+          "events": {
+            "items": {
+              "anyOf": [
+                {
+                  "$ref": "#/$defs/put"
+                },
+                {
+                  "$ref": "#/$defs/move"
+                },
+                {
+                  "$ref": "#/$defs/lose"
+                },
+                {
+                  "$ref": "#/$defs/expire"
+                },
+                {
+                  "$ref": "#/$defs/answer"
+                }
+              ]
+            }
+          }
+        }
+      }
+    },
+    {
+      "if": {
+        "properties": {
+          "format": {
+            "const": 2
+          }
+        }
+      },
+      "then": {
+        "properties": {
+          "events": {
+            "items": {
+              "anyOf": [
+                {
+                  "$ref": "#/$defs/put"
+                },
+                {
+                  "$ref": "#/$defs/move"
+                },
+                {
+                  "$ref": "#/$defs/lose"
+                },
+                {
+                  "$ref": "#/$defs/expire"
+                },
+                {
+                  "$ref": "#/$defs/answer"
+                },
+                {
+                  "$ref": "#/$defs/switch"
+                }
+              ]
+            }
+          }
+        }
+      }
+    },
+    {
+      "if": {
+        "properties": {
+          "format": {
+            "const": 3
+          }
+        }
+      },
+      "then": {
+        "properties": {
+          "events": {
+            "items": {
+              "anyOf": [
+                {
+                  "$ref": "#/$defs/put"
+                },
+                {
+                  "$ref": "#/$defs/move"
+                },
+                {
+                  "$ref": "#/$defs/lose"
+                },
+                {
+                  "$ref": "#/$defs/expire"
+                },
+                {
+                  "$ref": "#/$defs/answer"
+                },
+                {
+                  "$ref": "#/$defs/switch"
+                },
+                {
+                  "$ref": "#/$defs/walk"
+                },
+                {
+                  "$ref": "#/$defs/ask"
+                },
+                {
+                  "$ref": "#/$defs/collected"
+                }
+              ]
+            }
+          }
+        }
+      }
+    }
+  ],
+  "$defs": {
+    "name": {
+      "description": "1 to 32 ASCII letters, digits, hyphens, underscores or dots.",
+      "type": "string",
+      "pattern": "^[A-Za-z0-9._-]{1,32}$"
+    },
+    "put": {
+      "description": "A packet is put in at a node.",
+      "type": "object",
+      "properties": {
+        "do": {
+          "const": "put"
+        },
+        "node": {
+          "$ref": "#/$defs/name"
+        },
+        "bytes": {
+          "description": "The packet in hex.",
+          "type": "string",
+          "pattern": "^([0-9A-Fa-f]{2})*$"
+        }
+      },
+      "required": [
+        "do",
+        "node",
+        "bytes"
+      ],
+      "additionalProperties": false
+    },
+    "move": {
+      "description": "A flight moves one hop or enters its node.",
+      "type": "object",
+      "properties": {
+        "do": {
+          "const": "move"
+        },
+        "flight": {
+          "description": "A flight's number: what an outcome called it.",
+          "type": "integer",
+          "minimum": 0,
+          "maximum": 4294967295
+        },
+        "keep": {
+          "description": "Whether a copy of it moves and it stays.",
+          "type": "boolean"
+        }
+      },
+      "required": [
+        "do",
+        "flight",
+        "keep"
+      ],
+      "additionalProperties": false
+    },
+    "lose": {
+      "description": "A flight is lost.",
+      "type": "object",
+      "properties": {
+        "do": {
+          "const": "lose"
+        },
+        "flight": {
+          "description": "A flight's number: what an outcome called it.",
+          "type": "integer",
+          "minimum": 0,
+          "maximum": 4294967295
+        }
+      },
+      "required": [
+        "do",
+        "flight"
+      ],
+      "additionalProperties": false
+    },
+    "expire": {
+      "description": "The time of a message key is up at a node.",
+      "type": "object",
+      "properties": {
+        "do": {
+          "const": "expire"
+        },
+        "node": {
+          "$ref": "#/$defs/name"
+        },
+        "source": {
+          "description": "The source endpoint ID.",
+          "type": "integer",
+          "minimum": 0,
+          "maximum": 255
+        },
+        "tag": {
+          "type": "integer",
+          "minimum": 0,
+          "maximum": 7
+        },
+        "owner": {
+          "type": "integer",
+          "minimum": 0,
+          "maximum": 1
+        }
+      },
+      "required": [
+        "do",
+        "node",
+        "source",
+        "tag",
+        "owner"
+      ],
+      "additionalProperties": false
+    },
+    "answer": {
+      "description": "The terminus of a node answers the oldest message that waits there.",
+      "type": "object",
+      "properties": {
+        "do": {
+          "const": "answer"
+        },
+        "node": {
+          "$ref": "#/$defs/name"
+        }
+      },
+      "required": [
+        "do",
+        "node"
+      ],
+      "additionalProperties": false
+    },
+    "switch": {
+      "description": "A node goes over to its rows in the new plan.",
+      "type": "object",
+      "properties": {
+        "do": {
+          "const": "switch"
+        },
+        "node": {
+          "$ref": "#/$defs/name"
+        }
+      },
+      "required": [
+        "do",
+        "node"
+      ],
+      "additionalProperties": false
+    },
+    "walk": {
+      "description": "A walker is set up.",
+      "type": "object",
+      "properties": {
+        "do": {
+          "const": "walk"
+        },
+        "node": {
+          "$ref": "#/$defs/name"
+        },
+        "eid": {
+          "description": "The endpoint ID whose terminus it asks.",
+          "type": "integer",
+          "minimum": 8,
+          "maximum": 254
+        },
+        "tag": {
+          "type": "integer",
+          "minimum": 0,
+          "maximum": 7
+        },
+        "count": {
+          "description": "The most bytes of a record that a request asks for.",
+          "type": "integer",
+          "minimum": 8,
+          "maximum": 4079
+        }
+      },
+      "required": [
+        "do",
+        "node",
+        "eid",
+        "tag",
+        "count"
+      ],
+      "additionalProperties": false
+    },
+    "ask": {
+      "description": "A walker puts its request in.",
+      "type": "object",
+      "properties": {
+        "do": {
+          "const": "ask"
+        },
+        "walker": {
+          "description": "A walker's number, from 1.",
+          "type": "integer",
+          "minimum": 0,
+          "maximum": 4294967295
+        }
+      },
+      "required": [
+        "do",
+        "walker"
+      ],
+      "additionalProperties": false
+    },
+    "collected": {
+      "description": "What a walker has collected is told.",
+      "type": "object",
+      "properties": {
+        "do": {
+          "const": "collected"
+        },
+        "walker": {
+          "description": "A walker's number, from 1.",
+          "type": "integer",
+          "minimum": 0,
+          "maximum": 4294967295
+        }
+      },
+      "required": [
+        "do",
+        "walker"
+      ],
+      "additionalProperties": false
+    }
+  }
+}
+"##;

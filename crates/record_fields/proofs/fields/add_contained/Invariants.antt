@@ -1,0 +1,13 @@
+use Rattle.std.proofs.Common.{◌≡◌, ◌++◌, map, length}
+use Rattle.pdr_record.specs.Lists.{entities_value}
+use Rattle.pdr_record.specs.ListsLeft.{entities_left}
+use Rattle.record_fields.specs.Meanings.{named_of}
+use Rattle.record_fields.specs.Named.{contained_named}
+use Rattle.record_fields.proofs.fields.add_contained.Given as goal
+
+abbrev pub invariant-loop-entity : goal.invariant-loop-entity
+invariant-loop-entity l = map named_of l.fields.items ++ map contained_named (entities_left l.left)
+    ≡ map named_of l.initial.fields.items ++ map contained_named (entities_value l.entities)
+
+abbrev pub decreases-loop-entity : goal.decreases-loop-entity
+decreases-loop-entity l = length (entities_left l.left)

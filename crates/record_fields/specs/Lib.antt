@@ -1,0 +1,4 @@
+pub mod Named
+pub mod Meanings
+pub mod Texts
+pub mod Said

@@ -1,0 +1,46 @@
+-- What words say of a record's fields.
+use Rattle.std.specs.Prelude.{◌≡◌, ◌⊎◌, ℕ, List, ◌++◌, map, codes, All, Contains}
+use Rattle.std.specs.Char.{to_ascii_lowercase}
+use Rattle.pdr_record.specs.Records.{RecordValue, Spelled, type_of}
+use Rattle.record_fields.specs.Named.{Holding, Number, Sized, Bytes, StateSet, Entity, Named, named_fields}
+use Rattle.record_fields.specs.Texts.{field_text, hexadecimal}
+
+-- both are one word, in letters of either case
+abbrev pub IsOneWord : List ℕ → List ℕ → Type 0
+IsOneWord a b = map to_ascii_lowercase a ≡ map to_ascii_lowercase b
+
+-- the word is the field's name, a sign of equality and what it holds
+abbrev pub SaysField : List ℕ → Named → Type 0
+SaysField word field = IsOneWord word (field_text (codes "=") field)
+
+-- the same with the number in hexadecimal digits
+abbrev pub SaysHexadecimal : List ℕ → Named → Type 0
+SaysHexadecimal word field = (n : ℕ) × (field.held ≡ Number n)
+    × IsOneWord word (field.name ++ (codes "=" ++ hexadecimal n))
+
+-- the field holds a real number, and the word is its name, a sign of equality and some text
+abbrev pub NamesReal : List ℕ → Named → Type 0
+NamesReal word field = (n : ℕ) × (text : List ℕ) × (field.held ≡ Sized 6 n)
+    × IsOneWord word (field.name ++ (codes "=" ++ text))
+
+-- the word says what the field holds; of a real number only that it is the field's word
+abbrev pub Says : List ℕ → Named → Type 0
+Says word field = SaysField word field ⊎ SaysHexadecimal word field ⊎ NamesReal word field
+
+-- the word says what one of the fields holds
+abbrev pub IsSaidOf : List Named → List ℕ → Type 0
+IsSaidOf fields word = (field : Named) × Contains fields field × Says word field
+
+-- the word is the name of a type of records
+abbrev pub IsTypeWord : List ℕ → ℕ → Type 0
+IsTypeWord word number = ((word ≡ codes "terminus-locator") × (number ≡ 1))
+    ⊎ ((word ≡ codes "numeric-sensor") × (number ≡ 2)) ⊎ ((word ≡ codes "state-sensor") × (number ≡ 4))
+    ⊎ ((word ≡ codes "entity-association") × (number ≡ 15)) ⊎ (word ≡ codes "other")
+
+-- The bytes are a record's of the type that the word names, and each of the other words says what one of its fields
+-- holds.
+pub record IsRecordOfWords (type : List ℕ) (words : List (List ℕ)) (bytes : List ℕ) : Type 0 where
+  pub whole : RecordValue
+  pub spelled : Spelled whole bytes
+  pub type_is : IsTypeWord type (type_of whole.body)
+  pub said : All (IsSaidOf (named_fields whole)) words

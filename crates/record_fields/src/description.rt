@@ -1,0 +1,43 @@
+//! What is told of a record: a line for each field.
+ghost use Rattle.std.specs.Prelude.{◌≡◌, IfOk, map, string_bytes};
+ghost use Rattle.pdr_record.specs.RecordValues.{record_value};
+ghost use Rattle.record_fields.specs.Meanings.{named_of};
+ghost use Rattle.record_fields.specs.Named.{named_fields};
+ghost use Rattle.record_fields.specs.Texts.{AreFieldLines, IsFieldLine};
+
+use crate::fields::named_fields;
+use crate::held::NamedField;
+use crate::notes::note_of;
+use crate::text::field_text;
+use pdr_record::Record;
+use std::alloc::{AllocError, Global};
+
+/// A line for each field of a record: its name, what it holds, and for some the standard's word for that (DSP0248 and
+/// DSP0249).
+pub fn description(alloc: Global, record: &Record) -> Result<String, AllocError>
+    ensures { IfOk result (λ text. AreFieldLines (named_fields (record_value record.now)) (string_bytes text)) }
+{
+    let fields = named_fields(alloc, record)?;
+    field_lines(alloc, &fields)
+}
+
+fn field_lines(alloc: Global, fields: &[NamedField]) -> Result<String, AllocError>
+    ensures { IfOk result (λ text. AreFieldLines (map named_of fields.now) (string_bytes text)) }
+{
+    let mut text = String::new(alloc);
+    for field in fields {
+        text.push_str(&field_line(alloc, field)?)?;
+    }
+    Ok(text)
+}
+
+fn field_line(alloc: Global, field: &NamedField) -> Result<String, AllocError>
+    ensures { IfOk result (λ line. IsFieldLine (named_of field.now) (string_bytes line)) }
+{
+    let told = field_text(alloc, " ", field)?;
+    let note = note_of(alloc, field)?;
+    if note.is_empty() {
+        return format!(in alloc; "{told}\n");
+    }
+    format!(in alloc; "{told} {note}\n")
+}
