@@ -4,3 +4,4 @@ pub mod PoolFaults
 pub mod MostOf
 pub mod FollowersOf
 pub mod RowsOf
+pub mod SamePlan
