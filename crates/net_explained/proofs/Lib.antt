@@ -5,3 +5,4 @@ pub mod MostOf
 pub mod FollowersOf
 pub mod RowsOf
 pub mod SamePlan
+pub mod Later

@@ -47,17 +47,20 @@ abbrev pub AreEditsTold : Plan → CertifyError → List ℕ → Type 0
 AreEditsTold plan obstacle lines = (edits : List Tried) × All (IsTried (plan_value plan) obstacle) edits
     × (length edits ≤ 3) × (lines ≡ edits_text plan edits)
 
--- The text is the line of what comes first, in the order of the rules, of what rules certificates of the plan out, then
--- the lines that explain it, and those of edits that were tried.
+-- the text explains what rules certificates of the plan out, and then proposes edits
+abbrev pub IsToldWithEdits : Plan → CertifyError → List ℕ → Type 0
+IsToldWithEdits plan obstacle text = (lines : List ℕ) × (edits : List ℕ)
+    × IsObstacleTold plan obstacle lines × AreEditsTold plan obstacle edits × (text ≡ lines ++ edits)
+
+-- The text is the line of what comes first, in the order of the rules, of what rules certificates of the plan out, and
+-- then the lines that explain it and propose edits.
 pub record IsObstacleText (plan : Plan) (text : List ℕ) : Type 0 where
   pub obstacle : CertifyError
   pub line : List ℕ
   pub lines : List ℕ
-  pub edits : List ℕ
   pub ruled_out : IsRuledOutBy plan obstacle line
-  pub told : IsObstacleTold plan obstacle lines
-  pub tried : AreEditsTold plan obstacle edits
-  pub written : text ≡ line ++ (lines ++ edits)
+  pub told : IsToldWithEdits plan obstacle lines
+  pub written : text ≡ line ++ lines
 
 -- the text says yes and sums the plan up, with the most hops that the certificate allows between two nodes
 abbrev pub IsSummedUp : Plan → Certificate → List ℕ → Type 0

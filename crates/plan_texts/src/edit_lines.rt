@@ -31,11 +31,7 @@ fn tried_line(alloc: Global, plan: &Plan, tried: &Tried) -> Result<String, Alloc
 }
 
 /// That a certificate fits then, or what rules certificates out.
-fn left_line(
-    alloc: Global,
-    plan: &Plan,
-    left: &Option<CertifyError>,
-) -> Result<String, AllocError>
+fn left_line(alloc: Global, plan: &Plan, left: &Option<CertifyError>) -> Result<String, AllocError>
     ensures { IfOk result (λ line. string_bytes line ≡ left_text plan.now left.now) }
 {
     match left {
@@ -142,7 +138,9 @@ fn row_value(alloc: Global, plan: &Plan, row: &Row) -> Result<String, AllocError
 {
     let (first, size, port) = (row.first.value, row.size, row.port);
     let next = name_or_dash(plan, row.next);
-    format!(in alloc; "{{ \"first\": {first}, \"size\": {size}, \"port\": {port}, \"next\": \"{next}\" }}")
+    format!(in alloc;
+        "{{ \"first\": {first}, \"size\": {size}, \"port\": {port}, \"next\": \"{next}\" }}"
+    )
 }
 
 /// The word of what a node does with the packets of others.

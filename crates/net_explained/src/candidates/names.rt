@@ -31,5 +31,7 @@ pub fn add_names(
 
 /// Whether a node has the name.
 fn has_name(plan: &Plan, text: &str) -> bool {
-    plan.nodes.iter().any(|node| node.name.text.as_str() == text)
+    plan.nodes
+        .iter()
+        .any(|node| node.name.text.as_str() == text)
 }

@@ -124,8 +124,18 @@ fn add_around(
     end: u16,
     edits: &mut Vec<Edit>,
 ) -> Result<(), AllocError> {
-    add_pool(node, end.max(u16::from(pool.first.value)), pool_end(pool), edits)?;
-    add_pool(node, u16::from(pool.first.value), first.min(pool_end(pool)), edits)
+    add_pool(
+        node,
+        end.max(u16::from(pool.first.value)),
+        pool_end(pool),
+        edits,
+    )?;
+    add_pool(
+        node,
+        u16::from(pool.first.value),
+        first.min(pool_end(pool)),
+        edits,
+    )
 }
 
 /// Adds the node's pool as far as it lies within 8 to 254, and as far as it lies in its owner's.
@@ -136,7 +146,12 @@ pub fn add_clipped(plan: &Plan, node: usize, edits: &mut Vec<Edit>) -> Result<()
     match pool_at(plan, node) {
         Some(pool) => {
             let first = u16::from(pool.first.value).max(8);
-            add_pool(node, first, pool_end(pool).min(next_pool(plan, node, pool)), edits)?;
+            add_pool(
+                node,
+                first,
+                pool_end(pool).min(next_pool(plan, node, pool)),
+                edits,
+            )?;
             add_pool(node, first, first + 1, edits)?;
             add(edits, node, Change::Pool(None))
         }

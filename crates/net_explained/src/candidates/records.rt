@@ -10,6 +10,7 @@ use std::alloc::{AllocError, Global};
 
 /// Where a terminus locator has its terminus ID, and the length of its value, which is its last part (DSP0248).
 const TID_AT: usize = 13;
+
 const VALUE_LENGTH_AT: usize = 17;
 
 // ---- next handles
@@ -87,7 +88,10 @@ pub fn add_handles(
     edits: &mut Vec<Edit>,
 ) -> Result<(), AllocError> {
     let records = records_at(plan, node);
-    if let Some(handle) = records.get(at).and_then(|record| header_handle(&record.bytes)) {
+    if let Some(handle) = records
+        .get(at)
+        .and_then(|record| header_handle(&record.bytes))
+    {
         add_handle(node, records, at, handle, edits)?;
     }
     for record in records {

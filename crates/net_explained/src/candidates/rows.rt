@@ -144,7 +144,19 @@ fn add_by_ports(
     }
     for port in 0..32u8 {
         if is_joined(plan, node, port, next) && (port != row.port || next != row.next) {
-            add(edits, node, Change::Row(at, Row { port, next, first: row.first, size: row.size }))?;
+            add(
+                edits,
+                node,
+                Change::Row(
+                    at,
+                    Row {
+                        port,
+                        next,
+                        first: row.first,
+                        size: row.size,
+                    },
+                ),
+            )?;
         }
     }
     Ok(())
@@ -291,7 +303,16 @@ fn add_more_rows(
     }
     for port in 0..32u8 {
         if is_joined(plan, node, port, next) {
-            add(edits, node, Change::MoreRow(Row { first, size, port, next }))?;
+            add(
+                edits,
+                node,
+                Change::MoreRow(Row {
+                    first,
+                    size,
+                    port,
+                    next,
+                }),
+            )?;
         }
     }
     Ok(())

@@ -6,7 +6,7 @@ ghost use Rattle.net_plan.specs.Stream.{HasRoom};
 ghost use Rattle.plan_commands.specs.declared.status.Status.TheVariants.{Yes, Fault, Unreadable, NoMemory};
 ghost use Rattle.plan_commands.specs.declared.refused.Refused.TheVariants as refused;
 ghost use Rattle.plan_commands.specs.Answers.{stream, BreaksOff};
-ghost use Rattle.plan_commands.specs.Explaining.{AreEditsTold, IsObstacleText, IsSummedUp, IsExplained, ExplainsSo};
+ghost use Rattle.plan_commands.specs.Explaining.{AreEditsTold, IsObstacleText, IsToldWithEdits, IsSummedUp, IsExplained, ExplainsSo};
 ghost use Rattle.plan_commands.specs.Told.{Gives, IsSomeAnswer, Ends};
 
 pub mod certified;
@@ -91,9 +91,21 @@ fn obstacle_text(
     ensures { IfOk result (λ text. IsObstacleText given.now.plan (string_bytes text)) }
 {
     let mut text = obstacle_line(alloc, &given.plan, obstacle)?;
-    let mut lines = obstacle_lines(alloc, &given.plan, obstacle)?;
-    lines.push_str(&edits_text(alloc, given, obstacle)?)?;
-    text.push_str(&lines)?;
+    text.push_str(&explained_text(alloc, given, obstacle)?)?;
+    Ok(text)
+}
+
+/// Explains what rules certificates of a plan out, and proposes edits.
+fn explained_text(
+    alloc: Global,
+    given: &PlanText,
+    obstacle: &CertifyError,
+) -> Result<String, AllocError>
+    requires { NamesObstacle given.now.plan obstacle.now }
+    ensures { IfOk result (λ text. IsToldWithEdits given.now.plan obstacle.now (string_bytes text)) }
+{
+    let mut text = obstacle_lines(alloc, &given.plan, obstacle)?;
+    text.push_str(&edits_text(alloc, given, obstacle)?)?;
     Ok(text)
 }
 
@@ -105,6 +117,6 @@ pub fn edits_text(
 ) -> Result<String, AllocError>
     ensures { IfOk result (λ text. AreEditsTold given.now.plan obstacle.now (string_bytes text)) }
 {
-    let edits = tried_edits(alloc, &given.text, &given.plan, obstacle)?;
-    edit_lines(alloc, &given.plan, &edits)
+    let edits = tried_edits(alloc, given.text.as_slice(), &given.plan, obstacle)?;
+    edit_lines(alloc, &given.plan, edits.as_slice())
 }

@@ -7,7 +7,7 @@ ghost use Rattle.net_plan.specs.Stream.{HasRoom};
 ghost use Rattle.plan_commands.specs.declared.refused.Refused.TheVariants as refused;
 ghost use Rattle.plan_commands.specs.declared.status.Status.TheVariants as status;
 ghost use Rattle.plan_commands.specs.Answers.{stream, IsWithoutPlan, BreaksOff};
-ghost use Rattle.plan_commands.specs.Explaining.{IsFaultExplained, IsFaultTold, IsRemedyTold, IsCertificateTold, IsBothExplained, IsExplainedWith, ExplainsWithSo};
+ghost use Rattle.plan_commands.specs.Explaining.{IsCauseTold, IsFaultExplained, IsFaultTold, IsRemedyTold, IsCertificateTold, IsBothExplained, IsExplainedWith, ExplainsWithSo};
 ghost use Rattle.plan_commands.specs.Told.{Gives, IsSomeAnswer, Ends};
 
 use super::unread::{unread_certificate, unread_plan};
@@ -92,7 +92,11 @@ fn answer_of_certificate<C: Source>(
 }
 
 /// The answer on a plan and a certificate.
-fn answer_of_both(alloc: Global, given: &PlanText, certificate: &Certificate) -> Result<Answer, Refused>
+fn answer_of_both(
+    alloc: Global,
+    given: &PlanText,
+    certificate: &Certificate,
+) -> Result<Answer, Refused>
     ensures answers { IfOk result (λ answer. IsBothExplained given.now.plan certificate.now answer.status (cow_str_bytes answer.text)) }
     ensures refused { IfErr result (λ why. why ≡ refused.NoMemory) }
 {
@@ -133,7 +137,13 @@ fn fault_text(
     ensures { IfOk result (λ text. IsFaultExplained given.now.plan certificate.now (string_bytes text)) }
 {
     let mut text = fault_line(alloc, &given.plan, fault)?;
-    text.push_str(&lines_of(alloc, given, certificate, fault, find_cause(&given.plan, fault))?)?;
+    text.push_str(&lines_of(
+        alloc,
+        given,
+        certificate,
+        fault,
+        find_cause(&given.plan, fault),
+    )?)?;
     Ok(text)
 }
 
@@ -148,13 +158,23 @@ fn lines_of(
     ensures { IfOk result (λ text. IsFaultTold given.now.plan certificate.now fault.now cause (string_bytes text)) }
 {
     match cause {
-        Some(cause) => {
-            let mut text = cause_lines(alloc, &given.plan, fault, cause)?;
-            text.push_str(&edits_text(alloc, given, &CertifyError::Fault(*fault))?)?;
-            Ok(text)
-        }
+        Some(cause) => cause_text(alloc, given, fault, cause),
         None => certificate_lines(alloc, given, certificate, fault),
     }
+}
+
+/// Explains a fault of a plan by its cause, and proposes edits.
+fn cause_text(
+    alloc: Global,
+    given: &PlanText,
+    fault: &Fault,
+    cause: Cause,
+) -> Result<String, AllocError>
+    ensures { IfOk result (λ text. IsCauseTold given.now.plan fault.now cause (string_bytes text)) }
+{
+    let mut text = cause_lines(alloc, &given.plan, fault, cause)?;
+    text.push_str(&edits_text(alloc, given, &CertifyError::Fault(*fault))?)?;
+    Ok(text)
 }
 
 /// What the certificate gives by which it breaks a rule, and what helps.
