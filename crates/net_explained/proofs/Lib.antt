@@ -6,3 +6,4 @@ pub mod FollowersOf
 pub mod RowsOf
 pub mod SamePlan
 pub mod Later
+pub mod Editing

@@ -1,6 +1,6 @@
 -- What an edit makes of a plan.
 use Rattle.std.specs.Prelude.{◌≡◌, ℕ, List, [], ◌∷◌, ◌++◌, Option, Some, None, option_map, slice_get, slice_set}
-use Rattle.std.specs.Vec.{remove}
+use Rattle.std.specs.List.{remove}
 use Rattle.net_plan.specs.NodeValues.{NodeValue, RecordValue, TerminusValue, name_bytes, pool_value, row_value}
 use Rattle.net_plan.specs.PlanValues.{PlanValue}
 use Rattle.net_explained.specs.declared.edit.Change.{Change}

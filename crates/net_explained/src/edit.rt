@@ -142,16 +142,16 @@ fn terminus_with(
 /// A record with just this changed.
 fn record_with(
     alloc: Global,
-    record: &PlannedRecord,
+    listed: &PlannedRecord,
     change: &Change,
 ) -> Result<PlannedRecord, AllocError>
-    ensures { IfOk result (λ after. record_value after ≡ changed_record change.now (record_value record.now)) }
+    ensures { IfOk result (λ after. record_value after ≡ changed_record change.now (record_value listed.now)) }
 {
     let (handle, next, bytes) = match change {
-        Change::Handle(_, handle) => (*handle, record.next, record.bytes.as_slice()),
-        Change::Next(_, next) => (record.handle, *next, record.bytes.as_slice()),
-        Change::Bytes(_, bytes) => (record.handle, record.next, bytes.as_slice()),
-        _ => (record.handle, record.next, record.bytes.as_slice()),
+        Change::Handle(_, handle) => (*handle, listed.next, listed.bytes.as_slice()),
+        Change::Next(_, next) => (listed.handle, *next, listed.bytes.as_slice()),
+        Change::Bytes(_, bytes) => (listed.handle, listed.next, bytes.as_slice()),
+        _ => (listed.handle, listed.next, listed.bytes.as_slice()),
     };
     Ok(PlannedRecord {
         handle,

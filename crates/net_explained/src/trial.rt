@@ -41,7 +41,7 @@ pub fn tried_edits(
         if whole.len() >= MOST_EDITS {
             return Ok(whole);
         }
-        if let Some(tried) = tried(alloc, text, plan, obstacle, edit)? {
+        if let Some(tried) = try_edit(alloc, text, plan, obstacle, edit)? {
             if tried.left.is_none() {
                 whole.push(tried)?;
             } else if partial.len() < MOST_EDITS {
@@ -54,7 +54,7 @@ pub fn tried_edits(
 
 /// Makes an edit in the plan of a text, and sees what rules certificates out then: nothing, or an obstacle that comes later
 /// than the one before. None of any other edit.
-fn tried(
+fn try_edit(
     alloc: Global,
     text: &[u8],
     plan: &Plan,
