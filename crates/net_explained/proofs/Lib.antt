@@ -4,3 +4,6 @@ pub mod PoolFaults
 pub mod MostOf
 pub mod FollowersOf
 pub mod RowsOf
+pub mod SamePlan
+pub mod Later
+pub mod Editing

@@ -4,3 +4,6 @@ pub mod Followers
 pub mod Rows
 pub mod Rests
 pub mod Causes
+pub mod Edits
+pub mod Keys
+pub mod Obstacles

@@ -2,16 +2,22 @@
 //! certificate allows.
 #![tactic(auto)]
 
+mod candidates;
 mod cause;
 mod causes;
 mod circle;
+mod edit;
 mod finding;
 mod holders;
 mod hops;
+mod order;
 mod rest;
+mod trial;
 
 pub use cause::Cause;
 pub use circle::circle_from;
+pub use edit::{Change, Edit, edited};
 pub use finding::find_cause;
 pub use hops::{MostHops, most_hops, rank_of};
 pub use rest::Stretch;
+pub use trial::{Tried, tried_edits};

@@ -1,17 +1,22 @@
 -- What `explain` prints, and what the end of it says.
-use Rattle.std.specs.Prelude.{◌≡◌, ◌⊎◌, ℕ, List, ◌++◌, codes}
+use Rattle.std.specs.Prelude.{◌≡◌, ◌≤◌, ◌⊎◌, ℕ, List, ◌++◌, codes, length}
+use Rattle.std.specs.List.{All}
 use Rattle.std.specs.Prelude.{Option, Some, None}
 use Rattle.net_rules.specs.Certificates.{IsExact}
 use Rattle.net_rules.specs.Faults.{IsFirstFault, site_of}
 use Rattle.net_rules.specs.Rules.{Accepts}
 use Rattle.net_rules.specs.declared.certify_error.CertifyError.{CertifyError}
+use Rattle.net_rules.specs.declared.certify_error.CertifyError.TheVariants as error
 use Rattle.net_rules.specs.declared.fault.Fault.{Fault}
 use Rattle.net_explained.specs.declared.cause.Cause.{Cause}
 use Rattle.net_explained.specs.declared.hops.MostHops.{MostHops}
+use Rattle.net_explained.specs.declared.trial.Tried.{Tried}
 use Rattle.net_explained.specs.Causes.{IsCauseAt}
+use Rattle.net_explained.specs.Obstacles.{IsTried}
 use Rattle.net_explained.specs.Hops.{IsMostHops}
 use Rattle.net_plan.specs.declared.certificate.Certificate.{Certificate}
 use Rattle.net_plan.specs.declared.plan.Plan.{Plan}
+use Rattle.net_plan.specs.PlanValues.{plan_value}
 use Rattle.plan_commands.specs.declared.status.Status.{Status}
 use Rattle.plan_commands.specs.declared.status.Status.TheVariants as status
 use Rattle.plan_commands.specs.Answers.{Stream, GavePlan, GaveCertificate}
@@ -20,6 +25,7 @@ use Rattle.plan_texts.specs.Lines.{fault_text}
 use Rattle.plan_commands.specs.Statuses.{yes_line}
 use Rattle.plan_commands.specs.UnreadTexts.{IsUnreadText, IsUnreadCertificateText}
 use Rattle.plan_texts.specs.CertificateSubjects.{certificate_subjects}
+use Rattle.plan_texts.specs.EditLines.{edits_text}
 use Rattle.plan_texts.specs.Explanations.{told_subjects, IsObstacleTold}
 use Rattle.plan_texts.specs.Pieces.{Tells}
 use Rattle.plan_texts.specs.SummaryLines.{summary_text}
@@ -34,14 +40,26 @@ no_certificate_text = codes "This plan has no certificate, whatever this one say
 
 -- ---- what rules certificates out
 
+-- The lines are those of at most three edits of the plan that has this obstacle. Each was tried: the plan with just
+-- this changed has a certificate, or the first of what rules certificates of it out comes later than the obstacle; and
+-- this is said of it.
+abbrev pub AreEditsTold : Plan → CertifyError → List ℕ → Type 0
+AreEditsTold plan obstacle lines = (edits : List Tried) × All (IsTried (plan_value plan) obstacle) edits
+    × (length edits ≤ 3) × (lines ≡ edits_text plan edits)
+
+-- the text explains what rules certificates of the plan out, and then proposes edits
+abbrev pub IsToldWithEdits : Plan → CertifyError → List ℕ → Type 0
+IsToldWithEdits plan obstacle text = (lines : List ℕ) × (edits : List ℕ)
+    × IsObstacleTold plan obstacle lines × AreEditsTold plan obstacle edits × (text ≡ lines ++ edits)
+
 -- The text is the line of what comes first, in the order of the rules, of what rules certificates of the plan out, and
--- then the lines that explain it.
+-- then the lines that explain it and propose edits.
 pub record IsObstacleText (plan : Plan) (text : List ℕ) : Type 0 where
   pub obstacle : CertifyError
   pub line : List ℕ
   pub lines : List ℕ
   pub ruled_out : IsRuledOutBy plan obstacle line
-  pub told : IsObstacleTold plan obstacle lines
+  pub told : IsToldWithEdits plan obstacle lines
   pub written : text ≡ line ++ lines
 
 -- the text says yes and sums the plan up, with the most hops that the certificate allows between two nodes
@@ -85,9 +103,15 @@ IsCertificateTold plan certificate fault text = (lines : List ℕ) × (remedy : 
     × Tells plan (certificate_subjects plan certificate fault) lines × IsRemedyTold plan remedy
     × (text ≡ lines ++ remedy)
 
+-- the text explains a fault of the plan by its cause, with edits that were tried
+abbrev pub IsCauseTold : Plan → Fault → Cause → List ℕ → Type 0
+IsCauseTold plan fault cause text = (lines : List ℕ) × (edits : List ℕ)
+    × Tells plan (told_subjects plan fault (Some cause)) lines × AreEditsTold plan (error.Fault fault) edits
+    × (text ≡ lines ++ edits)
+
 -- the text explains a fault of the plan, by its cause, or of the certificate, where it has none in the plan
 abbrev pub IsFaultTold : Plan → Certificate → Fault → Option Cause → List ℕ → Type 0
-IsFaultTold plan certificate fault (Some cause) text = Tells plan (told_subjects plan fault (Some cause)) text
+IsFaultTold plan certificate fault (Some cause) text = IsCauseTold plan fault cause text
 IsFaultTold plan certificate fault None text = IsCertificateTold plan certificate fault text
 
 -- The text is the line of the first fault of the plan and the certificate, and then the lines that explain it.

@@ -18,3 +18,4 @@ pub mod ReadingLines
 pub mod Standing
 pub mod TroubleLines
 pub mod Shown
+pub mod EditLines

@@ -34,11 +34,11 @@ pub fn edit_pieces(
     let eid = Given(eid_of_fault(fault));
     match cause {
         Cause::SharedName { .. } => told!(alloc;
-            "Edit: give node " {Number(node)} " a name that no other node has.\n"),
+            "Hint: give node " {Number(node)} " a name that no other node has.\n"),
         Cause::UnassignableEid | Cause::SharedEid { .. } => told!(alloc;
-            "Edit: give " {Name(node)} " an unused endpoint ID of 8 to 254.\n"),
+            "Hint: give " {Name(node)} " an unused endpoint ID of 8 to 254.\n"),
         Cause::RowOutOfRange | Cause::PoolOutOfRange => told!(alloc;
-            "Edit: let first be at least 8, size at least 1, and first + size at most 255.\n"),
+            "Hint: let first be at least 8, size at least 1, and first + size at most 255.\n"),
         Cause::OverlappedRow {
             earlier,
             rest,
@@ -54,26 +54,26 @@ pub fn edit_pieces(
         ),
         Cause::OutsideOwnersPool { owner } => owned_edit(alloc, plan, fault, owner),
         Cause::InPeersPool { peer } => told!(alloc;
-            "Edit: move or shrink the pool of " {Name(peer)} ", so that " {eid} " is outside.\n"),
-        Cause::PoolOfEndpoint => told!(alloc; "Edit: set the pool of " {Name(node)} " to null.\n"),
+            "Hint: move or shrink the pool of " {Name(peer)} ", so that " {eid} " is outside.\n"),
+        Cause::PoolOfEndpoint => told!(alloc; "Hint: set the pool of " {Name(node)} " to null.\n"),
         Cause::PoolBeyondOwners { owner, .. } => pool_edit(alloc, plan, node, owner),
         Cause::PoolsMeet { earlier, .. } => told!(alloc;
-            "Edit: let the pool of " {Name(node)} " lie outside " {PoolSpan(earlier)}
-            ".\nEdit: or let the pool of " {Name(earlier)} " lie outside " {PoolSpan(node)} ".\n"),
+            "Hint: let the pool of " {Name(node)} " lie outside " {PoolSpan(earlier)}
+            ".\nHint: or let the pool of " {Name(earlier)} " lie outside " {PoolSpan(node)} ".\n"),
         Cause::NextIsEndpoint { holder } => told!(alloc;
-            "Edit: lead " {eid} " to " {Name(holder)} ", or to a bridge that has a row for it.\n"
-            "Edit: or take " {eid} " out of row " {At(at)} ".\n"),
+            "Hint: lead " {eid} " to " {Name(holder)} ", or to a bridge that has a row for it.\n"
+            "Hint: or take " {eid} " out of row " {At(at)} ".\n"),
         Cause::NextHasNoRow { .. } => told!(alloc;
-            "Edit: give " {RowNext(at)} " a row for " {eid} ".\nEdit: or take " {eid} " out of row " {At(at)} ".\n"),
+            "Hint: give " {RowNext(at)} " a row for " {eid} ".\nHint: or take " {eid} " out of row " {At(at)} ".\n"),
         Cause::NoRecords => told!(alloc;
-            "Edit: set the terminus of " {Name(node)} " to null, or give it a record.\n"),
+            "Hint: set the terminus of " {Name(node)} " to null, or give it a record.\n"),
         Cause::HandleIsZero | Cause::SharedHandle { .. } => told!(alloc;
-            "Edit: give record " {At(at)} " an unused handle other than 0.\n"),
+            "Hint: give record " {At(at)} " an unused handle other than 0.\n"),
         Cause::UnreadableRecord { .. } => told!(alloc;
-            "Edit: correct the bytes; mctpplan show record HEX reads them.\n"),
+            "Hint: correct the bytes; mctpplan show record HEX reads them.\n"),
         Cause::OtherHandle { handle } => told!(alloc;
-            "Edit: set handle to " {Number(handle as usize)}
-            ".\nEdit: or let the bytes begin with " {HandleBytes(at)} ", handle " {Handle(at)} ".\n"),
+            "Hint: set handle to " {Number(handle as usize)}
+            ".\nHint: or let the bytes begin with " {HandleBytes(at)} ", handle " {Handle(at)} ".\n"),
         Cause::LongLocator { tid } => long_edit(alloc, tid, node_with_tid(plan, tid)),
         Cause::NobodyHolds { tid } => value_edit(alloc, tid, node_with_tid(plan, tid)),
         Cause::OtherTerminus { holder, tid } => followed_by(
@@ -97,14 +97,14 @@ fn rest_edit(
 {
     match (rest, earlier_rest) {
         (Some(rest), None) => told!(alloc;
-            "Edit: let row " {At(at)} " cover only " {span_of(rest)} ".\n"),
+            "Hint: let row " {At(at)} " cover only " {span_of(rest)} ".\n"),
         (Some(rest), Some(other)) => told!(alloc;
-            "Edit: let row " {At(at)} " cover only " {span_of(rest)}
-            ".\nEdit: or let row " {At(earlier)} " cover only " {span_of(other)} ".\n"),
+            "Hint: let row " {At(at)} " cover only " {span_of(rest)}
+            ".\nHint: or let row " {At(earlier)} " cover only " {span_of(other)} ".\n"),
         (None, Some(other)) => told!(alloc;
-            "Edit: let row " {At(earlier)} " cover only " {span_of(other)} ".\n"),
+            "Hint: let row " {At(earlier)} " cover only " {span_of(other)} ".\n"),
         (None, None) =>
-            told!(alloc; "Edit: remove row " {At(at)} ": other rows cover all of it.\n"),
+            told!(alloc; "Hint: remove row " {At(at)} ": other rows cover all of it.\n"),
     }
 }
 
@@ -124,9 +124,9 @@ fn port_edit(alloc: Global, at: Entry, fitting: Option<usize>) -> Result<Vec<Pie
 {
     match fitting {
         Some(port) =>
-            told!(alloc; "Edit: set port to " {Number(port)} "; " {RowNext(at)} " is on its bus.\n"),
+            told!(alloc; "Hint: set port to " {Number(port)} "; " {RowNext(at)} " is on its bus.\n"),
         None => told!(alloc;
-            "Edit: set port to one that the node has,\n"
+            "Hint: set port to one that the node has,\n"
             "and next to another node on its bus (a bridge if size > 1).\n"),
     }
 }
@@ -136,9 +136,9 @@ fn next_edit(alloc: Global, next: Option<usize>) -> Result<Vec<Piece>, AllocErro
     ensures { IfOk result (λ pieces. subjects pieces.items ≡ next_subjects next) }
 {
     match next {
-        Some(next) => told!(alloc; "Edit: set next to " {Name(next)} ", on that port's bus.\n"),
+        Some(next) => told!(alloc; "Hint: set next to " {Name(next)} ", on that port's bus.\n"),
         None =>
-            told!(alloc; "Edit: set next to another node on that port's bus (a bridge if size > 1).\n"),
+            told!(alloc; "Hint: set next to another node on that port's bus (a bridge if size > 1).\n"),
     }
 }
 
@@ -153,8 +153,8 @@ fn neighbor_edit(
 {
     match (fitting, next) {
         (Some(port), Some(next)) => told!(alloc;
-            "Edit: set port to " {Number(port)} "; " {RowNext(at)} " is on its bus.\n"
-            "Edit: or set next to " {Name(next)} ", on that port's bus.\n"),
+            "Hint: set port to " {Number(port)} "; " {RowNext(at)} " is on its bus.\n"
+            "Hint: or set next to " {Name(next)} ", on that port's bus.\n"),
         (Some(_), None) => port_edit(alloc, at, fitting),
         (None, _) => next_edit(alloc, next),
     }
@@ -166,8 +166,8 @@ fn size_edit(alloc: Global, next: Option<usize>) -> Result<Vec<Piece>, AllocErro
 {
     match next {
         Some(next) =>
-            told!(alloc; "Edit: set size to 1, or next to " {Name(next)} ", a bridge on that port's bus.\n"),
-        None => told!(alloc; "Edit: set size to 1, or next to a bridge on that port's bus.\n"),
+            told!(alloc; "Hint: set size to 1, or next to " {Name(next)} ", a bridge on that port's bus.\n"),
+        None => told!(alloc; "Hint: set size to 1, or next to a bridge on that port's bus.\n"),
     }
 }
 
@@ -179,11 +179,11 @@ fn owner_edit(alloc: Global, plan: &Plan, node: usize) -> Result<Vec<Piece>, All
 {
     if may_be_unowned(plan, node) {
         told!(alloc;
-            "Edit: set the owner of " {Name(node)} " to null,\n"
+            "Hint: set the owner of " {Name(node)} " to null,\n"
             "or to a bridge on one of its buses whose pool has " {EidOf(node)} ".\n")
     } else {
         told!(alloc;
-            "Edit: set the owner of " {Name(node)} " to a bridge on one of its buses\n"
+            "Hint: set the owner of " {Name(node)} " to a bridge on one of its buses\n"
             "whose pool has " {EidOf(node)} ".\n")
     }
 }
@@ -235,10 +235,10 @@ fn owned_edit(
     let eid = Given(eid_of_fault(fault));
     if has_pool(plan, owner) {
         told!(alloc;
-            "Edit: give " {Name(fault.node)} " an unused endpoint ID in " {PoolSpan(owner)}
-            ", outside sub-pools.\nEdit: or extend the pool of " {Name(owner)} " to " {eid} ".\n")
+            "Hint: give " {Name(fault.node)} " an unused endpoint ID in " {PoolSpan(owner)}
+            ", outside sub-pools.\nHint: or extend the pool of " {Name(owner)} " to " {eid} ".\n")
     } else {
-        told!(alloc; "Edit: give " {Name(owner)} " a pool that has " {eid} ".\n")
+        told!(alloc; "Hint: give " {Name(owner)} " a pool that has " {eid} ".\n")
     }
 }
 
@@ -253,9 +253,9 @@ fn pool_edit(
 {
     if has_pool(plan, owner) {
         told!(alloc;
-            "Edit: let the pool of " {Name(node)} " lie in " {PoolSpan(owner)} ", apart from any other pool.\n")
+            "Hint: let the pool of " {Name(node)} " lie in " {PoolSpan(owner)} ", apart from any other pool.\n")
     } else {
-        told!(alloc; "Edit: set the pool of " {Name(node)} " to null.\n")
+        told!(alloc; "Hint: set the pool of " {Name(node)} " to null.\n")
     }
 }
 
@@ -286,7 +286,7 @@ fn long_edit(alloc: Global, tid: u8, meant: Option<usize>) -> Result<Vec<Piece>,
     match meant {
         Some(node) => told!(alloc;
             "Terminus " {number} " is that of " {Name(node)} ", which has endpoint ID " {EidOf(node)}
-            ".\nEdit: set bytes 8 and 9 to 0900, and all from byte 17 on to 01" {EidByte(node)} ".\n"),
+            ".\nHint: set bytes 8 and 9 to 0900, and all from byte 17 on to 01" {EidByte(node)} ".\n"),
         None => unmeant_edit(alloc, tid),
     }
 }
@@ -298,7 +298,7 @@ fn value_edit(alloc: Global, tid: u8, meant: Option<usize>) -> Result<Vec<Piece>
     match meant {
         Some(node) => told!(alloc;
             "Terminus " {number} " is that of " {Name(node)} ", which has endpoint ID " {EidOf(node)}
-            ".\nEdit: set the last byte of the record to " {EidByte(node)} ".\n"),
+            ".\nHint: set the last byte of the record to " {EidByte(node)} ".\n"),
         None => unmeant_edit(alloc, tid),
     }
 }
@@ -309,7 +309,7 @@ fn unmeant_edit(alloc: Global, tid: u8) -> Result<Vec<Piece>, AllocError>
 {
     told!(alloc;
         "No node has terminus " {byte(tid)}
-        ".\nEdit: set tid and value to those of one node that has a terminus.\n")
+        ".\nHint: set tid and value to those of one node that has a terminus.\n")
 }
 
 /// The terminus ID of the node that has the endpoint ID, if it has one.
@@ -318,7 +318,7 @@ fn tid_edit(alloc: Global, holder: usize, held: Option<u8>) -> Result<Vec<Piece>
 {
     match held {
         Some(_) => told!(alloc;
-            "Edit: or set byte 13 of it to " {TidByte(holder)} ": " {Name(holder)} " has terminus " {Tid(holder)} ".\n"),
+            "Hint: or set byte 13 of it to " {TidByte(holder)} ": " {Name(holder)} " has terminus " {Tid(holder)} ".\n"),
         None => Ok(Vec::new(alloc)),
     }
 }

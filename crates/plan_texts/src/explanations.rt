@@ -113,7 +113,7 @@ fn loop_pieces(
     let ways = ways_pieces(alloc, plan, eid, around(nodes))?;
     followed_by(
         ways,
-        &told!(alloc; "Edit: lead endpoint ID " {Number(usize::from(eid.value))}
+        &told!(alloc; "Hint: lead endpoint ID " {Number(usize::from(eid.value))}
         " elsewhere by one of these rows, or by none.\n")?,
     )
 }
@@ -235,12 +235,12 @@ fn owner_edit(alloc: Global, plan: &Plan, node: Option<usize>) -> Result<Vec<Pie
 {
     match node {
         Some(node) if may_be_unowned(plan, node) =>
-            told!(alloc; "Edit: set the owner of " {Name(node)}
+            told!(alloc; "Hint: set the owner of " {Name(node)}
             " to null,\nor to another bridge, whose pool has " {EidOf(node)} ".\n"),
-        Some(node) => told!(alloc; "Edit: set the owner of " {Name(node)}
+        Some(node) => told!(alloc; "Hint: set the owner of " {Name(node)}
             " to another bridge,\nwhose pool has " {EidOf(node)} ".\n"),
         None =>
-            told!(alloc; "Edit: set the owner of one of them to a bridge that is none of them.\n"),
+            told!(alloc; "Hint: set the owner of one of them to a bridge that is none of them.\n"),
     }
 }
 
@@ -270,7 +270,7 @@ fn missing_pieces(alloc: Global, node: usize, index: usize) -> Result<Vec<Piece>
 {
     let at = entry_at(node, index);
     told!(alloc; "Record " {At(at)} " has next handle " {NextHandle(at)} ".\nNo record has that handle.\n"
-        "Edit: let next be the handle of the record that is to follow, or 0 at the last one.\n")
+        "Hint: let next be the handle of the record that is to follow, or 0 at the last one.\n")
 }
 
 /// A record whose next handle an earlier record has too.
@@ -285,7 +285,7 @@ fn doubled_pieces(
     let at = entry_at(node, index);
     let earlier = record_before(plan, node, next_handle(plan, at));
     told!(alloc; "Records " {Given(earlier)} " and " {At(at)} " both have next handle " {NextHandle(at)} ".\n"
-        "Edit: let next of one of them be the handle of the record that is to follow it,\nor 0 at the last one.\n")
+        "Hint: let next of one of them be the handle of the record that is to follow it,\nor 0 at the last one.\n")
 }
 
 /// The next handle of a record.
@@ -373,8 +373,8 @@ fn opened_pieces(
     let at = entry_at(node, index);
     let before = Given(record_before(plan, node, handle_of(plan, at)));
     match last {
-        Some(last) => told!(alloc; "Edit: let next be " {Handle(at)} " at record " {Number(last)}
+        Some(last) => told!(alloc; "Hint: let next be " {Handle(at)} " at record " {Number(last)}
             ", and 0 at record " {before} ".\n"),
-        None => told!(alloc; "Edit: let next be 0 at record " {before} ".\n"),
+        None => told!(alloc; "Hint: let next be 0 at record " {before} ".\n"),
     }
 }

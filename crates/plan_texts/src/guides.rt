@@ -232,13 +232,16 @@ Status 1: a fault of the plan or the certificate, where there is a certificate.
 const OF_EXPLAIN: &str = r#"mctpplan explain PLAN [CERT]
 
 Prints the line that certify prints of the plan, with CERT that of check, and then why: the cause of
-a fault in the plan's own names and numbers, who else is involved, and edits that take the fault
-away; or the way round a loop, a line a hop. In place of a certificate stands yes, how many nodes,
-buses, rows and records there are, and between which two nodes the certificate allows most hops. Of
-a plan or a certificate that can't be read it tells the line and column of the first fault, the JSON
-pointer, what stands there, and what may stand there; of a name that nothing has the nearest name,
-and of what stands twice both lines. Of a file that can't be opened it tells the path and the
-system's reason on standard error.
+a fault in the plan's own names and numbers, who else is involved, and what is to hold; or the way
+round a loop, a line a hop. At most three edits follow that were tried, each with the JSON pointer,
+the node and the value: then: yes says that the plan has a certificate with just this changed, and
+another line behind then: what certify then prints.
+
+In place of a certificate stands yes, how many nodes, buses, rows and records there are, and between
+which two nodes the certificate allows most hops. Of a plan or a certificate that can't be read it
+tells the line and column of the first fault, the JSON pointer, what stands there, and what may
+stand there; of a name that nothing has the nearest name, and of what stands twice both lines. Of a
+file that can't be opened it tells the path and the system's reason on standard error.
 
 Status 0: nothing is wrong.
 Status 1: what is wrong, and why.
@@ -249,7 +252,13 @@ Status 2: here also why a text can't be read.
   baseboard has endpoint ID 10.
   It is in the pool of switch: 10 to 31.
   Both are owned by bmc.
-  Edit: move or shrink the pool of switch, so that 10 is outside.
+  Hint: move or shrink the pool of switch, so that 10 is outside.
+  Edit: set /nodes/1/pool of switch to { "first": 11, "size": 21 }
+  then: yes
+  Edit: set /nodes/2/eid of baseboard to 48
+  then: yes
+  Edit: set /nodes/2/eid of baseboard to 49
+  then: yes
 "#;
 
 const OF_FAULTS: &str = r#"mctpplan faults PLAN [CERT]

@@ -6,20 +6,20 @@ ghost use Rattle.net_plan.specs.Stream.{HasRoom};
 ghost use Rattle.plan_commands.specs.declared.status.Status.TheVariants.{Yes, Fault, Unreadable, NoMemory};
 ghost use Rattle.plan_commands.specs.declared.refused.Refused.TheVariants as refused;
 ghost use Rattle.plan_commands.specs.Answers.{stream, BreaksOff};
-ghost use Rattle.plan_commands.specs.Explaining.{IsObstacleText, IsSummedUp, IsExplained, ExplainsSo};
+ghost use Rattle.plan_commands.specs.Explaining.{AreEditsTold, IsObstacleText, IsToldWithEdits, IsSummedUp, IsExplained, ExplainsSo};
 ghost use Rattle.plan_commands.specs.Told.{Gives, IsSomeAnswer, Ends};
 
 pub mod certified;
 mod unread;
 
 use crate::commands::answer::{Answer, YES, tell};
-use crate::commands::inputs::plan_or_text;
+use crate::commands::inputs::{PlanText, plan_or_text};
 use crate::refused::Refused;
 use crate::status::Status;
 use net_check::{CertifyError, certify};
-use net_explained::most_hops;
+use net_explained::{most_hops, tried_edits};
 use net_plan::{Certificate, Plan, Sink, Source};
-use plan_texts::{obstacle_line, obstacle_lines, summary_lines};
+use plan_texts::{edit_lines, obstacle_line, obstacle_lines, summary_lines};
 use std::alloc::{AllocError, Global};
 use unread::unread_plan;
 
@@ -55,19 +55,19 @@ fn answer_explain<P: Source>(alloc: Global, plan: &mut P) -> Result<Answer, Refu
     ensures refused { IfErr result (λ why. why ≡ refused.NoMemory) }
 {
     match plan_or_text(alloc, plan) {
-        Ok(plan) => explained_plan(alloc, &plan),
+        Ok(given) => explained_plan(alloc, &given),
         Err(unread) => unread_plan(alloc, &unread),
     }
 }
 
 /// The answer on a plan.
-fn explained_plan(alloc: Global, plan: &Plan) -> Result<Answer, Refused>
-    ensures answers { IfOk result (λ answer. IsExplained plan.now answer.status (cow_str_bytes answer.text)) }
+fn explained_plan(alloc: Global, given: &PlanText) -> Result<Answer, Refused>
+    ensures answers { IfOk result (λ answer. IsExplained given.now.plan answer.status (cow_str_bytes answer.text)) }
     ensures refused { IfErr result (λ why. why ≡ refused.NoMemory) }
 {
-    match certify(alloc, plan) {
-        Ok(certificate) => Ok(Answer::found(sound_text(alloc, plan, &certificate)?)),
-        Err(obstacle) => Ok(Answer::fault(obstacle_text(alloc, plan, &obstacle)?)),
+    match certify(alloc, &given.plan) {
+        Ok(certificate) => Ok(Answer::found(sound_text(alloc, &given.plan, &certificate)?)),
+        Err(obstacle) => Ok(Answer::fault(obstacle_text(alloc, given, &obstacle)?)),
     }
 }
 
@@ -80,13 +80,43 @@ fn sound_text(alloc: Global, plan: &Plan, certificate: &Certificate) -> Result<S
     Ok(text)
 }
 
-/// Says what rules certificates of a plan out, and explains it.
-fn obstacle_text(alloc: Global, plan: &Plan, obstacle: &CertifyError) -> Result<String, AllocError>
-    requires names { NamesObstacle plan.now obstacle.now }
-    requires none { RulesOutCertificates plan.now obstacle.now }
-    ensures { IfOk result (λ text. IsObstacleText plan.now (string_bytes text)) }
+/// Says what rules certificates of a plan out, explains it, and proposes edits.
+fn obstacle_text(
+    alloc: Global,
+    given: &PlanText,
+    obstacle: &CertifyError,
+) -> Result<String, AllocError>
+    requires names { NamesObstacle given.now.plan obstacle.now }
+    requires none { RulesOutCertificates given.now.plan obstacle.now }
+    ensures { IfOk result (λ text. IsObstacleText given.now.plan (string_bytes text)) }
 {
-    let mut text = obstacle_line(alloc, plan, obstacle)?;
-    text.push_str(&obstacle_lines(alloc, plan, obstacle)?)?;
+    let mut text = obstacle_line(alloc, &given.plan, obstacle)?;
+    text.push_str(&explained_text(alloc, given, obstacle)?)?;
     Ok(text)
+}
+
+/// Explains what rules certificates of a plan out, and proposes edits.
+fn explained_text(
+    alloc: Global,
+    given: &PlanText,
+    obstacle: &CertifyError,
+) -> Result<String, AllocError>
+    requires { NamesObstacle given.now.plan obstacle.now }
+    ensures { IfOk result (λ text. IsToldWithEdits given.now.plan obstacle.now (string_bytes text)) }
+{
+    let mut text = obstacle_lines(alloc, &given.plan, obstacle)?;
+    text.push_str(&edits_text(alloc, given, obstacle)?)?;
+    Ok(text)
+}
+
+/// The edits that take away what rules certificates of a plan out, each of them tried.
+pub fn edits_text(
+    alloc: Global,
+    given: &PlanText,
+    obstacle: &CertifyError,
+) -> Result<String, AllocError>
+    ensures { IfOk result (λ text. AreEditsTold given.now.plan obstacle.now (string_bytes text)) }
+{
+    let edits = tried_edits(alloc, given.text.as_slice(), &given.plan, obstacle)?;
+    edit_lines(alloc, &given.plan, edits.as_slice())
 }

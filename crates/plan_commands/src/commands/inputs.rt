@@ -45,11 +45,19 @@ pub enum Unread {
     Text { text: Vec<u8>, cause: PlanError },
 }
 
-/// The plan that a source gives, or why it gives none, with the text that it gave.
-pub fn plan_or_text<P: Source>(alloc: Global, plan: &mut P) -> Result<Plan, Unread>
+/// A plan, and the text that it was read from.
+#[derive(Debug, Drop)]
+pub struct PlanText {
+    pub text: Vec<u8>,
+    pub plan: Plan,
+    pub ghost stands: { StandsFor IsPlanOf text.items (plan_value plan) },
+}
+
+/// The plan that a source gives, with its text, or why it gives none, with the text that it gave.
+pub fn plan_or_text<P: Source>(alloc: Global, plan: &mut P) -> Result<PlanText, Unread>
     requires { HasRoom (P.account plan.old) }
     ensures given { let plans = stream P.account plan.old plan.new in
-        IfOk result (λ read. GavePlan plans read) }
+        IfOk result (λ read. GavePlan plans read.plan) }
     ensures unread { let plans = stream P.account plan.old plan.new in
         IfErr result (IsNoPlanBy plans) }
     ensures none { IfErr result (StandsForNothing IsPlanOf) }
@@ -61,12 +69,12 @@ pub fn plan_or_text<P: Source>(alloc: Global, plan: &mut P) -> Result<Plan, Unre
 }
 
 /// The plan that a text is, or why it is none.
-fn plan_in(alloc: Global, text: Vec<u8>) -> Result<Plan, Unread>
-    ensures given { IfOk result (λ plan. StandsFor IsPlanOf text.items (plan_value plan)) }
+fn plan_in(alloc: Global, text: Vec<u8>) -> Result<PlanText, Unread>
+    ensures given { IfOk result (λ read. StandsFor IsPlanOf text.items (plan_value read.plan)) }
     ensures unread { IfErr result (IsNoPlanIn text.items) }
 {
     match plan_of_text(alloc, &text) {
-        Ok(plan) => Ok(plan),
+        Ok(plan) => Ok(PlanText { text, plan }),
         Err(PlanError::OutOfMemory) => Err(Unread::NoMemory),
         Err(cause) => Err(Unread::Text { text, cause }),
     }

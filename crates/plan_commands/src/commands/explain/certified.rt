@@ -7,18 +7,18 @@ ghost use Rattle.net_plan.specs.Stream.{HasRoom};
 ghost use Rattle.plan_commands.specs.declared.refused.Refused.TheVariants as refused;
 ghost use Rattle.plan_commands.specs.declared.status.Status.TheVariants as status;
 ghost use Rattle.plan_commands.specs.Answers.{stream, IsWithoutPlan, BreaksOff};
-ghost use Rattle.plan_commands.specs.Explaining.{IsFaultExplained, IsFaultTold, IsRemedyTold, IsCertificateTold, IsBothExplained, IsExplainedWith, ExplainsWithSo};
+ghost use Rattle.plan_commands.specs.Explaining.{IsCauseTold, IsFaultExplained, IsFaultTold, IsRemedyTold, IsCertificateTold, IsBothExplained, IsExplainedWith, ExplainsWithSo};
 ghost use Rattle.plan_commands.specs.Told.{Gives, IsSomeAnswer, Ends};
 
 use super::unread::{unread_certificate, unread_plan};
-use super::{obstacle_text, sound_text};
+use super::{edits_text, obstacle_text, sound_text};
 use crate::commands::answer::{Answer, tell};
-use crate::commands::inputs::{certificate_or_text, plan_or_text};
+use crate::commands::inputs::{PlanText, certificate_or_text, plan_or_text};
 use crate::refused::Refused;
 use crate::status::Status;
-use net_check::{CheckError, Fault, certify, check};
+use net_check::{CertifyError, CheckError, Fault, certify, check};
 use net_explained::{Cause, find_cause};
-use net_plan::{Certificate, Plan, Sink, Source};
+use net_plan::{Certificate, Sink, Source};
 use plan_texts::{NO_CERTIFICATE, REMEDY, cause_lines, certificate_fault_lines, fault_line};
 use std::alloc::{AllocError, Global};
 
@@ -69,7 +69,7 @@ fn answer_explain_certified<P: Source, C: Source>(
         IsWithoutPlan plans → certificate.new ≡ certificate.old }
 {
     match plan_or_text(alloc, plan) {
-        Ok(plan) => answer_of_certificate(alloc, &plan, certificate),
+        Ok(given) => answer_of_certificate(alloc, &given, certificate),
         Err(unread) => unread_plan(alloc, &unread),
     }
 }
@@ -77,45 +77,49 @@ fn answer_explain_certified<P: Source, C: Source>(
 /// The answer on a plan and the certificate that a source gives.
 fn answer_of_certificate<C: Source>(
     alloc: Global,
-    plan: &Plan,
+    given: &PlanText,
     certificate: &mut C,
 ) -> Result<Answer, Refused>
     requires { HasRoom (C.account certificate.old) }
     ensures answers { let certificates = stream C.account certificate.old certificate.new in
-        IfOk result (λ answer. IsExplainedWith plan.now certificates answer.status (cow_str_bytes answer.text)) }
+        IfOk result (λ answer. IsExplainedWith given.now.plan certificates answer.status (cow_str_bytes answer.text)) }
     ensures refused { IfErr result (λ why. why ≡ refused.NoMemory) }
 {
-    match certificate_or_text(alloc, plan, certificate) {
-        Ok(certificate) => answer_of_both(alloc, plan, &certificate),
-        Err(unread) => unread_certificate(alloc, plan, &unread),
+    match certificate_or_text(alloc, &given.plan, certificate) {
+        Ok(certificate) => answer_of_both(alloc, given, &certificate),
+        Err(unread) => unread_certificate(alloc, &given.plan, &unread),
     }
 }
 
 /// The answer on a plan and a certificate.
-fn answer_of_both(alloc: Global, plan: &Plan, certificate: &Certificate) -> Result<Answer, Refused>
-    ensures answers { IfOk result (λ answer. IsBothExplained plan.now certificate.now answer.status (cow_str_bytes answer.text)) }
+fn answer_of_both(
+    alloc: Global,
+    given: &PlanText,
+    certificate: &Certificate,
+) -> Result<Answer, Refused>
+    ensures answers { IfOk result (λ answer. IsBothExplained given.now.plan certificate.now answer.status (cow_str_bytes answer.text)) }
     ensures refused { IfErr result (λ why. why ≡ refused.NoMemory) }
 {
-    match check(alloc, plan, certificate) {
-        Ok(_checked) => Ok(Answer::found(sound_text(alloc, plan, certificate)?)),
-        Err(error) => explained(alloc, plan, certificate, &error),
+    match check(alloc, &given.plan, certificate) {
+        Ok(_checked) => Ok(Answer::found(sound_text(alloc, &given.plan, certificate)?)),
+        Err(error) => explained(alloc, given, certificate, &error),
     }
 }
 
 /// The answer where a plan and its certificate are not accepted.
 fn explained(
     alloc: Global,
-    plan: &Plan,
+    given: &PlanText,
     certificate: &Certificate,
     error: &CheckError,
 ) -> Result<Answer, Refused>
-    requires { NamesFirstFault plan.now certificate.now error.now }
-    ensures answers { IfOk result (λ answer. (answer.status ≡ status.Fault) × IsFaultExplained plan.now certificate.now (cow_str_bytes answer.text)) }
+    requires { NamesFirstFault given.now.plan certificate.now error.now }
+    ensures answers { IfOk result (λ answer. (answer.status ≡ status.Fault) × IsFaultExplained given.now.plan certificate.now (cow_str_bytes answer.text)) }
     ensures refused { IfErr result (λ why. why ≡ refused.NoMemory) }
 {
     match error {
         CheckError::Fault(fault) => {
-            let text = fault_text(alloc, plan, certificate, fault)?;
+            let text = fault_text(alloc, given, certificate, fault)?;
             Ok(Answer::fault(text))
         }
         CheckError::OutOfMemory => Err(Refused::NoMemory),
@@ -125,57 +129,77 @@ fn explained(
 /// The line of the first fault, and what explains it.
 fn fault_text(
     alloc: Global,
-    plan: &Plan,
+    given: &PlanText,
     certificate: &Certificate,
     fault: &Fault,
 ) -> Result<String, AllocError>
-    requires { IsFirstFault plan.now certificate.now (site_of fault.now) }
-    ensures { IfOk result (λ text. IsFaultExplained plan.now certificate.now (string_bytes text)) }
+    requires { IsFirstFault given.now.plan certificate.now (site_of fault.now) }
+    ensures { IfOk result (λ text. IsFaultExplained given.now.plan certificate.now (string_bytes text)) }
 {
-    let mut text = fault_line(alloc, plan, fault)?;
-    text.push_str(&lines_of(alloc, plan, certificate, fault, find_cause(plan, fault))?)?;
+    let mut text = fault_line(alloc, &given.plan, fault)?;
+    text.push_str(&lines_of(
+        alloc,
+        given,
+        certificate,
+        fault,
+        find_cause(&given.plan, fault),
+    )?)?;
     Ok(text)
 }
 
 /// Explains a fault of a plan, by its cause, or of its certificate, where it has none in the plan.
 fn lines_of(
     alloc: Global,
-    plan: &Plan,
+    given: &PlanText,
     certificate: &Certificate,
     fault: &Fault,
     cause: Option<Cause>,
 ) -> Result<String, AllocError>
-    ensures { IfOk result (λ text. IsFaultTold plan.now certificate.now fault.now cause (string_bytes text)) }
+    ensures { IfOk result (λ text. IsFaultTold given.now.plan certificate.now fault.now cause (string_bytes text)) }
 {
     match cause {
-        Some(cause) => cause_lines(alloc, plan, fault, cause),
-        None => certificate_lines(alloc, plan, certificate, fault),
+        Some(cause) => cause_text(alloc, given, fault, cause),
+        None => certificate_lines(alloc, given, certificate, fault),
     }
+}
+
+/// Explains a fault of a plan by its cause, and proposes edits.
+fn cause_text(
+    alloc: Global,
+    given: &PlanText,
+    fault: &Fault,
+    cause: Cause,
+) -> Result<String, AllocError>
+    ensures { IfOk result (λ text. IsCauseTold given.now.plan fault.now cause (string_bytes text)) }
+{
+    let mut text = cause_lines(alloc, &given.plan, fault, cause)?;
+    text.push_str(&edits_text(alloc, given, &CertifyError::Fault(*fault))?)?;
+    Ok(text)
 }
 
 /// What the certificate gives by which it breaks a rule, and what helps.
 fn certificate_lines(
     alloc: Global,
-    plan: &Plan,
+    given: &PlanText,
     certificate: &Certificate,
     fault: &Fault,
 ) -> Result<String, AllocError>
-    ensures { IfOk result (λ text. IsCertificateTold plan.now certificate.now fault.now (string_bytes text)) }
+    ensures { IfOk result (λ text. IsCertificateTold given.now.plan certificate.now fault.now (string_bytes text)) }
 {
-    let mut text = certificate_fault_lines(alloc, plan, certificate, fault)?;
-    text.push_str(&remedy_lines(alloc, plan)?)?;
+    let mut text = certificate_fault_lines(alloc, &given.plan, certificate, fault)?;
+    text.push_str(&remedy_lines(alloc, given)?)?;
     Ok(text)
 }
 
 /// Says that another certificate fits the plan, or what rules all of them out.
-fn remedy_lines(alloc: Global, plan: &Plan) -> Result<String, AllocError>
-    ensures { IfOk result (λ text. IsRemedyTold plan.now (string_bytes text)) }
+fn remedy_lines(alloc: Global, given: &PlanText) -> Result<String, AllocError>
+    ensures { IfOk result (λ text. IsRemedyTold given.now.plan (string_bytes text)) }
 {
-    match certify(alloc, plan) {
+    match certify(alloc, &given.plan) {
         Ok(_certificate) => REMEDY.to_string(alloc),
         Err(obstacle) => {
             let mut text = NO_CERTIFICATE.to_string(alloc)?;
-            text.push_str(&obstacle_text(alloc, plan, &obstacle)?)?;
+            text.push_str(&obstacle_text(alloc, given, &obstacle)?)?;
             Ok(text)
         }
     }

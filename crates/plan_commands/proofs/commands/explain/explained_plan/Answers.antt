@@ -6,7 +6,7 @@ use Rattle.plan_commands.proofs.commands.explain.explained_plan.Goals as goal
 
 pub returns-in_ok-sound_text-in-Ok-clause-answers : goal.returns-in_ok-sound_text-in-Ok-clause-answers
 returns-in_ok-sound_text-in-Ok-clause-answers c =
-    let plan = c.args.plan.now in
+    let plan = c.args.given.now.plan in
     let text = c.in_ok-sound_text-in-Ok in
     let sound : IsSoundText plan (string_bytes text.field-0) = record { certificate = c.in-Ok.certificate; accepted = c.in-Ok.ensures.accepted; exact = c.in-Ok.ensures.exact; written = text.ensures } in
     let S : Status → Type 0 = λ s. IsExplained plan s (cow_str_bytes c.found.result.text) in

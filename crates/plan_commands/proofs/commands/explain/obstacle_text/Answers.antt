@@ -5,7 +5,7 @@ use Rattle.plan_commands.proofs.commands.explain.obstacle_text.Goals as goal
 pub returns : goal.returns
 returns c =
     let line = c.in_ok-text in
-    let told = c.in_ok-obstacle_lines in
+    let told = c.in_ok-explained_text in
     let written = string_bytes line.text in
     record {
       obstacle = c.args.obstacle.now;
@@ -13,7 +13,7 @@ returns c =
       lines = c.deref.result.now;
       ruled_out = record {
         first = c.requires.names;
-        none = c.requires.none (not_memory c.args.plan.now c.args.obstacle.now written line.ensures);
+        none = c.requires.none (not_memory c.args.given.now.plan c.args.obstacle.now written line.ensures);
         written = line.ensures;
       };
       told = rw (← c.deref.ensures) at told.ensures;

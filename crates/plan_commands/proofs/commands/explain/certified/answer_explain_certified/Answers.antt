@@ -6,7 +6,7 @@ pub returns-in-Ok-clause-answers : goal.returns-in-Ok-clause-answers
 returns-in-Ok-clause-answers g c =
     let plans = stream g.P.Source.account c.args.plan.now c.plan_or_text.new.plan in
     let certificates = stream g.C.Source.account c.args.certificate.now c.answer_of_certificate.new.certificate in
-    of_both plans certificates c.in-Ok.plan c.answer_of_certificate.result c.in-Ok.ensures.given c.answer_of_certificate.ensures.answers
+    of_both plans certificates c.in-Ok.given.plan c.answer_of_certificate.result c.in-Ok.ensures.given c.answer_of_certificate.ensures.answers
 
 pub returns-in-Err-clause-answers : goal.returns-in-Err-clause-answers
 returns-in-Err-clause-answers g c =
@@ -15,4 +15,4 @@ returns-in-Err-clause-answers g c =
     of_neither plans certificates c.in-Err.unread c.unread_plan.result c.in-Err.ensures.unread c.unread_plan.ensures.answers
 
 pub returns-in-Ok-clause-in_order : goal.returns-in-Ok-clause-in_order
-returns-in-Ok-clause-in_order g c = λ without. absurd (without c.in-Ok.plan c.in-Ok.ensures.given)
+returns-in-Ok-clause-in_order g c = λ without. absurd (without c.in-Ok.given.plan c.in-Ok.ensures.given)

@@ -12,6 +12,6 @@ returns c =
       lines = c.deref.result.now;
       first = c.requires;
       at_site = c.find_cause.ensures;
-      told = subst (IsFaultTold c.args.plan.now c.args.certificate.now fault cause) (sym c.deref.ensures) c.in_ok-lines_of.ensures;
+      told = subst (IsFaultTold c.args.given.now.plan c.args.certificate.now fault cause) (sym c.deref.ensures) c.in_ok-lines_of.ensures;
       written = c.in_ok-push_str.ensures.bytes ∙ ap (λ z. z ++ c.deref.result.now) c.in_ok-text.ensures;
     }

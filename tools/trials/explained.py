@@ -1,0 +1,149 @@
+"""The edits that explain proposes of broken plans: each does what is said of it.
+
+Each plan of examples/ that has a certificate is broken at each number, name, row and record, in some ways each; of all
+these 500 are tried, evenly chosen. explain has to end with the status and the first line of certify. Each edit is made in
+the plan's JSON, as its line says, and certify has to say of that what stands behind `then:`. A line tells how many of the
+broken plans have an edit after which certify answers a certificate. The words choose among the plans.
+"""
+import copy
+import json
+import re
+
+from runner import TOP, each
+
+WANTED = 500
+EDIT = re.compile(r"Edit: (set|insert|remove) (\S+) of (\S+)(?: (?:to|as) (.*))?")
+
+
+# ---- broken plans
+
+
+def broken_numbers(holder, key, values):
+    """The plan with other numbers under a key."""
+    for value in values:
+        if value != holder[key]:
+            yield holder, key, value
+
+
+def places(plan):
+    """What is changed: an object or a list of the plan, a key or an index of it, and what is to stand there instead."""
+    names = [it["name"] for it in plan["nodes"]]
+    for at, node in enumerate(plan["nodes"]):
+        other = plan["nodes"][at - 1]
+        yield from broken_numbers(node, "eid", [other["eid"], 5, node["eid"] + 1, 200])
+        yield from broken_numbers(node, "owner", [names[at - 1], names[0], None])
+        yield from broken_numbers(node, "kind", ["endpoint"])
+        yield node, "name", names[at - 1]
+        if node["pool"]:
+            yield from broken_numbers(node["pool"], "size", [1, 250, node["pool"]["size"] + 8])
+            yield from broken_numbers(node["pool"], "first", [8, node["pool"]["first"] + 4])
+        yield node, "pool", {"first": other["eid"], "size": 1} if not node["pool"] else None
+        for row in node["rows"]:
+            yield from broken_numbers(row, "first", [row["first"] + 1, 250, 8])
+            yield from broken_numbers(row, "size", [row["size"] + 1, 0, 40])
+            yield from broken_numbers(row, "port", [row["port"] + 1, 0])
+            yield from broken_numbers(row, "next", [node["name"], *names[:: max(1, len(names) // 3)]])
+        for index, row in enumerate(node["rows"]):
+            yield node["rows"], index, None
+            yield node["rows"], len(node["rows"]), dict(row)
+        records = node["terminus"]["records"] if node["terminus"] else []
+        for index, record in enumerate(records):
+            yield from broken_numbers(record, "handle", [0, records[index - 1]["handle"], 77])
+            yield from broken_numbers(record, "next", [0, records[index - 1]["handle"], 77])
+            yield from broken_numbers(record, "bytes", [record["bytes"][:-2], record["bytes"] + "00", "ff" + record["bytes"][2:]])
+            yield records, index, None
+        if records:
+            yield node["terminus"], "records", []
+
+
+def change(holder, key, value):
+    """Makes one change, and gives what takes it back."""
+    if isinstance(holder, list):
+        before = copy.deepcopy(holder)
+        if value is None:
+            del holder[key]
+        else:
+            holder.insert(key, value)
+        return lambda: holder.__setitem__(slice(None), before)
+    old, holder[key] = holder[key], value
+    return lambda: holder.__setitem__(key, old)
+
+
+def broken_plans(trial):
+    """The texts of all broken plans."""
+    for path in sorted(TOP.glob("examples/*/plan*.json")):
+        plan = json.loads(path.read_text())
+        if not trial.has(str(path.relative_to(TOP))) or certified(trial, json.dumps(plan)) != "yes":
+            continue
+        for place in [*places(plan)]:
+            back = change(*place)
+            yield json.dumps(plan)
+            back()
+
+
+# ---- edits
+
+
+def edited(text, verb, pointer, value):
+    """The text of the plan with the edit made as its line says."""
+    holder = plan = json.loads(text)
+    *way, last = pointer.split("/")[1:]
+    for step in way:
+        holder = holder[int(step)] if isinstance(holder, list) else holder[step]
+    key = int(last) if isinstance(holder, list) else last
+    if verb == "remove":
+        del holder[key]
+    elif verb == "insert":
+        holder.insert(key, json.loads(value))
+    else:
+        holder[key] = json.loads(value)
+    return json.dumps(plan)
+
+
+def said(trial, command, text):
+    """The status, and the lines that a command prints of a plan."""
+    status, output, error = trial.run([command, trial.file("plan.json", text)])
+    return status, (output + error).decode().splitlines()
+
+
+def certified(trial, text):
+    """What certify says of a plan: yes, or its line."""
+    status, lines = said(trial, "certify", text)
+    return "yes" if status == 0 else lines[0]
+
+
+def wrong_of(trial, text):
+    """What is wrong with what explain says of a plan, and how many of its edits lead to a certificate; none of a plan that
+    has no fault."""
+    first = certified(trial, text)
+    status, lines = said(trial, "explain", text)
+    if lines[0] != first or status != (0 if first == "yes" else 2 if first.startswith("unreadable") else 1):
+        return f"explain says {lines[0]} where certify says {first}", 0
+    if status != 1:
+        return None, None
+    edits = [at for at, line in enumerate(lines) if EDIT.fullmatch(line)]
+    for at in edits:
+        verb, pointer, name, value = EDIT.fullmatch(lines[at]).groups()
+        node = json.loads(text)["nodes"][int(pointer.split("/")[2])]
+        after = certified(trial, edited(text, verb, pointer, value))
+        if node["name"] != name or lines[at + 1] != f"then: {after}" or after == first:
+            return f"{lines[at]}: {lines[at + 1]}, and certify says {after}", 0
+    if len(edits) > 3:
+        return f"{len(edits)} edits", 0
+    return None, sum(lines[at + 1] == "then: yes" for at in edits)
+
+
+def try_all(trial):
+    texts = [*broken_plans(trial)]
+    chosen = texts[:: max(1, len(texts) // WANTED)][:WANTED]
+
+    def tried(text):
+        try:
+            wrong, count = wrong_of(trial, text)
+        except (ValueError, IndexError, KeyError) as why:
+            wrong, count = f"{type(why).__name__} {why}", 0
+        trial.note(not wrong, f"{wrong}\n    {text}")
+        return count
+
+    counts = [it for it in each(tried, chosen) if it is not None]
+    print(f"explained: of {len(counts)} plans with a fault {sum(map(bool, counts))} have an edit that takes all away")
