@@ -3,11 +3,12 @@
 
 use net_plan::Counted;
 use plan_commands::{
-    FileAtPath, Refused, Status, Subcommand, parse_command, refuse, run_certified, run_explain,
-    run_explain_certified, run_known, run_move, run_planned, run_require, run_show, run_worded,
-    simulate, simulate_move,
+    FileAtPath, Question, Refused, Status, Subcommand, hint_nodes, hint_words, parse_command,
+    refuse, run_certified, run_explain, run_explain_certified, run_known, run_move, run_planned,
+    run_require, run_show, run_worded, simulate, simulate_move,
 };
 use std::env;
+use std::io::IsTerminal;
 use std::process::ExitCode;
 
 fn main(rt: HostRuntime) -> ExitCode {
@@ -24,7 +25,13 @@ fn run(rt: &HostRuntime) -> Status {
     };
     match parse_command(alloc, list.as_slice()) {
         Ok(command) => run_command(rt, command),
-        Err(refused) => refuse(alloc, refused, &mut errors),
+        Err(refused) => {
+            let status = refuse(alloc, refused, &mut errors);
+            if rt.stderr().is_terminal() {
+                hint_words(alloc, list.as_slice(), &mut Counted::new(rt.stderr()));
+            }
+            status
+        }
     }
 }
 
@@ -38,14 +45,20 @@ fn run_command(rt: &HostRuntime, command: Subcommand) -> Status {
             question,
             plan,
             certificate,
-        } => run_certified(
-            alloc,
-            &question,
-            &mut file(rt, plan),
-            &mut file(rt, certificate),
-            &mut output,
-            &mut errors,
-        ),
+        } => {
+            let status = run_certified(
+                alloc,
+                &question,
+                &mut file(rt, plan),
+                &mut file(rt, certificate),
+                &mut output,
+                &mut errors,
+            );
+            if status == Status::Unreadable && rt.stderr().is_terminal() {
+                tell_nodes(rt, &question, plan);
+            }
+            status
+        }
         Subcommand::Planned { question, plan } => run_planned(
             alloc,
             question,
@@ -116,6 +129,18 @@ fn run_command(rt: &HostRuntime, command: Subcommand) -> Status {
             run_worded(alloc, question, words, &mut output, &mut errors)
         }
         Subcommand::Show { kind, hex } => run_show(alloc, kind, hex, &mut output, &mut errors),
+    }
+}
+
+/// Says at a terminal which name of a question is none of the plan's. Standard input can't be read once more.
+fn tell_nodes(rt: &HostRuntime, question: &Question, plan: &str) {
+    if plan != "-" {
+        hint_nodes(
+            rt.alloc(),
+            question,
+            &mut file(rt, plan),
+            &mut Counted::new(rt.stderr()),
+        );
     }
 }
 
