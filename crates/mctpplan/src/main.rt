@@ -6,10 +6,12 @@ ghost use Rattle.std.specs.Prelude.{◌≡◌};
 use net_plan::Counted;
 use plan_commands::{
     FileAtPath, PlanQuestion, Question, Refused, ShownKind, Status, Subcommand, WordQuestion,
-    parse_command, refuse, run_certified, run_explain, run_explain_certified, run_known, run_move,
-    run_planned, run_require, run_show, run_worded, simulate, simulate_move,
+    hint_nodes, hint_words, parse_command, refuse, run_certified, run_explain,
+    run_explain_certified, run_known, run_move, run_planned, run_require, run_show, run_worded,
+    simulate, simulate_move,
 };
 use std::env;
+use std::io::IsTerminal;
 use std::process::ExitCode;
 
 fn main(rt: HostRuntime) -> ExitCode {
@@ -26,7 +28,13 @@ fn run(rt: &HostRuntime) -> Status {
     };
     match parse_command(alloc, list.as_slice()) {
         Ok(command) => run_command(rt, command),
-        Err(refused) => refuse(alloc, refused, &mut errors),
+        Err(refused) => {
+            let status = refuse(alloc, refused, &mut errors);
+            if rt.stderr().is_terminal() {
+                hint_words(alloc, list.as_slice(), &mut Counted::new(rt.stderr()));
+            }
+            status
+        }
     }
 }
 
@@ -81,18 +89,31 @@ fn certified<'a>(
     plan: &'a str,
     certificate: &'a str,
 ) -> Status {
-    let mut plan = file(rt, plan);
+    let mut plan_file = file(rt, plan);
     let mut certificate = file(rt, certificate);
     let mut output = Counted::new(rt.stdout());
     let mut errors = Counted::new(rt.stderr());
-    run_certified(
+    let status = run_certified(
         rt.alloc(),
         question,
-        &mut plan,
+        &mut plan_file,
         &mut certificate,
         &mut output,
         &mut errors,
-    )
+    );
+    if status == Status::Unreadable && rt.stderr().is_terminal() {
+        tell_nodes(rt, question, plan);
+    }
+    status
+}
+
+/// Says at a terminal which name of a question is none of the plan's. Standard input can't be read once more.
+fn tell_nodes<'a>(rt: &'a HostRuntime, question: &Question<'a>, plan: &'a str) {
+    if plan != "-" {
+        let mut plan = file(rt, plan);
+        let mut errors = Counted::new(rt.stderr());
+        hint_nodes(rt.alloc(), question, &mut plan, &mut errors);
+    }
 }
 
 /// Answers a question about a plan.

@@ -1,5 +1,5 @@
 -- What the end of `describe` and of `record` says of the words that they were given.
-use Rattle.std.specs.Prelude.{◌≡◌, ◌⊎◌, ℕ, List, [], ◌∷◌, ◌++◌, codes, nat_eq, if◌then◌else◌}
+use Rattle.std.specs.Prelude.{◌≡◌, ◌⊎◌, ℕ, List, [], ◌∷◌, ◌++◌, codes, nat_eq, ◌&&◌, if◌then◌else◌}
 use Rattle.std.specs.List.{flat_map}
 use Rattle.hex.specs.Hex.{encode_lower}
 use Rattle.pdr_record.specs.declared.record_error.RecordError.{RecordError}
@@ -23,9 +23,9 @@ use Rattle.plan_texts.specs.Shown.{refused_bytes}
 -- the text without spaces, and without each 0x
 abbrev pub cleaned : List ℕ → List ℕ
 cleaned [] = []
-cleaned (32 ∷ rest) = cleaned rest
-cleaned (48 ∷ 120 ∷ rest) = cleaned rest
-cleaned (c ∷ rest) = c ∷ cleaned rest
+cleaned (c ∷ []) = if nat_eq c 32 then [] else (c ∷ [])
+cleaned (c ∷ d ∷ rest) = if nat_eq c 32 then cleaned (d ∷ rest)
+    else if (nat_eq c 48 && nat_eq d 120) then cleaned rest else (c ∷ cleaned (d ∷ rest))
 
 -- the hex of all words
 abbrev pub hex_of : List (List ℕ) → List ℕ

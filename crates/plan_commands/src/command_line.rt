@@ -79,6 +79,9 @@ pub fn parse_command<'a>(alloc: Global, list: &'a [String]) -> Result<Subcommand
     chosen(&matches).ok_or(Refused::Usage)
 }
 
+/// The commands that take any number of words.
+const WORDED: [&str; 2] = ["describe", "record"];
+
 /// A command that takes any number of words, at least one.
 fn worded(list: &[String]) -> Option<Subcommand<'_>> {
     let [_, command, words @ ..] = list else {
@@ -118,6 +121,16 @@ const COMMANDS: [(&str, &[&str], &[&str]); 20] = [
     ("guide", &[], &["command"]),
     ("version", &[], &[]),
 ];
+
+/// The names of all commands.
+pub fn command_names(alloc: Global) -> Result<Vec<&'static str>, AllocError> {
+    let mut names = Vec::new(alloc);
+    for (name, _, _) in COMMANDS {
+        names.push(name)?;
+    }
+    names.extend_from_slice(&WORDED)?;
+    Ok(names)
+}
 
 /// The words of each command.
 fn grammar<'a>(alloc: Global) -> Result<clap::Command<'a>, AllocError> {

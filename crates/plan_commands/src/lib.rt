@@ -4,6 +4,7 @@
 mod command_line;
 mod commands;
 mod files;
+mod hints;
 mod refused;
 mod status;
 
@@ -23,6 +24,7 @@ pub use commands::sim::{run_sim, run_simmove};
 pub use commands::walk::PartSize;
 pub use commands::worded::{WordQuestion, run_worded};
 pub use files::FileAtPath;
+pub use hints::{hint_nodes, hint_words};
 pub use plan_texts::{GUIDE, VERSION};
 pub use refused::{Input, Refused};
 pub use status::Status;

@@ -1,5 +1,5 @@
 -- The fields of records by their names (DSP0248), and what they hold.
-use Rattle.std.specs.Prelude.{ℕ, ◌+◌, ◌*◌, List, [], ◌∷◌, ◌++◌, length, map, codes, get_or}
+use Rattle.std.specs.Prelude.{ℕ, ◌+◌, ◌*◌, List, [], ◌∷◌, ◌++◌, length, map, codes, get_or, nat_eq, if◌then◌else◌}
 use Rattle.pdr_record.specs.Fields.{bytes_of}
 use Rattle.pdr_record.specs.Layouts.{EntityValue, SensorValue, TerminusValue, StateSetValue, StateValue}
 use Rattle.pdr_record.specs.Layouts.{AssociationValue, UnitsValue, PrecisionValue, TimingValue, RangesValue}
@@ -12,8 +12,8 @@ pub data Holding : Type 0 where
   Number : ℕ → Holding
   Sized : ℕ → ℕ → Holding
   Bytes : List ℕ → Holding
-  StateSet : StateSetValue → Holding
-  Entity : EntityValue → Holding
+  Set : StateSetValue → Holding
+  Thing : EntityValue → Holding
 
 -- a field of a record
 pub record Named : Type 0 where
@@ -53,7 +53,8 @@ header_named r =
 
 -- the locator's value: an endpoint ID, where the type is 1 and the value one byte, else its bytes
 abbrev pub locator_named : ℕ → List ℕ → Named
-locator_named 1 (e ∷ []) = number (codes "eid") e
+locator_named type (e ∷ []) =
+    if nat_eq type 1 then number (codes "eid") e else raw (codes "locator-value") (e ∷ [])
 locator_named type value = raw (codes "locator-value") value
 
 abbrev pub terminus_named : TerminusValue → List Named
@@ -73,7 +74,7 @@ sensor_named s =
 
 -- a state set and its possible states
 abbrev pub state_set_named : StateSetValue → Named
-state_set_named s = record { name = codes "state-set"; held = StateSet s }
+state_set_named s = record { name = codes "state-set"; held = Set s }
 
 abbrev pub state_named : StateValue → List Named
 state_named s = sensor_named s.sensor ++ map state_set_named s.state_sets
@@ -111,22 +112,34 @@ readable_named n =
     sized (codes "max-readable") n.data_size n.max_readable ∷ sized (codes "min-readable") n.data_size n.min_readable
     ∷ number (codes "range-format") n.range_format ∷ number (codes "range-support") n.range_support ∷ []
 
+-- what stands behind the hysteresis
+abbrev pub limits_named : NumericValue → List Named
+limits_named n = timing_named n.timing ++ (readable_named n ++ ranges_named n.range_format n.ranges)
+
+-- what stands between the units and these
+abbrev pub sizes_named : NumericValue → List Named
+sizes_named n = number (codes "data-size") n.data_size
+    ∷ (precision_named n.precision ++ sized (codes "hysteresis") n.data_size n.hysteresis ∷ [])
+
 abbrev pub numeric_named : NumericValue → List Named
-numeric_named n =
-    sensor_named n.sensor ++ (units_named n.units ++ (number (codes "data-size") n.data_size
-    ∷ (precision_named n.precision ++ (sized (codes "hysteresis") n.data_size n.hysteresis
-    ∷ (timing_named n.timing ++ (readable_named n ++ ranges_named n.range_format n.ranges))))))
+numeric_named n = sensor_named n.sensor ++ (units_named n.units ++ (sizes_named n ++ limits_named n))
 
 -- ---- entity associations
 
+abbrev pub entity : List ℕ → EntityValue → Named
+entity name e = record { name = name; held = Thing e }
+
 abbrev pub contained_named : EntityValue → Named
-contained_named e = record { name = codes "contained-entity"; held = Entity e }
+contained_named e = entity (codes "contained-entity") e
+
+-- what contains the others
+abbrev pub container_named : AssociationValue → List Named
+container_named a =
+    number (codes "container-id") a.container_id ∷ number (codes "association-type") a.association_type
+    ∷ entity (codes "container-entity") a.container_entity ∷ []
 
 abbrev pub association_named : AssociationValue → List Named
-association_named a =
-    number (codes "container-id") a.container_id ∷ number (codes "association-type") a.association_type
-    ∷ record { name = codes "container-entity"; held = Entity a.container_entity }
-    ∷ map contained_named a.contained_entities
+association_named a = container_named a ++ map contained_named a.contained_entities
 
 -- ---- records
 

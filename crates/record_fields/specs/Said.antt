@@ -2,7 +2,7 @@
 use Rattle.std.specs.Prelude.{◌≡◌, ◌⊎◌, ℕ, List, ◌++◌, map, codes, All, Contains}
 use Rattle.std.specs.Char.{to_ascii_lowercase}
 use Rattle.pdr_record.specs.Records.{RecordValue, Spelled, type_of}
-use Rattle.record_fields.specs.Named.{Holding, Number, Sized, Bytes, StateSet, Entity, Named, named_fields}
+use Rattle.record_fields.specs.Named.{Number, Sized, Named, named_fields}
 use Rattle.record_fields.specs.Texts.{field_text, hexadecimal}
 
 -- both are one word, in letters of either case

@@ -1,8 +1,8 @@
 -- How what a field holds is written, and the lines of a record's fields.
-use Rattle.std.specs.Prelude.{◌≡◌, ◌⊎◌, ℕ, ◌*◌, ◌-◌, nat_lt, if◌then◌else◌, List, [], ◌∷◌, ◌++◌, codes, false}
+use Rattle.std.specs.Prelude.{◌≡◌, ◌⊎◌, ℕ, ◌*◌, ◌-◌, nat_eq, nat_lt, if◌then◌else◌, List, [], ◌∷◌, ◌++◌, codes, false}
 use Rattle.std.specs.Fmt.{decimal, digits}
 use Rattle.hex.specs.Hex.{encode_lower}
-use Rattle.record_fields.specs.Named.{Holding, Number, Sized, Bytes, StateSet, Entity, Named}
+use Rattle.record_fields.specs.Named.{Holding, Number, Sized, Bytes, Set, Thing, Named}
 
 -- a number in hexadecimal digits, behind 0x
 abbrev pub hexadecimal : ℕ → List ℕ
@@ -14,19 +14,17 @@ signed_text sign n = if nat_lt n sign then decimal n else (codes "-" ++ decimal 
 
 -- a number of a data size: 1, 3 and 5 are signed, and of a real number the bits are written
 abbrev pub sized_text : ℕ → ℕ → List ℕ
-sized_text 1 n = signed_text 128 n
-sized_text 3 n = signed_text 32768 n
-sized_text 5 n = signed_text 2147483648 n
-sized_text 6 n = hexadecimal n
-sized_text code n = decimal n
+sized_text code n =
+    if nat_eq code 1 then signed_text 128 n else if nat_eq code 3 then signed_text 32768 n
+    else if nat_eq code 5 then signed_text 2147483648 n else if nat_eq code 6 then hexadecimal n else decimal n
 
 -- what a field holds
 abbrev pub holding_text : Holding → List ℕ
 holding_text (Number n) = decimal n
 holding_text (Sized code n) = sized_text code n
 holding_text (Bytes bytes) = encode_lower bytes
-holding_text (StateSet s) = decimal s.state_set_id ++ (codes ":" ++ encode_lower s.possible_states)
-holding_text (Entity e) =
+holding_text (Set s) = decimal s.state_set_id ++ (codes ":" ++ encode_lower s.possible_states)
+holding_text (Thing e) =
     decimal e.entity_type ++ (codes "/" ++ (decimal e.instance_number ++ (codes "/" ++ decimal e.container_id)))
 
 -- ---- lines

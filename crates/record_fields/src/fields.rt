@@ -5,16 +5,19 @@ ghost use Rattle.pdr_record.specs.ListValues.{state_value, association_value};
 ghost use Rattle.pdr_record.specs.Lists.{state_sets_value, entities_value};
 ghost use Rattle.pdr_record.specs.NumericValues.{numeric_value};
 ghost use Rattle.pdr_record.specs.RecordValues.{record_value};
+ghost use Rattle.pdr_record.specs.StateSetValues.{state_set_value};
+ghost use Rattle.pdr_record.specs.Values.{entity_value};
 ghost use Rattle.record_fields.specs.Meanings.{named_of};
-ghost use Rattle.record_fields.specs.Named.{named_fields, body_named, numeric_named, state_named, association_named, state_set_named, contained_named};
+ghost use Rattle.record_fields.specs.Named.{named_fields, body_named, numeric_named, sizes_named, limits_named, state_named, association_named, state_set_named, contained_named};
 
-use crate::held::{Held, NamedField, number, raw, sized};
+use crate::held::{Held, NamedField, entity, number, raw, sized};
 use crate::layouts::{
-    header_fields, precision_fields, ranges_fields, readable_fields, sensor_fields,
-    terminus_fields, timing_fields, units_fields,
+    container_fields, header_fields, precision_fields, ranges_fields, readable_fields,
+    sensor_fields, terminus_fields, timing_fields, units_fields,
 };
 use pdr_record::{
-    Body, Entities, EntityAssociation, NumericSensor, Record, StateSensor, StateSets,
+    Body, Entities, Entity, EntityAssociation, NumericSensor, Record, StateSensor, StateSet,
+    StateSets,
 };
 use std::alloc::{AllocError, Global};
 
@@ -22,25 +25,31 @@ use std::alloc::{AllocError, Global};
 /// number of bytes behind the header.
 pub fn named_fields<'a>(
     alloc: Global,
-    record: &Record<'a>,
+    whole: &Record<'a>,
 ) -> Result<Vec<NamedField<'a>>, AllocError>
-    ensures { IfOk result (λ fields. map named_of fields.items ≡ named_fields (record_value record.now)) }
+    ensures { IfOk result (λ fields. map named_of fields.items ≡ named_fields (record_value whole.now)) }
 {
     let mut fields = Vec::new(alloc);
-    fields.extend_from_slice(&header_fields(record))?;
-    add_body(&record.body, &mut fields)?;
+    add(&header_fields(whole), &mut fields)?;
+    add_body(&whole.body, &mut fields)?;
     Ok(fields)
+}
+
+fn add<'a>(more: &[NamedField<'a>], fields: &mut Vec<NamedField<'a>>) -> Result<(), AllocError>
+    ensures { OnOk result (map named_of fields.new.items ≡ map named_of fields.old.items ++ map named_of more.now) }
+{
+    fields.extend_from_slice(more)
 }
 
 fn add_body<'a>(body: &Body<'a>, fields: &mut Vec<NamedField<'a>>) -> Result<(), AllocError>
     ensures { OnOk result (map named_of fields.new.items ≡ map named_of fields.old.items ++ body_named (body_value body.now)) }
 {
     match body {
-        Body::Terminus(terminus) => fields.extend_from_slice(&terminus_fields(terminus)),
+        Body::Terminus(terminus) => add(&terminus_fields(terminus), fields),
         Body::Numeric(numeric) => add_numeric(numeric, fields),
         Body::State(state) => add_state(state, fields),
         Body::Association(association) => add_association(association, fields),
-        Body::Other { bytes, .. } => fields.extend_from_slice(&[raw("bytes", bytes)]),
+        Body::Other { bytes, .. } => add(&[raw("bytes", bytes)], fields),
     }
 }
 
@@ -50,15 +59,36 @@ fn add_numeric<'a>(
 ) -> Result<(), AllocError>
     ensures { OnOk result (map named_of fields.new.items ≡ map named_of fields.old.items ++ numeric_named (numeric_value numeric.now)) }
 {
+    add(&sensor_fields(&numeric.sensor), fields)?;
+    add(&units_fields(&numeric.units), fields)?;
+    add_sizes(numeric, fields)?;
+    add_limits(numeric, fields)
+}
+
+/// The fields of a numeric sensor from its data size to its hysteresis.
+fn add_sizes<'a>(
+    numeric: &NumericSensor<'a>,
+    fields: &mut Vec<NamedField<'a>>,
+) -> Result<(), AllocError>
+    ensures { OnOk result (map named_of fields.new.items ≡ map named_of fields.old.items ++ sizes_named (numeric_value numeric.now)) }
+{
     let code = numeric.sensor_data_size.code();
-    fields.extend_from_slice(&sensor_fields(&numeric.sensor))?;
-    fields.extend_from_slice(&units_fields(&numeric.units))?;
-    fields.push(number("data-size", u64::from(code)))?;
-    fields.extend_from_slice(&precision_fields(&numeric.precision))?;
-    fields.push(sized("hysteresis", code, numeric.hysteresis))?;
-    fields.extend_from_slice(&timing_fields(&numeric.timing))?;
-    fields.extend_from_slice(&readable_fields(numeric))?;
-    fields.extend_from_slice(&ranges_fields(numeric.range_field_format.code(), &numeric.ranges))
+    add(&[number("data-size", u64::from(code))], fields)?;
+    add(&precision_fields(&numeric.precision), fields)?;
+    add(&[sized("hysteresis", code, numeric.hysteresis)], fields)
+}
+
+/// The fields of a numeric sensor behind its hysteresis.
+fn add_limits<'a>(
+    numeric: &NumericSensor<'a>,
+    fields: &mut Vec<NamedField<'a>>,
+) -> Result<(), AllocError>
+    ensures { OnOk result (map named_of fields.new.items ≡ map named_of fields.old.items ++ limits_named (numeric_value numeric.now)) }
+{
+    let format = numeric.range_field_format.code();
+    add(&timing_fields(&numeric.timing), fields)?;
+    add(&readable_fields(numeric), fields)?;
+    add(&ranges_fields(format, &numeric.ranges), fields)
 }
 
 fn add_state<'a>(
@@ -67,7 +97,7 @@ fn add_state<'a>(
 ) -> Result<(), AllocError>
     ensures { OnOk result (map named_of fields.new.items ≡ map named_of fields.old.items ++ state_named (state_value state.now)) }
 {
-    fields.extend_from_slice(&sensor_fields(&state.sensor))?;
+    add(&sensor_fields(&state.sensor), fields)?;
     add_state_sets(&state.state_sets, fields)
 }
 
@@ -79,12 +109,18 @@ fn add_state_sets<'a>(
 {
     let mut left = sets.iter();
     while let Some(set) = left.next() {
-        fields.push(NamedField {
-            name: "state-set",
-            held: Held::StateSet(set),
-        })?;
+        add(&[state_set(set)], fields)?;
     }
     Ok(())
+}
+
+fn state_set<'a>(given: StateSet<'a>) -> NamedField<'a>
+    ensures { named_of result ≡ state_set_named (state_set_value given.entry) }
+{
+    NamedField {
+        name: "state-set",
+        held: Held::StateSet(given),
+    }
 }
 
 fn add_association<'a>(
@@ -93,12 +129,7 @@ fn add_association<'a>(
 ) -> Result<(), AllocError>
     ensures { OnOk result (map named_of fields.new.items ≡ map named_of fields.old.items ++ association_named (association_value association.now)) }
 {
-    fields.push(number("container-id", u64::from(association.container_id)))?;
-    fields.push(number("association-type", u64::from(association.association_type)))?;
-    fields.push(NamedField {
-        name: "container-entity",
-        held: Held::Entity(association.container_entity),
-    })?;
+    add(&container_fields(association), fields)?;
     add_contained(&association.contained_entities, fields)
 }
 
@@ -109,11 +140,14 @@ fn add_contained<'a>(
     ensures { OnOk result (map named_of fields.new.items ≡ map named_of fields.old.items ++ map contained_named (entities_value entities.now)) }
 {
     let mut left = entities.iter();
-    while let Some(entity) = left.next() {
-        fields.push(NamedField {
-            name: "contained-entity",
-            held: Held::Entity(entity),
-        })?;
+    while let Some(contained) = left.next() {
+        add(&[contained_field(contained)], fields)?;
     }
     Ok(())
+}
+
+fn contained_field<'a>(contained: Entity) -> NamedField<'a>
+    ensures { named_of result ≡ contained_named (entity_value contained) }
+{
+    entity("contained-entity", contained)
 }

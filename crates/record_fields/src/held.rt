@@ -1,7 +1,8 @@
 //! What a field of a record is called, and what it holds.
 ghost use Rattle.std.specs.Prelude.{◌≡◌};
 ghost use Rattle.record_fields.specs.Meanings.{named_of};
-ghost use Rattle.record_fields.specs.Named.{number, bits, sized, raw};
+ghost use Rattle.record_fields.specs.Named.{number, bits, sized, raw, entity};
+ghost use Rattle.pdr_record.specs.Values.{entity_value};
 
 use crate::sized::bits_of;
 use pdr_record::{Entity, StateSet};
@@ -44,20 +45,20 @@ pub fn number<'a>(name: &'static str, value: u64) -> NamedField<'a>
 }
 
 /// A field that holds the bits of a number of a data size.
-pub fn bits<'a>(name: &'static str, code: u8, bits: u64) -> NamedField<'a>
-    ensures { named_of result ≡ bits name.now code bits }
+pub fn bits<'a>(name: &'static str, code: u8, value: u64) -> NamedField<'a>
+    ensures { named_of result ≡ bits name.now code value }
 {
     NamedField {
         name,
-        held: Held::Sized { code, bits },
+        held: Held::Sized { code, bits: value },
     }
 }
 
 /// A field that holds a real number of 32 bits.
-pub fn real<'a>(name: &'static str, number: u32) -> NamedField<'a>
-    ensures { named_of result ≡ bits name.now 6 number }
+pub fn real<'a>(name: &'static str, value: u32) -> NamedField<'a>
+    ensures { named_of result ≡ bits name.now 6 value }
 {
-    bits(name, REAL, u64::from(number))
+    bits(name, REAL, u64::from(value))
 }
 
 /// A field that holds a number of a data size in its bytes, the lowest first.
@@ -74,5 +75,15 @@ pub fn raw<'a>(name: &'static str, bytes: &'a [u8]) -> NamedField<'a>
     NamedField {
         name,
         held: Held::Bytes(bytes),
+    }
+}
+
+/// A field that holds an entity.
+pub fn entity<'a>(name: &'static str, value: Entity) -> NamedField<'a>
+    ensures { named_of result ≡ entity name.now (entity_value value) }
+{
+    NamedField {
+        name,
+        held: Held::Entity(value),
     }
 }

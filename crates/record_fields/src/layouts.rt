@@ -4,11 +4,13 @@ ghost use Rattle.pdr_record.specs.NumericValues.{numeric_value};
 ghost use Rattle.pdr_record.specs.RecordValues.{record_value};
 ghost use Rattle.pdr_record.specs.Values.{terminus_value, sensor_value, units_value, precision_value, timing_value, ranges_value};
 ghost use Rattle.record_fields.specs.Meanings.{named_of};
-ghost use Rattle.record_fields.specs.Named.{header_named, locator_named, terminus_named, sensor_named, units_named, precision_named, timing_named, readable_named, ranges_named};
+ghost use Rattle.record_fields.specs.Named.{header_named, locator_named, terminus_named, sensor_named, units_named, precision_named, timing_named, readable_named, ranges_named, container_named};
+ghost use Rattle.pdr_record.specs.ListValues.{association_value};
 
-use crate::held::{NamedField, bits, number, raw, real, sized};
+use crate::held::{NamedField, bits, entity, number, raw, real, sized};
 use pdr_record::{
-    NumericSensor, Precision, Ranges, Record, Sensor, TerminusLocator, Timing, Units,
+    EntityAssociation, NumericSensor, Precision, Ranges, Record, Sensor, TerminusLocator, Timing,
+    Units,
 };
 
 /// The code of a signed byte.
@@ -18,14 +20,14 @@ const SIGNED_BYTE: u8 = 1;
 const MCTP_EID: u8 = 1;
 
 /// The common header.
-pub fn header_fields<'a>(record: &Record) -> [NamedField<'a>; 4]
-    ensures { map named_of result ≡ header_named (record_value record.now) }
+pub fn header_fields<'a>(whole: &Record) -> [NamedField<'a>; 4]
+    ensures { map named_of result ≡ header_named (record_value whole.now) }
 {
     [
-        number("handle", u64::from(record.handle)),
-        number("type", u64::from(record.body.record_type())),
-        number("change", u64::from(record.change)),
-        number("length", record.body.len() as u64),
+        number("handle", u64::from(whole.handle)),
+        number("type", u64::from(whole.body.record_type())),
+        number("change", u64::from(whole.change)),
+        number("length", whole.body.len() as u64),
     ]
 }
 
@@ -151,5 +153,16 @@ pub fn ranges_fields<'a>(format: u8, ranges: &Ranges) -> [NamedField<'a>; 9]
         sized("critical-low", format, ranges.critical_low),
         sized("fatal-high", format, ranges.fatal_high),
         sized("fatal-low", format, ranges.fatal_low),
+    ]
+}
+
+/// What contains the entities of an association.
+pub fn container_fields<'a>(association: &EntityAssociation) -> [NamedField<'a>; 3]
+    ensures { map named_of result ≡ container_named (association_value association.now) }
+{
+    [
+        number("container-id", u64::from(association.container_id)),
+        number("association-type", u64::from(association.association_type)),
+        entity("container-entity", association.container_entity),
     ]
 }

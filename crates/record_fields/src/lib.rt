@@ -1,7 +1,6 @@
 //! The fields of platform descriptor records by their names: what they hold, and records that are made from words.
 #![tactic(auto)]
 
-mod description;
 mod fields;
 mod held;
 mod layouts;
@@ -9,10 +8,11 @@ mod made;
 mod notes;
 mod said;
 mod sized;
+mod telling;
 mod text;
 mod words;
 
-pub use description::description;
 pub use fields::named_fields;
 pub use held::{Held, NamedField};
 pub use made::{MakeError, made_record};
+pub use telling::description;

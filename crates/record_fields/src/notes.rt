@@ -1,6 +1,7 @@
 //! The standard's words for numbers of a record: DSP0248 for its own fields, DSP0249 for entities and state sets.
 use crate::held::{Held, NamedField};
 use std::alloc::{AllocError, Global};
+use std::num::f32_from_bits_with_nan;
 
 /// The word for what a field holds, or nothing.
 pub fn note_of(alloc: Global, field: &NamedField) -> Result<String, AllocError> {
@@ -17,7 +18,7 @@ pub fn note_of(alloc: Global, field: &NamedField) -> Result<String, AllocError> 
 fn real_text(alloc: Global, bits: u64) -> Result<String, AllocError> {
     match u32::try_from(bits) {
         Ok(bits) => {
-            let number = f32::from_bits(bits);
+            let number = f32_from_bits_with_nan(bits);
             format!(in alloc; "{number}")
         }
         Err(_) => Ok(String::new(alloc)),

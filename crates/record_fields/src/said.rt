@@ -47,10 +47,10 @@ fn is_type(kind: &str, record_type: u8) -> bool
 }
 
 /// Whether each word says what one of the record's fields holds.
-fn says_all(alloc: Global, words: &[String], record: &Record) -> Result<bool, AllocError>
-    ensures { IfOk result (λ answer. IsTrue answer → All (IsSaidOf (named_fields (record_value record.now))) (map string_bytes words.now)) }
+fn says_all(alloc: Global, words: &[String], whole: &Record) -> Result<bool, AllocError>
+    ensures { IfOk result (λ answer. IsTrue answer → All (IsSaidOf (named_fields (record_value whole.now))) (map string_bytes words.now)) }
 {
-    let fields = named_fields(alloc, record)?;
+    let fields = named_fields(alloc, whole)?;
     for word in words {
         if !says_one(alloc, word, &fields)? {
             return Ok(false);
@@ -90,22 +90,22 @@ fn says_hexadecimal(
     alloc: Global,
     word: &str,
     name: &'static str,
-    number: u64,
+    value: u64,
 ) -> Result<bool, AllocError>
-    ensures { IfOk result (λ answer. IsTrue answer → SaysHexadecimal word.now (number name.now number)) }
+    ensures { IfOk result (λ answer. IsTrue answer → SaysHexadecimal word.now (number name.now value)) }
 {
-    let digits = hexadecimal(alloc, number)?;
+    let digits = hexadecimal(alloc, value)?;
     let said = format!(in alloc; "{name}={digits}")?;
     Ok(word.eq_ignore_ascii_case(&said))
 }
 
 /// Whether the word says in decimal digits which real number of 32 bits a field of the name holds.
-fn says_real(alloc: Global, word: &str, name: &'static str, bits: u64) -> Result<bool, AllocError>
-    ensures { IfOk result (λ answer. IsTrue answer → NamesReal word.now (real name.now bits)) }
+fn says_real(alloc: Global, word: &str, name: &'static str, value: u64) -> Result<bool, AllocError>
+    ensures { IfOk result (λ answer. IsTrue answer → NamesReal word.now (real name.now value)) }
 {
-    let Some((_, value)) = word.split_once('=') else {
+    let Some((_, text)) = word.split_once('=') else {
         return Ok(false);
     };
-    let said = format!(in alloc; "{name}={value}")?;
-    Ok(word.eq_ignore_ascii_case(&said) && real_in(value) == Some(bits))
+    let said = format!(in alloc; "{name}={text}")?;
+    Ok(word.eq_ignore_ascii_case(&said) && real_in(text) == Some(value))
 }

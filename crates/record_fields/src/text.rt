@@ -3,7 +3,7 @@ ghost use Rattle.std.specs.Prelude.{◌≡◌, ◌≤◌, IfOk, string_bytes};
 ghost use Rattle.pdr_record.specs.StateSetValues.{state_set_value};
 ghost use Rattle.pdr_record.specs.Values.{entity_value};
 ghost use Rattle.record_fields.specs.Meanings.{holding_of, named_of};
-ghost use Rattle.record_fields.specs.Named.{StateSet, Entity};
+ghost use Rattle.record_fields.specs.Named.{Set, Thing};
 ghost use Rattle.record_fields.specs.Texts.{holding_text, sized_text, signed_text, hexadecimal, field_text};
 
 use crate::held::{Held, NamedField};
@@ -63,7 +63,7 @@ pub fn hexadecimal(alloc: Global, number: u64) -> Result<String, AllocError>
 }
 
 fn state_set_text(alloc: Global, set: &StateSet) -> Result<String, AllocError>
-    ensures { IfOk result (λ text. string_bytes text ≡ holding_text (StateSet (state_set_value set.now))) }
+    ensures { IfOk result (λ text. string_bytes text ≡ holding_text (Set (state_set_value set.now))) }
 {
     let id = set.state_set_id;
     let states = hex::encode(alloc, set.possible_states)?;
@@ -71,7 +71,7 @@ fn state_set_text(alloc: Global, set: &StateSet) -> Result<String, AllocError>
 }
 
 fn entity_text(alloc: Global, entity: &Entity) -> Result<String, AllocError>
-    ensures { IfOk result (λ text. string_bytes text ≡ holding_text (Entity (entity_value entity.now))) }
+    ensures { IfOk result (λ text. string_bytes text ≡ holding_text (Thing (entity_value entity.now))) }
 {
     let kind = entity.entity_type;
     let instance = entity.instance_number;

@@ -1,6 +1,7 @@
 //! What words of the form NAME=VALUE give.
 use crate::made::MakeError;
 use std::alloc::Global;
+use std::num::f32_to_bits_with_nan;
 
 /// Words, each a field's name, a sign of equality and a value.
 #[derive(Clone, Copy, Debug)]
@@ -73,7 +74,7 @@ pub fn real_in(text: &str) -> Option<u64> {
 /// The bits of the real number that a text is in decimal digits.
 fn bits_in(text: &str) -> Option<u64> {
     let number: f32 = text.parse().ok()?;
-    Some(u64::from(number.to_bits()))
+    Some(u64::from(f32_to_bits_with_nan(number)))
 }
 
 /// The two's complement of a number in so many bytes.

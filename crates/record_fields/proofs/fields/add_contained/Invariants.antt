@@ -5,9 +5,9 @@ use Rattle.record_fields.specs.Meanings.{named_of}
 use Rattle.record_fields.specs.Named.{contained_named}
 use Rattle.record_fields.proofs.fields.add_contained.Given as goal
 
-abbrev pub invariant-loop-entity : goal.invariant-loop-entity
-invariant-loop-entity l = map named_of l.fields.items ++ map contained_named (entities_left l.left)
+abbrev pub invariant-loop-contained : goal.invariant-loop-contained
+invariant-loop-contained l = map named_of l.fields.items ++ map contained_named (entities_left l.left)
     ≡ map named_of l.initial.fields.items ++ map contained_named (entities_value l.entities)
 
-abbrev pub decreases-loop-entity : goal.decreases-loop-entity
-decreases-loop-entity l = length (entities_left l.left)
+abbrev pub decreases-loop-contained : goal.decreases-loop-contained
+decreases-loop-contained l = length (entities_left l.left)

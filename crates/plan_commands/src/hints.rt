@@ -1,0 +1,159 @@
+//! What a person at a terminal is told beside the line of a refusal. Want of memory for it and a sink that fails are passed
+//! over.
+ghost use Rattle.net_plan.specs.Stream.{HasRoom};
+
+use crate::command_line::command_names;
+use crate::commands::certified::Question;
+use crate::commands::naming::first_named;
+use crate::commands::walk::named_terminus;
+use net_plan::{Plan, Sink, Source, read_plan, write_whole};
+use net_pointers::nearest_name;
+use plan_texts::{guide_to, text_of};
+use record_fields::made_record;
+use std::alloc::{AllocError, Global};
+
+/// Says what is wrong with words that fit no command, and what the command's words are.
+pub fn hint_words<E: Sink>(alloc: Global, words: &[String], errors: &mut E)
+    requires { HasRoom (E.account errors.old) }
+{
+    if let Ok(text) = words_hint(alloc, words) {
+        let _ = write_whole(errors, text.as_bytes());
+    }
+}
+
+/// Says which name that a question has is none of the plan's, and which is the nearest.
+pub fn hint_nodes<P: Source, E: Sink>(
+    alloc: Global,
+    question: &Question,
+    plan: &mut P,
+    errors: &mut E,
+)
+    requires plan { HasRoom (P.account plan.old) }
+    requires errors { HasRoom (E.account errors.old) }
+{
+    if let Ok(plan) = read_plan(alloc, plan) {
+        if let Ok(text) = nodes_hint(alloc, question, &plan) {
+            let _ = write_whole(errors, text.as_bytes());
+        }
+    }
+}
+
+fn words_hint(alloc: Global, words: &[String]) -> Result<String, AllocError> {
+    let Some(command) = words.get(1) else {
+        return "mctpplan guide lists the commands\n".to_string(alloc);
+    };
+    match first_line_of_guide(command) {
+        Some(usage) => arguments_hint(alloc, command, usage, words),
+        None => command_hint(alloc, command),
+    }
+}
+
+/// The words of a command, as its guide gives them.
+fn first_line_of_guide(command: &str) -> Option<&'static str> {
+    let (usage, _) = guide_to(command)?.split_once('\n')?;
+    Some(usage)
+}
+
+/// What is said of a command that isn't there.
+fn command_hint(alloc: Global, command: &str) -> Result<String, AllocError> {
+    match nearest_name(alloc, command, &command_names(alloc)?)? {
+        Some(index) => named_hint(alloc, command, index),
+        None => format!(in alloc;
+            "there is no command {command}; mctpplan guide lists the commands\n"
+        ),
+    }
+}
+
+fn named_hint(alloc: Global, command: &str, index: usize) -> Result<String, AllocError> {
+    let names = command_names(alloc)?;
+    let nearest = names.get(index).copied().unwrap_or("guide");
+    format!(in alloc; "there is no command {command}; the nearest is {nearest}\n")
+}
+
+/// What is said of a command's arguments.
+fn arguments_hint(
+    alloc: Global,
+    command: &str,
+    usage: &str,
+    words: &[String],
+) -> Result<String, AllocError> {
+    let wrong = wrong_argument(alloc, command, words)?;
+    format!(in alloc; "{usage}\n{wrong}mctpplan guide {command} tells more\n")
+}
+
+/// The line of the argument that is wrong, where it can be told.
+fn wrong_argument(alloc: Global, command: &str, words: &[String]) -> Result<String, AllocError> {
+    match (command, words) {
+        ("walk", [_, _, _, _, _, count]) => {
+            format!(in alloc; "COUNT is a number of 8 to 4079, and not {count}\n")
+        }
+        ("code", [_, _, code]) if text_of(code).is_none() => {
+            format!(in alloc; "there is no code {code}\n")
+        }
+        ("schema", [_, _, kind]) => {
+            format!(in alloc; "{kind} is none of plan, certificate and events\n")
+        }
+        ("guide", [_, _, other]) => command_hint(alloc, other),
+        ("record", [_, _, kind, said @ ..]) => wrong_word(alloc, kind, said),
+        _ => Ok(String::new(alloc)),
+    }
+}
+
+/// The first word that a record can't have, where there is one.
+fn wrong_word(alloc: Global, kind: &str, words: &[String]) -> Result<String, AllocError> {
+    for (index, word) in words.iter().enumerate() {
+        if made_record(alloc, kind, &words[..=index]).is_err() {
+            return format!(in alloc; "{kind} can't have {word}\n");
+        }
+    }
+    Ok(String::new(alloc))
+}
+
+fn nodes_hint(alloc: Global, question: &Question, plan: &Plan) -> Result<String, AllocError> {
+    match *question {
+        Question::Walk { node, .. } => walk_hint(alloc, plan, node),
+        Question::Trace { from, to } => trace_hint(alloc, plan, from, to),
+        _ => Ok(String::new(alloc)),
+    }
+}
+
+fn walk_hint(alloc: Global, plan: &Plan, node: &str) -> Result<String, AllocError> {
+    if first_named(plan, node).is_none() {
+        return node_hint(alloc, plan, node);
+    }
+    if named_terminus(plan, node).is_none() {
+        return format!(in alloc; "{node} has no terminus\n");
+    }
+    Ok(String::new(alloc))
+}
+
+fn trace_hint(alloc: Global, plan: &Plan, from: &str, to: &str) -> Result<String, AllocError> {
+    if first_named(plan, from).is_none() {
+        return node_hint(alloc, plan, from);
+    }
+    if first_named(plan, to).is_none() {
+        return node_hint(alloc, plan, to);
+    }
+    Ok(String::new(alloc))
+}
+
+/// What is said of a node that isn't there.
+fn node_hint(alloc: Global, plan: &Plan, name: &str) -> Result<String, AllocError> {
+    let names = node_names(alloc, plan)?;
+    match nearest_name(alloc, name, &names)? {
+        Some(index) => nearest_hint(alloc, name, names.get(index).copied().unwrap_or("-")),
+        None => format!(in alloc; "there is no node {name}\n"),
+    }
+}
+
+fn nearest_hint(alloc: Global, name: &str, nearest: &str) -> Result<String, AllocError> {
+    format!(in alloc; "there is no node {name}; the nearest is {nearest}\n")
+}
+
+fn node_names(alloc: Global, plan: &Plan) -> Result<Vec<&str>, AllocError> {
+    let mut names = Vec::new(alloc);
+    for node in &plan.nodes {
+        names.push(node.name.text.as_str())?;
+    }
+    Ok(names)
+}
