@@ -278,13 +278,13 @@ fn add_rows_for(
 
 /// How many endpoint IDs of the row, one after another from this one on, the node has no row for.
 fn lacking(plan: &Plan, node: usize, row: &Row, eid: Eid) -> u8 {
-    let mut count = 0;
+    let mut count = 0u8;
     for number in usize::from(eid.value)..255 {
         let next = Eid::new(number as u8);
-        if has_row(plan, node, next) || !covers(row, next) || count == 254 {
+        if has_row(plan, node, next) || !covers(row, next) {
             return count;
         }
-        count += 1;
+        count = count.saturating_add(1);
     }
     count
 }

@@ -1,0 +1,25 @@
+use Rattle.std.proofs.Common.{◌≡◌, ◌≤◌, ◌++◌, ◌∷◌, [], length, subst, sym, rules}
+use Rattle.std.proofs.lemmas.List.Elements.{All-push}
+use Rattle.std.specs.List.{All}
+use Rattle.net_plan.specs.PlanValues.{plan_value}
+use Rattle.net_explained.specs.Obstacles.{IsTried}
+use Rattle.net_explained.specs.declared.trial.Tried.{Tried}
+use Rattle.net_explained.proofs.trial.tried_edits.Goals as goal
+
+pub loop-edit-preserved-in_ok-push : goal.loop-edit-preserved-in_ok-push
+loop-edit-preserved-in_ok-push c =
+    let P : Tried → Type 0 = IsTried (plan_value c.args.plan.now) c.args.obstacle.now in
+    let inv = c.loop-edit.invariant in
+    let so : P c.in-Some-2.tried = rw c.in-Some-2.is at c.in_ok-tried.ensures in
+    let items : c.push.new.self.items ≡ c.loop-edit.whole.items ++ c.in-Some-2.tried ∷ [] = c.in_ok-push.ensures.items in
+    let short : length c.push.new.self.items ≤ 3 = search rules in
+    (subst (All P) (sym items) (All-push P c.loop-edit.whole.items c.in-Some-2.tried inv.0 so), inv.1, short, inv.3)
+
+pub loop-edit-preserved-in_ok-push-2 : goal.loop-edit-preserved-in_ok-push-2
+loop-edit-preserved-in_ok-push-2 c =
+    let P : Tried → Type 0 = IsTried (plan_value c.args.plan.now) c.args.obstacle.now in
+    let inv = c.loop-edit.invariant in
+    let so : P c.in-Some-2.tried = rw c.in-Some-2.is at c.in_ok-tried.ensures in
+    let items : c.push-then-len-lt-MOST_EDITS.new.self.items ≡ c.loop-edit.partial.items ++ c.in-Some-2.tried ∷ [] = c.in_ok-push-2.ensures.items in
+    let short : length c.push-then-len-lt-MOST_EDITS.new.self.items ≤ 3 = search rules in
+    (inv.0, subst (All P) (sym items) (All-push P c.loop-edit.partial.items c.in-Some-2.tried inv.1 so), inv.2, short)
