@@ -1,10 +1,13 @@
 //! The program `mctpplan`: it checks a planned MCTP network against its certificate, makes certificates, and plays the network.
 #![tactic(auto)]
 
+ghost use Rattle.std.specs.Prelude.{◌≡◌};
+
 use net_plan::Counted;
 use plan_commands::{
-    FileAtPath, Refused, Status, Subcommand, parse_command, refuse, run_certified, run_explain,
-    run_explain_certified, run_known, run_move, run_planned, run_show, simulate, simulate_move,
+    FileAtPath, PlanQuestion, Question, Refused, ShownKind, Status, Subcommand, parse_command,
+    refuse, run_certified, run_explain, run_explain_certified, run_known, run_move, run_planned,
+    run_show, simulate, simulate_move,
 };
 use std::env;
 use std::process::ExitCode;
@@ -29,29 +32,13 @@ fn run(rt: &HostRuntime) -> Status {
 
 /// Runs a command over files and the standard streams.
 fn run_command<'a>(rt: &'a HostRuntime, command: Subcommand<'a>) -> Status {
-    let alloc = rt.alloc();
-    let mut output = Counted::new(rt.stdout());
-    let mut errors = Counted::new(rt.stderr());
     match command {
         Subcommand::Certified {
             question,
             plan,
             certificate,
-        } => run_certified(
-            alloc,
-            &question,
-            &mut file(rt, plan),
-            &mut file(rt, certificate),
-            &mut output,
-            &mut errors,
-        ),
-        Subcommand::Planned { question, plan } => run_planned(
-            alloc,
-            question,
-            &mut file(rt, plan),
-            &mut output,
-            &mut errors,
-        ),
+        } => certified(rt, &question, plan, certificate),
+        Subcommand::Planned { question, plan } => planned(rt, question, plan),
         Subcommand::Explain {
             plan,
             certificate: Some(certificate),
@@ -64,43 +51,125 @@ fn run_command<'a>(rt: &'a HostRuntime, command: Subcommand<'a>) -> Status {
             plan,
             certificate,
             events,
-        } => simulate(
-            alloc,
-            &mut file(rt, plan),
-            &mut file(rt, certificate),
-            &mut file(rt, events),
-            &mut output,
-            &mut errors,
-        ),
+        } => play(rt, plan, certificate, events),
         Subcommand::Move {
             before,
             after,
             certificate,
-        } => run_move(
-            alloc,
-            &mut file(rt, before),
-            &mut file(rt, after),
-            &mut file(rt, certificate),
-            &mut output,
-            &mut errors,
-        ),
+        } => check_move(rt, before, after, certificate),
         Subcommand::SimMove {
             before,
             after,
             certificate,
             events,
-        } => simulate_move(
-            alloc,
-            &mut file(rt, before),
-            &mut file(rt, after),
-            &mut file(rt, certificate),
-            &mut file(rt, events),
-            &mut output,
-            &mut errors,
-        ),
-        Subcommand::Known { text } => run_known(alloc, text, &mut output, &mut errors),
-        Subcommand::Show { kind, hex } => run_show(alloc, kind, hex, &mut output, &mut errors),
+        } => play_move(rt, [before, after, certificate, events]),
+        Subcommand::Known { text } => tell(rt, text),
+        Subcommand::Show { kind, hex } => show(rt, kind, hex),
     }
+}
+
+/// Answers a question about a plan with its certificate.
+fn certified<'a>(
+    rt: &'a HostRuntime,
+    question: &Question<'a>,
+    plan: &'a str,
+    certificate: &'a str,
+) -> Status {
+    let mut plan = file(rt, plan);
+    let mut certificate = file(rt, certificate);
+    let mut output = Counted::new(rt.stdout());
+    let mut errors = Counted::new(rt.stderr());
+    run_certified(
+        rt.alloc(),
+        question,
+        &mut plan,
+        &mut certificate,
+        &mut output,
+        &mut errors,
+    )
+}
+
+/// Answers a question about a plan.
+fn planned<'a>(rt: &'a HostRuntime, question: PlanQuestion, plan: &'a str) -> Status {
+    let mut plan = file(rt, plan);
+    let mut output = Counted::new(rt.stdout());
+    let mut errors = Counted::new(rt.stderr());
+    run_planned(rt.alloc(), question, &mut plan, &mut output, &mut errors)
+}
+
+/// Plays events in the network of a plan.
+fn play<'a>(rt: &'a HostRuntime, plan: &'a str, certificate: &'a str, events: &'a str) -> Status {
+    let mut plan = file(rt, plan);
+    let mut certificate = file(rt, certificate);
+    let mut events = file(rt, events);
+    let mut output = Counted::new(rt.stdout());
+    let mut errors = Counted::new(rt.stderr());
+    simulate(
+        rt.alloc(),
+        &mut plan,
+        &mut certificate,
+        &mut events,
+        &mut output,
+        &mut errors,
+    )
+}
+
+/// Checks a move from one plan to another.
+fn check_move<'a>(
+    rt: &'a HostRuntime,
+    before: &'a str,
+    after: &'a str,
+    certificate: &'a str,
+) -> Status {
+    let mut before = file(rt, before);
+    let mut after = file(rt, after);
+    let mut certificate = file(rt, certificate);
+    let mut output = Counted::new(rt.stdout());
+    let mut errors = Counted::new(rt.stderr());
+    run_move(
+        rt.alloc(),
+        &mut before,
+        &mut after,
+        &mut certificate,
+        &mut output,
+        &mut errors,
+    )
+}
+
+/// Plays events in a network that moves. The files are the old plan, the new one, the certificate and the events.
+fn play_move<'a>(
+    rt: &'a HostRuntime,
+    [before, after, certificate, events]: [&'a str; 4],
+) -> Status {
+    let mut before = file(rt, before);
+    let mut after = file(rt, after);
+    let mut certificate = file(rt, certificate);
+    let mut events = file(rt, events);
+    let mut output = Counted::new(rt.stdout());
+    let mut errors = Counted::new(rt.stderr());
+    simulate_move(
+        rt.alloc(),
+        &mut before,
+        &mut after,
+        &mut certificate,
+        &mut events,
+        &mut output,
+        &mut errors,
+    )
+}
+
+/// Prints a text of the program itself.
+fn tell(rt: &HostRuntime, text: &'static str) -> Status {
+    let mut output = Counted::new(rt.stdout());
+    let mut errors = Counted::new(rt.stderr());
+    run_known(rt.alloc(), text, &mut output, &mut errors)
+}
+
+/// Shows what bytes are.
+fn show(rt: &HostRuntime, kind: ShownKind, hex: &str) -> Status {
+    let mut output = Counted::new(rt.stdout());
+    let mut errors = Counted::new(rt.stderr());
+    run_show(rt.alloc(), kind, hex, &mut output, &mut errors)
 }
 
 /// Explains a plan. Where its file can't be opened or read, standard error tells the path and the system's reason.
@@ -138,7 +207,9 @@ fn explain_certified<'a>(rt: &'a HostRuntime, plan: &'a str, certificate: &'a st
 }
 
 /// The file at a path, which is opened once it is read.
-fn file<'a>(rt: &'a HostRuntime, path: &'a str) -> Counted<FileAtPath<'a, HostRuntime>> {
+fn file<'a>(rt: &'a HostRuntime, path: &'a str) -> Counted<FileAtPath<'a, HostRuntime>>
+    ensures { result.failures ≡ 0 }
+{
     Counted::new(FileAtPath::new(rt, path))
 }
 
