@@ -4,9 +4,11 @@ The documents are README.md, docs/*.md and the examples' README.md. In a block t
 `$ COMMAND` is run, and the lines up to the next one are what it must print on standard output and standard error
 together. A line that ends with a backslash goes on in the next one. The commands of a document run one after another
 in a folder that stands for the top of the repository, so that what they write stays outside of it. With --program the
-commands that call bin/try are left out, since it builds a program of its own.
+commands that call bin/try are left out, since it builds a program of its own; of the program of an archive of a release
+the archive's own documents are tried.
 """
 import os
+import pathlib
 import re
 import shlex
 import subprocess
@@ -25,10 +27,10 @@ def shown_commands(text):
             yield command, output
 
 
-def printed(commands, stand_in):
+def printed(commands, stand_in, top):
     """What each command of a document prints, with this program."""
     with tempfile.TemporaryDirectory(prefix="desk-") as desk:
-        for entry in TOP.iterdir():
+        for entry in top.iterdir():
             os.symlink(entry, f"{desk}/{entry.name}")
         yield from (printed_at(desk, command.replace(PROGRAM, stand_in)) for command in commands)
 
@@ -39,8 +41,10 @@ def printed_at(desk, command):
 
 
 def try_all(trial):
-    paths = [TOP / "README.md", *sorted(TOP.glob("docs/*.md")), *sorted(TOP.glob("examples/*/README.md"))]
-    for name in filter(trial.has, (str(it.relative_to(TOP)) for it in paths)):
-        rows = [it for it in shown_commands((TOP / name).read_text()) if not (trial.given and "bin/try" in it[0])]
-        for (command, output), answer in zip(rows, printed([it for it, _ in rows], shlex.join(trial.program))):
+    archive = pathlib.Path(trial.given or TOP).resolve().parent.parent
+    top = archive if trial.given and (archive / "README.md").exists() else TOP
+    paths = [top / "README.md", *sorted(top.glob("docs/*.md")), *sorted(top.glob("examples/*/README.md"))]
+    for name in filter(trial.has, (str(it.relative_to(top)) for it in paths)):
+        rows = [it for it in shown_commands((top / name).read_text()) if not (trial.given and "bin/try" in it[0])]
+        for (command, output), answer in zip(rows, printed([it for it, _ in rows], shlex.join(trial.program), top)):
             trial.note(answer == output, f"{name}: {command}\nshown:\n{output}printed:\n{answer}")
