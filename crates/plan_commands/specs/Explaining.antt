@@ -40,9 +40,9 @@ no_certificate_text = codes "This plan has no certificate, whatever this one say
 
 -- ---- what rules certificates out
 
--- The lines are those of at most three edits of the plan that has this obstacle. Each was tried: the plan with just this
--- changed has a certificate, or the first of what rules certificates of it out comes later than the obstacle; and this is
--- said of it.
+-- The lines are those of at most three edits of the plan that has this obstacle. Each was tried: the plan with just
+-- this changed has a certificate, or the first of what rules certificates of it out comes later than the obstacle; and
+-- this is said of it.
 abbrev pub AreEditsTold : Plan → CertifyError → List ℕ → Type 0
 AreEditsTold plan obstacle lines = (edits : List Tried) × All (IsTried (plan_value plan) obstacle) edits
     × (length edits ≤ 3) × (lines ≡ edits_text plan edits)
