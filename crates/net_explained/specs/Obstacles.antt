@@ -13,8 +13,8 @@ use Rattle.net_tables.specs.Routing.{eid_number}
 use Rattle.net_explained.specs.Edits.{IsEdited}
 use Rattle.net_explained.specs.declared.trial.Tried.{Tried}
 
--- By rule, and of one rule a fault of the plan before a loop. Faults by node, entry and EID, loops of rows by their least
--- EID, and chains by their node.
+-- By rule, and of one rule a fault of the plan before a loop. Faults by node, entry and EID, loops of rows by their
+-- least EID, and chains by their node.
 abbrev pub key_of : CertifyError → List ℕ
 key_of (error.Fault f) =
     order_of f.rule ∷ 0 ∷ f.node ∷ order_of_number f.entry ∷ order_of_number (eid_number f.eid) ∷ []
@@ -27,8 +27,8 @@ key_of error.OutOfMemory = []
 abbrev pub IsLater : CertifyError → CertifyError → Type 0
 IsLater first second = LessByFirstDifference (key_of first) (key_of second)
 
--- What is then of the plan after an edit, where there was an obstacle before: a certificate fits it; or none does, and the
--- first obstacle of it comes later than that one.
+-- What is then of the plan after an edit, where there was an obstacle before: a certificate fits it; or none does, and
+-- the first obstacle of it comes later than that one.
 abbrev pub IsLeft : CertifyError → Plan → Option CertifyError → Type 0
 IsLeft obstacle after None = (certificate : Certificate) × Accepts after certificate
 IsLeft obstacle after (Some next) =
