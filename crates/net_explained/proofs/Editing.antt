@@ -40,7 +40,7 @@ edited_so plan edit nodes old new (Some p) is by set whole =
     let i = edit.node in
     let V : ℕ → List BusValue → List NodeValue → PlanValue = λ u bs ns. record { unit = u; buses = bs; nodes = ns } in
     let mapped : map node_value p.nodes.items ≡ slice_set (map node_value xs) i (changed edit.change (node_value old)) =
-        ap (λ (v : Vec Node Global). map node_value v.items) whole.2 ∙ (ap (λ z. map node_value z) set ∙ (map-set node_value xs i new ∙ ap (λ y. slice_set (map node_value xs) i y) by)) in
+    ap (λ (v : Vec Node Global). map node_value v.items) whole.2 ∙ (ap (λ z. map node_value z) set ∙ (map-set node_value xs i new ∙ ap (λ y. slice_set (map node_value xs) i y) by)) in
     record {
       node = node_value old;
       there = slice_get-map node_value xs i ∙ ap (option_map node_value) is;

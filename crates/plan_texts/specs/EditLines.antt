@@ -72,21 +72,22 @@ value_text plan (change.Handle i handle) = decimal handle
 value_text plan (change.Next i next) = decimal next
 value_text plan (change.Bytes i bytes) = quoted (encode_lower bytes.items)
 
--- the JSON pointer, and the name of the node
-abbrev pub pointer_text : Plan → Edit → List ℕ → List ℕ
-pointer_text plan edit rest = codes " /nodes/" ++ (decimal edit.node ++ (codes "/"
-    ++ (place_text plan edit.node edit.change ++ (codes " of " ++ (name_or_dash plan edit.node ++ rest)))))
+-- what is done to a value, and the word before what is to stand there
+abbrev pub verb_of : Change → List ℕ
+verb_of (change.LessRow i) = codes "remove"
+verb_of (change.MoreRow row) = codes "insert"
+verb_of _ = codes "set"
 
--- a place, and what is to stand there
-abbrev pub edit_text_of : Plan → Edit → Change → List ℕ
-edit_text_of plan edit (change.LessRow i) = codes "Edit: remove" ++ pointer_text plan edit (codes "\n")
-edit_text_of plan edit (change.MoreRow row) = codes "Edit: insert"
-    ++ pointer_text plan edit (codes " as " ++ (row_value plan row ++ codes "\n"))
-edit_text_of plan edit c = codes "Edit: set"
-    ++ pointer_text plan edit (codes " to " ++ (value_text plan c ++ codes "\n"))
+abbrev pub word_of : Change → List ℕ
+word_of (change.LessRow i) = codes ""
+word_of (change.MoreRow row) = codes " as "
+word_of _ = codes " to "
 
+-- the JSON pointer, the name of the node, and what is to stand there
 abbrev pub edit_text : Plan → Edit → List ℕ
-edit_text plan edit = edit_text_of plan edit edit.change
+edit_text plan edit = codes "Edit: " ++ (verb_of edit.change ++ (codes " /nodes/" ++ (decimal edit.node ++ (codes "/"
+    ++ (place_text plan edit.node edit.change ++ (codes " of " ++ (name_or_dash plan edit.node
+    ++ (word_of edit.change ++ (value_text plan edit.change ++ codes "\n")))))))))
 
 -- that a certificate fits the plan after an edit, or the line of what rules all of them out
 abbrev pub left_text : Plan → Option CertifyError → List ℕ

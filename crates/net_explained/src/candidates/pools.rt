@@ -79,7 +79,12 @@ pub fn add_for_owned(plan: &Plan, owner: usize, edits: &mut Vec<Edit>) -> Result
         }
     }
     if let Some(pool) = pool_at(plan, owner) {
-        add_pool(owner, first, first.saturating_add(u16::from(pool.size)), edits)?;
+        add_pool(
+            owner,
+            first,
+            first.saturating_add(u16::from(pool.size)),
+            edits,
+        )?;
     }
     add_pool(owner, first, end, edits)
 }

@@ -1,7 +1,7 @@
 //! The edits that `explain` proposes, with what is so once they are made.
 ghost use Rattle.std.specs.Prelude.{◌≡◌, IfOk, string_bytes};
 ghost use Rattle.std.specs.List.{flat_map};
-ghost use Rattle.plan_texts.specs.EditLines.{edit_text, edits_text, kind_word, left_text, owner_value, place_text, pool_value, quoted, row_value, tried_text, value_text};
+ghost use Rattle.plan_texts.specs.EditLines.{edit_text, edits_text, kind_word, left_text, owner_value, place_text, pool_value, quoted, row_value, tried_text, value_text, verb_of, word_of};
 
 use crate::{name_or_dash, obstacle_line};
 use net_explained::{Change, Edit, Tried};
@@ -45,19 +45,37 @@ fn left_line(alloc: Global, plan: &Plan, left: &Option<CertifyError>) -> Result<
 }
 
 /// The place in the plan's text, by its JSON pointer, the node and the value that is to stand there.
-pub fn edit_line(alloc: Global, plan: &Plan, edit: &Edit) -> Result<String, AllocError>
+fn edit_line(alloc: Global, plan: &Plan, edit: &Edit) -> Result<String, AllocError>
     ensures { IfOk result (λ line. string_bytes line ≡ edit_text plan.now edit.now) }
 {
     let node = edit.node;
     let name = name_or_dash(plan, node);
+    let verb = verb_of(&edit.change);
+    let word = word_of(&edit.change);
     let place = place_text(alloc, plan, node, &edit.change)?;
     let value = value_text(alloc, plan, &edit.change)?;
-    match &edit.change {
-        Change::LessRow(_) => format!(in alloc; "Edit: remove /nodes/{node}/{place} of {name}\n"),
-        Change::MoreRow(_) => {
-            format!(in alloc; "Edit: insert /nodes/{node}/{place} of {name} as {value}\n")
-        }
-        _ => format!(in alloc; "Edit: set /nodes/{node}/{place} of {name} to {value}\n"),
+    format!(in alloc; "Edit: {verb} /nodes/{node}/{place} of {name}{word}{value}\n")
+}
+
+/// What is done to a value.
+fn verb_of(change: &Change) -> &'static str
+    ensures { result.now ≡ verb_of change.now }
+{
+    match change {
+        Change::LessRow(_) => "remove",
+        Change::MoreRow(_) => "insert",
+        _ => "set",
+    }
+}
+
+/// The word before what is to stand there.
+fn word_of(change: &Change) -> &'static str
+    ensures { result.now ≡ word_of change.now }
+{
+    match change {
+        Change::LessRow(_) => "",
+        Change::MoreRow(_) => " as ",
+        _ => " to ",
     }
 }
 
