@@ -1,5 +1,6 @@
 -- Whether a packet arrives, by its way.
-use Rattle.std.proofs.Common.{◌≡◌, ℕ, List, length, refl, sym, subst, ◌∙◌, Some}
+use Rattle.std.proofs.Common.{◌≡◌, ◌↔◌, ℕ, List, length, refl, sym, subst, ◌∙◌, Option, Some, None, Result, Ok, Err, IfOk, IsTrue, is_some}
+use Rattle.std.specs.Prelude.{MatchOption}
 use Rattle.std.proofs.lemmas.Option.{same_Some}
 use Rattle.net_plan.specs.declared.plan.Plan.{Plan}
 use Rattle.net_plan.specs.declared.certificate.Certificate.{Certificate}
@@ -30,9 +31,22 @@ comes plan a b e moves holds arriving = (e, holds, arriving)
 
 pub comes_not : (plan : Plan) (a b e : ℕ) → Holds plan b e → ((moves : ℕ) → ¬ ArrivesAfter plan e a moves)
     → ¬ ReachesNode plan a b
-comes_not plan a b e holds none (moves, f, held, arriving) =
-    let same : f ≡ e = same_Some (sym held ∙ holds) in
+comes_not plan a b e holds none (moves, (f, held, arriving)) =
+    let same : f ≡ e = same_Some f e (sym held ∙ holds) in
     none moves (subst (λ k. ArrivesAfter plan k a moves) same arriving)
 
 pub nobody_comes : (plan : Plan) (a b : ℕ) → ((e : ℕ) → ¬ Holds plan b e) → ¬ ReachesNode plan a b
-nobody_comes plan a b none (moves, e, held, arriving) = none e held
+nobody_comes plan a b none (moves, (e, held, arriving)) = none e held
+
+-- what is known of the one is known of the other
+pub told : {E : Type 0} (plan : Plan) (a b e : ℕ) (r : Result (Option ℕ) E) → Holds plan b e
+    → IfOk r (λ found. MatchOption found ((moves : ℕ) → ¬ ArrivesAfter plan e a moves) (ArrivesAfter plan e a))
+    → IfOk r (λ found. MatchOption found (¬ ReachesNode plan a b) (ComesTo plan a b))
+told plan a b e (Err x) holds is = tt
+told plan a b e (Ok None) holds is = comes_not plan a b e holds is
+told plan a b e (Ok (Some moves)) holds is = comes plan a b e moves holds is
+
+pub reached_if : (plan : Plan) (a b : ℕ) (found : Option ℕ) → MatchOption found (¬ ReachesNode plan a b) (ComesTo plan a b)
+    → IsTrue (is_some found) ↔ ReachesNode plan a b
+reached_if plan a b None none = (λ yes. absurd (cc yes), λ some. absurd (none some))
+reached_if plan a b (Some moves) way = (λ yes. (moves, way), λ some. refl)

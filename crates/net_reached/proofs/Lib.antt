@@ -1,2 +1,2 @@
-pub mod Unmet
+pub mod Missed
 pub mod Arriving

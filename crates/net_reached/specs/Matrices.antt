@@ -7,7 +7,8 @@ use Rattle.net_reached.specs.Wishes.{ComesTo, ReachesNode}
 
 -- a number in three columns, where it has at most three digits
 abbrev pub number_cell : ℕ → List ℕ
-number_cell n = (if nat_lt n 10 then codes "  " else if nat_lt n 100 then codes " " else []) ++ decimal n
+number_cell n =
+    if nat_lt n 10 then (codes "  " ++ decimal n) else if nat_lt n 100 then (codes " " ++ decimal n) else decimal n
 
 -- the numbers of the first nodes, from 1
 abbrev pub head_cells : ℕ → List ℕ

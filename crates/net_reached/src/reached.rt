@@ -10,6 +10,7 @@ use net_tables::lookup::eid_at;
 use std::alloc::{AllocError, Global};
 
 /// How many hops a packet makes that is put in at a node for the endpoint ID of another, if it arrives there.
+#[tactic(auto, using(crate::proofs::Arriving::comes, crate::proofs::Arriving::comes_not, crate::proofs::Arriving::nobody_comes))]
 pub fn hops_between(
     alloc: Global,
     checked: &Checked,
@@ -25,6 +26,7 @@ pub fn hops_between(
 }
 
 /// How many hops a packet for the endpoint ID makes that is put in at a node, if it arrives.
+#[tactic(auto, using(crate::proofs::Arriving::arrives))]
 fn hops_to(
     alloc: Global,
     checked: &Checked,
@@ -34,6 +36,8 @@ fn hops_to(
     ensures { IfOk result (λ found. MatchOption found ((moves : ℕ) → ¬ ArrivesAfter checked.now.0 eid.value from moves)
         (ArrivesAfter checked.now.0 eid.value from)) }
 {
+    // (that the plan is accepted is known of it once it is taken out)
+    let _plan = checked.plan();
     let way = follow(alloc, checked, from, eid)?;
     match way.end {
         End::Arrives => Ok(Some(way.steps.len())),

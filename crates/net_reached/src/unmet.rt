@@ -8,6 +8,7 @@ use net_check::Checked;
 use std::alloc::{AllocError, Global};
 
 /// Those of the wishes, in their order, that a checked plan doesn't meet.
+#[tactic(auto, using(crate::proofs::Missed::one_met, crate::proofs::Missed::one_unmet))]
 pub fn unmet_wishes<'t>(
     alloc: Global,
     checked: &Checked,

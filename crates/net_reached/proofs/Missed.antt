@@ -9,13 +9,13 @@ pub one_met : (plan : Plan) (wishes unmet : List Wish) (wish : Wish) → AreUnme
 one_met plan [] unmet wish are met = inl (met, are)
 one_met plan (w ∷ ws) unmet wish are met = elim are [
   | inl (here, left) ↦ inl (here, one_met plan ws unmet wish left met)
-  | inr (rest, not, made, left) ↦ inr (rest, not, made, one_met plan ws rest wish left met)
+  | inr (rest, denied, made, left) ↦ inr (rest, denied, made, one_met plan ws rest wish left met)
 ]
 
 pub one_unmet : (plan : Plan) (wishes unmet : List Wish) (wish : Wish) → AreUnmet plan wishes unmet → ¬ IsMet plan wish
     → AreUnmet plan (wishes ++ wish ∷ []) (unmet ++ wish ∷ [])
-one_unmet plan [] unmet wish are not = inr ([], not, search rules, refl)
-one_unmet plan (w ∷ ws) unmet wish are not = elim are [
-  | inl (here, left) ↦ inl (here, one_unmet plan ws unmet wish left not)
-  | inr (rest, no, made, left) ↦ inr (rest ++ wish ∷ [], no, search rules, one_unmet plan ws rest wish left not)
+one_unmet plan [] unmet wish are missed = inr ([], missed, search rules, refl)
+one_unmet plan (w ∷ ws) unmet wish are missed = elim are [
+  | inl (here, left) ↦ inl (here, one_unmet plan ws unmet wish left missed)
+  | inr (rest, denied, made, left) ↦ inr (rest ++ wish ∷ [], denied, search rules, one_unmet plan ws rest wish left missed)
 ]
