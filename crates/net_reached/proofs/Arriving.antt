@@ -1,6 +1,7 @@
 -- Whether a packet arrives, by its way.
-use Rattle.std.proofs.Common.{◌≡◌, ◌↔◌, ℕ, List, length, refl, sym, subst, ◌∙◌, Option, Some, None, Result, Ok, Err, IfOk, IsTrue, is_some}
+use Rattle.std.proofs.Common.{◌≡◌, ◌↔◌, ◌+◌, ◌<◌, inl, inr, arith, ℕ, List, length, refl, sym, subst, ◌∙◌, Option, Some, None, Result, Ok, Err, IfOk, IsTrue, is_some}
 use Rattle.std.specs.Prelude.{MatchOption}
+use Rattle.std.proofs.lemmas.Bool.{cases_lt}
 use Rattle.std.proofs.lemmas.Option.{same_Some}
 use Rattle.net_plan.specs.declared.plan.Plan.{Plan}
 use Rattle.net_plan.specs.declared.certificate.Certificate.{Certificate}
@@ -12,7 +13,7 @@ use Rattle.net_questions.specs.declared.way.End.{End}
 use Rattle.net_questions.specs.declared.way.End.TheVariants.{Arrives, Stops}
 use Rattle.net_questions.specs.Ways.{IsWay, ArrivesAfter}
 use Rattle.net_questions.proofs.WayLaws.{ways_are_alone}
-use Rattle.net_reached.specs.Wishes.{ComesTo, ReachesNode}
+use Rattle.net_reached.specs.Wishes.{ComesTo, ReachesNode, ReachesFirst}
 
 -- it arrives where its way ends so
 pub arrives : (plan : Plan) (e from last : ℕ) (steps : List WayStep) → IsWay plan e from steps last Arrives
@@ -50,3 +51,10 @@ pub reached_if : (plan : Plan) (a b : ℕ) (found : Option ℕ) → MatchOption 
     → IsTrue (is_some found) ↔ ReachesNode plan a b
 reached_if plan a b None none = (λ yes. absurd (cc yes), λ some. absurd (none some))
 reached_if plan a b (Some moves) way = (λ yes. (moves, way), λ some. refl)
+
+-- one node more
+pub one_reached : (plan : Plan) (a count : ℕ) → ReachesFirst plan a count → ReachesNode plan a count → ReachesFirst plan a (count + 1)
+one_reached plan a count before here b within = elim (cases_lt b count) [
+  | inl less ↦ before b less
+  | inr more ↦ let same : count ≡ b = omega (arith, more, within) in subst (λ k. ReachesNode plan a k) same here
+]
