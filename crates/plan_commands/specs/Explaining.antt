@@ -32,7 +32,7 @@ use Rattle.plan_texts.specs.SummaryLines.{summary_text}
 
 -- the certificate is at fault, and not the plan
 abbrev pub remedy_text : List ℕ
-remedy_text = codes "This plan has a certificate.\nEdit: take the one that mctpplan certify makes.\n"
+remedy_text = codes "This plan has a certificate.\nHint: take the one that mctpplan certify makes.\n"
 
 -- no certificate fits the plan
 abbrev pub no_certificate_text : List ℕ

@@ -25,6 +25,10 @@ use Rattle.plan_commands.specs.Statuses.{role_of}
 use Rattle.plan_texts.specs.ReadingLines.{unread_line}
 use Rattle.plan_texts.specs.TroubleLines.{IsPlanTextTold, IsCertificateTextTold}
 
+-- the text is that of the plan
+abbrev pub IsTextOf : List ℕ → Plan → Type 0
+IsTextOf text plan = StandsFor IsPlanOf text (plan_value plan)
+
 -- ---- what is told
 
 abbrev pub failed_line : List ℕ

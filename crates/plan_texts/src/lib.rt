@@ -53,7 +53,7 @@ pub use ways::trace_lines;
 
 /// What is said where a certificate is at fault, and its plan has another.
 pub const REMEDY: &str =
-    "This plan has a certificate.\nEdit: take the one that mctpplan certify makes.\n";
+    "This plan has a certificate.\nHint: take the one that mctpplan certify makes.\n";
 
 /// What is said where a certificate is at fault, and its plan has none.
 pub const NO_CERTIFICATE: &str =

@@ -8,6 +8,7 @@ ghost use Rattle.plan_commands.specs.declared.refused.Refused.TheVariants as ref
 ghost use Rattle.plan_commands.specs.Answers.{stream, BreaksOff};
 ghost use Rattle.plan_commands.specs.Explaining.{AreEditsTold, IsObstacleText, IsToldWithEdits, IsSummedUp, IsExplained, ExplainsSo};
 ghost use Rattle.plan_commands.specs.Told.{Gives, IsSomeAnswer, Ends};
+ghost use Rattle.plan_commands.specs.UnreadTexts.{IsTextOf};
 
 pub mod certified;
 mod unread;
@@ -62,6 +63,7 @@ fn answer_explain<P: Source>(alloc: Global, plan: &mut P) -> Result<Answer, Refu
 
 /// The answer on a plan.
 fn explained_plan(alloc: Global, given: &PlanText) -> Result<Answer, Refused>
+    requires { IsTextOf given.now.text.items given.now.plan }
     ensures answers { IfOk result (λ answer. IsExplained given.now.plan answer.status (cow_str_bytes answer.text)) }
     ensures refused { IfErr result (λ why. why ≡ refused.NoMemory) }
 {
@@ -88,6 +90,7 @@ fn obstacle_text(
 ) -> Result<String, AllocError>
     requires names { NamesObstacle given.now.plan obstacle.now }
     requires none { RulesOutCertificates given.now.plan obstacle.now }
+    requires text { IsTextOf given.now.text.items given.now.plan }
     ensures { IfOk result (λ text. IsObstacleText given.now.plan (string_bytes text)) }
 {
     let mut text = obstacle_line(alloc, &given.plan, obstacle)?;
@@ -101,7 +104,8 @@ fn explained_text(
     given: &PlanText,
     obstacle: &CertifyError,
 ) -> Result<String, AllocError>
-    requires { NamesObstacle given.now.plan obstacle.now }
+    requires names { NamesObstacle given.now.plan obstacle.now }
+    requires text { IsTextOf given.now.text.items given.now.plan }
     ensures { IfOk result (λ text. IsToldWithEdits given.now.plan obstacle.now (string_bytes text)) }
 {
     let mut text = obstacle_lines(alloc, &given.plan, obstacle)?;
@@ -115,8 +119,9 @@ pub fn edits_text(
     given: &PlanText,
     obstacle: &CertifyError,
 ) -> Result<String, AllocError>
+    requires { IsTextOf given.now.text.items given.now.plan }
     ensures { IfOk result (λ text. AreEditsTold given.now.plan obstacle.now (string_bytes text)) }
 {
     let edits = tried_edits(alloc, given.text.as_slice(), &given.plan, obstacle)?;
-    edit_lines(alloc, &given.plan, edits.as_slice())
+    Ok(edit_lines(alloc, &given.plan, edits.as_slice())?)
 }

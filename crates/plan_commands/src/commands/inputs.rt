@@ -7,7 +7,7 @@ ghost use Rattle.net_plan.specs.CertificateValues.{certificate_value};
 ghost use Rattle.net_plan.specs.PlanText.{IsPlanOf};
 ghost use Rattle.net_plan.specs.PlanValues.{plan_value};
 ghost use Rattle.net_plan.specs.Texts.{StandsFor};
-ghost use Rattle.plan_commands.specs.UnreadTexts.{IsNoPlanIn, IsNoPlanBy, IsNoCertificateIn, IsNoCertificateBy, StandsForNothing, unread_of};
+ghost use Rattle.plan_commands.specs.UnreadTexts.{IsNoPlanIn, IsNoPlanBy, IsNoCertificateIn, IsNoCertificateBy, IsTextOf, StandsForNothing, unread_of};
 ghost use Rattle.plan_commands.specs.Moving.{IsMoveGiven, IsMoveUnread};
 ghost use Rattle.plan_commands.specs.Simulating.{GaveEvents, AreEventsUnread};
 
@@ -50,7 +50,6 @@ pub enum Unread {
 pub struct PlanText {
     pub text: Vec<u8>,
     pub plan: Plan,
-    pub ghost stands: { StandsFor IsPlanOf text.items (plan_value plan) },
 }
 
 /// The plan that a source gives, with its text, or why it gives none, with the text that it gave.
@@ -58,6 +57,7 @@ pub fn plan_or_text<P: Source>(alloc: Global, plan: &mut P) -> Result<PlanText, 
     requires { HasRoom (P.account plan.old) }
     ensures given { let plans = stream P.account plan.old plan.new in
         IfOk result (λ read. GavePlan plans read.plan) }
+    ensures same { IfOk result (λ read. IsTextOf read.text.items read.plan) }
     ensures unread { let plans = stream P.account plan.old plan.new in
         IfErr result (IsNoPlanBy plans) }
     ensures none { IfErr result (StandsForNothing IsPlanOf) }
@@ -70,7 +70,8 @@ pub fn plan_or_text<P: Source>(alloc: Global, plan: &mut P) -> Result<PlanText, 
 
 /// The plan that a text is, or why it is none.
 fn plan_in(alloc: Global, text: Vec<u8>) -> Result<PlanText, Unread>
-    ensures given { IfOk result (λ read. StandsFor IsPlanOf text.items (plan_value read.plan)) }
+    ensures given { IfOk result (λ read. IsTextOf text.items read.plan) }
+    ensures same { IfOk result (λ read. read.text.items ≡ text.items) }
     ensures unread { IfErr result (IsNoPlanIn text.items) }
 {
     match plan_of_text(alloc, &text) {

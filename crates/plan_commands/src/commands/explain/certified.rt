@@ -9,6 +9,7 @@ ghost use Rattle.plan_commands.specs.declared.status.Status.TheVariants as statu
 ghost use Rattle.plan_commands.specs.Answers.{stream, IsWithoutPlan, BreaksOff};
 ghost use Rattle.plan_commands.specs.Explaining.{IsCauseTold, IsFaultExplained, IsFaultTold, IsRemedyTold, IsCertificateTold, IsBothExplained, IsExplainedWith, ExplainsWithSo};
 ghost use Rattle.plan_commands.specs.Told.{Gives, IsSomeAnswer, Ends};
+ghost use Rattle.plan_commands.specs.UnreadTexts.{IsTextOf};
 
 use super::unread::{unread_certificate, unread_plan};
 use super::{edits_text, obstacle_text, sound_text};
@@ -80,7 +81,8 @@ fn answer_of_certificate<C: Source>(
     given: &PlanText,
     certificate: &mut C,
 ) -> Result<Answer, Refused>
-    requires { HasRoom (C.account certificate.old) }
+    requires certificate { HasRoom (C.account certificate.old) }
+    requires text { IsTextOf given.now.text.items given.now.plan }
     ensures answers { let certificates = stream C.account certificate.old certificate.new in
         IfOk result (λ answer. IsExplainedWith given.now.plan certificates answer.status (cow_str_bytes answer.text)) }
     ensures refused { IfErr result (λ why. why ≡ refused.NoMemory) }
@@ -97,6 +99,7 @@ fn answer_of_both(
     given: &PlanText,
     certificate: &Certificate,
 ) -> Result<Answer, Refused>
+    requires { IsTextOf given.now.text.items given.now.plan }
     ensures answers { IfOk result (λ answer. IsBothExplained given.now.plan certificate.now answer.status (cow_str_bytes answer.text)) }
     ensures refused { IfErr result (λ why. why ≡ refused.NoMemory) }
 {
@@ -113,7 +116,8 @@ fn explained(
     certificate: &Certificate,
     error: &CheckError,
 ) -> Result<Answer, Refused>
-    requires { NamesFirstFault given.now.plan certificate.now error.now }
+    requires first { NamesFirstFault given.now.plan certificate.now error.now }
+    requires text { IsTextOf given.now.text.items given.now.plan }
     ensures answers { IfOk result (λ answer. (answer.status ≡ status.Fault) × IsFaultExplained given.now.plan certificate.now (cow_str_bytes answer.text)) }
     ensures refused { IfErr result (λ why. why ≡ refused.NoMemory) }
 {
@@ -133,7 +137,8 @@ fn fault_text(
     certificate: &Certificate,
     fault: &Fault,
 ) -> Result<String, AllocError>
-    requires { IsFirstFault given.now.plan certificate.now (site_of fault.now) }
+    requires first { IsFirstFault given.now.plan certificate.now (site_of fault.now) }
+    requires text { IsTextOf given.now.text.items given.now.plan }
     ensures { IfOk result (λ text. IsFaultExplained given.now.plan certificate.now (string_bytes text)) }
 {
     let mut text = fault_line(alloc, &given.plan, fault)?;
@@ -155,6 +160,7 @@ fn lines_of(
     fault: &Fault,
     cause: Option<Cause>,
 ) -> Result<String, AllocError>
+    requires { IsTextOf given.now.text.items given.now.plan }
     ensures { IfOk result (λ text. IsFaultTold given.now.plan certificate.now fault.now cause (string_bytes text)) }
 {
     match cause {
@@ -170,6 +176,7 @@ fn cause_text(
     fault: &Fault,
     cause: Cause,
 ) -> Result<String, AllocError>
+    requires { IsTextOf given.now.text.items given.now.plan }
     ensures { IfOk result (λ text. IsCauseTold given.now.plan fault.now cause (string_bytes text)) }
 {
     let mut text = cause_lines(alloc, &given.plan, fault, cause)?;
@@ -184,6 +191,7 @@ fn certificate_lines(
     certificate: &Certificate,
     fault: &Fault,
 ) -> Result<String, AllocError>
+    requires { IsTextOf given.now.text.items given.now.plan }
     ensures { IfOk result (λ text. IsCertificateTold given.now.plan certificate.now fault.now (string_bytes text)) }
 {
     let mut text = certificate_fault_lines(alloc, &given.plan, certificate, fault)?;
@@ -193,6 +201,7 @@ fn certificate_lines(
 
 /// Says that another certificate fits the plan, or what rules all of them out.
 fn remedy_lines(alloc: Global, given: &PlanText) -> Result<String, AllocError>
+    requires { IsTextOf given.now.text.items given.now.plan }
     ensures { IfOk result (λ text. IsRemedyTold given.now.plan (string_bytes text)) }
 {
     match certify(alloc, &given.plan) {

@@ -1,2 +1,0 @@
-pub mod Missed
-pub mod Arriving
