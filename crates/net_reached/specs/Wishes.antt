@@ -1,11 +1,10 @@
--- What wishes say of a plan, and which text has them.
-use Rattle.std.specs.Prelude.{◌≡◌, ◌⊎◌, ℕ, ◌<◌, List, [], ◌∷◌, ◌++◌, codes, length, ⊤, All}
+-- What wishes say of a plan.
+use Rattle.std.specs.Prelude.{◌≡◌, ◌⊎◌, ℕ, ◌<◌, List, [], ◌∷◌, length, ⊤}
 use Rattle.net_plan.specs.declared.plan.Plan.{Plan}
 use Rattle.net_tables.specs.Routing.{Holds}
 use Rattle.net_questions.specs.Ways.{ArrivesAfter}
 use Rattle.net_reached.specs.declared.wish.Wish.{Wish}
 use Rattle.net_reached.specs.declared.wish.Wish.TheVariants.{Nothing, Reaches, ReachesAll, Avoids}
-use Rattle.net_reached.specs.Lines.{wish_lines}
 
 -- a packet for b's endpoint ID that is put in at a arrives, after so many hops
 abbrev pub ComesTo : Plan → ℕ → ℕ → ℕ → Type 0
@@ -31,17 +30,3 @@ abbrev pub AreUnmet : Plan → List Wish → List Wish → Type 0
 AreUnmet plan [] unmet = unmet ≡ []
 AreUnmet plan (wish ∷ wishes) unmet = (IsMet plan wish × AreUnmet plan wishes unmet)
     ⊎ ((rest : List Wish) × (¬ IsMet plan wish) × (unmet ≡ wish ∷ rest) × AreUnmet plan wishes rest)
-
--- a line that begins with # or is empty wants nothing
-abbrev pub IsRemark : List ℕ → Type 0
-IsRemark line = (line ≡ []) ⊎ ((rest : List ℕ) × (line ≡ 35 ∷ rest))
-
--- a line that wants nothing is a remark
-abbrev pub IsWritten : Wish → Type 0
-IsWritten (Nothing line) = IsRemark line.now
-IsWritten _ = ⊤
-
--- The text has a line for each of the wishes, in their order; the last line may lack its end.
-pub record AreWishesOf (plan : Plan) (text : List ℕ) (wishes : List Wish) : Type 0 where
-  pub lines : (text ≡ wish_lines plan wishes) ⊎ (text ++ codes "\n" ≡ wish_lines plan wishes)
-  pub remarks : All IsWritten wishes

@@ -11,7 +11,7 @@ mod wish;
 
 pub use matrix::matrix_text;
 pub use reached::{hops_between, reaches, reaches_all};
-pub use reading::{WishError, wishes_of_text};
+pub use reading::{BadLine, WishError, wishes_of_text};
 pub use texts::wish_lines;
 pub use unmet::unmet_wishes;
 pub use wish::Wish;

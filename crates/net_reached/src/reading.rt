@@ -1,80 +1,152 @@
 //! Reading wishes from a text.
-ghost use Rattle.std.specs.Prelude.{◌≡◌, ◌⊎◌, ◌++◌, IfOk, IsTrue, All, codes};
-ghost use Rattle.net_reached.specs.Lines.{wish_lines};
-ghost use Rattle.net_reached.specs.Wishes.{AreWishesOf, IsRemark, IsWritten};
+ghost use Rattle.std.specs.Prelude.{◌≡◌, ◌≢◌, ◌<◌, ◌+◌, ◌↔◌, ◌++◌, ℕ, List, Some, IfOk, IfErr, IfSome, IfNone, IsTrue, MatchOption, OnOk, [], ◌∷◌, ◌^◌, length, map, codes};
+ghost use Rattle.std.specs.Str.Lines.{lines};
+ghost use Rattle.net_reached.specs.declared.wish.Wish.{Wish};
+ghost use Rattle.net_reached.specs.Reading.{IsRemark, Says, SaysNothing, IsNamed, from_of, SaysBehind, AreWishesOf, IsWhyUnread};
 
-use crate::names::first_named;
-use crate::texts::wish_lines;
+use crate::names::{first_named, name_of};
 use crate::wish::Wish;
 use net_plan::Plan;
 use std::alloc::{AllocError, Global};
 
+/// A line that says no wish.
+#[derive(Clone, Copy, Debug, PartialEq, Eq)]
+pub struct BadLine {
+    /// Its number, from 1.
+    pub line: usize,
+    /// Where it goes wrong, in characters, from 1.
+    pub column: usize,
+    /// Whether the name of a node is wanted there.
+    pub is_name: bool,
+}
+
 /// Why a text has no wishes.
 #[derive(Clone, Copy, Debug, PartialEq, Eq)]
 pub enum WishError {
-    /// A line, from 1, names a node that the plan doesn't have: the name begins at this column, from 1.
-    Unknown { line: usize, column: usize },
-    /// A line, from 1, is none of a wish: another thing may stand at this column, from 1.
-    Syntax { line: usize, column: usize },
+    /// The first line that says no wish.
+    Unread(BadLine),
     /// There is too little memory.
     OutOfMemory,
 }
 
 impl From<AllocError> for WishError {
+    ghost use Rattle.net_reached.specs.declared.reading.WishError.TheVariants.{OutOfMemory};
+
+    ghost from_gives = { λ _ error. error ≡ OutOfMemory };
+
     fn from(_error: AllocError) -> WishError {
         WishError::OutOfMemory
     }
 }
 
 /// The wishes of a text, a line each: `A B`, `A -> *` and `A -/> B`, with names of nodes. A line that is empty or begins
-/// with `#` is a remark.
+/// with `#` wants nothing.
 pub fn wishes_of_text<'t>(
     alloc: Global,
     plan: &Plan,
     text: &'t str,
 ) -> Result<Vec<Wish<'t>>, WishError>
-    ensures { IfOk result (λ wishes. AreWishesOf plan.now text.now wishes.items) }
+    ensures read { IfOk result (λ wishes. AreWishesOf plan.now text.now wishes.items) }
+    ensures unread { IfErr result (IsWhyUnread plan.now text.now) }
 {
-    let wishes = read_lines(alloc, plan, text)?;
-    if !are_wishes_of(alloc, plan, text, &wishes)? {
-        return Err(WishError::Syntax { line: 1, column: 1 });
+    let lines = lines_of(alloc, text)?;
+    let mut wishes = Vec::new(alloc);
+    for (index, line) in lines.iter().enumerate() {
+        match wish_of_line(plan, line) {
+            Some(wish) => push_wish(wish, &mut wishes)?,
+            None => return Err(WishError::Unread(bad_line(plan, line, index))),
+        }
     }
     Ok(wishes)
 }
 
-/// Whether the text has a line for each of the wishes.
-fn are_wishes_of(
-    alloc: Global,
-    plan: &Plan,
-    text: &str,
-    wishes: &[Wish],
-) -> Result<bool, AllocError>
-    ensures { IfOk result (λ answer. IsTrue answer → AreWishesOf plan.now text.now wishes.now) }
+fn lines_of(alloc: Global, text: &str) -> Result<Vec<&str>, AllocError>
+    ensures { IfOk result (λ found. map (λ x. x.now) found.items ≡ lines text.now) }
 {
-    let lines = wish_lines(alloc, plan, wishes)?;
-    let ended = format!(in alloc; "{text}\n")?;
-    Ok((text == lines.as_str() || ended == lines) && are_written(wishes))
+    text.lines().collect(alloc)
 }
 
-/// Whether each line that wants nothing is a remark.
-fn are_written(wishes: &[Wish]) -> bool
-    ensures { IsTrue result → All IsWritten wishes.now }
+fn push_wish<'t>(wish: Wish<'t>, wishes: &mut Vec<Wish<'t>>) -> Result<(), AllocError>
+    ensures { OnOk result (wishes.new.items ≡ wishes.old.items ++ wish.entry ∷ []) }
 {
-    wishes.iter().all(|wish| is_written(wish))
+    wishes.push(wish)?;
+    Ok(())
 }
 
-fn is_written(wish: &Wish) -> bool
-    ensures { IsTrue result → IsWritten wish.now }
+/// The wish that a line says.
+fn wish_of_line<'t>(plan: &Plan, line: &'t str) -> Option<Wish<'t>>
+    ensures said { IfSome result (Says plan.now line.now) }
+    ensures none { IfNone result (SaysNothing plan.now line.now) }
 {
-    match *wish {
-        Wish::Nothing { line } => is_remark(line.as_bytes()),
-        _ => true,
+    if is_remark(line.as_bytes()) {
+        return Some(Wish::Nothing { line });
+    }
+    for from in 0..plan.nodes.len() {
+        if let Some(wish) = wish_from(plan, line, from) {
+            return Some(wish);
+        }
+    }
+    None
+}
+
+/// The wish of a line that begins with a node's name.
+fn wish_from<'t>(plan: &Plan, line: &'t str, from: usize) -> Option<Wish<'t>>
+    requires { from < length plan.now.nodes.items }
+    ensures said { IfSome result (Says plan.now line.now) }
+    ensures none { IfNone result ((wish : Wish) → from_of wish ≡ Some from → ¬ Says plan.now line.now wish) }
+{
+    match behind(line, name_of(plan, from)) {
+        Some(rest) => wish_behind(plan, rest, from),
+        None => None,
     }
 }
 
-/// Whether a line wants nothing.
+/// The wish of a node that stands behind its name.
+fn wish_behind<'t>(plan: &Plan, rest: &str, from: usize) -> Option<Wish<'t>>
+    ensures said { IfSome result (λ wish. (from_of wish ≡ Some from) × SaysBehind plan.now rest.now wish) }
+    ensures none { IfNone result ((wish : Wish) → ¬ SaysBehind plan.now rest.now wish) }
+{
+    if rest == " -> *" {
+        return Some(Wish::ReachesAll { from });
+    }
+    match node_behind(plan, rest, " -/> ") {
+        Some(to) => Some(Wish::Avoids { from, to }),
+        None => reached_behind(plan, rest, from),
+    }
+}
+
+/// The wish that names one node behind a space.
+fn reached_behind<'t>(plan: &Plan, rest: &str, from: usize) -> Option<Wish<'t>>
+    ensures said { IfSome result (λ wish. (from_of wish ≡ Some from) × SaysBehind plan.now rest.now wish) }
+    ensures none { IfNone result ((n : ℕ) (name : List ℕ) → IsNamed plan.now n name → rest.now ≢ codes " " ++ name) }
+{
+    match node_behind(plan, rest, " ") {
+        Some(to) => Some(Wish::Reaches { from, to }),
+        None => None,
+    }
+}
+
+/// The node whose name stands behind a front, and nothing else.
+fn node_behind(plan: &Plan, text: &str, front: &str) -> Option<usize>
+    ensures found { IfSome result (λ n. (name : List ℕ) × IsNamed plan.now n name × (text.now ≡ front.now ++ name)) }
+    ensures none { IfNone result ((n : ℕ) (name : List ℕ) → IsNamed plan.now n name → text.now ≢ front.now ++ name) }
+{
+    match behind(text, front) {
+        Some(name) => first_named(plan, name),
+        None => None,
+    }
+}
+
+/// What stands behind the front of a text.
+fn behind<'t>(text: &'t str, front: &str) -> Option<&'t str>
+    ensures { MatchOption result ((rest : List ℕ) → text.now ≢ front.now ++ rest) (λ rest. text.now ≡ front.now ++ rest.now) }
+{
+    text.strip_prefix(front)
+}
+
+/// Whether a line is a remark.
 fn is_remark(line: &[u8]) -> bool
-    ensures { IsTrue result → IsRemark line.now }
+    ensures { IsTrue result ↔ IsRemark line.now }
 {
     match line {
         [] | [b'#', ..] => true,
@@ -82,77 +154,33 @@ fn is_remark(line: &[u8]) -> bool
     }
 }
 
-/// The wishes of the lines, which may stand in other words.
-fn read_lines<'t>(alloc: Global, plan: &Plan, text: &'t str) -> Result<Vec<Wish<'t>>, WishError> {
-    let mut wishes = Vec::new(alloc);
-    for (index, line) in text.lines().enumerate() {
-        match read_line(plan, line) {
-            Ok(wish) => push_wish(wish, &mut wishes)?,
-            Err(trouble) => return Err(trouble.at_line(index)),
-        }
-    }
-    Ok(wishes)
-}
-
-fn push_wish<'t>(wish: Wish<'t>, wishes: &mut Vec<Wish<'t>>) -> Result<(), AllocError> {
-    wishes.push(wish)?;
-    Ok(())
-}
-
-/// What is wrong in a line: whether it is a name, and how many characters stand before.
-#[derive(Clone, Copy, Debug)]
-struct Trouble {
-    is_name: bool,
-    before: usize,
-}
-
-impl Trouble {
-    fn at_line(self, index: usize) -> WishError {
-        let line = index.saturating_add(1);
-        let column = self.before.saturating_add(1);
-        if self.is_name {
-            WishError::Unknown { line, column }
-        } else {
-            WishError::Syntax { line, column }
-        }
+/// What is told of a line that says no wish.
+fn bad_line(plan: &Plan, line: &str, index: usize) -> BadLine
+    requires { index < 2 ^ 62 }
+    ensures { result.line ≡ index + 1 }
+{
+    let (is_name, before) = trouble(plan, line);
+    BadLine {
+        line: index + 1,
+        column: before.saturating_add(1),
+        is_name,
     }
 }
 
-/// The wish of a line.
-fn read_line<'t>(plan: &Plan, line: &'t str) -> Result<Wish<'t>, Trouble> {
-    if is_remark(line.as_bytes()) {
-        return Ok(Wish::Nothing { line });
-    }
+/// Whether a name that no node has stands in a line, or what no line has, and how many characters stand before it.
+fn trouble(plan: &Plan, line: &str) -> (bool, usize) {
     let Some((name, rest)) = line.split_once(' ') else {
-        return Err(Trouble {
-            is_name: false,
-            before: line.chars().count(),
-        });
+        return (false, line.chars().count());
     };
-    let from = node_of(plan, name, 0)?;
+    if first_named(plan, name).is_none() {
+        return (true, 0);
+    }
     let before = name.chars().count().saturating_add(1);
-    if rest == "-> *" {
-        return Ok(Wish::ReachesAll { from });
-    }
-    match rest.strip_prefix("-/> ") {
-        Some(other) => Ok(Wish::Avoids {
-            from,
-            to: node_of(plan, other, before.saturating_add(4))?,
-        }),
-        None => Ok(Wish::Reaches {
-            from,
-            to: node_of(plan, rest, before)?,
-        }),
-    }
-}
-
-/// The first node of a name that stands behind so many characters.
-fn node_of(plan: &Plan, name: &str, before: usize) -> Result<usize, Trouble> {
-    match first_named(plan, name) {
-        Some(node) => Ok(node),
-        None => Err(Trouble {
-            is_name: true,
-            before,
-        }),
+    if rest.starts_with("-> ") {
+        (false, before.saturating_add(3))
+    } else if rest.starts_with("-/> ") {
+        (true, before.saturating_add(4))
+    } else {
+        (true, before)
     }
 }

@@ -1,5 +1,5 @@
 //! Which wishes are not met.
-ghost use Rattle.std.specs.Prelude.{◌↔◌, IfOk, IsTrue};
+ghost use Rattle.std.specs.Prelude.{◌≡◌, ◌↔◌, [], All, IfOk, IsTrue};
 ghost use Rattle.net_reached.specs.Wishes.{IsMet, AreUnmet};
 
 use crate::reached::{reaches, reaches_all};
@@ -8,13 +8,14 @@ use net_check::Checked;
 use std::alloc::{AllocError, Global};
 
 /// Those of the wishes, in their order, that a checked plan doesn't meet.
-#[tactic(auto, using(crate::proofs::Missed::one_met, crate::proofs::Missed::one_unmet))]
+#[tactic(auto, using(crate::proofs::Missed::one_met, crate::proofs::Missed::one_unmet, crate::proofs::Missed::all_met))]
 pub fn unmet_wishes<'t>(
     alloc: Global,
     checked: &Checked,
     wishes: &[Wish<'t>],
 ) -> Result<Vec<Wish<'t>>, AllocError>
-    ensures { IfOk result (λ unmet. AreUnmet checked.now.0 wishes.now unmet.items) }
+    ensures unmet { IfOk result (λ unmet. AreUnmet checked.now.0 wishes.now unmet.items) }
+    ensures all_met { IfOk result (λ unmet. unmet.items ≡ [] → All (IsMet checked.now.0) wishes.now) }
 {
     let mut unmet = Vec::new(alloc);
     for wish in wishes {
