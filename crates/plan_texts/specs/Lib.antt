@@ -7,7 +7,6 @@ pub mod Explanations
 pub mod CertificateSubjects
 pub mod SummaryLines
 pub mod MoveLines
-pub mod FaultListLines
 pub mod FindingLines
 pub mod PairLines
 pub mod AssignmentLines
@@ -19,3 +18,5 @@ pub mod Standing
 pub mod TroubleLines
 pub mod Shown
 pub mod EditLines
+pub mod Places
+pub mod FaultListLines

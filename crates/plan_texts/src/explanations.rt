@@ -154,7 +154,7 @@ fn way_pieces(alloc: Global, at: Entry) -> Result<Vec<Piece>, AllocError>
 }
 
 /// The first of a node's rows that covers the endpoint ID.
-fn row_for(plan: &Plan, eid: Eid, node: usize) -> Entry
+pub fn row_for(plan: &Plan, eid: Eid, node: usize) -> Entry
     ensures { result ≡ row_for plan.now eid.value node }
 {
     let index = index_for(plan, eid, node);

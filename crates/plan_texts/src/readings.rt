@@ -15,7 +15,7 @@ ghost use Rattle.plan_texts.specs.TroubleLines.{long_line, ArePlanLines, AreCert
 
 mod joined;
 mod names;
-mod positions;
+pub mod positions;
 mod shapes;
 mod shown;
 mod syntax;
