@@ -1,7 +1,7 @@
 -- The lines of all faults, a line for each run.
 use Rattle.std.specs.Prelude.{◌≡◌, ℕ, List, [], ◌∷◌, ◌++◌, length, codes, Option, Some, None, nat_eq, if◌then◌else◌}
 use Rattle.std.specs.Fmt.{decimal}
-use Rattle.net_plan.specs.Finding.{Step}
+use Rattle.net_json.specs.Finding.{Step}
 use Rattle.net_rules.specs.declared.certify_error.CertifyError.{CertifyError}
 use Rattle.net_rules.specs.declared.fault_run.EidSpan.{EidSpan}
 use Rattle.net_rules.specs.declared.fault_run.FaultRun.{FaultRun}

@@ -3,9 +3,9 @@ use Rattle.std.specs.Prelude.{◌≡◌, ℕ, ◌+◌, List, [], ◌∷◌, ◌+
 use Rattle.std.specs.Prelude.{Option, Some, None}
 use Rattle.std.specs.Fmt.{decimal}
 use Rattle.json.specs.Json.{Json}
-use Rattle.net_plan.specs.Finding.{Step, key, index}
-use Rattle.net_plan.specs.Texts.{IsTree}
-use Rattle.net_plan.specs.Trees.{data_of}
+use Rattle.net_json.specs.Finding.{Step, key, index}
+use Rattle.net_json.specs.Texts.{IsTree}
+use Rattle.net_json.specs.Trees.{data_of}
 use Rattle.net_plan.specs.declared.plan.Plan.{Plan}
 use Rattle.net_pointers.specs.Positions.{is_line_feed, begins_character, last_line}
 use Rattle.net_rules.specs.RecordChains.{chain_entry_of}

@@ -7,7 +7,8 @@ ghost use Rattle.plan_texts.specs.FaultListLines.{AreRunLines, IsFaultsText, IsO
 use super::{OrDash, name_or_dash, obstacle_words};
 use crate::places::{at_in, obstacle_pointer, pointer_at, site_pointer};
 use json::{Scratch, Value};
-use net_plan::{Plan, json_of};
+use net_json::json_of;
+use net_plan::Plan;
 use net_rules::{CertifyError, EidSpan, FaultRun};
 use std::alloc::{AllocError, Global};
 

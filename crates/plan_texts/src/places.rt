@@ -1,8 +1,8 @@
 //! Where in the text of a plan a fault stands.
 ghost use Rattle.std.specs.Prelude.{◌≡◌, ◌≤◌, IfOk, IfSome, length, map, string_bytes};
 ghost use Rattle.json.specs.Value.{value_view};
-ghost use Rattle.net_plan.specs.Finding.{step_value};
-ghost use Rattle.net_plan.specs.Trees.{view};
+ghost use Rattle.net_json.specs.Finding.{step_value};
+ghost use Rattle.net_json.specs.Trees.{view};
 ghost use Rattle.net_pointers.specs.Offsets.{IsTextOf};
 ghost use Rattle.plan_texts.specs.Places.{IsAtTold, IsPlaceTold, at_text, entry_pointer, first_of, node_pointer, obstacle_pointer, own_pointer, part_pointer, place_line, place_text, record_pointer, row_pointer, site_pointer, way_pointer};
 ghost use Rattle.plan_texts.specs.TroubleLines.{IsOffsetOf};
@@ -10,7 +10,8 @@ ghost use Rattle.plan_texts.specs.TroubleLines.{IsOffsetOf};
 use crate::explanations::row_for;
 use crate::readings::positions::pointer_text;
 use json::{Scratch, Value};
-use net_plan::{Plan, PointerStep, json_of};
+use net_json::{PointerStep, json_of};
+use net_plan::Plan;
 use net_pointers::{offset_of_pointer, position_of};
 use net_rules::{CertifyError, Rule};
 use std::alloc::{AllocError, Global};
