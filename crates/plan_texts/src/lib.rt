@@ -87,11 +87,7 @@ fn as_line(alloc: Global, words: &str) -> Result<String, AllocError>
 }
 
 /// Why a plan has no certificate, as the line says it.
-fn obstacle_words(
-    alloc: Global,
-    plan: &Plan,
-    obstacle: &CertifyError,
-) -> Result<String, AllocError>
+fn obstacle_words(alloc: Global, plan: &Plan, obstacle: &CertifyError) -> Result<String, AllocError>
     ensures { IfOk result (λ words. obstacle_words plan.now obstacle.now ≡ Some (string_bytes words)) }
 {
     match obstacle {
