@@ -1,5 +1,5 @@
 -- What is told of all faults, and of the first.
-use Rattle.std.proofs.Common.{◌≡◌, ◌≢◌, ℕ, List, [], Some, Result, Ok, Err, refl, subst, arith, inl, inr}
+use Rattle.std.proofs.Common.{◌≡◌, ◌≢◌, ℕ, List, [], Some, Result, Ok, Err, Bor, refl, subst, arith, inl, inr}
 use Rattle.std.specs.Prelude.{IfOk, Contains}
 use Rattle.std.specs.Cow.{cow_str_bytes}
 use Rattle.net_plan.specs.declared.plan.Plan.{Plan}
@@ -34,18 +34,19 @@ first_told plan cert (check_error.Fault fault) (Ok a) first (is, told) = (is, (f
 first_told plan cert check_error.OutOfMemory (Ok a) first (is, told) = absurd told
 first_told plan cert error (Err why) first told = tt
 
-other_answer : (asked : Question) (plan : Plan) (cert : Certificate) (text : List ℕ) → asked ≢ question.Faults → IsFaultText plan cert text → IsFaultAnswer asked plan cert text
-other_answer question.Faults plan cert text other told = absurd (other refl)
-other_answer question.Check plan cert text other told = told
-other_answer question.Assign plan cert text other told = told
-other_answer question.Reach plan cert text other told = told
-other_answer question.Draw plan cert text other told = told
-other_answer (question.Walk node part) plan cert text other told = told
-other_answer (question.Trace from to) plan cert text other told = told
+other_answer : (asked : Question) (text : List ℕ) (plan : Plan) (cert : Certificate) (lines : List ℕ) → ((name : Bor (List ℕ)) → asked ≢ question.Faults name)
+    → IsFaultText plan cert lines → IsFaultAnswer asked text plan cert lines
+other_answer (question.Faults name) text plan cert lines other told = absurd (other name refl)
+other_answer question.Check text plan cert lines other told = told
+other_answer question.Assign text plan cert lines other told = told
+other_answer question.Reach text plan cert lines other told = told
+other_answer question.Draw text plan cert lines other told = told
+other_answer (question.Walk node part) text plan cert lines other told = told
+other_answer (question.Trace from to) text plan cert lines other told = told
 
 -- to other questions than for all faults the first is told
-pub others_told : (asked : Question) (plan : Plan) (cert : Certificate) (result : Result Answer Refused) → asked ≢ question.Faults
+pub others_told : (asked : Question) (text : List ℕ) (plan : Plan) (cert : Certificate) (result : Result Answer Refused) → ((name : Bor (List ℕ)) → asked ≢ question.Faults name)
     → IfOk result (λ (a : Answer). (a.status ≡ status.Fault) × IsFaultText plan cert (cow_str_bytes a.text))
-    → IfOk result (λ (a : Answer). (a.status ≡ status.Fault) × IsFaultAnswer asked plan cert (cow_str_bytes a.text))
-others_told asked plan cert (Ok a) other (is, told) = (is, other_answer asked plan cert (cow_str_bytes a.text) other told)
-others_told asked plan cert (Err why) other told = tt
+    → IfOk result (λ (a : Answer). (a.status ≡ status.Fault) × IsFaultAnswer asked text plan cert (cow_str_bytes a.text))
+others_told asked text plan cert (Ok a) other (is, told) = (is, other_answer asked text plan cert (cow_str_bytes a.text) other told)
+others_told asked text plan cert (Err why) other told = tt

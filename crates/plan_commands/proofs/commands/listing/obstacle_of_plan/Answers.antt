@@ -6,5 +6,5 @@ use Rattle.plan_commands.proofs.commands.listing.obstacle_of_plan.Goals as goal
 
 pub returns-in-Ok : goal.returns-in-Ok
 returns-in-Ok c =
-    let S : Status → Type 0 = λ s. IsListed c.args.plan.now s (cow_str_bytes c.yes.result.text) in
+    let S : Status → Type 0 = λ s. IsListed c.args.name.now c.args.given.now.text.items c.args.given.now.plan s (cow_str_bytes c.yes.result.text) in
     subst S (sym c.yes.ensures.status) ((c.in-Ok._certificate, c.in-Ok.ensures.accepted), c.yes.ensures.text)
