@@ -23,7 +23,7 @@ use Rattle.plan_commands.specs.Explaining.{IsBothExplained, IsExplainedWith, Exp
 use Rattle.plan_commands.specs.UnreadTexts.{IsNoPlanBy, IsNoCertificateBy, IsUnreadText, IsUnreadCertificateText}
 use Rattle.plan_commands.specs.Certifying.{IsRuledOutBy}
 use Rattle.plan_texts.specs.Lines.{fault_text, obstacle_text}
-use Rattle.plan_texts.specs.Places.{IsPlaceTold, obstacle_pointer}
+use Rattle.fault_texts.specs.Places.{IsPlaceTold, obstacle_pointer}
 use Rattle.plan_commands.proofs.Told.{of_memory}
 
 -- want of memory has no text

@@ -29,9 +29,9 @@ use Rattle.plan_commands.specs.UnreadTexts.{IsUnreadText, IsUnreadCertificateTex
 use Rattle.plan_texts.specs.CertificateSubjects.{certificate_subjects}
 use Rattle.plan_texts.specs.EditLines.{edits_text}
 use Rattle.plan_texts.specs.Explanations.{told_subjects, IsObstacleTold}
-use Rattle.plan_texts.specs.FaultListLines.{more_text}
+use Rattle.fault_texts.specs.FaultListLines.{more_text}
 use Rattle.plan_texts.specs.Pieces.{Tells}
-use Rattle.plan_texts.specs.Places.{IsPlaceTold, obstacle_pointer}
+use Rattle.fault_texts.specs.Places.{IsPlaceTold, obstacle_pointer}
 use Rattle.plan_texts.specs.SummaryLines.{summary_text}
 
 -- the certificate is at fault, and not the plan

@@ -10,7 +10,7 @@ use Rattle.plan_commands.specs.declared.status.Status.{Status}
 use Rattle.plan_commands.specs.declared.status.Status.TheVariants as status
 use Rattle.plan_commands.specs.Certifying.{IsRuledOutBy}
 use Rattle.plan_commands.specs.Statuses.{yes_line}
-use Rattle.plan_texts.specs.FaultListLines.{IsFaultsText, IsObstacleList}
+use Rattle.fault_texts.specs.FaultListLines.{IsFaultsText, IsObstacleList}
 
 -- The lines are those of all faults of the plan, or of it and the certificate, with their places in the text of this
 -- name, and how many they are. There is one at least.

@@ -1,7 +1,4 @@
 pub mod Drawn
 pub mod Traced
-pub mod ToldTexts
 pub mod Chains
-pub mod DoubledTold
 pub mod ObstacleLines
-pub mod RunLines

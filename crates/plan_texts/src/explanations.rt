@@ -154,15 +154,15 @@ fn way_pieces(alloc: Global, at: Entry) -> Result<Vec<Piece>, AllocError>
 }
 
 /// The first of a node's rows that covers the endpoint ID.
-pub fn row_for(plan: &Plan, eid: Eid, node: usize) -> Entry
+fn row_for(plan: &Plan, eid: Eid, node: usize) -> Entry
     ensures { result ≡ row_for plan.now eid.value node }
 {
     let index = index_for(plan, eid, node);
     Entry { node, index }
 }
 
-/// Its index.
-fn index_for(plan: &Plan, eid: Eid, node: usize) -> Option<usize>
+/// The index of the first of a node's rows that covers the endpoint ID, if one does.
+pub fn index_for(plan: &Plan, eid: Eid, node: usize) -> Option<usize>
     ensures { result ≡ position (covers_eid eid.value) (rows_of plan.now node) }
 {
     rows_at(plan, node)

@@ -1,4 +1,4 @@
-//! Every text of an answer that a user of the program sees.
+//! The lines that answers about plans have, and why they are so.
 #![tactic(auto)]
 
 ghost use Rattle.std.specs.Prelude.{◌≡◌, Some, IfOk, string_bytes};
@@ -7,22 +7,16 @@ ghost use Rattle.plan_texts.specs.Lines.{name_or_dash, bus_name_or_dash, names_t
 mod assignments;
 mod causes;
 mod certificates;
-mod codes;
 mod drawings;
 mod edits;
 mod explanations;
-mod fault_lists;
 mod findings;
-mod guides;
 mod lookups;
 mod moves;
 mod outcomes;
 mod pairs;
 mod pieces;
-mod places;
 mod proposals;
-mod readings;
-mod schemas;
 mod shown;
 mod summaries;
 mod walks;
@@ -30,22 +24,17 @@ mod ways;
 
 pub use assignments::assignment_lines;
 pub use certificates::certificate_fault_lines;
-pub use codes::text_of;
 pub use drawings::drawing;
-pub use explanations::{cause_lines, obstacle_lines};
-pub use fault_lists::{fault_lines, more_line, obstacle_list};
+pub use explanations::{cause_lines, index_for, obstacle_lines};
 pub use findings::lint_lines;
-pub use guides::{GUIDE, VERSION, guide_to};
+pub use lookups::number_text;
 use mctp_transport::Eid;
 pub use moves::move_error_line;
 use net_plan::Plan;
 use net_rules::{CertifyError, ChainFault, Fault};
 pub use outcomes::outcome_line;
 pub use pairs::reach_lines;
-pub use places::obstacle_place;
 pub use proposals::edit_lines;
-pub use readings::{certificate_reading_lines, plan_reading_lines, unread_line};
-pub use schemas::schema_of;
 pub use shown::{packet_text, record_text, refused_text};
 use std::alloc::{AllocError, Global};
 use std::fmt;
@@ -87,7 +76,11 @@ fn as_line(alloc: Global, words: &str) -> Result<String, AllocError>
 }
 
 /// Why a plan has no certificate, as the line says it.
-fn obstacle_words(alloc: Global, plan: &Plan, obstacle: &CertifyError) -> Result<String, AllocError>
+pub fn obstacle_words(
+    alloc: Global,
+    plan: &Plan,
+    obstacle: &CertifyError,
+) -> Result<String, AllocError>
     ensures { IfOk result (λ words. obstacle_words plan.now obstacle.now ≡ Some (string_bytes words)) }
 {
     match obstacle {
@@ -151,7 +144,7 @@ fn names_after_spaces(alloc: Global, plan: &Plan, nodes: &[usize]) -> Result<Str
 }
 
 /// The name of the node at an index, or a dash where there is none.
-fn name_or_dash(plan: &Plan, node: usize) -> &str
+pub fn name_or_dash(plan: &Plan, node: usize) -> &str
     ensures { result.now ≡ name_or_dash plan.now node }
 {
     plan.nodes

@@ -17,13 +17,12 @@ use crate::commands::answer::{Answer, YES, tell};
 use crate::commands::inputs::{PlanText, plan_or_text};
 use crate::refused::Refused;
 use crate::status::Status;
+use fault_texts::{more_line, obstacle_place};
 use net_check::{CertifyError, certify, faults};
 use net_explained::{most_hops, tried_edits};
 use net_json::{Sink, Source};
 use net_plan::{Certificate, Plan};
-use plan_texts::{
-    edit_lines, more_line, obstacle_line, obstacle_lines, obstacle_place, summary_lines,
-};
+use plan_texts::{edit_lines, obstacle_line, obstacle_lines, summary_lines};
 use std::alloc::{AllocError, Global};
 use unread::unread_plan;
 

@@ -9,9 +9,9 @@ ghost use Rattle.plan_commands.specs.FaultListing.{IsFaultListOf, IsListed};
 use crate::commands::answer::Answer;
 use crate::commands::inputs::PlanText;
 use crate::refused::Refused;
+use fault_texts::{fault_lines, obstacle_list};
 use net_check::{CheckError, certify, faults};
 use net_plan::Certificate;
-use plan_texts::{fault_lines, obstacle_list};
 use std::alloc::{AllocError, Global};
 
 /// Every fault of a plan, or what else rules certificates of it out. The name is that of the plan's file.

@@ -17,13 +17,12 @@ use crate::commands::answer::{Answer, tell};
 use crate::commands::inputs::{PlanText, certificate_or_text, plan_or_text};
 use crate::refused::Refused;
 use crate::status::Status;
+use fault_texts::obstacle_place;
 use net_check::{CertifyError, CheckError, Fault, certify, check};
 use net_explained::{Cause, find_cause};
 use net_json::{Sink, Source};
 use net_plan::Certificate;
-use plan_texts::{
-    NO_CERTIFICATE, REMEDY, cause_lines, certificate_fault_lines, fault_line, obstacle_place,
-};
+use plan_texts::{NO_CERTIFICATE, REMEDY, cause_lines, certificate_fault_lines, fault_line};
 use std::alloc::{AllocError, Global};
 
 /// Says on `output` what `check` says of a plan and its certificate, and explains it. Where a file can't be read, it says

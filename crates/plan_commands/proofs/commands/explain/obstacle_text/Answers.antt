@@ -1,7 +1,7 @@
 use Rattle.std.proofs.Common.{◌≡◌, ◌∙◌, List, ℕ, string_bytes, sym, subst, rules}
 use Rattle.std.specs.Prelude.{IfOk}
 use Rattle.plan_commands.specs.Certifying.{IsRuledOutBy}
-use Rattle.plan_texts.specs.Places.{IsPlaceTold, obstacle_pointer}
+use Rattle.fault_texts.specs.Places.{IsPlaceTold, obstacle_pointer}
 use Rattle.plan_commands.proofs.Explained.{not_memory, obstacle_written}
 use Rattle.plan_commands.proofs.commands.explain.obstacle_text.Goals as goal
 

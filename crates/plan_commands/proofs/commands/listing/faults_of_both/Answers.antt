@@ -4,7 +4,7 @@ use Rattle.net_rules.specs.FaultLists.{AreFaults}
 use Rattle.net_check.specs.declared.check_error.CheckError.TheVariants as check_error
 use Rattle.net_check.specs.Errors.{NamesFirstFault}
 use Rattle.plan_commands.specs.FaultListing.{IsFaultListOf}
-use Rattle.plan_texts.specs.FaultListLines.{IsFaultsText}
+use Rattle.fault_texts.specs.FaultListLines.{IsFaultsText}
 use Rattle.plan_commands.proofs.FaultListed.{some_runs}
 use Rattle.plan_commands.proofs.commands.listing.faults_of_both.Goals as goal
 

@@ -3,7 +3,7 @@ use Rattle.std.specs.Prelude.{IfOk}
 use Rattle.net_rules.specs.declared.certify_error.CertifyError.TheVariants as error
 use Rattle.plan_commands.specs.Explaining.{AreMoreTold, both_words}
 use Rattle.plan_texts.specs.Lines.{fault_text}
-use Rattle.plan_texts.specs.Places.{IsPlaceTold, obstacle_pointer}
+use Rattle.fault_texts.specs.Places.{IsPlaceTold, obstacle_pointer}
 use Rattle.plan_commands.proofs.Explained.{fault_written}
 use Rattle.plan_commands.proofs.commands.explain.certified.fault_text.Goals as goal
 
