@@ -211,8 +211,15 @@ fn own_pointer(alloc: Global, rule: Rule, node: usize) -> Result<Vec<PointerStep
         Rule::C07 => part_pointer(alloc, node, "owner"),
         Rule::C09 => part_pointer(alloc, node, "pool"),
         Rule::C12 => part_pointer(alloc, node, "terminus"),
-        Rule::C04 | Rule::C05 | Rule::C06 | Rule::C10 | Rule::C11 | Rule::C13 | Rule::C14
-        | Rule::C15 | Rule::C16 => node_pointer(alloc, node),
+        Rule::C04
+        | Rule::C05
+        | Rule::C06
+        | Rule::C10
+        | Rule::C11
+        | Rule::C13
+        | Rule::C14
+        | Rule::C15
+        | Rule::C16 => node_pointer(alloc, node),
     }
 }
 
@@ -227,10 +234,18 @@ fn entry_pointer(
 {
     match rule {
         Rule::C12 | Rule::C13 | Rule::C14 | Rule::C15 => record_pointer(alloc, node, index),
-        Rule::C01 | Rule::C02 | Rule::C03 | Rule::C04 | Rule::C05 | Rule::C06 | Rule::C07
-        | Rule::C08 | Rule::C09 | Rule::C10 | Rule::C11 | Rule::C16 => row_pointer(
-            alloc, node, index,
-        ),
+        Rule::C01
+        | Rule::C02
+        | Rule::C03
+        | Rule::C04
+        | Rule::C05
+        | Rule::C06
+        | Rule::C07
+        | Rule::C08
+        | Rule::C09
+        | Rule::C10
+        | Rule::C11
+        | Rule::C16 => row_pointer(alloc, node, index),
     }
 }
 
@@ -282,12 +297,8 @@ fn row_pointer(alloc: Global, node: usize, row: usize) -> Result<Vec<PointerStep
     .to_vec(alloc)
 }
 
-fn record_pointer(
-    alloc: Global,
-    node: usize,
-    index: usize,
-) -> Result<Vec<PointerStep>, AllocError>
-    ensures { IfOk result (λ pointer. map step_value pointer.items ≡ record_pointer node record) }
+fn record_pointer(alloc: Global, node: usize, index: usize) -> Result<Vec<PointerStep>, AllocError>
+    ensures { IfOk result (λ pointer. map step_value pointer.items ≡ record_pointer node index) }
 {
     [
         PointerStep::Key("nodes"),
