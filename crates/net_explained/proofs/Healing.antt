@@ -2,12 +2,12 @@
 use Rattle.std.proofs.Common.{◌≡◌, ◌⊎◌, ◌<◌, ℕ, List, [], ◌∷◌, Option, Some, None, refl, sym, ◌∙◌, ap, subst, arith, inl, inr}
 use Rattle.std.specs.Prelude.{slice_get}
 use Rattle.std.proofs.lemmas.Option.{same_Some}
-use Rattle.net_explained.specs.Obstacles.{IsLater, IsLeft, IsTried, IsRidOf, IsUpTo, EditsTakeFaultsAway}
+use Rattle.net_explained.specs.Obstacles.{IsLater, IsLeft, IsTried, IsRidOf, IsUpTo, EditsTakeFaultsAway, key_of}
 use Rattle.net_explained.specs.declared.trial.Tried.{Tried}
 use Rattle.net_explained.proofs.Later.{not_less}
 use Rattle.net_plan.specs.declared.plan.Plan.{Plan}
 use Rattle.net_rules.specs.Certificates.{NamesObstacle}
-use Rattle.net_rules.specs.Faults.{FaultSite, LessByFirstDifference, ComesBefore, site_of, order_of}
+use Rattle.net_rules.specs.Faults.{FaultSite, LessByFirstDifference, ComesBefore, site_of, order_of, order_of_number}
 use Rattle.net_rules.specs.PlanFaults.{IsMetByPlan, PlanMeets}
 use Rattle.net_rules.specs.Rules.{PlanDemands}
 use Rattle.net_rules.specs.declared.certify_error.CertifyError.{CertifyError}
@@ -66,13 +66,17 @@ at_most a b xs ys (inr (same, rest)) = inr same
 
 -- ---- sites up to a fault
 
+-- a site's numbers behind that of its rule
+abbrev rest_of : FaultSite → List ℕ
+rest_of p = p.node ∷ order_of_number p.entry ∷ order_of_number p.eid ∷ []
+
 -- the rule of such a site comes before another, or is it
 module _ (p : FaultSite) (f : Fault) (rule : Rule) (upto : IsUpTo p f) where
   rules_before : (order_of f.rule < order_of rule) ⊎ (order_of f.rule ≡ order_of rule) → (order_of p.rule < order_of rule) ⊎ (p.rule ≡ rule)
   rules_before later = both (first upto) later
     where
       first : IsUpTo p f → (order_of p.rule < order_of f.rule) ⊎ (order_of p.rule ≡ order_of f.rule)
-      first (inl before) = at_most _ _ _ _ before
+      first (inl before) = at_most (order_of p.rule) (order_of f.rule) (rest_of p) (rest_of (site_of f)) before
       first (inr same) = inr (ap (λ (s : FaultSite). order_of s.rule) same)
 
       both : (order_of p.rule < order_of f.rule) ⊎ (order_of p.rule ≡ order_of f.rule) → (order_of f.rule < order_of rule) ⊎ (order_of f.rule ≡ order_of rule)
@@ -96,15 +100,15 @@ module _ (after : Plan) (f : Fault) (p : FaultSite) (upto : IsUpTo p f) where
   by_obstacle (error.Fault g) named later = named.1.first p (ahead upto)
     where
       later_fault : ComesBefore (site_of f) (site_of g)
-      later_fault = without_kind _ _ _ _ later
+      later_fault = without_kind (order_of f.rule) (order_of g.rule) (rest_of (site_of f)) (rest_of (site_of g)) later
 
       ahead : IsUpTo p f → ComesBefore p (site_of g)
-      ahead (inl before) = less_trans _ _ _ before later_fault
+      ahead (inl before) = less_trans (order_of p.rule ∷ rest_of p) (order_of f.rule ∷ rest_of (site_of f)) (order_of g.rule ∷ rest_of (site_of g)) before later_fault
       ahead (inr same) = subst (λ (s : FaultSite). ComesBefore s (site_of g)) (sym same) later_fault
-  by_obstacle (error.OwnerLoop nodes) named later = met_before C07 named.0.plan_meets named.1 (at_most _ _ _ _ later)
-  by_obstacle (error.Loop eid nodes) named later = met_before C10 named.0.plan_meets (λ n entry eid. tt) (at_most _ _ _ _ later)
-  by_obstacle (error.BadChain node fault) named later = met_before C14 named.0.plan_meets (λ n entry eid. tt) (at_most _ _ _ _ later)
-  by_obstacle error.OutOfMemory named later = absurd (not_less _ later)
+  by_obstacle (error.OwnerLoop nodes) named later = met_before C07 named.0.plan_meets named.1 (at_most (order_of f.rule) (order_of C07) (0 ∷ rest_of (site_of f)) (1 ∷ 0 ∷ 0 ∷ 0 ∷ []) later)
+  by_obstacle (error.Loop eid nodes) named later = met_before C10 named.0.plan_meets (λ n entry eid. tt) (at_most (order_of f.rule) (order_of C10) (0 ∷ rest_of (site_of f)) (1 ∷ eid.value ∷ 0 ∷ 0 ∷ []) later)
+  by_obstacle (error.BadChain node fault) named later = met_before C14 named.0.plan_meets (λ n entry eid. tt) (at_most (order_of f.rule) (order_of C14) (0 ∷ rest_of (site_of f)) (1 ∷ node ∷ 0 ∷ 0 ∷ []) later)
+  by_obstacle error.OutOfMemory named later = absurd (not_less (key_of (error.Fault f)) later)
 
   by_left : (left : Option CertifyError) → IsLeft (error.Fault f) after left → IsMetByPlan after p
   by_left None (certificate, accepted) = (accepted p.rule p.node p.entry p.eid).0
