@@ -229,12 +229,26 @@ def known():
         yield "known.rows", Case(scene, {}, [row])
 
 
+def named_in(printed, paths):
+    """What was printed, with the word that stands for a text in place of its path."""
+    text = printed.decode()
+    for name, path in paths.items():
+        text = text.replace(str(path), name)
+    return text
+
+
 def try_all(trial):
     named = [*read(trial)]
 
     def run(case):
-        status, output, error = trial.run(case.words(trial.file))
-        return case.wrong(output.decode(), error.decode(), status)
+        paths = {}
+
+        def path_of(name, text):
+            paths[name] = trial.file(name, text)
+            return paths[name]
+
+        status, output, error = trial.run(case.words(path_of))
+        return case.wrong(named_in(output, paths), named_in(error, paths), status)
 
     for (name, case), wrong in zip(named, each(run, [case for _, case in named])):
         instead = {row: came for row, came in wrong}

@@ -46,7 +46,7 @@ fn run_command<'a>(rt: &'a HostRuntime, command: Subcommand<'a>) -> Status {
             plan,
             certificate,
         } => certified(rt, &question, plan, certificate),
-        Subcommand::Planned { question, plan } => planned(rt, question, plan),
+        Subcommand::Planned { question, plan } => planned(rt, &question, plan),
         Subcommand::Explain {
             plan,
             certificate: Some(certificate),
@@ -112,7 +112,7 @@ fn tell_nodes<'a>(rt: &'a HostRuntime, question: &Question<'a>, plan: &'a str) {
 }
 
 /// Answers a question about a plan.
-fn planned<'a>(rt: &'a HostRuntime, question: PlanQuestion, plan: &'a str) -> Status {
+fn planned<'a>(rt: &'a HostRuntime, question: &PlanQuestion<'a>, plan: &'a str) -> Status {
     let mut plan = file(rt, plan);
     let mut output = Counted::new(rt.stdout());
     let mut errors = Counted::new(rt.stderr());
@@ -202,26 +202,28 @@ fn show(rt: &HostRuntime, kind: ShownKind, hex: &str) -> Status {
 }
 
 /// Explains a plan. Where its file can't be opened or read, standard error tells the path and the system's reason.
-fn explain<'a>(rt: &'a HostRuntime, plan: &'a str) -> Status {
+fn explain<'a>(rt: &'a HostRuntime, name: &'a str) -> Status {
     let alloc = rt.alloc();
-    let mut plan = file(rt, plan);
+    let mut plan = file(rt, name);
     let mut output = Counted::new(rt.stdout());
     let mut errors = Counted::new(rt.stderr());
-    let status = run_explain(alloc, &mut plan, &mut output, &mut errors);
+    let status = run_explain(alloc, name, &mut plan, &mut output, &mut errors);
     plan.inner()
         .tell_failure(alloc, &mut Counted::new(rt.stderr()));
     status
 }
 
 /// The same of a plan with its certificate.
-fn explain_certified<'a>(rt: &'a HostRuntime, plan: &'a str, certificate: &'a str) -> Status {
+fn explain_certified<'a>(rt: &'a HostRuntime, name: &'a str, certified_by: &'a str) -> Status {
     let alloc = rt.alloc();
-    let mut plan = file(rt, plan);
-    let mut certificate = file(rt, certificate);
+    let mut plan = file(rt, name);
+    let mut certificate = file(rt, certified_by);
     let mut output = Counted::new(rt.stdout());
     let mut errors = Counted::new(rt.stderr());
     let status = run_explain_certified(
         alloc,
+        name,
+        certified_by,
         &mut plan,
         &mut certificate,
         &mut output,

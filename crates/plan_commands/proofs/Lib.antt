@@ -15,4 +15,5 @@ pub mod Linted
 pub mod FaultListed
 pub mod Drawn
 pub mod UnreadTexts
+pub mod GivenTexts
 pub mod Explained

@@ -20,7 +20,7 @@ pub enum Subcommand<'a> {
     },
     /// A question about the plan in a file.
     Planned {
-        question: PlanQuestion,
+        question: PlanQuestion<'a>,
         plan: &'a str,
     },
     /// What does `certify` say of the plan in a file, or `check` with the certificate in another, and why?
@@ -164,7 +164,7 @@ fn chosen<'a>(matches: &ArgMatches<'a>) -> Option<Subcommand<'a>> {
         "trace" => tracing(arguments),
         "draw" => with_or_without(arguments, Question::Draw, PlanQuestion::Draw),
         "explain" => explaining(arguments),
-        "faults" => with_or_without(arguments, Question::Faults, PlanQuestion::Faults),
+        "faults" => listing(arguments),
         "lint" => planned(arguments, PlanQuestion::Lint),
         "show" => showing(arguments),
         "code" => known(text_of(arguments.get_str("code")?)),
@@ -183,7 +183,7 @@ fn certified<'a>(arguments: &ArgMatches<'a>, question: Question<'a>) -> Option<S
     })
 }
 
-fn planned<'a>(arguments: &ArgMatches<'a>, question: PlanQuestion) -> Option<Subcommand<'a>> {
+fn planned<'a>(arguments: &ArgMatches<'a>, question: PlanQuestion<'a>) -> Option<Subcommand<'a>> {
     Some(Subcommand::Planned {
         question,
         plan: arguments.get_str("plan")?,
@@ -231,12 +231,21 @@ fn tracing<'a>(arguments: &ArgMatches<'a>) -> Option<Subcommand<'a>> {
 fn with_or_without<'a>(
     arguments: &ArgMatches<'a>,
     question: Question<'a>,
-    alone: PlanQuestion,
+    alone: PlanQuestion<'a>,
 ) -> Option<Subcommand<'a>> {
     match arguments.get_str("certificate") {
         Some(_) => certified(arguments, question),
         None => planned(arguments, alone),
     }
+}
+
+fn listing<'a>(arguments: &ArgMatches<'a>) -> Option<Subcommand<'a>> {
+    let name = arguments.get_str("plan")?;
+    with_or_without(
+        arguments,
+        Question::Faults { name },
+        PlanQuestion::Faults { name },
+    )
 }
 
 fn explaining<'a>(arguments: &ArgMatches<'a>) -> Option<Subcommand<'a>> {

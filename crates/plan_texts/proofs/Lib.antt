@@ -1,3 +1,4 @@
 pub mod Drawn
 pub mod Traced
 pub mod Chains
+pub mod ObstacleLines

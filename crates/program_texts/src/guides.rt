@@ -194,11 +194,13 @@ Status 1: a fault of the plan or the certificate, where there is a certificate.
 
 const OF_EXPLAIN: &str = r#"mctpplan explain PLAN [CERT]
 
-Prints the line that certify prints of the plan, with CERT that of check, and then why: the cause of
-a fault in the plan's own names and numbers, who else is involved, and what is to hold; or the way
-round a loop, a line a hop. At most three edits follow that were tried, each with the JSON pointer,
-the node and the value: then: yes says that the plan has a certificate with just this changed, and
-another line behind then: what certify then prints.
+Prints the line that certify prints of the plan, with CERT that of check, and where in the plan's
+text that stands: the file, the line and the column, and the JSON pointer. Then it says why: the
+cause of a fault in the plan's own names and numbers, who else is involved, and what is to hold; or
+the way round a loop, a line a hop. At most three edits follow that were tried, each with the JSON
+pointer, the node and the value: then: yes says that the plan has a certificate with just this
+changed, and another line behind then: what certify then prints. Where there are more faults, the
+last line says how many, and by which words faults lists them.
 
 In place of a certificate stands yes, how many nodes, buses, rows and records there are, and between
 which two nodes the certificate allows most hops. Of a plan or a certificate that can't be read it
@@ -227,9 +229,10 @@ Status 2: here also why a text can't be read.
 const OF_FAULTS: &str = r#"mctpplan faults PLAN [CERT]
 
 Prints every fault of the plan, with CERT of the plan and the certificate, a line each, and how many
-lines there are, or yes. Faults at neighboring endpoint IDs of a row, a record or a node are one
-line. Where a plan has no fault itself and still no certificate, the line that certify prints of it
-is the only one.
+lines there are, or yes. Each line ends with the file, the line and the column of the value at fault
+in the plan's text. Faults at neighboring endpoint IDs of a row, a record or a node are one line.
+Where a plan has no fault itself and still no certificate, the line that certify prints of it is the
+only one.
 
 Status 0: yes.
 Status 1: the faults.
