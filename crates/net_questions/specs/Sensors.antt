@@ -85,8 +85,8 @@ abbrev pub given : Bool → List ℕ → Option (List ℕ)
 given true value = Some value
 given false value = None
 
--- The thresholds of a numeric sensor from the lowest to the highest: those that supportedThresholds has, and of critical
--- and fatal ones those that rangeFieldSupport has too. It has no bits for warnings.
+-- The thresholds of a numeric sensor from the lowest to the highest: those that supportedThresholds has, and of
+-- critical and fatal ones those that rangeFieldSupport has too. It has no bits for warnings.
 abbrev pub thresholds_of : NumericValue → List (Option (List ℕ))
 thresholds_of s =
     given (has_bit s.timing.supported_thresholds 32 && has_bit s.range_support 64) s.ranges.fatal_low

@@ -20,8 +20,8 @@ use Rattle.plan_commands.specs.Statuses.{yes_line}
 
 -- ---- wishes that were read
 
--- the answer on wishes: it is `yes`, and the plan meets each of them, or it has the lines of those that it doesn't meet,
--- of which there are some
+-- the answer on wishes: it is `yes`, and the plan meets each of them, or it has the lines of those that it doesn't
+-- meet, of which there are some
 abbrev pub AnswersWishes : Plan → List Wish → Status → List ℕ → Type 0
 AnswersWishes plan wishes status.Yes text = All (IsMet plan) wishes × (text ≡ yes_line)
 AnswersWishes plan wishes status.Fault text =
