@@ -1,5 +1,5 @@
 -- The indices of thresholds.
-use Rattle.std.proofs.Common.{◌≡◌, ℕ, zero, suc, ◌<◌, List, Some, None, arith}
+use Rattle.std.proofs.Common.{◌≡◌, ℕ, zero, suc, ◌<◌, List, Some, arith}
 use Rattle.pdr_record.specs.Layouts.{NumericValue}
 use Rattle.net_questions.specs.Sensors.{threshold_of}
 

@@ -1,5 +1,5 @@
 -- What records of sensors refer to.
-use Rattle.std.proofs.Common.{◌≡◌, ℕ, zero, suc, ◌<◌, List, [], ◌∷◌, length, Option, Some, None, IfSome, Bool, IsTrue, true, false, refl, sym, ◌∙◌, ap, subst, arith}
+use Rattle.std.proofs.Common.{◌≡◌, ℕ, zero, suc, List, [], ◌∷◌, Option, Some, None, IfSome, Bool, IsTrue, sym, ◌∙◌, ap, subst, arith}
 use Rattle.std.specs.Prelude.{◌↔◌, ◌≢◌, option_map, IsSomeAnd, Contains}
 use Rattle.std.proofs.lemmas.Option.{same_Some}
 use Rattle.pdr_record.specs.declared.sensor.Sensor.{Sensor}

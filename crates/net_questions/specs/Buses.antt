@@ -1,5 +1,5 @@
 -- What looks wrong of a plan's buses, and of addresses on them, by the identifiers of DSP0239.
-use Rattle.std.specs.Prelude.{◌≡◌, ◌≢◌, ◌⊎◌, ℕ, ◌<◌, ◌≤◌, ◌/◌, List, [], ◌∷◌, Option, Some, slice_get}
+use Rattle.std.specs.Prelude.{◌≡◌, ◌≢◌, ◌⊎◌, ℕ, ◌<◌, ◌≤◌, ◌/◌, List, [], ◌∷◌, Some, slice_get}
 use Rattle.net_plan.specs.declared.plan.Plan.{Plan}
 use Rattle.net_plan.specs.declared.nodes.Bus.{Bus}
 use Rattle.net_plan.specs.declared.nodes.Port.{Port}

@@ -1,4 +1,4 @@
-use Rattle.std.proofs.Common.{◌≡◌, ◌≢◌, ◌≤◌, sym, subst, refl}
+use Rattle.std.proofs.Common.{refl}
 use Rattle.net_questions.proofs.lints.buses.is_media_of_another.Goals as goal
 
 pub returns-in-Some : goal.returns-in-Some

@@ -1,5 +1,4 @@
-use Rattle.std.proofs.Common.{◌≡◌, ℕ, List, sym, subst}
-use Rattle.pdr_record.specs.Layouts.{NumericValue}
+use Rattle.std.proofs.Common.{ℕ, List, sym, subst}
 use Rattle.pdr_record.specs.NumericValues.{numeric_value}
 use Rattle.net_questions.specs.Lint.{IsNumericSensor}
 use Rattle.net_questions.specs.Sensors.{HasCrossed}
