@@ -17,3 +17,4 @@ pub mod Drawn
 pub mod UnreadTexts
 pub mod GivenTexts
 pub mod Explained
+pub mod Required
