@@ -8,14 +8,16 @@ use Rattle.std.proofs.lemmas.List.Elements.{All-head, All-tail}
 use Rattle.std.proofs.lemmas.Option.{same_Some}
 use Rattle.std.specs.Cmp.{booleans_Decides}
 use Rattle.mctp_transport.specs.Frames.{KeyValue, key_of}
+use Rattle.mctp_transport.specs.Packets.{key_value}
 use Rattle.net_runs.specs.States as state
 use Rattle.net_sim.specs.FlightValues.{flight_value}
 use Rattle.net_sim.specs.Flights.{gone_on}
 use Rattle.net_sim.specs.KeyCounts.{count_of, are_these}
 use Rattle.net_sim.specs.Settling.{IsTo, IsNotTo, goes_to}
-use Rattle.net_sim.specs.Tallies.{slot_goes_to, AreTallied}
+use Rattle.net_sim.specs.Tallies.{IsTally, slot_goes_to, AreTallied, waits_under, AreCounted}
 use Rattle.net_sim.specs.declared.flights.Flight.{Flight}
 use Rattle.net_sim.specs.declared.flights.Slot.{Slot}
+use Rattle.net_sim.specs.declared.waiting.Waiting.{Waiting}
 use Rattle.net_sim.specs.declared.key_counts.KeyCounts.{KeyCounts}
 use Rattle.net_sim.proofs.Counting.{these_are}
 
@@ -26,16 +28,28 @@ map_some f (Some a) b e = (a, refl, same_Some (f a) b e)
 abbrev pub one_if : Bool → ℕ
 one_if b = cond b 1 0
 
+-- one more, and one fewer
+pub push_tally : {X : Type 0} (test : KeyValue → ℕ → X → Bool) (old new : KeyCounts) (xs : List X) (x : X) → IsTally test old xs
+    → ((key : KeyValue) (d : ℕ) → key.tag < 8 → count_of new key d ≡ option_map (λ n. n + one_if (test key d x)) (count_of old key d)) → IsTally test new (xs ++ x ∷ [])
+push_tally test old new xs x tallied more key d n few is =
+    let before = map_some (λ n. n + one_if (test key d x)) (count_of old key d) n (sym (more key d few) ∙ is) in
+    let was = tallied key d before.0 few before.1 in
+    omega (arith, was, before.2, sum_by_push (λ y. one_if (test key d y)) xs x)
+
+pub rest_tally : {X : Type 0} (test : KeyValue → ℕ → X → Bool) (old new : KeyCounts) (xs : List X) (x : X) → IsTally test old (x ∷ xs)
+    → ((key : KeyValue) (d : ℕ) → key.tag < 8 → count_of new key d ≡ option_map (λ n. n - one_if (test key d x)) (count_of old key d)) → IsTally test new xs
+rest_tally test old new xs x tallied fewer key d n few is =
+    let before = map_some (λ n. n - one_if (test key d x)) (count_of old key d) n (sym (fewer key d few) ∙ is) in
+    let was = tallied key d before.0 few before.1 in
+    omega (arith, was, before.2, sum_by-cons (λ y. one_if (test key d y)) x xs)
+
 -- what is counted after a change of so many by each test
 abbrev pub Counts : (ℕ → ℕ → ℕ) → KeyCounts → KeyCounts → Option state.Flight → Type 0
 Counts change old new f = (key : KeyValue) (d : ℕ) → key.tag < 8 → count_of new key d ≡ option_map (λ n. change n (one_if (goes_to key d f))) (count_of old key d)
 
 module _ (old new : KeyCounts) (slots : List Slot) (tallied : AreTallied old slots) where
   pub push_tallied : (slot : Slot) → Counts (λ n m. n + m) old new (option_map flight_value slot.flight) → AreTallied new (slots ++ slot ∷ [])
-  push_tallied slot more key d n few is =
-      let before = map_some (λ n. n + one_if (slot_goes_to key d slot)) (count_of old key d) n (sym (more key d few) ∙ is) in
-      let was = tallied key d before.0 few before.1 in
-      omega (arith, was, before.2, sum_by_push (λ s. one_if (slot_goes_to key d s)) slots slot)
+  push_tallied slot more = push_tally slot_goes_to old new slots slot tallied more
 
   pub end_tallied : (slot : Slot) (index : ℕ) → index < length slots → slot.flight ≡ None → Counts (λ n m. n - m) old new (option_map flight_value (get_or slots index slot).flight)
       → AreTallied new (slice_set slots index slot)
@@ -96,20 +110,47 @@ zero_one : (b : Bool) → one_if b ≡ 0 → b ≡ false
 zero_one true is = absurd (omega (arith, is))
 zero_one false is = refl
 
-pub none_counted : (key : KeyValue) (d : ℕ) (slots : List Slot) → count_by (slot_goes_to key d) slots ≡ 0 → All (λ slot. IsNotTo key d (option_map flight_value slot.flight)) slots
-none_counted key d slots none i x within = goes_not key d _ (zero_one (slot_goes_to key d (get_or slots i x)) (omega (arith, none, least slots i within)))
+pub none_tallied : {X : Type 0} (test : X → Bool) (xs : List X) → count_by test xs ≡ 0 → All (λ x. test x ≡ false) xs
+none_tallied {X = X} test xs none i x within = zero_one (test (get_or xs i x)) (omega (arith, none, least xs i within))
   where
-    least : (slots : List Slot) (i : ℕ) → i < length slots → one_if (slot_goes_to key d (get_or slots i x)) ≤ count_by (slot_goes_to key d) slots
+    least : (xs : List X) (i : ℕ) → i < length xs → one_if (test (get_or xs i x)) ≤ count_by test xs
     least [] i within = absurd (omega arith)
-    least (slot ∷ slots) zero within = omega (arith, sum_by-cons (λ s. one_if (slot_goes_to key d s)) slot slots)
-    least (slot ∷ slots) (suc i) within = omega (arith, least slots i (omega arith), sum_by-cons (λ s. one_if (slot_goes_to key d s)) slot slots)
+    least (y ∷ ys) zero within = omega (arith, sum_by-cons (λ z. one_if (test z)) y ys)
+    least (y ∷ ys) (suc i) within = omega (arith, least ys i (omega arith), sum_by-cons (λ z. one_if (test z)) y ys)
+
+pub tallied_none : {X : Type 0} (test : X → Bool) (xs : List X) → All (λ x. test x ≡ false) xs → count_by test xs ≡ 0
+tallied_none test [] all = refl
+tallied_none test (x ∷ xs) all =
+    let here : one_if (test x) ≡ 0 = ap one_if (All-head (λ y. test y ≡ false) x xs all) in
+    omega (arith, here, tallied_none test xs (All-tail (λ y. test y ≡ false) x xs all), sum_by-cons (λ z. one_if (test z)) x xs)
+
+pub none_counted : (key : KeyValue) (d : ℕ) (slots : List Slot) → count_by (slot_goes_to key d) slots ≡ 0 → All (λ slot. IsNotTo key d (option_map flight_value slot.flight)) slots
+none_counted key d slots none i x within = goes_not key d _ (none_tallied (slot_goes_to key d) slots none i x within)
 
 pub counted_none : (key : KeyValue) (d : ℕ) (slots : List Slot) → All (λ slot. IsNotTo key d (option_map flight_value slot.flight)) slots → count_by (slot_goes_to key d) slots ≡ 0
-counted_none key d [] all = refl
-counted_none key d (slot ∷ slots) all =
-    let here : one_if (slot_goes_to key d slot) ≡ 0 = ap one_if (not_goes key d (option_map flight_value slot.flight) (All-head (λ (s : Slot). IsNotTo key d (option_map flight_value s.flight)) slot slots all)) in
-    let rest = counted_none key d slots (All-tail (λ (s : Slot). IsNotTo key d (option_map flight_value s.flight)) slot slots all) in
-    omega (arith, here, rest, sum_by-cons (λ s. one_if (slot_goes_to key d s)) slot slots)
+counted_none key d slots all = tallied_none (slot_goes_to key d) slots (λ i x within. not_goes key d _ (all i x within))
+
+-- ---- none of a key that waits
+
+pub none_waiting : (key : KeyValue) (messages : List Waiting) → count_by (waits_under key 0) messages ≡ 0 → All (λ message. key_value message.key ≢ key) messages
+none_waiting key messages none i x within = λ same.
+    true≢false (sym (same_both (key_value (get_or messages i x).key) key 0 0 same refl) ∙ none_tallied (waits_under key 0) messages none i x within)
+
+pub waiting_none : (key : KeyValue) (messages : List Waiting) → All (λ message. key_value message.key ≢ key) messages → count_by (waits_under key 0) messages ≡ 0
+waiting_none key messages all = tallied_none (waits_under key 0) messages (λ i x within. by i x within (waits_under key 0 (get_or messages i x)) refl)
+  where
+    by : (i : ℕ) (x : Waiting) → i < length messages → (b : Bool) → waits_under key 0 (get_or messages i x) ≡ b → b ≡ false
+    by i x within false is = refl
+    by i x within true is = absurd (all i x within (these_are (key_value (get_or messages i x).key) key 0 0 is).0)
+
+-- fewer wait than a word counts
+pub waiting_fit : (counts : KeyCounts) (messages : List Waiting) (key : KeyValue) → AreCounted counts messages → key.tag < 8 → length messages < 2 ^ 63
+    → IfSome (count_of counts key 0) (λ n. n < 2 ^ 63)
+waiting_fit counts messages key tallied least few = by (count_of counts key 0) refl
+  where
+    by : (o : Option ℕ) → count_of counts key 0 ≡ o → IfSome o (λ n. n < 2 ^ 63)
+    by None is = tt
+    by (Some n) is = omega (arith, few, tallied key 0 n least is, count_by-le-length (waits_under key 0) messages)
 
 -- ---- what a count is below
 
@@ -151,3 +192,26 @@ still_counted node count index slots new old within read is counted =
     let empty : is_none new.flight ≡ is_none old.flight = stays new.flight ∙ ap is_none is ∙ goes_empty node (option_map flight_value old.flight) ∙ sym (stays old.flight) in
     let there : one_if (is_none (get_or slots index old).flight) ≡ one_if (is_none new.flight) = ap (λ (s : Slot). one_if (is_none s.flight)) (sym read) ∙ ap one_if (sym empty) in
     omega (arith, counted, there, sum_by-set (λ (s : Slot). one_if (is_none s.flight)) slots index new old within)
+
+-- ---- a message that waits, and one that is taken off
+
+one_more : (b : Bool) (o : Option ℕ) → (if b then option_map (λ n. n + 1) o else o) ≡ option_map (λ n. n + one_if b) o
+one_more true None = refl
+one_more true (Some n) = refl
+one_more false None = refl
+one_more false (Some n) = ap Some (omega arith)
+
+one_fewer : (b : Bool) (o : Option ℕ) → (if b then option_map (λ n. n - 1) o else o) ≡ option_map (λ n. n - one_if b) o
+one_fewer true None = refl
+one_fewer true (Some n) = refl
+one_fewer false None = refl
+one_fewer false (Some n) = ap Some (omega arith)
+
+module _ (old new : KeyCounts) (own : KeyValue) (e : ℕ) (here : e ≡ 0) where
+  pub enters : ((key : KeyValue) (d : ℕ) → key.tag < 8 → count_of new key d ≡ (if are_these own e key d then option_map (λ n. n + 1) (count_of old key d) else count_of old key d))
+      → (key : KeyValue) (d : ℕ) → key.tag < 8 → count_of new key d ≡ option_map (λ n. n + one_if (are_these own 0 key d)) (count_of old key d)
+  enters more key d few = more key d few ∙ one_more (are_these own e key d) (count_of old key d) ∙ ap (λ (p : ℕ). option_map (λ n. n + one_if (are_these own p key d)) (count_of old key d)) here
+
+  pub leaves : ((key : KeyValue) (d : ℕ) → key.tag < 8 → count_of new key d ≡ (if are_these own e key d then option_map (λ n. n - 1) (count_of old key d) else count_of old key d))
+      → (key : KeyValue) (d : ℕ) → key.tag < 8 → count_of new key d ≡ option_map (λ n. n - one_if (are_these own 0 key d)) (count_of old key d)
+  leaves fewer key d few = fewer key d few ∙ one_fewer (are_these own e key d) (count_of old key d) ∙ ap (λ (p : ℕ). option_map (λ n. n - one_if (are_these own p key d)) (count_of old key d)) here
