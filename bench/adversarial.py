@@ -10,7 +10,7 @@ import random
 import plans
 
 FACTORS = (1, 2, 4, 8)
-MOST_NAME = 63
+MOST_NAME = 32
 # From 8 to 17 under tag 3, from 17 to 8 under tag 3 as an answer, and from 8 to 17 under tag 2: a GetTID request's bytes.
 ASKING, ANSWERING, OTHER = "011108cb01800002", "010811c301800002", "011108ca01800002"
 RISER = "examples/riser"

@@ -39,8 +39,9 @@ pub fn first_doubled(alloc: Global, names: &[&str]) -> Result<Option<TwoIndices>
         if let Some(first) = index_of(&passed, name) {
             return Ok(Some(TwoIndices { first, second }));
         }
-        if passed.insert(*name, second).is_err() {
-            return Err(AllocError);
+        match passed.insert(*name, second) {
+            Ok(_) => {}
+            Err(_) => return Err(AllocError),
         }
     }
     Ok(None)
