@@ -46,7 +46,7 @@ fn run_command<'a>(rt: &'a HostRuntime, command: Subcommand<'a>) -> Status {
             plan,
             certificate,
         } => certified(rt, &question, plan, certificate),
-        Subcommand::Planned { question, plan } => planned(rt, question, plan),
+        Subcommand::Planned { question, plan } => planned(rt, &question, plan),
         Subcommand::Explain {
             plan,
             certificate: Some(certificate),
@@ -112,7 +112,7 @@ fn tell_nodes<'a>(rt: &'a HostRuntime, question: &Question<'a>, plan: &'a str) {
 }
 
 /// Answers a question about a plan.
-fn planned<'a>(rt: &'a HostRuntime, question: PlanQuestion<'a>, plan: &'a str) -> Status {
+fn planned<'a>(rt: &'a HostRuntime, question: &PlanQuestion<'a>, plan: &'a str) -> Status {
     let mut plan = file(rt, plan);
     let mut output = Counted::new(rt.stdout());
     let mut errors = Counted::new(rt.stderr());

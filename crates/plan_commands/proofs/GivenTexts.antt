@@ -1,5 +1,5 @@
 -- A plan that was given with its text, or was not.
-use Rattle.std.proofs.Common.{◌≢◌, List, ℕ, Result, Err, refl}
+use Rattle.std.proofs.Common.{◌≢◌, List, ℕ, inl, refl}
 use Rattle.net_json.specs.declared.error.PlanError.{PlanError}
 use Rattle.net_json.specs.declared.error.PlanError.TheVariants as cause_of
 use Rattle.net_json.specs.PlanReading.{plan}
@@ -46,6 +46,6 @@ at_cause Is role cause_of.OutOfMemory known h = absurd (known refl)
 pub no_plan : (plans : Stream) (u : Unread) → IsNoPlanBy plans u → IsPlanUnread (refused_for input.Plan u) plans
 no_plan plans NoMemory h = tt
 no_plan plans Failed h = h
-no_plan plans TooLong h = h
+no_plan plans TooLong h = inl h
 no_plan plans (Text text cause) h =
     at_cause (λ why. IsPlanUnread why plans) input.Plan cause h.4.2 (nothing_given plan IsPlanOf plans h.0 cause h.1 h.2 h.3 h.4.1 h.4.2)

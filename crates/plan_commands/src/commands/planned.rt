@@ -35,7 +35,7 @@ pub enum PlanQuestion<'a> {
 /// Answers a question about a plan on `output`. Where the plan can't be read, says so on `errors`.
 pub fn run_planned<P: Source, O: Sink, E: Sink>(
     alloc: Global,
-    question: PlanQuestion<'_>,
+    question: &PlanQuestion,
     plan: &mut P,
     output: &mut O,
     errors: &mut E,
@@ -44,12 +44,12 @@ pub fn run_planned<P: Source, O: Sink, E: Sink>(
     requires output { HasRoom (O.account output.old) }
     requires errors { HasRoom (E.account errors.old) }
     ensures tells { let plans = stream P.account plan.old plan.new in
-        Ends (SaysSo question plans) (λ why. IsPlanUnread why plans) result
+        Ends (SaysSo question.now plans) (λ why. IsPlanUnread why plans) result
         (stream O.account output.old output.new) (stream E.account errors.old errors.new) }
     ensures silent { (result ≡ Yes) ⊎ (result ≡ Fault) → errors.new ≡ errors.old }
     ensures unwritten { let plans = stream P.account plan.old plan.new in
         result ≡ Unreadable → (output.new ≡ output.old)
-        ⊎ BreaksOff (IsSomeAnswer (SaysSo question plans)) (stream O.account output.old output.new) }
+        ⊎ BreaksOff (IsSomeAnswer (SaysSo question.now plans)) (stream O.account output.old output.new) }
     ensures no_memory { result ≡ NoMemory → output.new ≡ output.old }
 {
     let answered = answer_planned(alloc, question, plan);
@@ -58,12 +58,12 @@ pub fn run_planned<P: Source, O: Sink, E: Sink>(
 
 fn answer_planned<P: Source>(
     alloc: Global,
-    question: PlanQuestion<'_>,
+    question: &PlanQuestion,
     plan: &mut P,
 ) -> Result<Answer, Refused>
     requires { HasRoom (P.account plan.old) }
     ensures answers { let plans = stream P.account plan.old plan.new in
-        IfOk result (λ answer. SaysSo question plans answer.status (cow_str_bytes answer.text)) }
+        IfOk result (λ answer. SaysSo question.now plans answer.status (cow_str_bytes answer.text)) }
     ensures unread { let plans = stream P.account plan.old plan.new in
         IfErr result (λ why. IsPlanUnread why plans) }
 {
@@ -74,12 +74,12 @@ fn answer_planned<P: Source>(
 /// The answer on a plan.
 fn answer_of_plan(
     alloc: Global,
-    question: PlanQuestion<'_>,
+    question: &PlanQuestion,
     given: &PlanText,
 ) -> Result<Answer, AllocError>
-    ensures { IfOk result (λ answer. IsSaidOf question given.now.text.items given.now.plan answer.status (cow_str_bytes answer.text)) }
+    ensures { IfOk result (λ answer. IsSaidOf question.now given.now.text.items given.now.plan answer.status (cow_str_bytes answer.text)) }
 {
-    match question {
+    match *question {
         PlanQuestion::Certify => certificate_of_plan(alloc, &given.plan),
         PlanQuestion::Draw => drawing_of_plan(alloc, &given.plan),
         PlanQuestion::Faults { name } => faults_of_plan(alloc, name, given),
