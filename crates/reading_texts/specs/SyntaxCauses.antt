@@ -1,6 +1,6 @@
 -- Why a text stops being JSON, where the bytes there tell it.
-use Rattle.std.specs.Prelude.{◌+◌, ◌==◌, ◌&&◌, ◌||◌, nat_lt, nat_le, ℕ, Bool, true, false, not, cond}
-use Rattle.std.specs.Prelude.{List, [], ◌∷◌, length, take, drop, find, get_or, codes, if◌then◌else◌}
+use Rattle.std.specs.Prelude.{◌+◌, ◌==◌, ◌&&◌, ◌||◌, nat_lt, nat_le, ℕ, Bool, false, cond}
+use Rattle.std.specs.Prelude.{List, [], ◌∷◌, length, take, drop, get_or, codes, if◌then◌else◌}
 use Rattle.std.specs.Prelude.{Option, Some, None}
 use Rattle.std.specs.Option.{option_or}
 use Rattle.net_pointers.specs.Syntax.{is_blank}
@@ -23,14 +23,10 @@ is_byte b None = false
 abbrev pub ends_plain : ℕ → Bool
 ends_plain b = nat_lt b 32 || b == 34
 
--- the byte is a control character
-abbrev pub is_control : Option ℕ → Bool
-is_control (Some b) = nat_lt b 32
-is_control None = false
-
--- a control character stands before the next quote
+-- the first control character or quote is a control character
 abbrev pub has_control : List ℕ → Bool
-has_control bytes = is_control (find ends_plain bytes)
+has_control [] = false
+has_control (b ∷ bs) = cond (ends_plain b) (nat_lt b 32) (has_control bs)
 
 -- of a text that ends there: whether it has anything else than white space
 abbrev pub end_line : Option ℕ → List ℕ

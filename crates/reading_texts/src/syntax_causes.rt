@@ -1,7 +1,7 @@
 //! Why a text stops being JSON, where the bytes there tell it.
-ghost use Rattle.std.specs.Prelude.{◌≡◌, ◌≤◌, ◌<◌, length, get_or, find};
+ghost use Rattle.std.specs.Prelude.{◌≡◌, ◌≤◌, ◌<◌, length, get_or};
 ghost use Rattle.net_pointers.specs.Syntax.{is_blank};
-ghost use Rattle.reading_texts.specs.SyntaxCauses.{byte_line, cause_line, encoding_line, end_line, ends_plain, has_control, is_byte, is_control, is_digit, is_mark, last_filled};
+ghost use Rattle.reading_texts.specs.SyntaxCauses.{byte_line, cause_line, encoding_line, end_line, ends_plain, has_control, is_byte, is_digit, is_mark, last_filled};
 
 /// The line of the cause at an offset, where there is one.
 pub fn cause_line(text: &[u8], offset: usize) -> &'static str
@@ -105,22 +105,18 @@ fn is_byte(wanted: u8, byte: Option<u8>) -> bool
 fn has_control(bytes: &[u8]) -> bool
     ensures { result ≡ has_control bytes.now }
 {
-    is_control(bytes.iter().copied().find(|byte| ends_plain(*byte)))
+    for byte in bytes {
+        if ends_plain(*byte) {
+            return *byte < 32;
+        }
+    }
+    false
 }
 
 fn ends_plain(byte: u8) -> bool
     ensures { result ≡ ends_plain byte }
 {
     byte < 32 || byte == b'"'
-}
-
-fn is_control(byte: Option<u8>) -> bool
-    ensures { result ≡ is_control byte }
-{
-    match byte {
-        Some(byte) => byte < 32,
-        None => false,
-    }
 }
 
 /// The last byte that is no white space.
