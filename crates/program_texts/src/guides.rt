@@ -251,6 +251,7 @@ Status 2: here also why a text can't be read.
 
   $ mctpplan explain examples/explained/c08-peer.json
   fault C08 node baseboard entry - eid 10
+  examples/explained/c08-peer.json:38:53: /nodes/2/eid
   baseboard has endpoint ID 10.
   It is in the pool of switch: 10 to 31.
   Both are owned by bmc.

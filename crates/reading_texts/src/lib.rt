@@ -21,6 +21,7 @@ mod positions;
 mod shapes;
 mod shown;
 mod syntax;
+mod syntax_causes;
 mod twice;
 mod values;
 

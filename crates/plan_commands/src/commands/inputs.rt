@@ -211,7 +211,6 @@ pub fn read_inputs<P: Source, C: Source>(
 }
 
 /// The same, with the text of the plan.
-#[tactic(auto, using(crate::proofs::GivenTexts::certificate_unread))]
 pub fn read_texts<P: Source, C: Source>(
     alloc: Global,
     plan: &mut P,

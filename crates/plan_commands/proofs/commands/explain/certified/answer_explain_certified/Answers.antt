@@ -19,4 +19,5 @@ returns-in-Err-clause-answers g c =
 pub returns-in-Ok-clause-in_order : goal.returns-in-Ok-clause-in_order
 returns-in-Ok-clause-in_order g c = λ without.
     let given = c.in-Ok.given in
-    absurd (without given.plan (gave_plan _ given.text.items given.plan c.in-Ok.ensures.given))
+    let plans = stream g.P.Source.account c.args.plan.now c.plan_or_text.new.plan in
+    absurd (without given.plan (gave_plan plans given.text.items given.plan c.in-Ok.ensures.given))
