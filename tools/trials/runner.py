@@ -100,6 +100,8 @@ def commands():
         ("sim", [[plan, certificate, RISER / it] for it in ("events-tid.json", "events-walk.json")]),
         ("walk", [[plan, certificate, "nic", "16"]]),
         ("reach", [[plan, certificate]]),
+        ("matrix", [[plan, certificate]]),
+        ("require", [[plan, certificate, TOP / "examples/questions/wanted.txt"]]),
         ("trace", [[plan, certificate, "host", "18"]]),
         ("draw", [[plan], [loop], [plan, certificate]]),
         ("explain", [[plan], [loop], [row], [plan, certificate]]),

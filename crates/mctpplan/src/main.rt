@@ -7,8 +7,8 @@ use net_json::Counted;
 use plan_commands::{
     FileAtPath, PlanQuestion, Question, Refused, ShownKind, Status, Subcommand, WordQuestion,
     hint_nodes, hint_words, parse_command, refuse, run_certified, run_explain,
-    run_explain_certified, run_known, run_move, run_planned, run_show, run_worded, simulate,
-    simulate_move,
+    run_explain_certified, run_known, run_move, run_planned, run_require, run_show, run_worded,
+    simulate, simulate_move,
 };
 use std::env;
 use std::io::IsTerminal;
@@ -55,6 +55,11 @@ fn run_command<'a>(rt: &'a HostRuntime, command: Subcommand<'a>) -> Status {
             plan,
             certificate: None,
         } => explain(rt, plan),
+        Subcommand::Require {
+            plan,
+            certificate,
+            wanted,
+        } => require(rt, plan, certificate, wanted),
         Subcommand::Sim {
             plan,
             certificate,
@@ -117,6 +122,28 @@ fn planned<'a>(rt: &'a HostRuntime, question: PlanQuestion, plan: &'a str) -> St
     let mut output = Counted::new(rt.stdout());
     let mut errors = Counted::new(rt.stderr());
     run_planned(rt.alloc(), question, &mut plan, &mut output, &mut errors)
+}
+
+/// Tells which wishes for ways a plan doesn't meet.
+fn require<'a>(
+    rt: &'a HostRuntime,
+    plan: &'a str,
+    certificate: &'a str,
+    wanted: &'a str,
+) -> Status {
+    let mut plan = file(rt, plan);
+    let mut certificate = file(rt, certificate);
+    let mut wanted = file(rt, wanted);
+    let mut output = Counted::new(rt.stdout());
+    let mut errors = Counted::new(rt.stderr());
+    run_require(
+        rt.alloc(),
+        &mut plan,
+        &mut certificate,
+        &mut wanted,
+        &mut output,
+        &mut errors,
+    )
 }
 
 /// Plays events in the network of a plan.

@@ -1,9 +1,10 @@
 -- Which of wishes are not met, with one more at their end.
-use Rattle.std.proofs.Common.{◌≡◌, List, [], ◌∷◌, ◌++◌, inl, inr, refl, subst, sym, rules, All}
+use Rattle.std.proofs.Common.{◌≡◌, ℕ, ◌+◌, ◌<◌, List, [], ◌∷◌, ◌++◌, length, get_or, take, inl, inr, refl, subst, sym, rules, All}
+use Rattle.std.proofs.lemmas.List.{take_more}
 use Rattle.std.proofs.lemmas.List.Elements.{All-nil, All-cons}
 use Rattle.net_plan.specs.declared.plan.Plan.{Plan}
 use Rattle.net_reached.specs.declared.wish.Wish.{Wish}
-use Rattle.net_reached.specs.Wishes.{IsMet, AreUnmet}
+use Rattle.net_reached.specs.Wishes.{IsMet, AreUnmet, AddsIfUnmet}
 
 pub one_met : (plan : Plan) (wishes unmet : List Wish) (wish : Wish) → AreUnmet plan wishes unmet → IsMet plan wish
     → AreUnmet plan (wishes ++ wish ∷ []) unmet
@@ -27,3 +28,12 @@ all_met plan (w ∷ ws) unmet are none = elim are [
   | inl (here, left) ↦ All-cons (IsMet plan) w ws here (all_met plan ws unmet left none)
   | inr (rest, denied, made, left) ↦ absurd (cc (none, made))
 ]
+
+pub one_more : (plan : Plan) (wishes old new : List Wish) (k : ℕ) (d : Wish) → k < length wishes → AreUnmet plan (take k wishes) old
+    → AddsIfUnmet plan (get_or wishes k d) old new → AreUnmet plan (take (k + 1) wishes) new
+one_more plan wishes old new k d within are added =
+    let wish = get_or wishes k d in
+    subst (λ ws. AreUnmet plan ws new) (sym (take_more wishes k d within)) (elim added [
+      | inl (met, same) ↦ subst (λ ns. AreUnmet plan (take k wishes ++ wish ∷ []) ns) (sym same) (one_met plan (take k wishes) old wish are met)
+      | inr (not, same) ↦ subst (λ ns. AreUnmet plan (take k wishes ++ wish ∷ []) ns) (sym same) (one_unmet plan (take k wishes) old wish are not)
+    ])

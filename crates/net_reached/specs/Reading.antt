@@ -55,7 +55,8 @@ pub record IsFirstUnread (plan : Plan) (text : List ℕ) (index : ℕ) : Type 0 
   pub line : List ℕ
   pub there : slice_get (lines text) index ≡ Some line
   pub unread : SaysNothing plan line
-  pub first : (j : ℕ) (earlier : List ℕ) → j < index → slice_get (lines text) j ≡ Some earlier → (wish : Wish) × Says plan earlier wish
+  pub first : (j : ℕ) (earlier : List ℕ) → j < index → slice_get (lines text) j ≡ Some earlier
+      → (wish : Wish) × Says plan earlier wish
 
 -- the error tells the first line that says no wish
 abbrev pub IsWhyUnread : Plan → List ℕ → WishError → Type 0

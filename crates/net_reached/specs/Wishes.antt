@@ -1,5 +1,5 @@
 -- What wishes say of a plan.
-use Rattle.std.specs.Prelude.{◌≡◌, ◌⊎◌, ℕ, ◌<◌, List, [], ◌∷◌, length, ⊤}
+use Rattle.std.specs.Prelude.{◌≡◌, ◌⊎◌, ℕ, ◌<◌, List, [], ◌∷◌, ◌++◌, length, ⊤}
 use Rattle.net_plan.specs.declared.plan.Plan.{Plan}
 use Rattle.net_tables.specs.Routing.{Holds}
 use Rattle.net_questions.specs.Ways.{ArrivesAfter}
@@ -24,6 +24,10 @@ IsMet plan (Nothing line) = ⊤
 IsMet plan (Reaches from to) = ReachesNode plan from to
 IsMet plan (ReachesAll from) = ReachesFirst plan from (length plan.nodes.items)
 IsMet plan (Avoids from to) = ¬ ReachesNode plan from to
+
+-- the new list is the old one, followed by the wish where it isn't so
+abbrev pub AddsIfUnmet : Plan → Wish → List Wish → List Wish → Type 0
+AddsIfUnmet plan wish old new = (IsMet plan wish × (new ≡ old)) ⊎ ((¬ IsMet plan wish) × (new ≡ old ++ wish ∷ []))
 
 -- the unmet ones are those of the wishes, in their order, of which it is not so
 abbrev pub AreUnmet : Plan → List Wish → List Wish → Type 0

@@ -10,7 +10,7 @@ mod unmet;
 mod wish;
 
 pub use matrix::matrix_text;
-pub use reached::{hops_between, reaches, reaches_all};
+pub use reached::{avoids, hops_between, reaches, reaches_all};
 pub use reading::{BadLine, WishError, wishes_of_text};
 pub use texts::wish_lines;
 pub use unmet::unmet_wishes;

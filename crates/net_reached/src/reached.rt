@@ -52,6 +52,16 @@ pub fn reaches(alloc: Global, checked: &Checked, from: usize, to: usize) -> Resu
     Ok(hops_between(alloc, checked, from, to)?.is_some())
 }
 
+/// Whether packets of a node don't reach another.
+pub fn avoids(alloc: Global, checked: &Checked, from: usize, to: usize) -> Result<bool, AllocError>
+    ensures { IfOk result (λ answer. IsTrue answer ↔ (¬ ReachesNode checked.now.0 from to)) }
+{
+    match hops_between(alloc, checked, from, to)? {
+        Some(_) => Ok(false),
+        None => Ok(true),
+    }
+}
+
 /// Whether packets of a node reach each node.
 pub fn reaches_all(alloc: Global, checked: &Checked, from: usize) -> Result<bool, AllocError>
     ensures { IfOk result (λ answer. IsTrue answer ↔ ReachesFirst checked.now.0 from (length checked.now.0.nodes.items)) }

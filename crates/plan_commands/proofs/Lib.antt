@@ -16,3 +16,4 @@ pub mod FaultListed
 pub mod Drawn
 pub mod UnreadTexts
 pub mod Explained
+pub mod Required

@@ -3,6 +3,7 @@ use Rattle.std.specs.Prelude.{◌≡◌, ◌⊎◌, ℕ, List, ⊤}
 use Rattle.net_rules.specs.Rules.{Accepts}
 use Rattle.net_plan.specs.declared.certificate.Certificate.{Certificate}
 use Rattle.net_plan.specs.declared.plan.Plan.{Plan}
+use Rattle.net_reached.specs.Matrices.{IsMatrix}
 use Rattle.plan_commands.specs.declared.commands.certified.Question.{Question}
 use Rattle.plan_commands.specs.declared.commands.certified.Question.TheVariants as question
 use Rattle.plan_commands.specs.declared.refused.Refused.{Refused}
@@ -23,6 +24,7 @@ IsAnswer question.Check plan certificate text = text ≡ yes_line
 IsAnswer question.Faults plan certificate text = text ≡ yes_line
 IsAnswer question.Assign plan certificate text = IsAssignmentText plan certificate text
 IsAnswer question.Reach plan certificate text = IsReachText plan certificate text
+IsAnswer question.Matrix plan certificate text = IsMatrix plan text
 IsAnswer question.Draw plan certificate text = IsCertifiedDrawing plan certificate text
 IsAnswer (question.Walk node part) plan certificate text = IsWalkText node.now part.bytes plan certificate text
 IsAnswer (question.Trace from to) plan certificate text = IsTraceText from.now to.now plan certificate text
@@ -33,6 +35,7 @@ IsNamedIn question.Check plan = ⊤
 IsNamedIn question.Faults plan = ⊤
 IsNamedIn question.Assign plan = ⊤
 IsNamedIn question.Reach plan = ⊤
+IsNamedIn question.Matrix plan = ⊤
 IsNamedIn question.Draw plan = ⊤
 IsNamedIn (question.Walk node part) plan = HasTerminusNamed plan node.now
 IsNamedIn (question.Trace from to) plan = NameTheEnds from.now to.now plan
@@ -43,6 +46,7 @@ IsTooMuch question.Check plan certificate = ⊥
 IsTooMuch question.Faults plan certificate = ⊥
 IsTooMuch question.Assign plan certificate = ⊥
 IsTooMuch question.Reach plan certificate = ⊥
+IsTooMuch question.Matrix plan certificate = ⊥
 IsTooMuch question.Draw plan certificate = ⊥
 IsTooMuch (question.Walk node part) plan certificate = HasTooManyBytes node.now plan certificate
 IsTooMuch (question.Trace from to) plan certificate = ⊥
@@ -54,6 +58,7 @@ IsFaultAnswer question.Faults plan certificate text = IsFaultListOf plan certifi
 IsFaultAnswer question.Check plan certificate text = IsFaultText plan certificate text
 IsFaultAnswer question.Assign plan certificate text = IsFaultText plan certificate text
 IsFaultAnswer question.Reach plan certificate text = IsFaultText plan certificate text
+IsFaultAnswer question.Matrix plan certificate text = IsFaultText plan certificate text
 IsFaultAnswer question.Draw plan certificate text = IsFaultText plan certificate text
 IsFaultAnswer (question.Walk node part) plan certificate text = IsFaultText plan certificate text
 IsFaultAnswer (question.Trace from to) plan certificate text = IsFaultText plan certificate text

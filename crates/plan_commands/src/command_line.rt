@@ -28,6 +28,12 @@ pub enum Subcommand<'a> {
         plan: &'a str,
         certificate: Option<&'a str>,
     },
+    /// Do the nodes of the plan in one file, certified by another, reach whom a text wants them to reach?
+    Require {
+        plan: &'a str,
+        certificate: &'a str,
+        wanted: &'a str,
+    },
     /// What comes of the events in a file?
     Sim {
         plan: &'a str,
@@ -93,7 +99,7 @@ fn worded(list: &[String]) -> Option<Subcommand<'_>> {
 }
 
 /// The name of each command, the names of its arguments, and those of the arguments that may be left out.
-const COMMANDS: [(&str, &[&str], &[&str]); 18] = [
+const COMMANDS: [(&str, &[&str], &[&str]); 20] = [
     ("check", &["plan", "certificate"], &[]),
     ("certify", &["plan"], &[]),
     ("assign", &["plan", "certificate"], &[]),
@@ -102,6 +108,8 @@ const COMMANDS: [(&str, &[&str], &[&str]); 18] = [
     ("simmove", &["old", "new", "certificate", "events"], &[]),
     ("walk", &["plan", "certificate", "node", "count"], &[]),
     ("reach", &["plan", "certificate"], &[]),
+    ("matrix", &["plan", "certificate"], &[]),
+    ("require", &["plan", "certificate", "wanted"], &[]),
     ("trace", &["plan", "certificate", "from", "to"], &[]),
     ("draw", &["plan"], &["certificate"]),
     ("explain", &["plan"], &["certificate"]),
@@ -161,6 +169,8 @@ fn chosen<'a>(matches: &ArgMatches<'a>) -> Option<Subcommand<'a>> {
         "simmove" => playing_moves(arguments),
         "walk" => walking(arguments),
         "reach" => certified(arguments, Question::Reach),
+        "matrix" => certified(arguments, Question::Matrix),
+        "require" => requiring(arguments),
         "trace" => tracing(arguments),
         "draw" => with_or_without(arguments, Question::Draw, PlanQuestion::Draw),
         "explain" => explaining(arguments),
@@ -187,6 +197,14 @@ fn planned<'a>(arguments: &ArgMatches<'a>, question: PlanQuestion) -> Option<Sub
     Some(Subcommand::Planned {
         question,
         plan: arguments.get_str("plan")?,
+    })
+}
+
+fn requiring<'a>(arguments: &ArgMatches<'a>) -> Option<Subcommand<'a>> {
+    Some(Subcommand::Require {
+        plan: arguments.get_str("plan")?,
+        certificate: arguments.get_str("certificate")?,
+        wanted: arguments.get_str("wanted")?,
     })
 }
 

@@ -9,6 +9,8 @@ sim PLAN CERT EVENTS         what comes of events in the planned network
 simmove OLD NEW CERT EVENTS  the same while nodes go over to new rows
 walk PLAN CERT NODE COUNT    the records that a walk over a node's terminus collects
 reach PLAN CERT              who reaches whom, and in how many hops
+matrix PLAN CERT             the same as a table that a person reads
+require PLAN CERT WANTED     whether the nodes reach whom a text wants them to reach
 trace PLAN CERT FROM TO      the way of a packet from a node to another, or to an endpoint ID
 draw PLAN [CERT]             the planned network as a drawing for Graphviz
 explain PLAN [CERT]          what certify says of the plan, or check of both, and why
@@ -42,6 +44,8 @@ pub fn guide_to(command: &str) -> Option<&'static str> {
         "simmove" => Some(OF_SIMMOVE),
         "walk" => Some(OF_WALK),
         "reach" => Some(OF_REACH),
+        "matrix" => Some(OF_MATRIX),
+        "require" => Some(OF_REQUIRE),
         "trace" => Some(OF_TRACE),
         "draw" => Some(OF_DRAW),
         "explain" => Some(OF_EXPLAIN),
@@ -163,6 +167,39 @@ Status 1: a fault of the plan or the certificate.
   $ mctpplan reach examples/riser/plan.json examples/riser/certificate.json | tail -n 2
   ssd nic none
   pairs 12 reached 10 one-way 0
+"#;
+
+const OF_MATRIX: &str = r#"mctpplan matrix PLAN CERT
+
+Prints a table with a row and a column for each node, in the order of the plan and by number from 1:
+how many hops a packet of the row's node makes to the column's node, a dash where it doesn't arrive,
+and a dot for the node itself. Each row ends with its node's name.
+
+Status 0: the table.
+Status 1: a fault of the plan or the certificate.
+
+  $ mctpplan matrix examples/riser/plan.json examples/riser/certificate.json
+        1  2  3  4
+    1   .  1  2  2  host
+    2   1  .  1  1  riser
+    3   2  1  .  -  nic
+    4   2  1  -  .  ssd
+"#;
+
+const OF_REQUIRE: &str = r#"mctpplan require PLAN CERT WANTED
+
+Prints yes if packets reach whom they are to reach and nobody else that is named, or else each line
+of WANTED of which it isn't so. A line A B says that packets of node A are to reach node B, A -> *
+that they are to reach every node, and A -/> B that they must not reach B. A line that is empty or
+begins with # is a remark. Where WANTED can't be read, its line and column are told on standard
+output.
+
+Status 0: yes.
+Status 1: the lines that don't hold, or a fault of the plan or the certificate.
+Status 2: here also where WANTED can't be read, and where.
+
+  $ printf 'host -> *\nnic ssd\n' | mctpplan require examples/riser/plan.json examples/riser/certificate.json -
+  nic ssd
 "#;
 
 const OF_TRACE: &str = r#"mctpplan trace PLAN CERT FROM TO

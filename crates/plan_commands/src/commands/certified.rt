@@ -23,6 +23,7 @@ use crate::status::Status;
 use net_check::{CheckError, Checked, check};
 use net_json::{Sink, Source};
 use net_plan::{Certificate, Plan};
+use net_reached::matrix_text;
 use std::alloc::Global;
 use std::borrow::CowStr;
 
@@ -37,6 +38,8 @@ pub enum Question<'a> {
     Assign,
     /// Who reaches whom, and by how many hops?
     Reach,
+    /// The same as a table.
+    Matrix,
     /// What does the network look like, with the certificate's levels and ranks?
     Draw,
     /// Which records does a walk over a node's terminus collect, by parts of so many bytes?
@@ -140,7 +143,7 @@ fn is_named_in(question: &Question, plan: &Plan) -> bool
 {
     match *question {
         Question::Check | Question::Faults | Question::Assign => true,
-        Question::Reach | Question::Draw => true,
+        Question::Reach | Question::Matrix | Question::Draw => true,
         Question::Walk { node, .. } => named_terminus(plan, node).is_some(),
         Question::Trace { from, to } => named_ends(plan, from, to).is_some(),
     }
@@ -160,6 +163,7 @@ fn text_of_checked(
         Question::Check | Question::Faults => Ok(CowStr::Borrowed(YES)),
         Question::Assign => Ok(CowStr::Owned(requests_text(alloc, checked)?)),
         Question::Reach => Ok(CowStr::Owned(pairs_text(alloc, checked)?)),
+        Question::Matrix => Ok(CowStr::Owned(matrix_text(alloc, checked)?)),
         Question::Draw => Ok(CowStr::Owned(certified_drawing(alloc, checked)?)),
         Question::Walk { node, part } => {
             Ok(CowStr::Owned(records_text(alloc, checked, node, part)?))
