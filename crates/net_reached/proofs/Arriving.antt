@@ -1,5 +1,5 @@
 -- Whether a packet arrives, by its way.
-use Rattle.std.proofs.Common.{◌≡◌, ◌↔◌, ◌+◌, ◌<◌, inl, inr, arith, ℕ, List, length, refl, sym, subst, ◌∙◌, Option, Some, None, Result, Ok, Err, IfOk, IsTrue, is_some}
+use Rattle.std.proofs.Common.{◌≡◌, ◌↔◌, ◌+◌, inl, inr, arith, ℕ, List, length, refl, sym, subst, ◌∙◌, Option, Some, None, Result, Ok, Err, IfOk, IsTrue, is_some}
 use Rattle.std.specs.Prelude.{MatchOption}
 use Rattle.std.proofs.lemmas.Bool.{cases_lt}
 use Rattle.std.proofs.lemmas.Option.{same_Some}
@@ -9,7 +9,6 @@ use Rattle.mctp_bridge.specs.declared.decision.Obstacle.{Obstacle}
 use Rattle.net_rules.specs.Rules.{Accepts}
 use Rattle.net_tables.specs.Routing.{Holds}
 use Rattle.net_questions.specs.declared.step.WayStep.{WayStep}
-use Rattle.net_questions.specs.declared.way.End.{End}
 use Rattle.net_questions.specs.declared.way.End.TheVariants.{Arrives, Stops}
 use Rattle.net_questions.specs.Ways.{IsWay, ArrivesAfter}
 use Rattle.net_questions.proofs.WayLaws.{ways_are_alone}

@@ -1,5 +1,5 @@
 -- What the end of `require` tells of an answer.
-use Rattle.std.proofs.Common.{◌≡◌, ◌⊎◌, ℕ, List, length, ◌≤◌, Result, Ok, Err, inl, inr, refl, sym, subst}
+use Rattle.std.proofs.Common.{◌≡◌, ◌⊎◌, ℕ, List, length, ◌≤◌, Result, Ok, Err, inl, inr, sym, subst}
 use Rattle.std.specs.Prelude.{IfOk, IfErr, OnErr}
 use Rattle.std.specs.Cow.{cow_str_bytes}
 use Rattle.std.specs.Io.KnownBytes.{Consumes, IsAtEnd}

@@ -1,4 +1,3 @@
-use Rattle.std.proofs.Common.{rules}
 use Rattle.net_reached.proofs.Arriving.{reached_if}
 use Rattle.net_reached.proofs.reached.reaches.Goals as goal
 

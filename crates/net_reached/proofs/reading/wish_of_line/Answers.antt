@@ -1,4 +1,4 @@
-use Rattle.std.proofs.Common.{arith, rules, sym, subst, ◌≡◌, List, ℕ}
+use Rattle.std.proofs.Common.{arith, sym, subst}
 use Rattle.net_reached.specs.Reading.{IsRemark}
 use Rattle.net_reached.proofs.Saying.{says_nothing}
 use Rattle.net_reached.proofs.reading.wish_of_line.Goals as goal

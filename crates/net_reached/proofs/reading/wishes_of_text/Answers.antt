@@ -1,7 +1,6 @@
-use Rattle.std.proofs.Common.{rules, ◌≡◌, ◌+◌, ℕ, List, [], ◌∷◌, ◌++◌, map, take, refl, sym, ◌∙◌, ap, subst, arith, Bor}
+use Rattle.std.proofs.Common.{rules, ◌≡◌, ℕ, List, map, Bor}
 use Rattle.std.specs.Str.Lines.{lines}
-use Rattle.net_reached.specs.Reading.{SayEach}
-use Rattle.net_reached.proofs.Saying.{line_at, say_more, said_before, take_one_more}
+use Rattle.net_reached.proofs.Saying.{line_at, said_before, take_one_more}
 use Rattle.net_reached.proofs.reading.wishes_of_text.Goals as goal
 
 pub returns-in-None-clause-unread : goal.returns-in-None-clause-unread
