@@ -20,4 +20,5 @@ pub mod Planned
 pub mod Certified
 pub mod Simulating
 pub mod Moving
+pub mod MoveCertifying
 pub mod MoveSimulating

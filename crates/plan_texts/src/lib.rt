@@ -36,7 +36,7 @@ pub use fault_lists::{counted_line, fault_lines};
 pub use findings::lint_lines;
 pub use guides::{GUIDE, VERSION, guide_to};
 use mctp_transport::Eid;
-pub use moves::move_error_line;
+pub use moves::{move_error_line, move_obstacle_line};
 use net_plan::Plan;
 use net_rules::{CertifyError, ChainFault, Fault};
 pub use outcomes::outcome_line;

@@ -9,6 +9,7 @@ ghost use Rattle.net_plan.specs.PlanValues.{plan_value};
 ghost use Rattle.net_json.specs.Texts.{StandsFor};
 ghost use Rattle.plan_commands.specs.UnreadTexts.{IsNoPlanIn, IsNoPlanBy, IsNoCertificateIn, IsNoCertificateBy, IsTextOf, StandsForNothing, unread_of};
 ghost use Rattle.plan_commands.specs.Moving.{IsMoveGiven, IsMoveUnread};
+ghost use Rattle.plan_commands.specs.MoveCertifying.{ArePlansUnread};
 ghost use Rattle.plan_commands.specs.Simulating.{GaveEvents, AreEventsUnread};
 
 use crate::refused::{Input, Refused};
@@ -178,6 +179,29 @@ pub fn read_inputs<P: Source, C: Source>(
     let plan = given_plan(alloc, plan)?;
     let certificate = given_certificate(alloc, &plan, certificate)?;
     Ok((plan, certificate))
+}
+
+/// Two plans. The second is read only where the first could be read.
+#[tactic(auto, using(crate::proofs::MoveCertified::first_unread))]
+pub fn read_plans<P: Source, Q: Source>(
+    alloc: Global,
+    before: &mut P,
+    after: &mut Q,
+) -> Result<(Plan, Plan), Refused>
+    requires before { HasRoom (P.account before.old) }
+    requires after { HasRoom (Q.account after.old) }
+    ensures given { let befores = stream P.account before.old before.new in
+        let afters = stream Q.account after.old after.new in
+        IfOk result (λ read. GavePlan befores read.0 × GavePlan afters read.1) }
+    ensures unread { let befores = stream P.account before.old before.new in
+        let afters = stream Q.account after.old after.new in
+        IfErr result (λ refused. ArePlansUnread refused befores afters) }
+    ensures in_order { let befores = stream P.account before.old before.new in
+        IsWithoutPlan befores → after.new ≡ after.old }
+{
+    let before = given_plan(alloc, before)?;
+    let after = given_plan(alloc, after)?;
+    Ok((before, after))
 }
 
 /// The plans of a move and their certificate. Each is read only where those before it could be read; the certificate is
