@@ -1,11 +1,10 @@
 -- The certificate of a move: what it meets, and what rules each certificate out.
-use Rattle.std.proofs.Common.{◌≡◌, ◌≢◌, ℕ, ◌+◌, ◌<◌, ◌≤◌, length, Option, Some, None, refl, sym, ◌∙◌, ap, subst, arith, inl, inr, [], ◌∷◌, zero, suc}
+use Rattle.std.proofs.Common.{◌≡◌, ◌≢◌, ℕ, ◌<◌, length, Option, Some, None, refl, sym, ap, subst, arith, inl, inr, [], ◌∷◌, zero, suc}
 use Rattle.std.specs.Prelude.{slice_get}
-use Rattle.std.proofs.lemmas.Bool.{cases_eq, cases_lt}
+use Rattle.std.proofs.lemmas.Bool.{cases_eq}
 use Rattle.net_rules.specs.declared.rule.Rule.{Rule}
 use Rattle.net_rules.specs.declared.rule.Rule.TheVariants.{C01, C02, C03, C04, C05, C06, C07, C08, C09, C10, C11, C12, C13, C14, C15, C16}
 use Rattle.net_rules.specs.declared.fault.Fault.{Fault}
-use Rattle.net_rules.specs.declared.mixed_loop.MixedLoop.{MixedLoop}
 use Rattle.net_rules.specs.declared.move_fault.MoveRule.{MoveRule}
 use Rattle.net_rules.specs.declared.move_fault.MoveRule.TheVariants.{OfPlan, M02, M03}
 use Rattle.net_rules.specs.declared.move_fault.MoveFault.{MoveFault}
@@ -18,7 +17,7 @@ use Rattle.net_rules.specs.declared.move_obstacle.MoveObstacle.TheVariants as ob
 use Rattle.net_plan.specs.declared.plan.Plan.{Plan}
 use Rattle.net_plan.specs.declared.nodes.Row.{Row}
 use Rattle.net_plan.specs.declared.certificate.Certificate.{Certificate}
-use Rattle.net_tables.specs.Routing.{Holds, MovesTo, Covers, rows_of, eid_number}
+use Rattle.net_tables.specs.Routing.{Holds, Covers, rows_of, eid_number}
 use Rattle.net_tables.specs.TwoPlans.{moving, HasRowEver}
 use Rattle.net_tables.specs.Ranks.{rank, Falls}
 use Rattle.net_tables.specs.Rows.{RowsAreApart, RowsAreInRange}
@@ -26,13 +25,12 @@ use Rattle.net_rules.specs.Superfluous.{NeedsItsRank}
 use Rattle.net_rules.specs.Rules.{AtRowEid, Accepts}
 use Rattle.net_rules.specs.Faults.{order_of, order_of_number, LessByFirstDifference}
 use Rattle.net_rules.specs.PlanFaults.{PlanMeetsAll}
-use Rattle.net_rules.specs.Moves.{Leads}
 use Rattle.net_rules.specs.MoveSearch.{IsFirstByRules}
 use Rattle.net_rules.specs.MoveRules.{Requirement, SameFrame, SameNode, Before, After, WayOnBefore, WayOnAfter, Given, DemandsBefore, DemandsAfter, MoveDemands, AcceptsMove}
-use Rattle.net_rules.specs.MoveFaults.{MoveFaultSite, MoveComesBefore, IsMoveMet, IsFirstMoveFault, IsFirstFaultOf, NamesFirstMoveFault, order_of_requirement, order_of_its_rule, required_before, required_after, required_of_both, move_site}
-use Rattle.net_rules.specs.Certificates.{IsExact, IsExactBy, NamesObstacle}
-use Rattle.net_rules.specs.MoveRanks.{MayMoveTo, IsMoveRank, IsFirstMixedLoop, HoldTheSame}
-use Rattle.net_rules.specs.MoveObstacles.{IsExactForMove, DifferInRows, RowsMeetBefore, CanReach, IsSureFault, IsSureFaultOf, NamesDifference, NamesSureFault, NamesMoveObstacle, RulesOutMoveCertificates, NamesMixedLoop, obstacle_of_error, obstacle_of_old}
+use Rattle.net_rules.specs.MoveFaults.{MoveFaultSite, MoveComesBefore, IsMoveMet, IsFirstFaultOf, NamesFirstMoveFault, order_of_requirement, order_of_its_rule, required_before, required_after, required_of_both}
+use Rattle.net_rules.specs.Certificates.{AreExactLevels, AreExactPlaces, AreRanksOf, IsExact, NamesObstacle}
+use Rattle.net_rules.specs.MoveRanks.{MayMoveTo, IsMoveRank}
+use Rattle.net_rules.specs.MoveObstacles.{IsExactForMove, DifferInRows, RowsMeetBefore, IsSureFaultOf, NamesDifference, NamesSureFault, NamesMoveObstacle, RulesOutMoveCertificates, NamesMixedLoop, obstacle_of_error, obstacle_of_old}
 use Rattle.net_rules.proofs.Circling.{no_circle_down}
 use Rattle.net_rules.proofs.RuleOrder.{one_order}
 use Rattle.net_rules.proofs.Ends.{falls_by_rule}
@@ -66,7 +64,7 @@ at_row_eid plan n P each None eid = tt
 at_row_eid plan n P each (Some r) None = tt
 at_row_eid plan n P each (Some r) (Some e) = λ row is covers. each r e row is covers
 
-plan_meets : (plan : Plan) (cert : Certificate) → Accepts plan cert → PlanMeetsAll plan
+pub plan_meets : (plan : Plan) (cert : Certificate) → Accepts plan cert → PlanMeetsAll plan
 plan_meets plan cert accepted rule n entry eid = (accepted rule n entry eid).0
 
 pub rows_lie_apart : (after : Plan) (made : Certificate) → RowsMeetBefore after made (order_of C10) → RowsAreApart after
@@ -95,7 +93,7 @@ old_is (alone.BadChain node fault) some = refl
 old_is alone.OutOfMemory some = absurd (some refl)
 
 pub fault_is : (e : MoveError) → e ≢ error.OutOfMemory → obstacle_of_error e ≡ obstacle.Fault e
-fault_is (error.Differ node) some = refl
+fault_is (error.Differ n) some = refl
 fault_is (error.Old fault) some = refl
 fault_is (error.New fault) some = refl
 fault_is (error.Both fault) some = refl
@@ -109,11 +107,20 @@ old_named before after (alone.BadChain node fault) frames named = (frames, (λ s
 old_named before after alone.OutOfMemory frames named = tt
 
 pub difference_named : (before after : Plan) (e : MoveError) → NamesDifference before after e → NamesMoveObstacle before after (obstacle_of_error e)
-difference_named before after (error.Differ node) differs = differs
+difference_named before after (error.Differ n) differs = differs
 difference_named before after (error.Old fault) differs = absurd differs
 difference_named before after (error.New fault) differs = absurd differs
 difference_named before after (error.Both fault) differs = absurd differs
 difference_named before after error.OutOfMemory differs = absurd differs
+
+-- levels and places of the old plan, and ranks of the move
+pub with_ranks : (before after : Plan) (old made : Certificate) → IsExact before old → made.levels ≡ old.levels → made.places ≡ old.places
+    → AreRanksOf (IsMoveRank before after) (length before.nodes.items) made.ranks.items → IsExactForMove before after made
+with_ranks before after old made exact levels places ranks = record {
+  levels = (let P : _ → Type 0 = λ given. AreExactLevels before given.items in subst P (sym levels) exact.levels);
+  places = (let P : _ → Type 0 = λ given. AreExactPlaces before given.items in subst P (sym places) exact.places);
+  ranks = ranks;
+}
 
 module _ (before after : Plan) where
   -- ---- faults that are there whatever the certificate
@@ -135,6 +142,7 @@ module _ (before after : Plan) where
     sure_old fault M03 same first = absurd first
 
     sure_new : (fault : MoveFault) (rule : MoveRule) → IsFirstFaultOf before after cert (required_after rule) fault → IsSureFaultOf before after (required_after rule) fault
+    unfolding order_of_rule
     sure_new fault M02 first = sure_after cert fault M02 (λ same. let clash : M02 ≡ OfPlan C10 = same in cc) first
     sure_new fault M03 first = absurd first
     sure_new fault (OfPlan rule) first = elim (cases_eq (order_of rule) (order_of C10)) [
@@ -168,6 +176,7 @@ module _ (before after : Plan) where
     -- the first fault of the new plan's rows, if it comes before ranks
     pub row_fault_named : (named : MoveFault) (fault : Fault) → named ≡ record { rule = OfPlan fault.rule; node = fault.node; entry = fault.entry; eid = fault.eid } → order_of fault.rule < order_of C10
         → IsFirstByRules (DemandsAfter after cert) (Some fault) → NamesMoveObstacle before after (obstacle.Fault (error.New named))
+    unfolding order_of_rule
     row_fault_named named fault is early found =
         sure_after cert named named.rule (λ same. omega (arith, early, ap order_of_rule same, ap (λ (m : MoveFault). order_of_rule m.rule) is))
         (new_breaks before after cert named fault is meets_before_rows found)
@@ -241,8 +250,8 @@ module _ (before after : Plan) where
   -- ---- what is named leaves no certificate
 
   rules_out_fault : (e : MoveError) → NamesSureFault before after e → (cert : Certificate) → AcceptsMove before after cert → ⊥
-  rules_out_fault (error.Differ None) named cert accepted = (named cert).broken (accepted SameFrame 0 None None)
-  rules_out_fault (error.Differ (Some n)) named cert accepted = (named cert).broken (accepted SameNode n None None)
+  rules_out_fault (error.Differ None) named cert accepted = named (accepted SameFrame 0 None None)
+  rules_out_fault (error.Differ (Some n)) named cert accepted = named.1 (accepted SameNode n None None)
   rules_out_fault (error.Old fault) named cert accepted = named.1.broken cert (accepted WayOnBefore fault.node fault.entry (eid_number fault.eid))
   rules_out_fault (error.New fault) named cert accepted = by fault.rule named
     where

@@ -235,13 +235,14 @@ module _ (before after : Plan) (cert : Certificate) where
 
 -- what is said of a difference
 pub frame_differs : (before after : Plan) → ¬ HaveSameFrame before after → NamesDifference before after (Differ None)
-frame_differs before after not = λ cert. frame_breaks before after cert not
+frame_differs before after not = not
 
 pub node_differs : (before after : Plan) (n : ℕ) → HaveSameFrame before after → IsFirstUnlike before after (Some n) → NamesDifference before after (Differ (Some n))
-node_differs before after n same first = λ cert. node_breaks before after cert n (frame_holds before after cert same) first
+node_differs before after n same first = (same, first.0, first.1)
 
 pub difference_first : (before after : Plan) (cert : Certificate) (e : MoveError) → NamesDifference before after e → NamesFirstMoveFault before after cert e
-difference_first before after cert (Differ node) differs = differs cert
+difference_first before after cert (Differ None) differs = frame_breaks before after cert differs
+difference_first before after cert (Differ (Some n)) differs = node_breaks before after cert n (frame_holds before after cert differs.0) (differs.1, differs.2)
 difference_first before after cert (Old fault) differs = absurd differs
 difference_first before after cert (New fault) differs = absurd differs
 difference_first before after cert (Both fault) differs = absurd differs

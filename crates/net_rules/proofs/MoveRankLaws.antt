@@ -1,11 +1,11 @@
 -- Ranks along the rows of two plans: they are the longest ways, and fall along each row.
-use Rattle.std.proofs.Common.{◌≡◌, ◌⊎◌, ℕ, zero, suc, ◌+◌, ◌<◌, ◌≤◌, List, length, Option, Some, refl, sym, ◌∙◌, subst, arith, inl, inr, filter, Result, Ok, Err, IfOk}
+use Rattle.std.proofs.Common.{◌≡◌, ◌⊎◌, ℕ, zero, suc, ◌+◌, ◌<◌, ◌≤◌, List, length, Option, Some, refl, sym, subst, arith, inl, inr, filter, Result, Ok, Err, IfOk}
 use Rattle.std.specs.Prelude.{slice_get}
 use Rattle.std.proofs.lemmas.Bool.{cases_lt}
 use Rattle.std.specs.declared.alloc.AllocError.{AllocError}
 use Rattle.net_plan.specs.declared.plan.Plan.{Plan}
 use Rattle.net_plan.specs.declared.certificate.NodeRanks.{NodeRanks}
-use Rattle.net_tables.specs.Routing.{Holds, MovesTo, eid_of}
+use Rattle.net_tables.specs.Routing.{MovesTo, eid_of}
 use Rattle.net_tables.specs.Rows.{RowsAreApart, RowsAreInRange}
 use Rattle.net_tables.proofs.RowSearches.{is_or_not}
 use Rattle.net_rules.specs.declared.certifying.longest_ways.Longest.{Longest}

@@ -14,7 +14,7 @@ use Rattle.net_plan.specs.declared.plan.Plan.{Plan}
 use Rattle.net_plan.specs.declared.certificate.Certificate.{Certificate}
 use Rattle.net_rules.specs.Faults.{order_of}
 use Rattle.net_rules.specs.MoveRules.{Requirement, After, WayOnBefore, HaveSameFrame, IsSameNode, DemandsAfter, AcceptsMove}
-use Rattle.net_rules.specs.MoveFaults.{MoveFaultSite, MoveComesBefore, IsMoveMet, NamesFirstMoveFault, move_site, required_after}
+use Rattle.net_rules.specs.MoveFaults.{MoveFaultSite, MoveComesBefore, IsMoveMet, move_site, required_after}
 use Rattle.net_rules.specs.Certificates.{IsExactBy, IsOnlyExactBy, NamesObstacle}
 use Rattle.net_rules.specs.MoveRanks.{IsMoveRank, IsFirstMixedLoop}
 
@@ -54,19 +54,20 @@ abbrev pub IsSureFaultOf : Plan → Plan → Option Requirement → MoveFault �
 IsSureFaultOf before after None fault = ⊥
 IsSureFaultOf before after (Some requirement) fault = IsSureFault before after (move_site requirement fault)
 
--- the plans differ in more than rows, and so the error says, whatever the certificate
+-- the plans differ in more than rows: in their frames, or first in the node that the error names
 abbrev pub NamesDifference : Plan → Plan → MoveError → Type 0
-NamesDifference before after (error.Differ node) =
-    (cert : Certificate) → NamesFirstMoveFault before after cert (error.Differ node)
+NamesDifference before after (error.Differ None) = ¬ HaveSameFrame before after
+NamesDifference before after (error.Differ (Some n)) =
+    HaveSameFrame before after × ¬ IsSameNode before after n × ((m : ℕ) → m < n → IsSameNode before after m)
 NamesDifference before after (error.Old fault) = ⊥
 NamesDifference before after (error.New fault) = ⊥
 NamesDifference before after (error.Both fault) = ⊥
 NamesDifference before after error.OutOfMemory = ⊥
 
--- The error names a fault that is there whatever the certificate. Where the plans differ in more than rows it is the
--- first with any certificate, and otherwise with some certificate. Of the plan before it is M02 alone.
+-- The error names a fault that is there whatever the certificate, and nothing that is asked before it rules certificates
+-- out. Of the plan before it is M02 alone.
 abbrev pub NamesSureFault : Plan → Plan → MoveError → Type 0
-NamesSureFault before after (error.Differ node) = NamesDifference before after (error.Differ node)
+NamesSureFault before after (error.Differ n) = NamesDifference before after (error.Differ n)
 NamesSureFault before after (error.Old fault) =
     (fault.rule ≡ M02) × IsSureFault before after (move_site WayOnBefore fault)
 NamesSureFault before after (error.New fault) = IsSureFaultOf before after (required_after fault.rule) fault

@@ -202,9 +202,9 @@ pub fn read_plans<P: Source, Q: Source>(
     ensures in_order { let befores = stream P.account before.old before.new in
         IsWithoutPlan befores → after.new ≡ after.old }
 {
-    let before = given_plan(alloc, before)?;
-    let after = given_plan(alloc, after)?;
-    Ok((before, after))
+    let first = given_plan(alloc, before)?;
+    let second = given_plan(alloc, after)?;
+    Ok((first, second))
 }
 
 /// The plans of a move and their certificate. Each is read only where those before it could be read; the certificate is

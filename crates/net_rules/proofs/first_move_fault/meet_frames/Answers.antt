@@ -1,5 +1,5 @@
-use Rattle.std.proofs.Common.{refl, sym, ◌∙◌}
-use Rattle.net_rules.proofs.MoveOrder.{as_many_nodes, frame_differs, node_differs}
+use Rattle.std.proofs.Common.{refl}
+use Rattle.net_rules.proofs.MoveOrder.{as_many_nodes}
 use Rattle.net_rules.proofs.first_move_fault.meet_frames.Goals as goal
 
 pub first_unlike_node-requires : goal.first_unlike_node-requires

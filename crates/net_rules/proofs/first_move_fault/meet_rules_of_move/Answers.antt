@@ -1,5 +1,4 @@
-use Rattle.std.proofs.Common.{refl}
-use Rattle.net_rules.proofs.MoveOrder.{difference_first, frames_hold, old_breaks, old_holds, new_breaks, new_holds, old_way_breaks, old_ways_hold, new_way_breaks, new_ways_hold, given_breaks, all_hold}
+use Rattle.net_rules.proofs.MoveOrder.{frames_hold, old_breaks, old_holds, new_breaks, new_holds, old_way_breaks, old_ways_hold, new_way_breaks, new_ways_hold, given_breaks, all_hold}
 use Rattle.net_rules.proofs.first_move_fault.meet_rules_of_move.Goals as goal
 
 pub returns-in-Some-clause-first_fault : goal.returns-in-Some-clause-first_fault
