@@ -1,5 +1,5 @@
 -- A plan that moves to itself has the certificate, or the obstacle, that it has alone.
-use Rattle.std.proofs.Common.{◌≡◌, ◌≢◌, ◌⊎◌, ℕ, zero, suc, ◌+◌, ◌<◌, ◌≤◌, length, Option, Some, None, refl, sym, arith, inl, inr}
+use Rattle.std.proofs.Common.{◌≡◌, ◌≢◌, ℕ, ◌<◌, Option, Some, None, refl, arith, inl, inr}
 use Rattle.net_rules.specs.declared.rule.Rule.{Rule}
 use Rattle.net_rules.specs.declared.rule.Rule.TheVariants.{C01, C02, C03, C04, C05, C06, C07, C08, C09, C10, C11, C12, C13, C14, C15, C16}
 use Rattle.net_rules.specs.declared.certify_error.CertifyError.{CertifyError}
@@ -12,19 +12,17 @@ use Rattle.net_rules.specs.declared.move_obstacle.MoveObstacle.{MoveObstacle}
 use Rattle.net_rules.specs.declared.move_obstacle.MoveObstacle.TheVariants as obstacle
 use Rattle.net_plan.specs.declared.plan.Plan.{Plan}
 use Rattle.net_plan.specs.declared.certificate.Certificate.{Certificate}
-use Rattle.net_plan.specs.declared.certificate.NodeRanks.{NodeRanks}
 use Rattle.net_tables.specs.Routing.{MovesTo, eid_number}
 use Rattle.net_tables.specs.Rows.{RowsAreApart}
 use Rattle.net_tables.specs.Ranks.{rank}
 use Rattle.net_tables.specs.TwoPlans.{one_plan, moving}
 use Rattle.net_rules.specs.Superfluous.{NeedsItsRank}
 use Rattle.net_rules.specs.Rules.{Accepts, Demands}
-use Rattle.net_rules.specs.Moves.{Leads}
 use Rattle.net_rules.specs.Promises.{WayEnds}
 use Rattle.net_rules.specs.RoutingLoops.{IsRank}
-use Rattle.net_rules.specs.MoveRules.{Requirement, Before, After, WayOnBefore, WayOnAfter, Given, DemandsBefore, AcceptsMove}
-use Rattle.net_rules.specs.MoveFaults.{MoveFaultSite, IsMoveMet, MoveComesBefore, order_of_requirement, required_after}
-use Rattle.net_rules.specs.Certificates.{AreRanksOf, IsExact, NamesObstacle}
+use Rattle.net_rules.specs.MoveRules.{Before, After, WayOnBefore, WayOnAfter, Given, DemandsBefore, AcceptsMove}
+use Rattle.net_rules.specs.MoveFaults.{MoveFaultSite, order_of_requirement, required_after}
+use Rattle.net_rules.specs.Certificates.{IsExact, NamesObstacle}
 use Rattle.net_rules.specs.MoveRanks.{MayMoveTo, WayEndsInBoth, IsMoveRank}
 use Rattle.net_rules.specs.MoveObstacles.{IsExactForMove, CanReach, IsSureFaultOf, NamesSureFault, NamesMoveObstacle}
 use Rattle.net_rules.proofs.Circling.{no_circle_down}

@@ -60,7 +60,7 @@ pub record AreExactPlaces (plan : Plan) (given : List NodePlaces) : Type 0 where
   pub ascend : (i j : ℕ) (one other : NodePlaces) → i < j → slice_get given i ≡ Some one
       → slice_get given j ≡ Some other → one.node < other.node
 
--- The certificate gives each level and each place as the plan has them, each rank that is to be given, and nothing else.
+-- The certificate gives each level and each place as the plan has them, each rank that is to be, and nothing else.
 pub record IsExactBy (plan : Plan) (IsRankOf : ℕ → ℕ → ℕ → Type 0) (cert : Certificate) : Type 0 where
   pub levels : AreExactLevels plan cert.levels.items
   pub places : AreExactPlaces plan cert.places.items

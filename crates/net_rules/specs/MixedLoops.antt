@@ -1,5 +1,6 @@
 -- Loops of moves, each by one of two relations.
-use Rattle.std.specs.Prelude.{◌≡◌, ◌≢◌, ◌⊎◌, ℕ, suc, ◌+◌, ◌-◌, ◌<◌, ◌≤◌, List, length, slice_get, Option, Some, Bool, true, false, unwrap_or, option_map, ◌↔◌, Vec}
+use Rattle.std.specs.Prelude.{◌≡◌, ◌≢◌, ◌⊎◌, ◌↔◌, ℕ, suc, ◌+◌, ◌-◌, ◌<◌, ◌≤◌, List, length, slice_get, Vec}
+use Rattle.std.specs.Prelude.{Option, Some, Bool, true, false, unwrap_or, option_map}
 use Rattle.net_rules.specs.declared.mixed_loop.Side.{Side}
 use Rattle.net_rules.specs.declared.mixed_loop.Side.TheVariants.{Old, New}
 use Rattle.net_rules.specs.Moves.{Leads}

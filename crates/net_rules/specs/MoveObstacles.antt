@@ -13,7 +13,8 @@ use Rattle.net_rules.specs.declared.move_obstacle.MoveObstacle.TheVariants as ob
 use Rattle.net_plan.specs.declared.plan.Plan.{Plan}
 use Rattle.net_plan.specs.declared.certificate.Certificate.{Certificate}
 use Rattle.net_rules.specs.Faults.{order_of}
-use Rattle.net_rules.specs.MoveRules.{Requirement, After, WayOnBefore, HaveSameFrame, IsSameNode, DemandsAfter, AcceptsMove}
+use Rattle.net_rules.specs.MoveRules.{Requirement, After, WayOnBefore, HaveSameFrame, IsSameNode}
+use Rattle.net_rules.specs.MoveRules.{DemandsAfter, AcceptsMove}
 use Rattle.net_rules.specs.MoveFaults.{MoveFaultSite, MoveComesBefore, IsMoveMet, move_site, required_after}
 use Rattle.net_rules.specs.Certificates.{IsExactBy, IsOnlyExactBy, NamesObstacle}
 use Rattle.net_rules.specs.MoveRanks.{IsMoveRank, IsFirstMixedLoop}
@@ -64,8 +65,8 @@ NamesDifference before after (error.New fault) = ⊥
 NamesDifference before after (error.Both fault) = ⊥
 NamesDifference before after error.OutOfMemory = ⊥
 
--- The error names a fault that is there whatever the certificate, and nothing that is asked before it rules certificates
--- out. Of the plan before it is M02 alone.
+-- The error names a fault that is there whatever the certificate, and nothing that is asked before it rules
+-- certificates out. Of the plan before it is M02 alone.
 abbrev pub NamesSureFault : Plan → Plan → MoveError → Type 0
 NamesSureFault before after (error.Differ n) = NamesDifference before after (error.Differ n)
 NamesSureFault before after (error.Old fault) =

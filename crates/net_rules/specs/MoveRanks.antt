@@ -25,7 +25,8 @@ pub record IsMoveRank (before after : Plan) (n e moves : ℕ) : Type 0 where
 -- The least EID that can circle, and the loop of it.
 pub record IsFirstMixedLoop (before after : Plan) (loop : MixedLoop) : Type 0 where
   pub least : (d : ℕ) → d < loop.eid.value → HasNoCircle (MayMoveTo before after d)
-  pub picked : IsMixedLoop (MovesTo before loop.eid.value) (MovesTo after loop.eid.value) loop.nodes.items loop.sides.items
+  pub picked : IsMixedLoop (MovesTo before loop.eid.value) (MovesTo after loop.eid.value) loop.nodes.items
+      loop.sides.items
 
 -- the same nodes hold each EID in both plans
 abbrev pub HoldTheSame : Plan → Plan → Type 0

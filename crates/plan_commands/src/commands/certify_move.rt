@@ -73,11 +73,7 @@ fn certificate_of_move(alloc: Global, before: &Plan, after: &Plan) -> Result<Ans
     ensures { IfOk result (λ answer. CertifiesMove before.now after.now answer.status (cow_str_bytes answer.text)) }
 {
     match certify_move(alloc, before, after) {
-        Ok(certificate) => Ok(Answer::found(text_of_certificate(
-            alloc,
-            before,
-            &certificate,
-        )?)),
+        Ok(certificate) => Ok(Answer::found(text_of_certificate(alloc, before, &certificate)?)),
         Err(obstacle) => Ok(Answer::fault(move_obstacle_line(alloc, before, &obstacle)?)),
     }
 }
