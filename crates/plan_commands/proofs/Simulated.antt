@@ -295,3 +295,4 @@ events_unread plan cert why plans certificates happenings given h =
     also input.Plan cause h = absurd h
     also input.Certificate cause h = absurd h
     also input.Events cause h = (plan, cert, given, h)
+    also input.Lines cause h = absurd h

@@ -19,5 +19,6 @@ pub mod Drawing
 pub mod Planned
 pub mod Certified
 pub mod Simulating
+pub mod Expecting
 pub mod Moving
 pub mod MoveSimulating

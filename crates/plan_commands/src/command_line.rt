@@ -34,6 +34,13 @@ pub enum Subcommand<'a> {
         certificate: &'a str,
         events: &'a str,
     },
+    /// Does `sim` print the lines of a file?
+    Expect {
+        plan: &'a str,
+        certificate: &'a str,
+        events: &'a str,
+        lines: &'a str,
+    },
     /// May the nodes of the plan in one file go over, in any order, to the rows of the plan in another, by one
     /// certificate?
     Move {
@@ -93,11 +100,12 @@ fn worded(list: &[String]) -> Option<Subcommand<'_>> {
 }
 
 /// The name of each command, the names of its arguments, and those of the arguments that may be left out.
-const COMMANDS: [(&str, &[&str], &[&str]); 18] = [
+const COMMANDS: [(&str, &[&str], &[&str]); 19] = [
     ("check", &["plan", "certificate"], &[]),
     ("certify", &["plan"], &[]),
     ("assign", &["plan", "certificate"], &[]),
     ("sim", &["plan", "certificate", "events"], &[]),
+    ("expect", &["plan", "certificate", "events", "lines"], &[]),
     ("move", &["old", "new", "certificate"], &[]),
     ("simmove", &["old", "new", "certificate", "events"], &[]),
     ("walk", &["plan", "certificate", "node", "count"], &[]),
@@ -157,6 +165,7 @@ fn chosen<'a>(matches: &ArgMatches<'a>) -> Option<Subcommand<'a>> {
         "certify" => planned(arguments, PlanQuestion::Certify),
         "assign" => certified(arguments, Question::Assign),
         "sim" => playing(arguments),
+        "expect" => expecting(arguments),
         "move" => moving(arguments),
         "simmove" => playing_moves(arguments),
         "walk" => walking(arguments),
@@ -195,6 +204,15 @@ fn playing<'a>(arguments: &ArgMatches<'a>) -> Option<Subcommand<'a>> {
         plan: arguments.get_str("plan")?,
         certificate: arguments.get_str("certificate")?,
         events: arguments.get_str("events")?,
+    })
+}
+
+fn expecting<'a>(arguments: &ArgMatches<'a>) -> Option<Subcommand<'a>> {
+    Some(Subcommand::Expect {
+        plan: arguments.get_str("plan")?,
+        certificate: arguments.get_str("certificate")?,
+        events: arguments.get_str("events")?,
+        lines: arguments.get_str("lines")?,
     })
 }
 

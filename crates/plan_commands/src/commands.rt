@@ -5,6 +5,7 @@ pub mod assign;
 pub mod certified;
 pub mod certify;
 pub mod draw;
+pub mod expect;
 pub mod explain;
 pub mod faults;
 pub mod gathered;

@@ -3,3 +3,4 @@ pub mod Traced
 pub mod ToldTexts
 pub mod Chains
 pub mod DoubledTold
+pub mod Differing

@@ -19,3 +19,4 @@ pub mod Standing
 pub mod TroubleLines
 pub mod Shown
 pub mod EditLines
+pub mod DifferenceLines

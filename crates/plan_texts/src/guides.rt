@@ -6,6 +6,8 @@ certify PLAN                 the certificate of the plan, or why it has none
 move OLD NEW CERT            whether nodes may go over from the old plan's rows to the new one's
 assign PLAN CERT             the requests that give the nodes their endpoint IDs and pools
 sim PLAN CERT EVENTS         what comes of events in the planned network
+expect PLAN CERT EVENTS LINES
+                             whether sim prints these lines, or the first one that differs
 simmove OLD NEW CERT EVENTS  the same while nodes go over to new rows
 walk PLAN CERT NODE COUNT    the records that a walk over a node's terminus collects
 reach PLAN CERT              who reaches whom, and in how many hops
@@ -39,6 +41,7 @@ pub fn guide_to(command: &str) -> Option<&'static str> {
         "move" => Some(OF_MOVE),
         "assign" => Some(OF_ASSIGN),
         "sim" => Some(OF_SIM),
+        "expect" => Some(OF_EXPECT),
         "simmove" => Some(OF_SIMMOVE),
         "walk" => Some(OF_WALK),
         "reach" => Some(OF_REACH),
@@ -122,6 +125,24 @@ Status 1: a fault of the plan or the certificate.
   2 moved 1 to riser hops 1
   3 moved 1 to ssd hops 2
   4 whole 1 at ssd bytes 01800002
+"#;
+
+const OF_EXPECT: &str = r#"mctpplan expect PLAN CERT EVENTS LINES
+
+Plays events as sim does and compares what it prints with LINES, a file of such lines. Prints yes,
+or the first line that differs: its number, what was expected and what came. Where the plan or the
+certificate has a fault, sim prints its line, and that line is compared.
+
+Status 0: yes.
+Status 1: the first line that differs.
+
+  $ mctpplan sim examples/riser/plan.json examples/riser/certificate.json examples/riser/events-to-ssd.json \
+      | sed 's/hops 2/hops 3/' > lines
+  $ mctpplan expect examples/riser/plan.json examples/riser/certificate.json \
+      examples/riser/events-to-ssd.json lines
+  line 3 differs
+  expected: 3 moved 1 to ssd hops 3
+  came: 3 moved 1 to ssd hops 2
 "#;
 
 const OF_SIMMOVE: &str = r#"mctpplan simmove OLD NEW CERT EVENTS
