@@ -2,12 +2,12 @@
 use Rattle.std.specs.Prelude.{◌≡◌, ◌⊎◌, ℕ, List, [], map, Some, IsUtf8}
 use Rattle.std.specs.Str.Lines.{lines}
 use Rattle.net_plan.specs.declared.certificate.Certificate.{Certificate}
-use Rattle.net_plan.specs.declared.error.PlanError.{PlanError}
-use Rattle.net_plan.specs.declared.error.PlanError.TheVariants as error
+use Rattle.net_json.specs.declared.error.PlanError.{PlanError}
+use Rattle.net_json.specs.declared.error.PlanError.TheVariants as error
 use Rattle.net_plan.specs.declared.event.Event.{Event}
 use Rattle.net_plan.specs.declared.plan.Plan.{Plan}
-use Rattle.net_plan.specs.Stream.{TakesMoreThan}
-use Rattle.net_plan.specs.Texts.{Gave}
+use Rattle.net_json.specs.Stream.{TakesMoreThan}
+use Rattle.net_json.specs.Texts.{Gave}
 use Rattle.net_runs.specs.Walkers.{WalkedEvent}
 use Rattle.net_sim.specs.Outcomes.{event_value}
 use Rattle.plan_commands.specs.declared.refused.Input.{Input}

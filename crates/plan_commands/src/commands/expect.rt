@@ -1,7 +1,7 @@
 //! The command `expect`: whether `sim` prints the lines of a file.
 ghost use Rattle.std.specs.Prelude.{◌≡◌, ◌⊎◌, IfOk, IfErr, length, map, string_bytes};
 ghost use Rattle.std.specs.Cow.{cow_str_bytes};
-ghost use Rattle.net_plan.specs.Stream.{HasRoom};
+ghost use Rattle.net_json.specs.Stream.{HasRoom};
 ghost use Rattle.net_sim.specs.Outcomes.{event_value, outcome_value};
 ghost use Rattle.net_tables.specs.TwoPlans.{one_plan};
 ghost use Rattle.plan_commands.specs.declared.refused.Refused.TheVariants as refused;
@@ -20,7 +20,8 @@ use crate::commands::sim::termini::planned_termini;
 use crate::refused::Refused;
 use crate::status::Status;
 use net_check::{Checked, check};
-use net_plan::{Certificate, Event, Plan, Sink, Source};
+use net_json::{Sink, Source};
+use net_plan::{Certificate, Event, Plan};
 use net_sim::{Network, Outcome};
 use plan_texts::{first_difference, outcome_line};
 use std::alloc::{AllocError, Global};
