@@ -39,7 +39,7 @@ other_answer question.Faults plan cert text other told = absurd (other refl)
 other_answer question.Check plan cert text other told = told
 other_answer question.Assign plan cert text other told = told
 other_answer question.Reach plan cert text other told = told
-other_answer question.Draw plan cert text other told = told
+other_answer (question.Draw rows) plan cert text other told = told
 other_answer (question.Walk node part) plan cert text other told = told
 other_answer (question.Trace from to) plan cert text other told = told
 

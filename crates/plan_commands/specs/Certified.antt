@@ -23,7 +23,7 @@ IsAnswer question.Check plan certificate text = text ≡ yes_line
 IsAnswer question.Faults plan certificate text = text ≡ yes_line
 IsAnswer question.Assign plan certificate text = IsAssignmentText plan certificate text
 IsAnswer question.Reach plan certificate text = IsReachText plan certificate text
-IsAnswer question.Draw plan certificate text = IsCertifiedDrawing plan certificate text
+IsAnswer (question.Draw rows) plan certificate text = IsCertifiedDrawing rows plan certificate text
 IsAnswer (question.Walk node part) plan certificate text = IsWalkText node.now part.bytes plan certificate text
 IsAnswer (question.Trace from to) plan certificate text = IsTraceText from.now to.now plan certificate text
 
@@ -33,7 +33,7 @@ IsNamedIn question.Check plan = ⊤
 IsNamedIn question.Faults plan = ⊤
 IsNamedIn question.Assign plan = ⊤
 IsNamedIn question.Reach plan = ⊤
-IsNamedIn question.Draw plan = ⊤
+IsNamedIn (question.Draw rows) plan = ⊤
 IsNamedIn (question.Walk node part) plan = HasTerminusNamed plan node.now
 IsNamedIn (question.Trace from to) plan = NameTheEnds from.now to.now plan
 
@@ -43,7 +43,7 @@ IsTooMuch question.Check plan certificate = ⊥
 IsTooMuch question.Faults plan certificate = ⊥
 IsTooMuch question.Assign plan certificate = ⊥
 IsTooMuch question.Reach plan certificate = ⊥
-IsTooMuch question.Draw plan certificate = ⊥
+IsTooMuch (question.Draw rows) plan certificate = ⊥
 IsTooMuch (question.Walk node part) plan certificate = HasTooManyBytes node.now plan certificate
 IsTooMuch (question.Trace from to) plan certificate = ⊥
 
@@ -54,7 +54,7 @@ IsFaultAnswer question.Faults plan certificate text = IsFaultListOf plan certifi
 IsFaultAnswer question.Check plan certificate text = IsFaultText plan certificate text
 IsFaultAnswer question.Assign plan certificate text = IsFaultText plan certificate text
 IsFaultAnswer question.Reach plan certificate text = IsFaultText plan certificate text
-IsFaultAnswer question.Draw plan certificate text = IsFaultText plan certificate text
+IsFaultAnswer (question.Draw rows) plan certificate text = IsFaultText plan certificate text
 IsFaultAnswer (question.Walk node part) plan certificate text = IsFaultText plan certificate text
 IsFaultAnswer (question.Trace from to) plan certificate text = IsFaultText plan certificate text
 

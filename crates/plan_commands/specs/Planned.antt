@@ -14,7 +14,7 @@ use Rattle.plan_commands.specs.Linting.{IsLinted}
 -- the text answers the question about the plan, in a run that ends so
 abbrev pub IsSaidOf : PlanQuestion → Plan → Status → List ℕ → Type 0
 IsSaidOf question.Certify plan ended text = Certifies plan ended text
-IsSaidOf question.Draw plan ended text = (ended ≡ status.Yes) × IsPlanDrawing plan text
+IsSaidOf (question.Draw rows) plan ended text = (ended ≡ status.Yes) × IsPlanDrawing rows plan text
 IsSaidOf question.Faults plan ended text = IsListed plan ended text
 IsSaidOf question.Lint plan ended text = IsLinted plan ended text
 

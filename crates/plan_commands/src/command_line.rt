@@ -1,7 +1,9 @@
 //! The program's command line.
 use crate::commands::certified::Question;
+use crate::commands::draw::DrawnRows;
 use crate::commands::planned::PlanQuestion;
 use crate::commands::show::ShownKind;
+use crate::commands::trace::eid_of_word;
 use crate::commands::walk::PartSize;
 use crate::commands::worded::WordQuestion;
 use crate::refused::Refused;
@@ -122,6 +124,12 @@ const COMMANDS: [(&str, &[&str], &[&str]); 19] = [
     ("version", &[], &[]),
 ];
 
+/// What stands for an option that has no value.
+const ALL: &str = "all";
+
+/// The options of commands, and what each means where no value follows it, if it may stand alone.
+const OPTIONS: [(&str, &str, Option<&str>); 1] = [("draw", "rows", Some(ALL))];
+
 /// The names of all commands.
 pub fn command_names(alloc: Global) -> Result<Vec<&'static str>, AllocError> {
     let mut names = Vec::new(alloc);
@@ -141,7 +149,8 @@ fn grammar<'a>(alloc: Global) -> Result<clap::Command<'a>, AllocError> {
     Ok(grammar)
 }
 
-/// A command with its arguments in this order: first those that are required, then those that may be left out.
+/// A command with its arguments in this order: first those that are required, then those that may be left out. Options may
+/// stand anywhere.
 fn with_arguments<'a>(
     alloc: Global,
     name: &'a str,
@@ -155,7 +164,21 @@ fn with_arguments<'a>(
     for id in optional {
         command = command.arg(Arg::new(alloc, *id).action(ArgAction::Set))?;
     }
+    for (of, id, alone) in OPTIONS {
+        if of == name {
+            command = command.arg(option(alloc, id, alone))?;
+        }
+    }
     Ok(command)
+}
+
+/// An option, and what it means where no value follows it.
+fn option<'a>(alloc: Global, id: &'a str, alone: Option<&'a str>) -> Arg<'a> {
+    let option = Arg::new(alloc, id).long(id).action(ArgAction::Set);
+    match alone {
+        Some(value) => option.num_args(0..=1).default_missing_value(value),
+        None => option,
+    }
 }
 
 fn chosen<'a>(matches: &ArgMatches<'a>) -> Option<Subcommand<'a>> {
@@ -171,7 +194,7 @@ fn chosen<'a>(matches: &ArgMatches<'a>) -> Option<Subcommand<'a>> {
         "walk" => walking(arguments),
         "reach" => certified(arguments, Question::Reach),
         "trace" => tracing(arguments),
-        "draw" => with_or_without(arguments, Question::Draw, PlanQuestion::Draw),
+        "draw" => drawing(arguments),
         "explain" => explaining(arguments),
         "faults" => with_or_without(arguments, Question::Faults, PlanQuestion::Faults),
         "lint" => planned(arguments, PlanQuestion::Lint),
@@ -254,6 +277,24 @@ fn with_or_without<'a>(
     match arguments.get_str("certificate") {
         Some(_) => certified(arguments, question),
         None => planned(arguments, alone),
+    }
+}
+
+fn drawing<'a>(arguments: &ArgMatches<'a>) -> Option<Subcommand<'a>> {
+    let rows = drawn_rows(arguments.get_str("rows"))?;
+    with_or_without(
+        arguments,
+        Question::Draw { rows },
+        PlanQuestion::Draw { rows },
+    )
+}
+
+/// Which rows are drawn, by what stands behind the option.
+fn drawn_rows(word: Option<&str>) -> Option<DrawnRows> {
+    match word {
+        None => Some(DrawnRows::Hidden),
+        Some(ALL) => Some(DrawnRows::All),
+        Some(word) => Some(DrawnRows::For(eid_of_word(word)?)),
     }
 }
 

@@ -4,3 +4,4 @@ pub mod ToldTexts
 pub mod Chains
 pub mod DoubledTold
 pub mod Differing
+pub mod RowDrawn

@@ -13,6 +13,7 @@ pub mod PairLines
 pub mod AssignmentLines
 pub mod OutcomeLines
 pub mod DrawingLines
+pub mod RowDrawings
 pub mod WalkLines
 pub mod ReadingLines
 pub mod Standing

@@ -32,7 +32,7 @@ pub use assignments::assignment_lines;
 pub use certificates::certificate_fault_lines;
 pub use codes::text_of;
 pub use differences::first_difference;
-pub use drawings::drawing;
+pub use drawings::{bundle_drawing, drawing, way_drawing};
 pub use explanations::{cause_lines, obstacle_lines};
 pub use fault_lists::{counted_line, fault_lines};
 pub use findings::lint_lines;

@@ -9,7 +9,7 @@ ghost use Rattle.plan_commands.specs.Planned.{IsSaidOf, SaysSo};
 
 use crate::commands::answer::{Answer, tell};
 use crate::commands::certify::certificate_of_plan;
-use crate::commands::draw::drawing_of_plan;
+use crate::commands::draw::{DrawnRows, drawing_of_plan};
 use crate::commands::inputs::given_plan;
 use crate::commands::lint::findings_of_plan;
 use crate::commands::listing::faults_of_plan;
@@ -25,7 +25,7 @@ pub enum PlanQuestion {
     /// What is its certificate, or why has it none?
     Certify,
     /// What does the network look like? A loop that rules certificates out, of rows or of owners, is red.
-    Draw,
+    Draw { rows: DrawnRows },
     /// What are all its faults, or what else rules certificates out?
     Faults,
     /// What in it is lawful and still looks wrong?
@@ -77,7 +77,7 @@ fn answer_of_plan(alloc: Global, question: PlanQuestion, plan: &Plan) -> Result<
 {
     match question {
         PlanQuestion::Certify => certificate_of_plan(alloc, plan),
-        PlanQuestion::Draw => drawing_of_plan(alloc, plan),
+        PlanQuestion::Draw { rows } => drawing_of_plan(alloc, plan, rows),
         PlanQuestion::Faults => faults_of_plan(alloc, plan),
         PlanQuestion::Lint => findings_of_plan(alloc, plan),
     }

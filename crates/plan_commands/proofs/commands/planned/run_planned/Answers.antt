@@ -11,7 +11,7 @@ use Rattle.plan_commands.proofs.commands.planned.run_planned.Goals as goal
 -- no answer on a plan is that of an input that can't be read
 nothing_said : (asked : PlanQuestion) (plan : Plan) (text : List ℕ) → IsSaidOf asked plan status.Unreadable text → ⊥
 nothing_said question.Certify plan text h = h
-nothing_said question.Draw plan text (is, drawn) = absurd (cc)
+nothing_said (question.Draw rows) plan text (is, drawn) = absurd (cc)
 nothing_said question.Faults plan text h = h
 nothing_said question.Lint plan text h = h
 
