@@ -15,9 +15,6 @@ pub mod OutcomeLines
 pub mod DrawingLines
 pub mod RowDrawings
 pub mod WalkLines
-pub mod ReadingLines
-pub mod Standing
-pub mod TroubleLines
 pub mod Shown
 pub mod EditLines
 pub mod DifferenceLines

@@ -1,7 +1,8 @@
 //! Which words are which command.
 
+use mctp_transport::Eid;
 use plan_commands::{
-    GUIDE, PartSize, PlanQuestion, Question, Refused, ShownKind, Subcommand, VERSION, parse_command,
+    DrawnRows, GUIDE, PartSize, PlanQuestion, Question, Refused, ShownKind, Subcommand, VERSION, parse_command,
 };
 use std::process::Abort;
 use std::test::Fail;
