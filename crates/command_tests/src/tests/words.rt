@@ -2,7 +2,8 @@
 
 use mctp_transport::Eid;
 use plan_commands::{
-    DrawnRows, GUIDE, PartSize, PlanQuestion, Question, Refused, ShownKind, Subcommand, VERSION, parse_command,
+    DrawnRows, GUIDE, PartSize, PlanQuestion, Question, Refused, ShownKind, Subcommand, VERSION,
+    parse_command,
 };
 use std::process::Abort;
 use std::test::Fail;
