@@ -8,11 +8,14 @@ assign PLAN CERT             the requests that give the nodes their endpoint IDs
 sim PLAN CERT EVENTS         what comes of events in the planned network
 expect PLAN CERT EVENTS LINES
                              whether sim prints these lines, or the first one that differs
+script PLAN CERT walk NODE EID COUNT [--lose N,N] [--repeat N,N]
+                             the events of a whole walk over the network, as it runs
 simmove OLD NEW CERT EVENTS  the same while nodes go over to new rows
 walk PLAN CERT NODE COUNT    the records that a walk over a node's terminus collects
 reach PLAN CERT              who reaches whom, and in how many hops
 trace PLAN CERT FROM TO      the way of a packet from a node to another, or to an endpoint ID
-draw PLAN [CERT]             the planned network as a drawing for Graphviz
+draw PLAN [CERT] [--rows [EID]]
+                             the planned network, or where its rows lead, as a drawing for Graphviz
 explain PLAN [CERT]          what certify says of the plan, or check of both, and why
 faults PLAN [CERT]           every fault of the plan, or of both, and how many they are
 lint PLAN                    what is lawful in the plan and still looks wrong, or clean
@@ -42,6 +45,7 @@ pub fn guide_to(command: &str) -> Option<&'static str> {
         "assign" => Some(OF_ASSIGN),
         "sim" => Some(OF_SIM),
         "expect" => Some(OF_EXPECT),
+        "script" => Some(OF_SCRIPT),
         "simmove" => Some(OF_SIMMOVE),
         "walk" => Some(OF_WALK),
         "reach" => Some(OF_REACH),
@@ -145,6 +149,27 @@ Status 1: the first line that differs.
   came: 3 moved 1 to ssd hops 2
 "#;
 
+const OF_SCRIPT: &str = r#"mctpplan script PLAN CERT walk NODE EID COUNT [--lose N,N] [--repeat N,N]
+
+Prints events, as sim plays them, of a walk in which NODE reads the records of the terminus with
+endpoint ID EID, by requests of COUNT bytes each, 8 to 4079. They are made as the network plays
+them, request by request: packets move hop by hop, and where a packet is lost, the request is put in
+again. The packets with the numbers behind --lose are lost, and those behind --repeat come twice.
+Packets are numbered from 1, in the order in which they are put in, copies too.
+
+Before they are printed, the events are read and played once more: the last one, collected, tells
+that the walk is done, with all records. Where the walk doesn't go on, the line is printed by which
+sim tells this.
+
+Status 0: the events.
+Status 1: where the walk doesn't go on; or a fault of the plan or the certificate.
+
+  $ mctpplan script examples/riser/plan.json examples/riser/certificate.json walk host 17 64 \
+      --lose 1 > events.json
+  $ mctpplan sim examples/riser/plan.json examples/riser/certificate.json events.json | tail -n 1
+  12 collected 1 records 1 done
+"#;
+
 const OF_SIMMOVE: &str = r#"mctpplan simmove OLD NEW CERT EVENTS
 
 Plays events in the network of the old plan, whose nodes go over to the rows of the new one by the
@@ -201,16 +226,26 @@ Status 1: a fault of the plan or the certificate.
   hops 2
 "#;
 
-const OF_DRAW: &str = r#"mctpplan draw PLAN [CERT]
+const OF_DRAW: &str = r#"mctpplan draw PLAN [CERT] [--rows [EID]]
 
-Prints the planned network in the language DOT of Graphviz: buses, nodes, ports and owners. The
-nodes of a loop that rules certificates out are red. With a certificate that fits the plan, levels
-and ranks are tooltips; where it does not fit, the first fault is printed.
+Prints the planned network in the language DOT of Graphviz: buses, nodes, ports and owners. Octagons
+are bridges, rounded boxes are endpoints, and a node with a terminus has a double outline. The nodes
+of a loop that rules certificates out are red, and so are the arrows along it, with the endpoint ID
+for which packets go round. With a certificate that fits the plan, levels and ranks are tooltips;
+where it does not fit, the first fault is printed.
+
+With --rows at the end arrows stand in place of buses and ports: from each node to each next node,
+with what the rows between them cover. With an endpoint ID behind it, 8 to 254, there is an arrow
+from each node that sends packets for it on, with how many hops they still make; or stops, or goes
+round. The arrows of a loop are red.
 
 Status 0: the drawing, also of a plan with faults.
 Status 1: a fault of the plan or the certificate, where there is a certificate.
 
   $ mctpplan draw examples/riser/plan.json > riser.dot
+  $ mctpplan draw examples/riser/plan.json --rows 18 | grep -e '->'
+      node_0 -> node_1 [label="2"];
+      node_1 -> node_3 [label="1"];
 "#;
 
 const OF_EXPLAIN: &str = r#"mctpplan explain PLAN [CERT]
