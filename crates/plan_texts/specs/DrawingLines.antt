@@ -81,7 +81,7 @@ tooltip_text None n = []
 
 abbrev pub first_line : List ℕ
 first_line =
-    codes "digraph plan { rankdir=LR; nodesep=0.08; ranksep=0.6; node [fontsize=10, height=0.2, margin=\"0.08,0.02\"]; edge [fontsize=9];\n"
+    codes "digraph plan { rankdir=LR; nodesep=0.08; node [fontsize=10, height=0.2, margin=0.04]; edge [fontsize=9];\n"
 
 abbrev pub last_line : List ℕ
 last_line = codes "}\n"
@@ -119,7 +119,7 @@ abbrev pub bus_behind : ℕ → ℕ → Port → List ℕ
 bus_behind n p port =
     codes "    node_" ++ (decimal n ++ (codes " -> bus_" ++ (decimal port.bus ++ port_label p port)))
 
--- Port p of n, which has this owner. The bus stands before the node where the owner has a port on it, and else behind it.
+-- Port p of n, which has this owner. The bus stands before the node where the owner has a port on it, and else behind.
 abbrev pub port_line : Plan → Option ℕ → ℕ → ℕ → Port → List ℕ
 port_line plan owner n p port =
     if is_owner_on plan owner port.bus then bus_before n p port else bus_behind n p port
@@ -175,8 +175,8 @@ port_count plan = sum_by (λ node. length node.ports.items) plan.nodes.items
 abbrev pub owned_count : Plan → ℕ
 owned_count plan = count_by (λ node. is_some node.owner) plan.nodes.items
 
--- The text is the lines of the drawing. There is one for each bus, node, port and owned node, one for each arrow of what
--- goes round, and two more.
+-- The text is the lines of the drawing. There is one for each bus, node, port and owned node, one for each arrow of
+-- what goes round, and two more.
 pub record IsDrawing (plan : Plan) (red red_owned : List ℕ) (round : Option Eid) (cert : Option Certificate)
     (text : List ℕ) : Type 0 where
   pub written : text ≡ concat (drawing_lines plan red red_owned round cert)

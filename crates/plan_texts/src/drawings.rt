@@ -17,7 +17,7 @@ use std::alloc::{AllocError, Global};
 
 /// The first line of a drawing.
 const FIRST_LINE: &str =
-    "digraph plan { rankdir=LR; nodesep=0.08; ranksep=0.6; node [fontsize=10, height=0.2, margin=\"0.08,0.02\"]; edge [fontsize=9];\n";
+    "digraph plan { rankdir=LR; nodesep=0.08; node [fontsize=10, height=0.2, margin=0.04]; edge [fontsize=9];\n";
 
 /// The last line of a drawing.
 const LAST_LINE: &str = "}\n";
