@@ -1,6 +1,8 @@
 -- What the end of `expect` tells, and the lines that are expected.
-use Rattle.std.proofs.Common.{◌≡◌, ◌+◌, ℕ, List, Result, Ok, Err, IsOk, refl}
-use Rattle.std.specs.Prelude.{IsUtf8}
+use Rattle.std.proofs.Common.{◌≡◌, ◌∙◌, ◌≤◌, ℕ, List, length, map, take, Result, Ok, Err, refl, sym, ap, subst}
+use Rattle.std.specs.Prelude.{IfOk}
+use Rattle.std.specs.Cow.{cow_str_bytes}
+use Rattle.std.proofs.lemmas.List.{take_all}
 use Rattle.net_json.specs.declared.error.PlanError.{PlanError}
 use Rattle.net_json.specs.declared.stream.TextFault.{TextFault}
 use Rattle.net_json.specs.declared.stream.TextFault.TheVariants as fault
@@ -9,11 +11,15 @@ use Rattle.net_json.specs.TextFaults.{fault_count, text_error}
 use Rattle.net_plan.specs.declared.certificate.Certificate.{Certificate}
 use Rattle.net_plan.specs.declared.event.Event.{Event}
 use Rattle.net_plan.specs.declared.plan.Plan.{Plan}
+use Rattle.net_sim.specs.declared.outcome.Outcome.{Outcome}
+use Rattle.net_sim.specs.Outcomes.{event_value, outcome_value}
+use Rattle.plan_texts.specs.OutcomeLines.{outcome_lines}
+use Rattle.plan_commands.specs.declared.commands.answer.Answer.{Answer}
 use Rattle.plan_commands.specs.declared.refused.Input.{Input}
 use Rattle.plan_commands.specs.declared.refused.Input.TheVariants as input
 use Rattle.plan_commands.specs.declared.refused.Refused.{Refused}
 use Rattle.plan_commands.specs.Answers.{Stream, AreGiven}
-use Rattle.plan_commands.specs.Expecting.{IsUnreadAsLines, AreLinesUnread, IsUnreadInExpect, AreUnreadInExpect}
+use Rattle.plan_commands.specs.Expecting.{AnswersLinesOn, AnswersLinesSo, GaveLines, IsUnreadAsLines, AreLinesUnread, IsUnreadInExpect, AreUnreadInExpect}
 use Rattle.plan_commands.specs.Simulating.{GaveEvents, IsUnreadAmong, AreUnreadAmong}
 use Rattle.plan_commands.specs.Statuses.{refused_at}
 use Rattle.plan_commands.proofs.Causes.{unread_also}
@@ -53,3 +59,18 @@ pub no_lines : (why : TextFault) (expectations : Stream) → (why ≡ fault.TooL
 no_lines fault.TooLong expectations long counted = long refl
 no_lines fault.Device expectations long counted = counted
 no_lines fault.OutOfMemory expectations long counted = tt
+
+-- the lines of all outcomes, whatever the plan and the outcomes are called
+pub lines_of_all : (plan plan' : Plan) (outcomes outcomes' : List Outcome) (k : ℕ) (text : List ℕ) → plan' ≡ plan → outcomes' ≡ outcomes
+    → length (map outcome_value outcomes) ≤ k → text ≡ outcome_lines plan' (map outcome_value outcomes') → text ≡ outcome_lines plan (take k (map outcome_value outcomes))
+lines_of_all plan plan' outcomes outcomes' k text same listed all is =
+    is ∙ (ap (λ (p : Plan). outcome_lines p (map outcome_value outcomes')) same
+    ∙ (ap (λ os. outcome_lines plan (map outcome_value os)) listed ∙ ap (outcome_lines plan) (sym (take_all k (map outcome_value outcomes) all))))
+
+-- what answers on the inputs answers on those that were given
+module _ (plan : Plan) (cert : Certificate) (events : List Event) (wanted : List ℕ) (plans certificates happenings expectations : Stream)
+    (given : AreGiven plans certificates plan cert) (gave : GaveEvents plan happenings events) (lines : GaveLines expectations wanted) where
+  pub answers_given : (result : Result Answer Refused) → IfOk result (λ (a : Answer). AnswersLinesOn plan cert (map event_value events) wanted a.status (cow_str_bytes a.text))
+      → IfOk result (λ (a : Answer). AnswersLinesSo plans certificates happenings expectations a.status (cow_str_bytes a.text))
+  answers_given (Ok a) answers = (plan, cert, events, wanted, given, gave, lines, answers)
+  answers_given (Err why) answers = tt
