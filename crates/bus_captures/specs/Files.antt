@@ -72,14 +72,16 @@ EndsFile order link count left end.Full = (count ≡ 100000) × (left ≢ [])
 EndsFile order link count left (end.Broken place why) = (place ≡ count + 1) × IsBrokenBy order link left why
 
 -- The bytes are records, each of which is an entry, and then what is left.
-pub record AreRead (order : Order) (unit : TimeUnit) (link : Link) (bytes : List ℕ) (entries : List EntryValue) (left : List ℕ) : Type 0 where
+pub record AreRead (order : Order) (unit : TimeUnit) (link : Link) (bytes : List ℕ) (entries : List EntryValue)
+    (left : List ℕ) : Type 0 where
   pub records : List FileRecord
   pub spelled : bytes ≡ flat_map (record_bytes order) records ++ left
   pub lawful : All IsRecord records
   pub each : AllZip (IsEntryOf unit link) records entries
 
 -- The bytes are these entries, a record each, up to what is left, and reading ends there so.
-pub record IsBody (order : Order) (unit : TimeUnit) (link : Link) (bytes : List ℕ) (entries : List EntryValue) (how : End) : Type 0 where
+pub record IsBody (order : Order) (unit : TimeUnit) (link : Link) (bytes : List ℕ) (entries : List EntryValue)
+    (how : End) : Type 0 where
   pub left : List ℕ
   pub read : AreRead order unit link bytes entries left
   pub ends : EndsFile order link (length entries) left how

@@ -65,7 +65,9 @@ message_head words hex =
 abbrev pub head_of : List ℕ → HeadValue
 head_of text =
     if nat_lt (behind sort.Colon text) (length text)
-    then message_head (take (length text - behind sort.Colon text - 1) text) (drop (length text - behind sort.Colon text) text)
+    then message_head
+    (take (length text - behind sort.Colon text - 1) text)
+    (drop (length text - behind sort.Colon text) text)
     else packet_head text
 
 -- nothing but spaces

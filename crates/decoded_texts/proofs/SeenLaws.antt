@@ -58,12 +58,12 @@ fed_given old new seen p answer small given fed =
       many = ap length fed.others ∙ length-set old p.destination fed.fed ∙ many;
       each = λ d x within. elim (same_or_not p.destination d) [
         | inl same ↦ subst (λ (k : ℕ). HasBeenGiven (get_or new k x) (history_to k (seen ++ Fed p answer ∷ []))) same
-          (let there : p.destination < length old = omega arith in
+            (let there : p.destination < length old = omega arith in
             rw (fed.others, get_or-set_same old p.destination fed.fed x there, history_same seen p answer)
             (fed.given x (history_to p.destination seen) (given.each p.destination x small)))
         | inr other ↦
-          rw (fed.others, get_or-set_other old p.destination d fed.fed x (λ e. other (sym e)), history_other d seen p answer other)
-          (given.each d x within)
+            rw (fed.others, get_or-set_other old p.destination d fed.fed x (λ e. other (sym e)), history_other d seen p answer other)
+            (given.each d x within)
       ];
     }
 
@@ -81,8 +81,8 @@ added : (entries : List EntryValue) (old new : List Assembler) (lines told : Lis
 added entries old new lines told e number before is (Fed p answer) sees tells = record {
   seen = before.seen ++ Fed p answer ∷ [];
   are = More entries before.seen lines e (Fed p answer) told before.are
-  (sees.0, sees.1, sees.2.hears sees.2.fed (history_to p.destination before.seen) (before.given.each p.destination sees.2.fed sees.1.0.destination))
-  (rw (← is) tells);
+      (sees.0, sees.1, sees.2.hears sees.2.fed (history_to p.destination before.seen) (before.given.each p.destination sees.2.fed sees.1.0.destination))
+      (rw (← is) tells);
   given = fed_given old new before.seen p answer sees.1.0.destination before.given sees.2;
 }
 added entries old new lines told e number before is (NoPacket why) sees tells = record {

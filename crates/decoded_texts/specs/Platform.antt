@@ -11,19 +11,27 @@ use Rattle.pldm_message.specs.Headers.{HeaderValue, BeginsWith}
 use Rattle.pldm_message.specs.Messages.{RequestMessage, AnswerMessage}
 use Rattle.pldm_message.specs.Pdrs.{PartRequest, Part, IsGetPdrRequest, get_pdr_request_bytes, IsGetPdrAnswer, get_pdr_answer_bytes}
 
+-- where a part of a record is asked for
+abbrev pub place_words : PartRequest → List ℕ
+place_words r =
+    codes "record " ++ (decimal r.handle ++ (codes " transfer " ++ (decimal r.transfer
+    ++ (codes " operation " ++ decimal r.operation))))
+
 -- a request for a part of a record, by its fields
 abbrev pub part_request_line : RequestMessage PartRequest → List ℕ
 part_request_line m =
-    codes "pldm request instance " ++ (decimal m.head.instance ++ (codes " get-pdr record " ++ (decimal m.body.handle
-    ++ (codes " transfer " ++ (decimal m.body.transfer ++ (codes " operation " ++ (decimal m.body.operation
-    ++ (codes " count " ++ (decimal m.body.count ++ (codes " change " ++ (decimal m.body.change ++ codes "\n")))))))))))
+    codes "pldm request instance " ++ (decimal m.head.instance ++ (codes " get-pdr " ++ (place_words m.body
+    ++ (codes " count " ++ (decimal m.body.count ++ (codes " change " ++ (decimal m.body.change ++ codes "\n")))))))
+
+abbrev pub part_words : Part → List ℕ
+part_words p =
+    codes "next " ++ (decimal p.next ++ (codes " transfer " ++ (decimal p.transfer ++ (codes " flag " ++ decimal p.flag))))
 
 -- a part of a record, by its fields
 abbrev pub part_line : ℕ → Part → List ℕ
 part_line instance p =
-    codes "pldm response instance " ++ (decimal instance ++ (codes " get-pdr next " ++ (decimal p.next
-    ++ (codes " transfer " ++ (decimal p.transfer ++ (codes " flag " ++ (decimal p.flag
-    ++ (codes " bytes " ++ (encode_lower p.bytes ++ codes "\n")))))))))
+    codes "pldm response instance " ++ (decimal instance ++ (codes " get-pdr " ++ (part_words p
+    ++ (codes " bytes " ++ (encode_lower p.bytes ++ codes "\n")))))
 
 abbrev pub failed_line : ℕ → ℕ → List ℕ
 failed_line instance code =

@@ -55,16 +55,16 @@ answer_word Held = codes "held"
 answer_word (Dropped cause) = codes "dropped " ++ cause_code cause
 
 abbrev pub way_word : Option Direction → List ℕ
-way_word None = codes ""
-way_word (Some direction.Sent) = codes "sent "
-way_word (Some direction.Received) = codes "received "
+way_word None = codes "message"
+way_word (Some direction.Sent) = codes "sent message"
+way_word (Some direction.Received) = codes "received message"
 
 abbrev pub fed_line : ℕ → Frame → Answer → List ℕ
 fed_line number p answer = decimal number ++ (codes " " ++ (answer_word answer ++ (codes " " ++ packet_bytes p)))
 
 abbrev pub told_line : ℕ → Option Direction → List ℕ → List ℕ
 told_line number way message =
-    decimal number ++ (codes " " ++ (way_word way ++ (codes "message " ++ (encode_lower message ++ codes "\n"))))
+    decimal number ++ (codes " " ++ (way_word way ++ (codes " " ++ (encode_lower message ++ codes "\n"))))
 
 -- behind a packet that ends a message stands what the message says
 abbrev pub IsSaidOf : Answer → List ℕ → Type 0

@@ -126,17 +126,17 @@ fn told_line(
 ) -> Result<String, AllocError>
     ensures { IfOk result (λ line. string_bytes line ≡ told_line number way message.now) }
 {
-    let way = way_word(way);
-    let message = hex::encode(alloc, message)?;
-    format!(in alloc; "{number} {way}message {message}\n")
+    let word = way_word(way);
+    let bytes = hex::encode(alloc, message)?;
+    format!(in alloc; "{number} {word} {bytes}\n")
 }
 
 fn way_word(way: Option<Direction>) -> &'static str
     ensures { result.now ≡ way_word way }
 {
     match way {
-        None => "",
-        Some(Direction::Sent) => "sent ",
-        Some(Direction::Received) => "received ",
+        None => "message",
+        Some(Direction::Sent) => "sent message",
+        Some(Direction::Received) => "received message",
     }
 }

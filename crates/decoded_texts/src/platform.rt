@@ -1,8 +1,8 @@
 //! The lines of PLDM messages.
 ghost use Rattle.std.specs.Prelude.{◌≡◌, ◌≤◌, IfOk, MatchOption, string_bytes, length, drop};
 ghost use Rattle.pldm_message.specs.HeaderValues.{header_value};
-ghost use Rattle.pldm_message.specs.PdrValues.{get_pdr_request, get_pdr_answer, part};
-ghost use Rattle.decoded_texts.specs.Platform.{part_request_line, part_line, failed_line, header_line, kind_word, IsRecordOrNothing, IsPartText, IsOutcomeText, IsPartRequestText, IsPartAnswerText, IsNoPartRequest, IsNoPartAnswer, IsHeaderText, IsNoHeader};
+ghost use Rattle.pldm_message.specs.PdrValues.{get_pdr_request, part_request, get_pdr_answer, part};
+ghost use Rattle.decoded_texts.specs.Platform.{part_request_line, place_words, part_line, part_words, failed_line, header_line, kind_word, IsRecordOrNothing, IsPartText, IsOutcomeText, IsPartRequestText, IsPartAnswerText, IsNoPartRequest, IsNoPartAnswer, IsHeaderText, IsNoHeader};
 
 use mctp_transport::Wire;
 use pdr_record::Record;
@@ -25,14 +25,21 @@ fn request_text(alloc: Global, request: &GetPdrRequest) -> Result<String, AllocE
     ensures { IfOk result (λ text. string_bytes text ≡ part_request_line (get_pdr_request request.now)) }
 {
     let instance = request.head.instance.value;
-    let handle = request.record_handle;
-    let transfer = request.transfer_handle;
-    let operation = request.operation.value;
+    let place = place_words(alloc, request)?;
     let count = request.count;
     let change = request.change_number;
     format!(in alloc;
-        "pldm request instance {instance} get-pdr record {handle} transfer {transfer} operation {operation} count {count} change {change}\n"
+        "pldm request instance {instance} get-pdr {place} count {count} change {change}\n"
     )
+}
+
+fn place_words(alloc: Global, request: &GetPdrRequest) -> Result<String, AllocError>
+    ensures { IfOk result (λ words. string_bytes words ≡ place_words (part_request request.now)) }
+{
+    let handle = request.record_handle;
+    let transfer = request.transfer_handle;
+    let operation = request.operation.value;
+    format!(in alloc; "record {handle} transfer {transfer} operation {operation}")
 }
 
 /// The lines of the answer with a part of a record that the bytes are. None where they are none.
@@ -62,14 +69,26 @@ fn answer_text(alloc: Global, answer: &GetPdrAnswer) -> Result<String, AllocErro
 fn part_text(alloc: Global, instance: u8, given: &PdrPart) -> Result<String, AllocError>
     ensures { IfOk result (λ text. IsPartText instance (part given.now) (string_bytes text)) }
 {
+    let line = part_line(alloc, instance, given)?;
+    let shown = record_or_nothing(alloc, given.bytes)?;
+    format!(in alloc; "{line}{shown}")
+}
+
+fn part_line(alloc: Global, instance: u8, given: &PdrPart) -> Result<String, AllocError>
+    ensures { IfOk result (λ line. string_bytes line ≡ part_line instance (part given.now)) }
+{
+    let words = part_words(alloc, given)?;
+    let bytes = hex::encode(alloc, given.bytes)?;
+    format!(in alloc; "pldm response instance {instance} get-pdr {words} bytes {bytes}\n")
+}
+
+fn part_words(alloc: Global, given: &PdrPart) -> Result<String, AllocError>
+    ensures { IfOk result (λ words. string_bytes words ≡ part_words (part given.now)) }
+{
     let next = given.next_record;
     let transfer = given.next_transfer;
     let flag = given.flag.value;
-    let bytes = hex::encode(alloc, given.bytes)?;
-    let shown = record_or_nothing(alloc, given.bytes)?;
-    format!(in alloc;
-        "pldm response instance {instance} get-pdr next {next} transfer {transfer} flag {flag} bytes {bytes}\n{shown}"
-    )
+    format!(in alloc; "next {next} transfer {transfer} flag {flag}")
 }
 
 /// The lines of the record that the bytes are, or nothing where they are none.
