@@ -1,0 +1,22 @@
+//! Why a text is no board.
+use std::alloc::AllocError;
+
+/// Why a text is no board.
+#[derive(Debug, Drop)]
+pub enum BoardError {
+    /// The text says at a line and a column, both from 1, what can't stand there.
+    Unread {
+        line: usize,
+        column: usize,
+        /// What stands there and what may.
+        reason: String,
+    },
+    /// There is too little memory.
+    OutOfMemory,
+}
+
+impl From<AllocError> for BoardError {
+    fn from(_error: AllocError) -> BoardError {
+        BoardError::OutOfMemory
+    }
+}

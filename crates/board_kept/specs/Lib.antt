@@ -1,0 +1,5 @@
+pub mod Said
+pub mod Texts
+pub mod Fields
+pub mod Kept
+pub mod Ways

@@ -1,0 +1,30 @@
+-- Ways over buses and bridges, whatever the rows.
+use Rattle.std.specs.Prelude.{◌≡◌, ◌⊎◌, ℕ, zero, suc, ◌<◌, List, length, Bool, true, Some, slice_get}
+use Rattle.net_plan.specs.declared.plan.Plan.{Plan}
+use Rattle.net_tables.specs.Routing.{IsBridge}
+use Rattle.net_tables.specs.Rows.{IsOnBus}
+
+-- both nodes have a port on one of the plan's buses
+abbrev pub ShareBus : Plan → ℕ → ℕ → Type 0
+ShareBus plan m n = (bus : ℕ) × (bus < length plan.buses.items) × IsOnBus plan m bus × IsOnBus plan n bus
+
+-- the node sends on what has come to it with so many hops: its own, or it is a bridge
+abbrev pub SendsOn : Plan → ℕ → ℕ → Type 0
+SendsOn plan hops n = (hops ≡ 0) ⊎ IsBridge plan n
+
+-- so many hops over buses lead from a to b: neighbours share a bus, and each node between the two is a bridge
+abbrev pub ComesOver : Plan → ℕ → ℕ → ℕ → Type 0
+ComesOver plan a zero b = a ≡ b
+ComesOver plan a (suc hops) b = (n : ℕ) × ComesOver plan a hops n × SendsOn plan hops n × ShareBus plan n b
+
+-- no fewer hops over buses lead from a to b
+abbrev pub NoneFewer : Plan → ℕ → ℕ → ℕ → Type 0
+NoneFewer plan a b hops = (fewer : ℕ) → fewer < hops → ¬ ComesOver plan a fewer b
+
+-- the flags have every node to which so many hops over buses lead from a
+abbrev pub HaveReached : Plan → ℕ → ℕ → List Bool → Type 0
+HaveReached plan a hops flags = (n : ℕ) → n < length plan.nodes.items → ComesOver plan a hops n → slice_get flags n ≡ Some true
+
+-- no fewer hops lead from a to each node than are said of it
+abbrev pub NoneFewerToEach : Plan → ℕ → List ℕ → Type 0
+NoneFewerToEach plan a hops = (b said : ℕ) → b < length plan.nodes.items → slice_get hops b ≡ Some said → NoneFewer plan a b said

@@ -1,0 +1,152 @@
+//! Whether a plan keeps what a board says of a node.
+ghost use Rattle.std.specs.Prelude.{◌≡◌, ◌⊎◌, IfOk, IsTrue, codes, None, Some, option_map};
+ghost use Rattle.toml.specs.Data.{get};
+ghost use Rattle.toml.specs.View.{view};
+ghost use Rattle.board_kept.specs.Said.{IsItemKept, AreItemsKept, item_at};
+ghost use Rattle.board_kept.specs.Kept.{IsKindKept, IsOwnerKept, IsPoolKept, IsPortKept, IsAmongRows, AreRowsKept, IsNodeKept};
+
+use crate::records::keeps_terminus;
+use crate::said::{is_left_out, is_text, item, says_none_or, says_number, says_text};
+use crate::texts::{eids_text, kind_word, node_name, port_text, row_text};
+use net_plan::{Kind, Node, Plan, Pool, Port, Row};
+use std::alloc::{AllocError, Global};
+use toml::Value;
+
+/// Whether what is said of a node is so of it.
+pub fn keeps_node(
+    alloc: Global,
+    plan: &Plan,
+    node: &Node,
+    said: &Value,
+) -> Result<bool, AllocError>
+    ensures { IfOk result (λ answer. IsTrue answer → IsNodeKept plan.now node.now (view said.now)) }
+{
+    let head = says_text(said, "name", node.name.text.as_str())
+        && keeps_kind(node.kind, said)
+        && says_none_or(said, "eid", u32::from(node.eid.value))
+        && keeps_owner(plan, node.owner, said);
+    Ok(keeps_pool(alloc, node.pool, said)?
+        && keeps_ports(alloc, plan, &node.ports, said)?
+        && keeps_rows(alloc, plan, &node.rows, said)?
+        && keeps_terminus(alloc, plan, node.terminus.as_ref(), said)?
+        && head)
+}
+
+fn keeps_kind(kind: Kind, said: &Value) -> bool
+    ensures { IsTrue result → IsKindKept kind (get (codes "kind") (view said.now)) }
+{
+    is_left_out(said, "kind") || says_text(said, "kind", kind_word(kind))
+}
+
+/// Whether the owner's name stands there, or nothing where there is no owner.
+fn keeps_owner(plan: &Plan, owner: Option<usize>, said: &Value) -> bool
+    ensures { IsTrue result → IsOwnerKept plan.now owner (get (codes "owner") (view said.now)) }
+{
+    match owner {
+        Some(owner) => match node_name(plan, owner) {
+            Some(name) => says_text(said, "owner", name),
+            None => false,
+        },
+        None => is_left_out(said, "owner"),
+    }
+}
+
+/// Whether the pool stands there, by its endpoint IDs or its size, or nothing where there is none.
+fn keeps_pool(alloc: Global, pool: Option<Pool>, said: &Value) -> Result<bool, AllocError>
+    ensures { IfOk result (λ answer. IsTrue answer → IsPoolKept pool (get (codes "pool") (view said.now))) }
+{
+    match pool {
+        Some(pool) => says_pool(alloc, pool, said),
+        None => Ok(is_left_out(said, "pool")),
+    }
+}
+
+fn says_pool(alloc: Global, pool: Pool, said: &Value) -> Result<bool, AllocError>
+    ensures { IfOk result (λ answer. IsTrue answer → IsPoolKept (Some pool) (get (codes "pool") (view said.now))) }
+{
+    let eids = eids_text(alloc, pool.first, pool.size)?;
+    Ok(says_text(said, "pool", &eids) || says_number(said, "pool", u32::from(pool.size)))
+}
+
+fn keeps_ports(
+    alloc: Global,
+    plan: &Plan,
+    ports: &[Port],
+    said: &Value,
+) -> Result<bool, AllocError>
+    ensures { IfOk result (λ answer. IsTrue answer → AreItemsKept (IsPortKept plan.now) ports.now (codes "ports") (view said.now)) }
+{
+    for index in 0..ports.len() {
+        if !keeps_port_at(alloc, plan, ports, said, index)? {
+            return Ok(false);
+        }
+    }
+    Ok(item(said, "ports", ports.len()).is_none())
+}
+
+fn keeps_port_at(
+    alloc: Global,
+    plan: &Plan,
+    ports: &[Port],
+    said: &Value,
+    index: usize,
+) -> Result<bool, AllocError>
+    ensures { IfOk result (λ answer. IsTrue answer → IsItemKept (IsPortKept plan.now) ports.now (codes "ports") (view said.now) index) }
+{
+    match ports.get(index) {
+        Some(port) => {
+            let text = port_text(alloc, plan, port)?;
+            Ok(is_text(item(said, "ports", index), &text))
+        }
+        None => Ok(true),
+    }
+}
+
+/// The most rows of a node.
+const MOST_ROWS: usize = 256;
+
+/// Whether each row that stands there is one of these.
+fn keeps_rows(alloc: Global, plan: &Plan, rows: &[Row], said: &Value) -> Result<bool, AllocError>
+    ensures { IfOk result (λ answer. IsTrue answer → AreRowsKept plan.now rows.now (view said.now)) }
+{
+    for index in 0..MOST_ROWS {
+        if !keeps_row_at(alloc, plan, rows, said, index)? {
+            return Ok(false);
+        }
+    }
+    Ok(item(said, "rows", MOST_ROWS).is_none())
+}
+
+fn keeps_row_at(
+    alloc: Global,
+    plan: &Plan,
+    rows: &[Row],
+    said: &Value,
+    index: usize,
+) -> Result<bool, AllocError>
+    ensures { IfOk result (λ answer. IsTrue answer → ((item_at (codes "rows") index (view said.now) ≡ None)
+        ⊎ IsAmongRows plan.now rows.now (item_at (codes "rows") index (view said.now)))) }
+{
+    let given = item(said, "rows", index);
+    match given {
+        Some(_) => is_among_rows(alloc, plan, rows, given),
+        None => Ok(true),
+    }
+}
+
+/// Whether one of the rows is what stands there.
+pub fn is_among_rows(
+    alloc: Global,
+    plan: &Plan,
+    rows: &[Row],
+    said: Option<&Value>,
+) -> Result<bool, AllocError>
+    ensures { IfOk result (λ answer. IsTrue answer → IsAmongRows plan.now rows.now (option_map (λ v. view v.now) said)) }
+{
+    for row in rows {
+        if is_text(said, &row_text(alloc, plan, row)?) {
+            return Ok(true);
+        }
+    }
+    Ok(false)
+}

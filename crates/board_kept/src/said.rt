@@ -1,0 +1,90 @@
+//! What the values of a board say.
+ghost use Rattle.std.specs.Prelude.{◌≡◌, ◌↔◌, IfOk, IsTrue, None, option_map};
+ghost use Rattle.toml.specs.Data.{get};
+ghost use Rattle.toml.specs.View.{view};
+ghost use Rattle.board_kept.specs.Said.{IsTomlOf, SaysText, SaysNumber, SaysOr, SaysNoneOr, item_at};
+
+use std::alloc::Global;
+use toml::Value;
+
+/// The table of a TOML document, as a value.
+#[tactic(auto, using(toml::proofs::Views::view_Table))]
+pub fn board_of_text(alloc: Global, text: &str) -> Result<Value, toml::de::Error>
+    ensures { IfOk result (λ board. IsTomlOf text.now (view board)) }
+{
+    match toml::table_from_str(alloc, text) {
+        Ok(table) => Ok(Value::Table(table)),
+        Err(error) => Err(error),
+    }
+}
+
+/// Whether nothing stands at the key.
+pub fn is_left_out(value: &Value, key: &str) -> bool
+    ensures { IsTrue result ↔ (get key.now (view value.now) ≡ None) }
+{
+    value.get(key).is_none()
+}
+
+/// What stands at an index of the list at a key.
+pub fn item<'v>(value: &'v Value, key: &str, index: usize) -> Option<&'v Value>
+    ensures { option_map (λ v. view v.now) result ≡ item_at key.now index (view value.now) }
+{
+    match value.get(key) {
+        Some(list) => list.get(index),
+        None => None,
+    }
+}
+
+/// Whether the value, if there is one, is this text.
+pub fn is_text(value: Option<&Value>, text: &str) -> bool
+    ensures { IsTrue result ↔ SaysText (option_map (λ v. view v.now) value) text.now }
+{
+    match value {
+        Some(value) => match value.as_str() {
+            Some(said) => said == text,
+            None => false,
+        },
+        None => false,
+    }
+}
+
+/// Whether the value, if there is one, is this number.
+fn is_number(value: Option<&Value>, number: u32) -> bool
+    ensures { IsTrue result ↔ SaysNumber (option_map (λ v. view v.now) value) number }
+{
+    match value {
+        Some(value) => match value.as_integer() {
+            Some(said) => said == i64::from(number),
+            None => false,
+        },
+        None => false,
+    }
+}
+
+/// Whether this text stands at the key.
+pub fn says_text(value: &Value, key: &str, text: &str) -> bool
+    ensures { IsTrue result ↔ SaysText (get key.now (view value.now)) text.now }
+{
+    is_text(value.get(key), text)
+}
+
+/// Whether this number stands at the key.
+pub fn says_number(value: &Value, key: &str, number: u32) -> bool
+    ensures { IsTrue result ↔ SaysNumber (get key.now (view value.now)) number }
+{
+    is_number(value.get(key), number)
+}
+
+/// Whether this number stands at the key, or nothing does and it is the default.
+pub fn says_or(value: &Value, key: &str, number: u32, default: u32) -> bool
+    ensures { IsTrue result ↔ SaysOr default (get key.now (view value.now)) number }
+{
+    says_number(value, key, number) || (is_left_out(value, key) && number == default)
+}
+
+/// Whether nothing stands at the key, or this number does.
+pub fn says_none_or(value: &Value, key: &str, number: u32) -> bool
+    ensures { IsTrue result ↔ SaysNoneOr (get key.now (view value.now)) number }
+{
+    is_left_out(value, key) || says_number(value, key, number)
+}
