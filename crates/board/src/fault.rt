@@ -1,5 +1,5 @@
 //! Why a text is no board.
-use std::alloc::AllocError;
+use std::alloc::{AllocError, AllocFailed};
 
 /// Why a text is no board.
 #[derive(Debug, Drop)]
@@ -17,6 +17,12 @@ pub enum BoardError {
 
 impl From<AllocError> for BoardError {
     fn from(_error: AllocError) -> BoardError {
+        BoardError::OutOfMemory
+    }
+}
+
+impl<T: Drop> From<AllocFailed<T>> for BoardError {
+    fn from(_error: AllocFailed<T>) -> BoardError {
         BoardError::OutOfMemory
     }
 }

@@ -11,7 +11,7 @@ use eids::choose_eids;
 use net_plan::Kind;
 use records::make_records;
 use rows::make_rows;
-use std::alloc::{AllocError, Global};
+use std::alloc::{AllocError, AllocFailed, Global};
 
 /// Why no plan is made of a board. Nodes are named by their indices.
 #[derive(Clone, Copy, Debug, PartialEq, Eq)]
@@ -40,6 +40,12 @@ pub enum NoPlan {
 
 impl From<AllocError> for NoPlan {
     fn from(_error: AllocError) -> NoPlan {
+        NoPlan::OutOfMemory
+    }
+}
+
+impl<T: Drop> From<AllocFailed<T>> for NoPlan {
+    fn from(_error: AllocFailed<T>) -> NoPlan {
         NoPlan::OutOfMemory
     }
 }

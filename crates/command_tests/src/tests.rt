@@ -1,4 +1,4 @@
-use net_plan::{Counted, PlanError};
+use net_json::{Counted, PlanError};
 use plan_commands::{
     FileAtPath, Input, PlanQuestion, Question, Refused, Status, refuse, run_certified, run_planned,
 };

@@ -1,4 +1,5 @@
-//! What an MCTP bridge decides by (DSP0236): its routing table, and where it sends a packet.
+//! What an MCTP bridge decides by (DSP0236, bridging): its routing table, and where it sends a packet. Sections are
+//! those of DSP0236 1.3.
 #![tactic(auto)]
 
 mod decision;

@@ -1,4 +1,4 @@
-//! A routing table, ready for look-ups.
+//! A routing table (DSP0236, bridging), ready for look-ups.
 ghost use Rattle.std.specs.Prelude.{◌≡◌, ◌<◌, ◌≤◌, List, length, IfOk, IfErr, OnOk};
 ghost use Rattle.std.specs.List.{AllWithin};
 ghost use Rattle.std.specs.List.Sorted.{IsPermutation};

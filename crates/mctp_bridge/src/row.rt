@@ -1,4 +1,4 @@
-//! A row of a routing table.
+//! A row of a routing table (DSP0236, bridging).
 ghost use Rattle.std.specs.Prelude.{◌≡◌, ◌+◌, ◌↔◌, IsTrue};
 ghost use Rattle.mctp_bridge.specs.Rows.{IsEmpty, IsOutside, AreApart, Covers};
 

@@ -1,4 +1,4 @@
-//! Why bytes are no control message and no routing table entry.
+//! Why bytes are no control message and no routing table entry (DSP0236, "MCTP control messages").
 ghost use Rattle.std.specs.Prelude.{◌≡◌};
 
 use std::error::Error;

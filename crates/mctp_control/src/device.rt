@@ -1,4 +1,4 @@
-//! Devices, and how they answer requests.
+//! Devices, and how they answer requests (DSP0236, "MCTP control messages").
 ghost use Rattle.std.specs.Prelude.{◌≡◌, ◌<◌, ◌≤◌, ℕ, List, length};
 ghost use Rattle.mctp_control.specs.EntryLists.{values_of};
 ghost use Rattle.mctp_control.specs.Replies.{reply_bytes};

@@ -1,4 +1,4 @@
-//! Pools of EIDs that are given out and come back.
+//! Pools of EIDs that are given out and come back (DSP0236, endpoint ID pools).
 ghost use Rattle.std.specs.Prelude.{◌≡◌, ◌<◌, ◌≤◌, ◌+◌, ◌↔◌, ℕ, IfSome, IfNone, IsTrue};
 
 use crate::eid_range::EidRange;

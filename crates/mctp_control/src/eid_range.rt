@@ -1,4 +1,4 @@
-//! Ranges of EIDs that can be assigned.
+//! Ranges of EIDs that can be assigned (DSP0236, section 8.2).
 ghost use Rattle.std.specs.Prelude.{◌≡◌, ◌<◌, ◌≤◌, ◌+◌, ◌↔◌, IfSome, IsTrue};
 
 use mctp_transport::Eid;
@@ -6,8 +6,9 @@ use mctp_transport::Eid;
 /// EIDs in a row, at least one, all in 8 to 254.
 #[derive(Clone, Copy, Debug, PartialEq, Eq)]
 pub struct EidRange {
+    /// One byte: the first endpoint ID.
     pub first: Eid,
-    /// How many EIDs.
+    /// One byte: how many endpoint IDs.
     pub size: u8,
     pub ghost some: { 0 < size },
     pub ghost low: { 8 ≤ first.value },

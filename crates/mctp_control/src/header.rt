@@ -25,7 +25,7 @@ pub struct ControlHeader {
     pub datagram: bool,
     /// Bit 5, kept as read.
     pub reserved: bool,
-    /// Bits 4 to 0.
+    /// Bits 4 to 0: tells the request from others that are under way.
     pub instance: ControlInstanceId,
 }
 

@@ -1,5 +1,6 @@
 //! MCTP control messages (DSP0236, "MCTP control messages"): the four commands that give out endpoint IDs and routes,
 //! the devices that answer them, pools of endpoint IDs, and how a bridge tells its routing table and another reads it.
+//! Sections are those of DSP0236 1.3.
 #![tactic(auto)]
 
 mod command_number;

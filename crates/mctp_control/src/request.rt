@@ -1,4 +1,4 @@
-//! Requests of control messages.
+//! Requests of control messages (DSP0236, "MCTP control message format").
 ghost use Rattle.std.specs.Prelude.{◌≡◌};
 
 use crate::control_error::ControlError;
@@ -35,8 +35,9 @@ pub enum ControlCommand {
 /// A request: byte 0x00, the header with the Rq bit set, the command's number, the command's data.
 #[derive(Clone, Copy, Debug, PartialEq, Eq)]
 pub struct Request {
+    /// The first byte behind the message type.
     pub header: ControlHeader,
-    /// The command with its data.
+    /// One byte for the command, and the command's data.
     pub command: ControlCommand,
 }
 

@@ -1,4 +1,4 @@
-//! Responses of control messages.
+//! Responses of control messages (DSP0236, "MCTP control message format").
 ghost use Rattle.std.specs.Prelude.{◌≡◌, ◌<◌, ◌≤◌, ◌++◌, length, drop};
 
 use crate::command_number::CommandNumber;
@@ -64,8 +64,9 @@ pub enum ControlAnswer {
 /// most 64 bytes.
 #[derive(Debug, PartialEq, Eq, Drop)]
 pub struct Response {
+    /// The first byte behind the message type.
     pub header: ControlHeader,
-    /// The command that is answered, and the completion code with what follows it.
+    /// One byte for the command that is answered, one for the completion code, and what follows it.
     pub answer: ControlAnswer,
 }
 

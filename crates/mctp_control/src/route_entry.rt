@@ -61,21 +61,21 @@ impl EntryPort {
 /// and port (bits 4 to 0); transport binding; media type; address size; the address.
 #[derive(Debug, PartialEq, Eq, Drop)]
 pub struct RouteEntry {
-    /// How many EIDs the range has.
+    /// Byte 0: how many endpoint IDs the range has.
     pub size: u8,
-    /// The first EID of the range.
+    /// Byte 1: the first endpoint ID of the range.
     pub first: Eid,
-    /// What the entry is for: one endpoint or a range, with or without a bridge's own EID.
+    /// Byte 2, bits 7 and 6: one endpoint or a range, with or without a bridge's own endpoint ID.
     pub kind: EntryKind,
-    /// Whether the entry was set by hand and not learned.
+    /// Byte 2, bit 5: whether the entry was set by hand and not learned.
     pub is_static: bool,
-    /// The port through which the range is reached.
+    /// Byte 2, bits 4 to 0: the port through which the range is reached.
     pub port: EntryPort,
-    /// The number of the transport binding.
+    /// Byte 3: the physical transport binding identifier (DSP0239).
     pub binding: u8,
-    /// The number of the media type.
+    /// Byte 4: the physical media identifier (DSP0239).
     pub media: u8,
-    /// The physical address, at most 52 bytes.
+    /// Byte 5 for its length, and then the physical address, at most 52 bytes.
     pub address: ArrayVec<u8, MAX_ADDRESS>,
 }
 

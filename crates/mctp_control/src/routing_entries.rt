@@ -15,11 +15,11 @@ pub struct Neighbor<'a> {
     pub kind: DeviceKind,
     /// The endpoint ID that the node holds.
     pub eid: Eid,
-    /// The number of the bus's transport binding.
+    /// The physical transport binding identifier of the bus (DSP0239), one byte.
     pub binding: u8,
-    /// The number of the bus's media type.
+    /// The physical media identifier of the bus (DSP0239), one byte.
     pub media: u8,
-    /// The node's physical address on the bus.
+    /// The node's physical address on the bus, as that binding writes it.
     pub address: &'a [u8],
 }
 

@@ -26,7 +26,7 @@ impl Eid {
     }
 }
 
-/// A message tag, 0 to 7.
+/// A message tag, 0 to 7, in three bits (DSP0236, section 8.1).
 #[derive(Clone, Copy, Debug, PartialEq, Eq)]
 pub struct Tag {
     pub value: u8,
@@ -43,7 +43,7 @@ impl Tag {
     }
 }
 
-/// A packet sequence number, 0 to 3. The number after 3 is 0.
+/// A packet sequence number, 0 to 3, in two bits (DSP0236, section 8.1). The number after 3 is 0.
 #[derive(Clone, Copy, Debug, PartialEq, Eq)]
 pub struct Seq {
     pub value: u8,
@@ -88,9 +88,10 @@ impl Reserved {
 /// whether the source owns the tag (DSP0236, section 8.1).
 #[derive(Clone, Copy, Debug, PartialEq, Eq)]
 pub struct Key {
-    /// The endpoint ID of the sender.
+    /// One byte: the endpoint ID of the sender.
     pub source: Eid,
+    /// Three bits: the message tag.
     pub tag: Tag,
-    /// Whether the sender owns the tag.
+    /// One bit: whether the sender owns the tag.
     pub owner: bool,
 }

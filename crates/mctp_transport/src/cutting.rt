@@ -1,4 +1,4 @@
-//! Cutting a message into packets.
+//! Cutting a message into packets (DSP0236, section 8.3).
 ghost use Rattle.std.specs.Prelude.{◌≡◌, ◌<◌, ◌≤◌, ◌+◌, ◌%◌, length, true, false};
 ghost use Rattle.mctp_transport.specs.Frames.{IsUnit};
 

@@ -4,7 +4,8 @@ ghost use Rattle.std.specs.Prelude.{◌≡◌};
 use std::error::Error;
 use std::fmt;
 
-/// Why an assembler dropped a packet. Where several causes apply, the first of these is answered.
+/// Why an assembler dropped a packet (DSP0236, "Dropped packets"). Where several causes apply, the first of these is
+/// answered.
 #[derive(Clone, Copy, Debug, PartialEq, Eq)]
 pub enum DropCause {
     /// A01: the packet doesn't start a message, and no message of its key is open.

@@ -1,5 +1,5 @@
 //! MCTP packets (DSP0236): what they are made of, their bytes, cutting messages into them and joining them to
-//! messages.
+//! messages. Sections are those of DSP0236 1.3.
 #![tactic(auto)]
 
 mod address;

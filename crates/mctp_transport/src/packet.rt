@@ -21,19 +21,21 @@ pub const MAX_UNIT: usize = 1024;
 /// sequence number (5 and 4), the tag owner (3) and the tag (2 to 0).
 #[derive(Clone, Copy, Debug, PartialEq, Eq)]
 pub struct Header {
+    /// Byte 0, bits 7 to 4, as they were read.
     pub reserved: Reserved,
-    /// The endpoint ID of the receiver.
+    /// Byte 1: the endpoint ID of the receiver.
     pub destination: Eid,
-    /// The endpoint ID of the sender.
+    /// Byte 2: the endpoint ID of the sender.
     pub source: Eid,
-    /// Start of message.
+    /// Byte 3, bit 7: start of message.
     pub som: bool,
-    /// End of message.
+    /// Byte 3, bit 6: end of message.
     pub eom: bool,
-    /// The sequence number, which goes up by one with each packet of a message.
+    /// Byte 3, bits 5 and 4: the sequence number, which goes up by one with each packet of a message.
     pub number: Seq,
-    /// Whether the source owns the tag: set in a request, clear in its response.
+    /// Byte 3, bit 3: whether the source owns the tag: set in a request, clear in its response.
     pub owner: bool,
+    /// Byte 3, bits 2 to 0: the message tag.
     pub tag: Tag,
 }
 
@@ -44,6 +46,7 @@ pub struct Header {
 /// any. `len` and `put` are those of a packet of any unit.
 #[derive(Clone, Copy, Debug)]
 pub struct PacketView<'a> {
+    /// The first four bytes.
     pub header: Header,
     pub payload: &'a [u8],
     ghost some: { 0 < length payload.now },
@@ -160,6 +163,7 @@ impl<'a> PacketView<'a> {
 /// A packet that holds its payload of 1 to 1024 bytes.
 #[derive(Debug, Drop)]
 pub struct Packet {
+    /// The first four bytes.
     pub header: Header,
     pub payload: ArrayVec<u8, MAX_UNIT>,
     pub ghost some: { 0 < array_vec_len payload },

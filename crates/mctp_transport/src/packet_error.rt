@@ -1,4 +1,4 @@
-//! Why bytes are no packet.
+//! Why bytes are no packet (DSP0236, section 8.1).
 ghost use Rattle.std.specs.Prelude.{◌≡◌};
 
 use std::error::Error;

@@ -1,15 +1,16 @@
 //! Edits that are tried before they are proposed.
 ghost use Rattle.std.specs.Prelude.{◌≤◌, IfOk, IfSome, length};
 ghost use Rattle.std.specs.List.{All};
-ghost use Rattle.net_plan.specs.PlanText.{IsPlanOf};
+ghost use Rattle.net_json.specs.PlanText.{IsPlanOf};
 ghost use Rattle.net_plan.specs.PlanValues.{plan_value};
-ghost use Rattle.net_plan.specs.Texts.{StandsFor};
+ghost use Rattle.net_json.specs.Texts.{StandsFor};
 ghost use Rattle.net_explained.specs.Obstacles.{IsTried};
 
 use crate::candidates::candidates;
 use crate::edit::{Edit, edited};
 use crate::order::is_later;
-use net_plan::{Plan, PlanError, plan_of_text};
+use net_json::{PlanError, plan_of_text};
+use net_plan::Plan;
 use net_rules::{CertifyError, certify};
 use std::alloc::{AllocError, Global};
 

@@ -1,5 +1,6 @@
 -- A certificate as plain lists and numbers.
-use Rattle.std.specs.Prelude.{ℕ, List, map}
+use Rattle.std.specs.Prelude.{ℕ, ◌+◌, ◌≤◌, ◌&&◌, List, map, Bool, nat_lt, AllPairs}
+use Rattle.std.specs.List.{list_all}
 use Rattle.net_plan.specs.declared.certificate.Certificate.{Certificate}
 use Rattle.net_plan.specs.declared.certificate.NodeLevel.{NodeLevel}
 use Rattle.net_plan.specs.declared.certificate.NodePlaces.{NodePlaces}
@@ -51,3 +52,13 @@ certificate_value c =
       places = map places_value c.places.items;
       ranks = map node_ranks_value c.ranks.items;
     }
+
+-- each range ends before every later one begins
+abbrev pub IsAscending : List RangeValue → Type 0
+IsAscending rs = AllPairs (λ a b. a.first + a.size ≤ b.first) rs
+
+-- all entries are of one of so many nodes
+abbrev pub are_known : ℕ → CertificateValue → Bool
+are_known nodes c =
+    list_all (λ l. nat_lt l.node nodes) c.levels
+    && (list_all (λ p. nat_lt p.node nodes) c.places && list_all (λ r. nat_lt r.node nodes) c.ranks)

@@ -1,7 +1,7 @@
 -- Which certificates are well formed for their plan.
 use Rattle.std.specs.Prelude.{◌≢◌, length, IsTrue, AllPairs, All}
-use Rattle.net_plan.specs.CertificateReading.{are_known}
-use Rattle.net_plan.specs.CertificateText.{IsAscending}
+use Rattle.net_plan.specs.CertificateValues.{are_known}
+use Rattle.net_plan.specs.CertificateValues.{IsAscending}
 use Rattle.net_plan.specs.CertificateValues.{CertificateValue}
 use Rattle.net_plan.specs.PlanValues.{PlanValue, node_names}
 

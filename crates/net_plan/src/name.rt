@@ -1,8 +1,7 @@
 //! The names of buses and nodes.
-ghost use Rattle.std.specs.Prelude.{string_bytes, IsTrue};
-ghost use Rattle.net_plan.specs.NameText.{is_name};
-
-use crate::words::is_name;
+ghost use Rattle.std.specs.Prelude.{◌≡◌, string_bytes, IsTrue};
+ghost use Rattle.std.specs.List.{list_all};
+ghost use Rattle.net_plan.specs.NameText.{is_name, is_name_byte, has_name_length};
 
 /// The name of a bus or a node: 1 to 32 ASCII letters, digits, `-`, `_` or `.`.
 #[derive(Debug, PartialEq, Eq, Drop)]
@@ -26,4 +25,29 @@ impl Name {
             None
         }
     }
+}
+
+/// Whether a text is a well-formed name.
+pub fn is_name(text: &str) -> bool
+    ensures { result ≡ is_name text.now }
+{
+    has_name_length(text) && is_spelled(text.as_bytes())
+}
+
+fn has_name_length(text: &str) -> bool
+    ensures { result ≡ has_name_length text.now }
+{
+    1 <= text.len() && text.len() <= 32
+}
+
+fn is_spelled(bytes: &[u8]) -> bool
+    ensures { result ≡ list_all is_name_byte bytes.now }
+{
+    bytes.iter().all(|byte| is_name_byte(*byte))
+}
+
+fn is_name_byte(byte: u8) -> bool
+    ensures { result ≡ is_name_byte byte }
+{
+    byte.is_ascii_alphanumeric() || byte == b'-' || byte == b'.' || byte == b'_'
 }

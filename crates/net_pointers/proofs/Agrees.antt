@@ -5,25 +5,25 @@ use Rattle.std.specs.Option.{option_or}
 use Rattle.std.proofs.lemmas.Option.{none-some, same_Some}
 use Rattle.serde_json.specs.Data.{Data, null, boolean, number, string, array, object, Items, no_items, item, Members}
 use Rattle.serde_json.specs.Find.{get}
-use Rattle.net_plan.specs.Json.{each, items_count, list_within, optional, demand, found, at_key, keyed, lacks_key, has_unknown_key, name_text, reference, hex_text, address_text, whole_number}
-use Rattle.net_plan.specs.Keys.{plan_keys}
-use Rattle.net_plan.specs.Names.{index_among, texts_at, names_differ}
+use Rattle.net_json.specs.Json.{each, items_count, list_within, optional, demand, found, at_key, keyed, lacks_key, has_unknown_key, name_text, reference, hex_text, address_text, whole_number}
+use Rattle.net_json.specs.Keys.{plan_keys}
+use Rattle.net_json.specs.Names.{index_among, texts_at, names_differ}
 use Rattle.net_plan.specs.Placed.{are_placed}
-use Rattle.net_plan.specs.PlanReading.{byte, word, bus, port, row, pool, repository_record, terminus, kind_text, node, nodes_among, plan_format, unit_by, plan}
+use Rattle.net_json.specs.PlanReading.{byte, word, bus, port, row, pool, repository_record, terminus, kind_text, node, nodes_among, plan_format, unit_by, plan}
 use Rattle.net_plan.specs.PlanValues.{BusValue, PortValue, RowValue, PoolValue, RecordValue, TerminusValue, NodeValue, PlanValue, bus_names}
-use Rattle.net_plan.specs.Reading.{then_with}
-use Rattle.net_plan.specs.declared.error.ValueFault.{ValueFault}
-use Rattle.net_plan.specs.declared.error.ValueFault.TheVariants.{OverLimit, Doubled, UnknownName, UnknownKey, MissingKey}
-use Rattle.net_plan.specs.declared.plan_format.PlanFormat.{PlanFormat}
-use Rattle.net_plan.specs.declared.plan_format.PlanFormat.TheVariants.{One, Two}
-use Rattle.net_plan.specs.Finding.{fault_of, passes, own_fault, Step, key, index, Located, under, here, in_items, inside, in_fields, first_fault}
-use Rattle.net_plan.specs.Grammar.{Grammar, plain, a_list, an_optional, Fields, no_fields, field, fields_of, keys_of, Known}
-use Rattle.net_plan.specs.Tables.{a_number, a_name, a_bus_name, a_node_name, a_kind, a_hex, an_address, object_of, a_byte, a_word, a_bus, a_port, a_row, a_pool, a_record, a_terminus, a_node, plan_lists, a_plan}
-use Rattle.net_plan.specs.declared.shape.Named.{Named}
-use Rattle.net_plan.specs.declared.shape.Named.TheVariants.{Buses, Nodes}
-use Rattle.net_plan.specs.declared.shape.Rule.TheVariants as rule
-use Rattle.net_plan.specs.declared.shape.Word.TheVariants as words
-use Rattle.net_plan.proofs.Fitting.{inside_null, demanded}
+use Rattle.net_json.specs.Reading.{then_with}
+use Rattle.net_json.specs.declared.error.ValueFault.{ValueFault}
+use Rattle.net_json.specs.declared.error.ValueFault.TheVariants.{OverLimit, Doubled, UnknownName, UnknownKey, MissingKey}
+use Rattle.net_json.specs.declared.plan_format.PlanFormat.{PlanFormat}
+use Rattle.net_json.specs.declared.plan_format.PlanFormat.TheVariants.{One, Two}
+use Rattle.net_json.specs.Finding.{fault_of, passes, own_fault, Step, key, index, Located, under, here, in_items, inside, in_fields, first_fault}
+use Rattle.net_json.specs.Grammar.{Grammar, plain, a_list, an_optional, Fields, no_fields, field, fields_of, keys_of, Known}
+use Rattle.net_json.specs.Tables.{a_number, a_name, a_bus_name, a_node_name, a_kind, a_hex, an_address, object_of, a_byte, a_word, a_bus, a_port, a_row, a_pool, a_record, a_terminus, a_node, plan_lists, a_plan}
+use Rattle.net_json.specs.declared.shape.Named.{Named}
+use Rattle.net_json.specs.declared.shape.Named.TheVariants.{Buses, Nodes}
+use Rattle.net_json.specs.declared.shape.Rule.TheVariants as rule
+use Rattle.net_json.specs.declared.shape.Word.TheVariants as words
+use Rattle.net_json.proofs.Fitting.{inside_null, demanded}
 use Rattle.net_pointers.specs.Plans.{IsFoundInPlan}
 use Rattle.net_pointers.proofs.Leads.{leads}
 

@@ -5,24 +5,25 @@ use Rattle.std.specs.List.{list_all}
 use Rattle.std.specs.Option.{option_or}
 use Rattle.serde_json.specs.Data.{Data, null, boolean, number, string, array, object, Items, no_items, item}
 use Rattle.serde_json.specs.Find.{get}
-use Rattle.net_plan.specs.CertificateReading.{level, node_places, range, node_ranks, nodes_differ, ascends, are_known, entries, entries_differ, certificate}
+use Rattle.net_json.specs.CertificateReading.{level, node_places, range, node_ranks, nodes_differ, ascends, entries, entries_differ, certificate}
+use Rattle.net_plan.specs.CertificateValues.{are_known}
 use Rattle.net_plan.specs.CertificateValues.{LevelValue, PlacesValue, RangeValue, NodeRanksValue, CertificateValue}
-use Rattle.net_plan.specs.Json.{each, all_of, demand, found, at_key, keyed, reference, whole_number}
-use Rattle.net_plan.specs.Keys.{certificate_keys}
-use Rattle.net_plan.specs.Names.{index_among, names_differ}
-use Rattle.net_plan.specs.PlanReading.{byte}
-use Rattle.net_plan.specs.Reading.{then_with}
-use Rattle.net_plan.specs.Refusals.{IsWellButForNames}
-use Rattle.net_plan.specs.declared.error.ValueFault.{ValueFault}
-use Rattle.net_plan.specs.declared.error.ValueFault.TheVariants.{OutOfRange, UnknownName, Doubled}
-use Rattle.net_plan.proofs.Telling.{then_Ok, same_Ok, no_value}
+use Rattle.net_json.specs.Json.{each, all_of, demand, found, at_key, keyed, reference, whole_number}
+use Rattle.net_json.specs.Keys.{certificate_keys}
+use Rattle.net_json.specs.Names.{index_among, names_differ}
+use Rattle.net_json.specs.PlanReading.{byte}
+use Rattle.net_json.specs.Reading.{then_with}
+use Rattle.net_json.specs.Refusals.{IsWellButForNames}
+use Rattle.net_json.specs.declared.error.ValueFault.{ValueFault}
+use Rattle.net_json.specs.declared.error.ValueFault.TheVariants.{OutOfRange, UnknownName, Doubled}
+use Rattle.net_json.proofs.Telling.{then_Ok, same_Ok, no_value}
 use Rattle.net_pointers.specs.Ascending.{ranges_ascend, list_ascends, entries_ascend, ranks_ascend}
-use Rattle.net_plan.specs.Finding.{fault_of, is_late, range_end, passes, Located, key, under, in_fields, first_fault}
-use Rattle.net_plan.specs.Grammar.{Grammar, a_list, Fields, no_fields, field, fields_of, keys_of, Known}
-use Rattle.net_plan.specs.Tables.{a_number, a_node_name, object_of, a_level, a_node_places, a_range, a_node_ranks, a_certificate}
-use Rattle.net_plan.specs.declared.shape.Named.TheVariants.{Nodes}
-use Rattle.net_plan.specs.declared.shape.Rule.TheVariants as rule
-use Rattle.net_plan.proofs.Fitting.{no_fault}
+use Rattle.net_json.specs.Finding.{fault_of, is_late, range_end, passes, Located, key, under, in_fields, first_fault}
+use Rattle.net_json.specs.Grammar.{Grammar, a_list, Fields, no_fields, field, fields_of, keys_of, Known}
+use Rattle.net_json.specs.Tables.{a_number, a_node_name, object_of, a_level, a_node_places, a_range, a_node_ranks, a_certificate}
+use Rattle.net_json.specs.declared.shape.Named.TheVariants.{Nodes}
+use Rattle.net_json.specs.declared.shape.Rule.TheVariants as rule
+use Rattle.net_json.proofs.Fitting.{no_fault}
 use Rattle.net_pointers.specs.CertificateTroubles.{known_nodes, nodes_in, nodes_at, list_key, number_or_zero, first_in, end_in, IsFaultOfCertificate}
 use Rattle.net_pointers.specs.declared.certificates.CertificateList.{CertificateList}
 use Rattle.net_pointers.specs.declared.certificates.CertificateList.TheVariants.{Levels, Places, Ranks}

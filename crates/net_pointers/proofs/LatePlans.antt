@@ -7,24 +7,24 @@ use Rattle.std.specs.List.{list_all}
 use Rattle.std.specs.Option.{option_or}
 use Rattle.serde_json.specs.Data.{Data, null, boolean, number, string, array, object, Items, no_items, item}
 use Rattle.serde_json.specs.Find.{get}
-use Rattle.net_plan.specs.Json.{each, items_count, list_within, demand, found, at_key, keyed, name_text, whole_number}
+use Rattle.net_json.specs.Json.{each, items_count, list_within, demand, found, at_key, keyed, name_text, whole_number}
 use Rattle.net_plan.specs.NameText.{is_name}
-use Rattle.net_plan.specs.Names.{index_among, names_differ, text_of, text_found, text_at, each_text_at, texts_at}
+use Rattle.net_json.specs.Names.{index_among, names_differ, text_of, text_found, text_at, each_text_at, texts_at}
 use Rattle.net_plan.specs.Placed.{is_node_placed, are_placed}
-use Rattle.net_plan.specs.PlanReading.{byte, bus, node, nodes_among, plan_format, unit_by, plan}
+use Rattle.net_json.specs.PlanReading.{byte, bus, node, nodes_among, plan_format, unit_by, plan}
 use Rattle.net_plan.specs.PlanValues.{BusValue, NodeValue, PlanValue, bus_names}
-use Rattle.net_plan.specs.Reading.{then_with}
-use Rattle.net_plan.specs.Refusals.{IsWellButForNames}
-use Rattle.net_plan.specs.declared.error.ValueFault.{ValueFault}
-use Rattle.net_plan.specs.declared.error.ValueFault.TheVariants.{OverLimit, OutOfRange, UnknownName, Doubled}
-use Rattle.net_plan.specs.declared.plan_format.PlanFormat.{PlanFormat}
-use Rattle.net_plan.specs.declared.plan_format.PlanFormat.TheVariants.{One, Two}
-use Rattle.net_plan.proofs.Telling.{then_Ok, same_Ok, no_value}
-use Rattle.net_plan.specs.Finding.{fault_of, passes, Located, key, under, in_fields, first_fault}
-use Rattle.net_plan.specs.Grammar.{Grammar, a_list, Fields, no_fields, field, fields_of, keys_of, Known}
-use Rattle.net_plan.specs.Tables.{a_number, object_of, a_bus, a_node, plan_lists, a_plan}
-use Rattle.net_plan.specs.declared.shape.Rule.TheVariants as rule
-use Rattle.net_plan.proofs.Fitting.{no_fault}
+use Rattle.net_json.specs.Reading.{then_with}
+use Rattle.net_json.specs.Refusals.{IsWellButForNames}
+use Rattle.net_json.specs.declared.error.ValueFault.{ValueFault}
+use Rattle.net_json.specs.declared.error.ValueFault.TheVariants.{OverLimit, OutOfRange, UnknownName, Doubled}
+use Rattle.net_json.specs.declared.plan_format.PlanFormat.{PlanFormat}
+use Rattle.net_json.specs.declared.plan_format.PlanFormat.TheVariants.{One, Two}
+use Rattle.net_json.proofs.Telling.{then_Ok, same_Ok, no_value}
+use Rattle.net_json.specs.Finding.{fault_of, passes, Located, key, under, in_fields, first_fault}
+use Rattle.net_json.specs.Grammar.{Grammar, a_list, Fields, no_fields, field, fields_of, keys_of, Known}
+use Rattle.net_json.specs.Tables.{a_number, object_of, a_bus, a_node, plan_lists, a_plan}
+use Rattle.net_json.specs.declared.shape.Rule.TheVariants as rule
+use Rattle.net_json.proofs.Fitting.{no_fault}
 use Rattle.net_pointers.specs.KnownNames.{names_in, names_at, known_in}
 use Rattle.net_pointers.proofs.Agrees.{code, code_or, code_under, code_whole, or_none, Agrees, Given, given_keys_there, lists, tests, number_agrees, list_agrees, bus_agrees, nodes_agrees}
 use Rattle.net_pointers.proofs.NamesTold.{unknown, always, plain_tells, list_tells, node_tells, at_is}

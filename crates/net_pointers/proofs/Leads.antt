@@ -4,9 +4,9 @@ use Rattle.std.specs.Option.{option_or}
 use Rattle.std.proofs.lemmas.Option.{none-some, same_Some}
 use Rattle.serde_json.specs.Data.{Data, null, boolean, number, string, array, object, Items, no_items, item}
 use Rattle.serde_json.specs.Find.{get, get_item}
-use Rattle.net_plan.specs.Finding.{Step, key, index, Located, own_fault, under, here, in_items, inside, in_fields, first_fault}
-use Rattle.net_plan.specs.Grammar.{Grammar, plain, a_list, an_optional, an_object, Fields, no_fields, field, Known}
-use Rattle.net_plan.specs.declared.error.ValueFault.{ValueFault}
+use Rattle.net_json.specs.Finding.{Step, key, index, Located, own_fault, under, here, in_items, inside, in_fields, first_fault}
+use Rattle.net_json.specs.Grammar.{Grammar, plain, a_list, an_optional, an_object, Fields, no_fields, field, Known}
+use Rattle.net_json.specs.declared.error.ValueFault.{ValueFault}
 use Rattle.net_pointers.specs.Pointers.{value_after, value_at, HasField, IsPart, HasFaultAt}
 
 -- one step further out

@@ -6,27 +6,27 @@ use Rattle.std.specs.Option.{option_or}
 use Rattle.std.specs.Str.{bytes_eq}
 use Rattle.serde_json.specs.Data.{Data, null, boolean, number, string, array, object, Items, no_items, item}
 use Rattle.serde_json.specs.Find.{get}
-use Rattle.net_plan.specs.Json.{each, items_count, all_of, list_within, optional, demand, found, at_key, keyed, is_among, name_text, reference, address_text, whole_number}
-use Rattle.net_plan.specs.Names.{index_among, text_at, texts_at}
-use Rattle.net_plan.specs.Trees.{Tree, view, items_view}
-use Rattle.net_plan.proofs.BusNames.{texts_of, node_names_of}
+use Rattle.net_json.specs.Json.{each, items_count, all_of, list_within, optional, demand, found, at_key, keyed, is_among, name_text, reference, address_text, whole_number}
+use Rattle.net_json.specs.Names.{index_among, text_at, texts_at}
+use Rattle.net_json.specs.Trees.{Tree, view, items_view}
+use Rattle.net_json.proofs.BusNames.{texts_of, node_names_of}
 use Rattle.net_plan.specs.PlanValues.{name_bytes, node_value, node_names}
 use Rattle.net_plan.specs.declared.nodes.Node.{Node}
 use Rattle.net_plan.specs.Placed.{is_none_or, is_owner_placed, is_port_placed, is_row_placed, is_node_placed}
-use Rattle.net_plan.specs.PlanReading.{port, row, pool, terminus, kind_text, node}
+use Rattle.net_json.specs.PlanReading.{port, row, pool, terminus, kind_text, node}
 use Rattle.net_plan.specs.PlanValues.{PortValue, RowValue, NodeValue}
-use Rattle.net_plan.specs.Reading.{then_with}
-use Rattle.net_plan.specs.declared.error.ValueFault.{ValueFault}
-use Rattle.net_plan.specs.declared.error.ValueFault.TheVariants.{OverLimit, UnknownName}
-use Rattle.net_plan.proofs.Telling.{then_Ok, same_Ok, no_value}
-use Rattle.net_plan.specs.Finding.{fault_of, names_of, passes, key, index, under, in_items, in_fields, first_fault}
-use Rattle.net_plan.specs.Grammar.{Grammar, plain, a_list, an_optional, Fields, no_fields, field, fields_of, keys_of, Known}
-use Rattle.net_plan.specs.Tables.{a_number, a_name, a_bus_name, a_node_name, a_kind, an_address, object_of, a_pool, a_terminus, a_port, a_row, a_node}
-use Rattle.net_plan.specs.declared.shape.Named.{Named}
-use Rattle.net_plan.specs.declared.shape.Named.TheVariants.{Buses, Nodes}
-use Rattle.net_plan.specs.declared.shape.Rule.TheVariants as rule
-use Rattle.net_plan.specs.declared.shape.Word.TheVariants as words
-use Rattle.net_plan.proofs.Fitting.{inside_null}
+use Rattle.net_json.specs.Reading.{then_with}
+use Rattle.net_json.specs.declared.error.ValueFault.{ValueFault}
+use Rattle.net_json.specs.declared.error.ValueFault.TheVariants.{OverLimit, UnknownName}
+use Rattle.net_json.proofs.Telling.{then_Ok, same_Ok, no_value}
+use Rattle.net_json.specs.Finding.{fault_of, names_of, passes, key, index, under, in_items, in_fields, first_fault}
+use Rattle.net_json.specs.Grammar.{Grammar, plain, a_list, an_optional, Fields, no_fields, field, fields_of, keys_of, Known}
+use Rattle.net_json.specs.Tables.{a_number, a_name, a_bus_name, a_node_name, a_kind, an_address, object_of, a_pool, a_terminus, a_port, a_row, a_node}
+use Rattle.net_json.specs.declared.shape.Named.{Named}
+use Rattle.net_json.specs.declared.shape.Named.TheVariants.{Buses, Nodes}
+use Rattle.net_json.specs.declared.shape.Rule.TheVariants as rule
+use Rattle.net_json.specs.declared.shape.Word.TheVariants as words
+use Rattle.net_json.proofs.Fitting.{inside_null}
 use Rattle.net_pointers.proofs.Agrees.{code, code_or, code_under, code_whole, or_none, Agrees, number_agrees, name_agrees, kind_agrees, address_agrees, optional_agrees, pool_agrees, terminus_agrees}
 
 -- a name that nothing has, unless they are known

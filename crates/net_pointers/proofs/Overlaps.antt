@@ -2,8 +2,8 @@
 use Rattle.std.proofs.Common.{◌≡◌, ◌<◌, ◌+◌, ◌-◌, ℕ, zero, suc, List, [], ◌∷◌, length, get_or, codes, Some, option_and_then, refl, sym, ap, ◌∙◌, subst, arith}
 use Rattle.serde_json.specs.Data.{Data, array, Items}
 use Rattle.serde_json.specs.Find.{get, get_item}
-use Rattle.net_plan.specs.Finding.{key, index}
-use Rattle.net_plan.specs.Trees.{Tree, view, items_view}
+use Rattle.net_json.specs.Finding.{key, index}
+use Rattle.net_json.specs.Trees.{Tree, view, items_view}
 use Rattle.net_pointers.specs.Ascending.{OverlapIn, OverlapOf, OverlapAmong}
 use Rattle.net_pointers.specs.CertificateTroubles.{first_in, end_in, DoOverlap}
 use Rattle.net_pointers.specs.Pointers.{value_at}

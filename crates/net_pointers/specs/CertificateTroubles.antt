@@ -4,18 +4,18 @@ use Rattle.std.specs.Prelude.{Option, Some, None, Result, Ok, Err}
 use Rattle.json.specs.Json.{Json}
 use Rattle.serde_json.specs.Data.{Data}
 use Rattle.serde_json.specs.Find.{get}
-use Rattle.net_plan.specs.CertificateReading.{certificate}
+use Rattle.net_json.specs.CertificateReading.{certificate}
 use Rattle.net_plan.specs.CertificateValues.{CertificateValue}
-use Rattle.net_plan.specs.Finding.{Located, key, index, range_end, first_fault, located}
-use Rattle.net_plan.specs.Grammar.{Known}
-use Rattle.net_plan.specs.Json.{at_key, whole_number}
-use Rattle.net_plan.specs.Names.{texts_at, names_differ}
-use Rattle.net_plan.specs.Refusals.{IsWellButForNames}
-use Rattle.net_plan.specs.SingleKeys.{single}
-use Rattle.net_plan.specs.Tables.{a_certificate}
-use Rattle.net_plan.specs.Trees.{data_of}
-use Rattle.net_plan.specs.declared.error.ValueFault.{ValueFault}
-use Rattle.net_plan.specs.declared.error.ValueFault.TheVariants.{UnknownName, Doubled}
+use Rattle.net_json.specs.Finding.{Located, key, index, range_end, first_fault, located}
+use Rattle.net_json.specs.Grammar.{Known}
+use Rattle.net_json.specs.Json.{at_key, whole_number}
+use Rattle.net_json.specs.Names.{texts_at, names_differ}
+use Rattle.net_json.specs.Refusals.{IsWellButForNames}
+use Rattle.net_json.specs.SingleKeys.{single}
+use Rattle.net_json.specs.Tables.{a_certificate}
+use Rattle.net_json.specs.Trees.{data_of}
+use Rattle.net_json.specs.declared.error.ValueFault.{ValueFault}
+use Rattle.net_json.specs.declared.error.ValueFault.TheVariants.{UnknownName, Doubled}
 use Rattle.net_pointers.specs.Doubles.{IsFirstDoubled, HasDoubledKey, NoneBefore}
 use Rattle.net_pointers.specs.PlanTroubles.{IsUnknownNameAt}
 use Rattle.net_pointers.specs.Pointers.{value_at, HasFaultAt}

@@ -2,8 +2,8 @@
 use Rattle.std.specs.Prelude.{ℕ, List, [], codes, Option, Some, None}
 use Rattle.serde_json.specs.Data.{Data}
 use Rattle.serde_json.specs.Find.{get}
-use Rattle.net_plan.specs.Grammar.{Known}
-use Rattle.net_plan.specs.Names.{texts_at}
+use Rattle.net_json.specs.Grammar.{Known}
+use Rattle.net_json.specs.Names.{texts_at}
 
 -- the names of a list, where there is one
 abbrev pub names_in : Option Data → List (List ℕ)

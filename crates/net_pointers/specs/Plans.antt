@@ -1,11 +1,11 @@
 -- The first fault of a plan, with its pointer.
 use Rattle.std.specs.Prelude.{◌≡◌, ◌⊎◌, Err, Option, Some, None, MatchOption}
 use Rattle.serde_json.specs.Data.{Data}
-use Rattle.net_plan.specs.Finding.{Located, first_fault}
-use Rattle.net_plan.specs.PlanReading.{plan, plan_format}
-use Rattle.net_plan.specs.Tables.{a_plan}
-use Rattle.net_plan.specs.declared.error.ValueFault.{ValueFault}
-use Rattle.net_plan.specs.declared.error.ValueFault.TheVariants.{UnknownName, Doubled}
+use Rattle.net_json.specs.Finding.{Located, first_fault}
+use Rattle.net_json.specs.PlanReading.{plan, plan_format}
+use Rattle.net_json.specs.Tables.{a_plan}
+use Rattle.net_json.specs.declared.error.ValueFault.{ValueFault}
+use Rattle.net_json.specs.declared.error.ValueFault.TheVariants.{UnknownName, Doubled}
 use Rattle.net_pointers.specs.Pointers.{HasFaultAt}
 
 -- no value of the plan is wrong in itself: what is wrong, if anything, are names

@@ -2,8 +2,8 @@
 use Rattle.std.specs.Prelude.{◌≡◌, ◌<◌, ℕ, List, length, Option, Some, None, IsUtf8}
 use Rattle.json.specs.Json.{Json}
 use Rattle.std.specs.Str.{IsValidUpTo}
-use Rattle.net_plan.specs.Texts.{IsJson, IsTree, IsNoJson}
-use Rattle.net_plan.specs.Trees.{data_of}
+use Rattle.net_json.specs.Texts.{IsJson, IsTree, IsNoJson}
+use Rattle.net_json.specs.Trees.{data_of}
 use Rattle.net_pointers.specs.CertificateTroubles.{IsToldOfCertificate}
 use Rattle.net_pointers.specs.PlanTroubles.{IsToldOfPlan}
 use Rattle.net_pointers.specs.Syntax.{IsStop}

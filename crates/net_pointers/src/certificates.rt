@@ -1,12 +1,12 @@
 //! The first fault of a certificate.
 ghost use Rattle.std.specs.Prelude.{◌≡◌, codes, true, None, IfOk, MatchOption, map, option_map};
 ghost use Rattle.json.specs.Value.{value_view};
-ghost use Rattle.net_plan.specs.Finding.{first_fault, located};
-ghost use Rattle.net_plan.specs.Grammar.{known_seen};
-ghost use Rattle.net_plan.specs.Names.{names_differ};
+ghost use Rattle.net_json.specs.Finding.{first_fault, located};
+ghost use Rattle.net_json.specs.Grammar.{known_seen};
+ghost use Rattle.net_json.specs.Names.{names_differ};
 ghost use Rattle.net_plan.specs.PlanValues.{node_value, node_names};
-ghost use Rattle.net_plan.specs.Tables.{a_certificate};
-ghost use Rattle.net_plan.specs.Trees.{view};
+ghost use Rattle.net_json.specs.Tables.{a_certificate};
+ghost use Rattle.net_json.specs.Trees.{view};
 ghost use Rattle.net_pointers.specs.CertificateTroubles.{IsToldOfCertificate, NoneDoubledBefore, list_key, nodes_at};
 ghost use Rattle.net_pointers.specs.Doubles.{IsFirstDoubled};
 
@@ -14,7 +14,8 @@ use crate::doubled::{DoubledKey, TwoIndices, doubled_key, first_doubled};
 use crate::known::{names_of_nodes, texts_in};
 use crate::ranges::{Overlap, first_overlap};
 use json::Value;
-use net_plan::{Found, KnownNames, Node, Plan, at, certificate_shape, find_fault};
+use net_json::{Found, KnownNames, at, certificate_shape, find_fault};
+use net_plan::{Node, Plan};
 use std::alloc::{AllocError, Global};
 
 /// A list of a certificate.

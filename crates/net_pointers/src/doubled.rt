@@ -5,8 +5,8 @@ ghost use Rattle.std.specs.Str.{bytes_eq};
 ghost use Rattle.json.specs.Json.{array, object};
 ghost use Rattle.json.specs.Strict.{keys};
 ghost use Rattle.json.specs.Value.{value_view, items_view, members_view};
-ghost use Rattle.net_plan.specs.Names.{names_differ};
-ghost use Rattle.net_plan.specs.SingleKeys.{single, items_single, members_single};
+ghost use Rattle.net_json.specs.Names.{names_differ};
+ghost use Rattle.net_json.specs.SingleKeys.{single, items_single, members_single};
 ghost use Rattle.net_pointers.specs.Doubles.{IsFirstDoubled, IsFirstDoubledKey};
 
 use json::Value;

@@ -1,14 +1,15 @@
 //! The names that are known where a text is searched.
 ghost use Rattle.std.specs.Prelude.{◌≡◌, map, IfOk};
-ghost use Rattle.net_plan.specs.Names.{text_at, texts_at};
+ghost use Rattle.net_json.specs.Names.{text_at, texts_at};
 ghost use Rattle.net_plan.specs.PlanValues.{name_bytes, node_value, node_names};
-ghost use Rattle.net_plan.specs.Trees.{view};
-ghost use Rattle.net_plan.specs.Grammar.{known_view};
+ghost use Rattle.net_json.specs.Trees.{view};
+ghost use Rattle.net_json.specs.Grammar.{known_view};
 ghost use Rattle.net_pointers.specs.CertificateTroubles.{known_nodes};
 ghost use Rattle.net_pointers.specs.KnownNames.{known_in, names_at};
 
 use json::Value;
-use net_plan::{KnownNames, Node, at};
+use net_json::{KnownNames, at};
+use net_plan::Node;
 use std::alloc::{AllocError, Global};
 
 /// The names that a plan gives its buses and nodes.

@@ -1,17 +1,17 @@
 //! The first fault of a plan.
 ghost use Rattle.std.specs.Prelude.{◌≡◌, None, IfOk, option_map};
 ghost use Rattle.json.specs.Value.{value_view};
-ghost use Rattle.net_plan.specs.Finding.{first_fault, located};
-ghost use Rattle.net_plan.specs.Grammar.{known_seen};
-ghost use Rattle.net_plan.specs.PlanReading.{plan_format};
-ghost use Rattle.net_plan.specs.Tables.{a_plan};
-ghost use Rattle.net_plan.specs.Trees.{view};
+ghost use Rattle.net_json.specs.Finding.{first_fault, located};
+ghost use Rattle.net_json.specs.Grammar.{known_seen};
+ghost use Rattle.net_json.specs.PlanReading.{plan_format};
+ghost use Rattle.net_json.specs.Tables.{a_plan};
+ghost use Rattle.net_json.specs.Trees.{view};
 ghost use Rattle.net_pointers.specs.PlanTroubles.{IsToldOfPlan};
 
 use crate::doubled::{DoubledKey, TwoIndices, doubled_key, first_doubled};
 use crate::known::known_names;
 use json::Value;
-use net_plan::{Found, KnownNames, find_fault, format_of, plan_shape};
+use net_json::{Found, KnownNames, find_fault, format_of, plan_shape};
 use std::alloc::{AllocError, Global};
 
 /// The first fault of a plan's value, in the order of tests.

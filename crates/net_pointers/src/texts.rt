@@ -1,14 +1,15 @@
 //! What is wrong with a text.
 ghost use Rattle.std.specs.Prelude.{◌≡◌, IfOk, Some, map};
 ghost use Rattle.net_plan.specs.PlanValues.{node_value, node_names};
-ghost use Rattle.net_plan.specs.Refusals.{IsNoValue};
+ghost use Rattle.net_json.specs.Refusals.{IsNoValue};
 ghost use Rattle.net_pointers.specs.TextTroubles.{IsToldOfNoValue, IsToldOfPlanText, IsToldOfCertificateText};
 
 use crate::certificates::{CertificateTrouble, certificate_trouble};
 use crate::plans::{PlanTrouble, plan_trouble};
 use crate::syntax::{JsonFault, json_fault};
 use json::Scratch;
-use net_plan::{Plan, PlanError, json_of};
+use net_json::{PlanError, json_of};
+use net_plan::Plan;
 use std::alloc::{AllocError, Global};
 
 /// What is wrong with a text.

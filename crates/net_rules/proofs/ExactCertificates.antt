@@ -12,8 +12,8 @@ use Rattle.net_plan.specs.declared.certificate.Certificate.{Certificate}
 use Rattle.net_plan.specs.declared.certificate.NodePlaces.{NodePlaces}
 use Rattle.net_plan.specs.declared.terminus.PlannedTerminus.{PlannedTerminus}
 use Rattle.net_plan.specs.CertificateValues.{certificate_value, level_value, places_value, node_ranks_value, range_value}
-use Rattle.net_plan.specs.CertificateText.{IsAscending}
-use Rattle.net_plan.specs.CertificateReading.{are_known}
+use Rattle.net_plan.specs.CertificateValues.{IsAscending}
+use Rattle.net_plan.specs.CertificateValues.{are_known}
 use Rattle.net_plan.specs.NodeValues.{node_value, node_names}
 use Rattle.net_plan.specs.PlanValues.{plan_value}
 use Rattle.net_plan.specs.ShortText.{HasFewPlaces}

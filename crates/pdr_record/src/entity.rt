@@ -9,8 +9,11 @@ use crate::reading::FieldReader;
 /// whose lowest byte comes first (DSP0248, section 9).
 #[derive(Clone, Copy, Debug, PartialEq, Eq)]
 pub struct Entity {
+    /// Two bytes: what kind of thing it is, as a number of DSP0249's table.
     pub entity_type: u16,
+    /// Two bytes: which one of its kind in its container.
     pub instance_number: u16,
+    /// Two bytes: the container, 0 for the system as a whole.
     pub container_id: u16,
 }
 

@@ -14,10 +14,13 @@ use crate::record_error::RecordError;
 /// most 255. A number's lowest byte comes first.
 #[derive(Clone, Copy, Debug, PartialEq, Eq)]
 pub struct EntityAssociation<'a> {
+    /// Two bytes: the number by which entities name this container.
     pub container_id: u16,
-    /// 0 physical to physical, 1 logical.
+    /// One byte: 0 physical containment, 1 logical containment.
     pub association_type: u8,
+    /// Six bytes: the entity that contains the others.
     pub container_entity: Entity,
+    /// One byte for how many there are, and six for each: the entities in it.
     pub contained_entities: Entities<'a>,
 }
 

@@ -1,4 +1,4 @@
-//! Platform descriptor records of PLDM (DSP0248): their fields and their bytes.
+//! Platform descriptor records of PLDM (DSP0248): their fields and their bytes. Sections are those of DSP0248 1.2.
 #![tactic(auto)]
 
 mod body;

@@ -20,20 +20,27 @@ use crate::units::Units;
 /// size and `r` that of its range field format. A number's lowest byte comes first.
 #[derive(Clone, Copy, Debug, PartialEq, Eq)]
 pub struct NumericSensor<'a> {
+    /// The first 12 bytes.
     pub sensor: Sensor,
+    /// 10 bytes: the unit of what is measured.
     pub units: Units,
+    /// One byte: how wide a reading is.
     pub sensor_data_size: SensorDataSize,
+    /// 12 bytes: how a reading becomes a value.
     pub precision: Precision,
-    /// As wide as the data size says.
+    /// As wide as a reading, in steps of it: how far a reading has to come back behind a threshold.
     pub hysteresis: &'a [u8],
+    /// 10 bytes: thresholds and times.
     pub timing: Timing,
-    /// As wide as the data size says.
+    /// As wide as a reading: the highest reading.
     pub max_readable: &'a [u8],
-    /// As wide as the data size says.
+    /// As wide as a reading: the lowest reading.
     pub min_readable: &'a [u8],
+    /// One byte: how wide each range field is.
     pub range_field_format: RangeFieldFormat,
-    /// Which of the range fields hold a value.
+    /// One byte: a bit for each range field that holds a value.
     pub range_field_support: u8,
+    /// Nine range fields, as wide as their format says.
     pub ranges: Ranges<'a>,
 }
 

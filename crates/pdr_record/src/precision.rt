@@ -9,13 +9,15 @@ use crate::reading::FieldReader;
 /// number's lowest byte comes first.
 #[derive(Clone, Copy, Debug, PartialEq, Eq)]
 pub struct Precision {
-    /// The bits of a real32.
+    /// Four bytes, the bits of a real32: what a reading is multiplied by, in the sensor's unit.
     pub resolution: u32,
-    /// The bits of a real32.
+    /// Four bytes, the bits of a real32: what is added to that, in the sensor's unit.
     pub offset: u32,
-    /// In hundredths of a percent.
+    /// Two bytes, in hundredths of a percent: how far a value can be off.
     pub accuracy: u16,
+    /// One byte, in steps of a reading: how far a reading can be too high.
     pub plus_tolerance: u8,
+    /// One byte, in steps of a reading: how far a reading can be too low.
     pub minus_tolerance: u8,
 }
 

@@ -9,14 +9,23 @@ use crate::reading::FieldReader;
 /// range field format says. A number's lowest byte comes first.
 #[derive(Clone, Copy, Debug, PartialEq, Eq)]
 pub struct Ranges<'a> {
+    /// The reading that is usual.
     pub nominal_value: &'a [u8],
+    /// The highest reading of normal operation.
     pub normal_max: &'a [u8],
+    /// The lowest reading of normal operation.
     pub normal_min: &'a [u8],
+    /// The upper threshold of a warning.
     pub warning_high: &'a [u8],
+    /// The lower threshold of a warning.
     pub warning_low: &'a [u8],
+    /// The upper threshold of the critical state.
     pub critical_high: &'a [u8],
+    /// The lower threshold of the critical state.
     pub critical_low: &'a [u8],
+    /// The upper threshold of the fatal state.
     pub fatal_high: &'a [u8],
+    /// The lower threshold of the fatal state.
     pub fatal_low: &'a [u8],
 }
 

@@ -22,11 +22,11 @@ const HEADER_VERSION: u8 = 1;
 /// bytes behind the header.
 #[derive(Clone, Copy, Debug, PartialEq, Eq)]
 pub struct Record<'a> {
-    /// Tells the record from the others of its terminus, where it is not 0. Any number is read.
+    /// Four bytes: tells the record from the others of its terminus, where it is not 0. Any number is read.
     pub handle: u32,
-    /// Another one whenever the record has changed.
+    /// Two bytes: another one whenever the record has changed.
     pub change: u16,
-    /// What follows the header.
+    /// What follows the header of 10 bytes.
     pub body: Body<'a>,
     ghost lawful: { IsRecord (record_of handle change (body_value body)) } by { record_prop (record_of handle change (body_value body)) },
 }

@@ -1,4 +1,4 @@
-//! Why bytes are no record.
+//! Why bytes are no record (DSP0248, PDR formats).
 ghost use Rattle.std.specs.Prelude.{◌≡◌};
 
 use std::error::Error;

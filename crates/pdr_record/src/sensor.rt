@@ -11,13 +11,15 @@ use crate::reading::FieldReader;
 /// lowest byte first (DSP0248, sections 28.4 and 28.6).
 #[derive(Clone, Copy, Debug, PartialEq, Eq)]
 pub struct Sensor {
+    /// Two bytes: the handle by which the records name the terminus.
     pub terminus_handle: u16,
+    /// Two bytes: the sensor among those of its terminus.
     pub sensor_id: u16,
-    /// The entity that is measured.
+    /// Six bytes: the entity that is measured.
     pub entity: Entity,
-    /// How the sensor is to be initialized.
+    /// One byte: how the sensor is to be initialized; 0 not at all.
     pub sensor_init: u8,
-    /// Whether there is a record of names of the sensor.
+    /// One byte: 1 where there is a record of names of the sensor, else 0.
     pub auxiliary_names_pdr: u8,
 }
 

@@ -14,8 +14,9 @@ use crate::state_sets::StateSets;
 /// A state sensor (DSP0248, State Sensor PDR, type 4): 13 bytes and the state sets of its composite sensors.
 #[derive(Clone, Copy, Debug, PartialEq, Eq)]
 pub struct StateSensor<'a> {
+    /// The first 12 bytes.
     pub sensor: Sensor,
-    /// One for each composite sensor.
+    /// One byte for how many there are, and then a state set for each composite sensor.
     pub state_sets: StateSets<'a>,
 }
 

@@ -12,7 +12,9 @@ use crate::record_error::RecordError;
 /// report, state 0 in bit 0 of the first byte: three bytes and at most 255 of bits. The bits are borrowed.
 #[derive(Clone, Copy, Debug, PartialEq, Eq)]
 pub struct StateSet<'a> {
+    /// Two bytes: the set of states, as a number of DSP0249's table.
     pub state_set_id: u16,
+    /// One byte for how many follow, and as many bytes, a bit for each state.
     pub possible_states: &'a [u8],
 }
 

@@ -12,14 +12,17 @@ use crate::record_error::RecordError;
 /// number's lowest byte comes first.
 #[derive(Clone, Copy, Debug, PartialEq, Eq)]
 pub struct TerminusLocator<'a> {
+    /// Two bytes: the handle by which the records name the terminus.
     pub terminus_handle: u16,
-    /// 1 where the record is valid.
+    /// One byte: 1 where the record is valid, else 0.
     pub validity: u8,
-    /// The terminus ID.
+    /// One byte: the terminus ID (DSP0240).
     pub tid: u8,
+    /// Two bytes: the container of the terminus, 0 for the system as a whole.
     pub container_id: u16,
-    /// 1 where the value is an MCTP endpoint ID.
+    /// One byte: 1 where the value is an MCTP endpoint ID.
     pub locator_type: u8,
+    /// One byte for how many follow, and as many bytes: where the terminus is.
     pub locator_value: &'a [u8],
 }
 

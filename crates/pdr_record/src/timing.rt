@@ -9,11 +9,13 @@ use crate::reading::FieldReader;
 /// number's lowest byte comes first.
 #[derive(Clone, Copy, Debug, PartialEq, Eq)]
 pub struct Timing {
+    /// One byte: a bit for each threshold that the sensor has.
     pub supported_thresholds: u8,
+    /// One byte: a bit for each event after which thresholds and hysteresis are lost.
     pub threshold_and_hysteresis_volatility: u8,
-    /// In seconds, the bits of a real32.
+    /// Four bytes, the bits of a real32, in seconds: how long a change of state takes to be seen at most.
     pub state_transition_interval: u32,
-    /// In seconds, the bits of a real32.
+    /// Four bytes, the bits of a real32, in seconds: the time between two readings.
     pub update_interval: u32,
 }
 

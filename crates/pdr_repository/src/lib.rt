@@ -1,5 +1,5 @@
 //! Record repositories (DSP0248, GetPDR): the check byte of a record, termini that answer requests for their records
-//! part by part, and the walk that reads all records of a terminus.
+//! part by part, and the walk that reads all records of a terminus. Sections are those of DSP0248 1.2.
 #![tactic(auto)]
 
 mod answering;

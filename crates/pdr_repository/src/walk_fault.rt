@@ -1,4 +1,4 @@
-//! What a part that a walker took was, and why an answer was not taken.
+//! What a part that a walker took was, and why an answer was not taken (DSP0248, section 26.2).
 ghost use Rattle.std.specs.Prelude.{◌≡◌, option_map};
 
 use std::error::Error;

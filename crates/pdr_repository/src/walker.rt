@@ -1,4 +1,4 @@
-//! A walk through the records of a terminus, fed one answer at a time.
+//! A walk through the records of a terminus (DSP0248, section 26.2), fed one answer at a time.
 ghost use Rattle.std.specs.Prelude.{◌≡◌, ◌≢◌, ◌⊎◌, ◌+◌, ◌<◌, ◌≤◌, ◌^◌, length, sum_by, map, true, false, Some, is_some};
 ghost use Rattle.pdr_repository.specs.declared.walker.due.Due.{Due};
 

@@ -6,7 +6,7 @@ use Rattle.std.proofs.KnownBytes.{Appends-nil}
 use Rattle.std.proofs.lemmas.List.{take-append-drop, length-map, length-take-le, take_more, take_all, take-map}
 use Rattle.std.proofs.lemmas.Option.{slice_get-map, slice_get-get_or, get_or_from_slice_get}
 use Rattle.net_plan.specs.declared.plan.Plan.{Plan}
-use Rattle.net_plan.specs.Stream.{HasFailed, AppendsBeginning}
+use Rattle.net_json.specs.Stream.{HasFailed, AppendsBeginning}
 use Rattle.plan_commands.specs.Gathering.{AppendsAllBut}
 use Rattle.plan_commands.proofs.Waiting.{added_after, begins_after, begins_at_end, given_at_end}
 use Rattle.net_runs.specs.WalkedRuns.{WalkedTurn, WalkedRunFrom}
@@ -28,10 +28,10 @@ use Rattle.plan_commands.specs.Statuses.{refused_at}
 use Rattle.plan_commands.proofs.Causes.{unread_also}
 use Rattle.plan_commands.proofs.Telling.{refusal_at, breaks_off_also}
 use Rattle.net_plan.specs.declared.certificate.Certificate.{Certificate}
-use Rattle.net_plan.specs.declared.error.PlanError.{PlanError}
+use Rattle.net_json.specs.declared.error.PlanError.{PlanError}
 use Rattle.net_plan.specs.PlanValues.{plan_value}
-use Rattle.net_plan.specs.TextFaults.{error_count}
-use Rattle.net_plan.specs.Unread.{GaveNoEvents}
+use Rattle.net_json.specs.TextFaults.{error_count}
+use Rattle.net_json.specs.Unread.{GaveNoEvents}
 use Rattle.plan_texts.specs.OutcomeLines.{outcome_line, lines_from, outcome_lines}
 use Rattle.plan_commands.specs.Simulating.{IsRunText, ShowsRun, ShowsBeginning, ShowsWalks, ShowsBegunWalks, IsWalksText, ShowsAllOr, AreFirstLines, ShowsLines, AreUnreadEvents, AreEventsUnread, IsUnreadAmong, AreUnreadAmong}
 

@@ -4,12 +4,12 @@ use Rattle.std.specs.Prelude.{IfOk, IfErr, Vec}
 use Rattle.std.specs.declared.alloc.Global.{Global}
 use Rattle.std.specs.Io.KnownBytes.{Consumes, IsAtEnd}
 use Rattle.serde_json.specs.Data.{Data}
-use Rattle.net_plan.specs.declared.error.PlanError.{PlanError}
-use Rattle.net_plan.specs.declared.error.PlanError.TheVariants as cause_of
-use Rattle.net_plan.specs.declared.error.ValueFault.{ValueFault}
-use Rattle.net_plan.specs.Refusals.{IsRefused, IsFaulty, GaveNone}
-use Rattle.net_plan.specs.Texts.{IsJson, IsTree, StandsFor}
-use Rattle.net_plan.proofs.Refusing.{answer_given}
+use Rattle.net_json.specs.declared.error.PlanError.{PlanError}
+use Rattle.net_json.specs.declared.error.PlanError.TheVariants as cause_of
+use Rattle.net_json.specs.declared.error.ValueFault.{ValueFault}
+use Rattle.net_json.specs.Refusals.{IsRefused, IsFaulty, GaveNone}
+use Rattle.net_json.specs.Texts.{IsJson, IsTree, StandsFor}
+use Rattle.net_json.proofs.Refusing.{answer_given}
 use Rattle.json.specs.Json.{Json}
 use Rattle.json.specs.Strict.{HasUniqueKeys}
 use Rattle.plan_commands.specs.declared.commands.inputs.Unread.{Unread}

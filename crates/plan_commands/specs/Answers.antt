@@ -6,16 +6,16 @@ use Rattle.net_check.specs.declared.check_error.CheckError.TheVariants as check_
 use Rattle.net_rules.specs.declared.fault.Fault.{Fault}
 use Rattle.net_plan.specs.declared.plan.Plan.{Plan}
 use Rattle.net_plan.specs.declared.certificate.Certificate.{Certificate}
-use Rattle.net_plan.specs.declared.error.PlanError.{PlanError}
-use Rattle.net_plan.specs.declared.error.PlanError.TheVariants as error
-use Rattle.net_plan.specs.CertificateText.{IsCertificateOf}
+use Rattle.net_json.specs.declared.error.PlanError.{PlanError}
+use Rattle.net_json.specs.declared.error.PlanError.TheVariants as error
+use Rattle.net_json.specs.CertificateText.{IsCertificateOf}
 use Rattle.net_plan.specs.CertificateValues.{certificate_value}
 use Rattle.net_rules.specs.Faults.{IsFirstFault, site_of}
-use Rattle.net_plan.specs.PlanText.{IsPlanOf}
-use Rattle.net_plan.specs.Stream.{Account, HasFailed, AppendsBeginning}
+use Rattle.net_json.specs.PlanText.{IsPlanOf}
+use Rattle.net_json.specs.Stream.{Account, HasFailed, AppendsBeginning}
 use Rattle.net_plan.specs.PlanValues.{plan_value}
-use Rattle.net_plan.specs.Unread.{GaveNoPlan, GaveNoCertificate}
-use Rattle.net_plan.specs.Texts.{Gave, StandsFor}
+use Rattle.net_json.specs.Unread.{GaveNoPlan, GaveNoCertificate}
+use Rattle.net_json.specs.Texts.{Gave, StandsFor}
 use Rattle.plan_commands.specs.declared.refused.Input.{Input}
 use Rattle.plan_commands.specs.declared.refused.Input.TheVariants as input
 use Rattle.plan_commands.specs.declared.refused.Refused.{Refused}

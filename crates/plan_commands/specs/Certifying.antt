@@ -2,11 +2,11 @@
 use Rattle.std.specs.Prelude.{◌≡◌, ◌≤◌, ℕ, List, length, Some}
 use Rattle.net_plan.specs.declared.plan.Plan.{Plan}
 use Rattle.net_plan.specs.declared.certificate.Certificate.{Certificate}
-use Rattle.net_plan.specs.CertificateJson.{certificate_text}
-use Rattle.net_plan.specs.CertificateText.{IsCertificateOf}
+use Rattle.net_json.specs.CertificateJson.{certificate_text}
+use Rattle.net_json.specs.CertificateText.{IsCertificateOf}
 use Rattle.net_plan.specs.CertificateValues.{certificate_value}
 use Rattle.net_plan.specs.PlanValues.{node_names, plan_value}
-use Rattle.net_plan.specs.Texts.{StandsFor}
+use Rattle.net_json.specs.Texts.{StandsFor}
 use Rattle.net_plan.specs.WellFormed.{IsWellFormed}
 use Rattle.net_rules.specs.declared.certify_error.CertifyError.{CertifyError}
 use Rattle.net_rules.specs.Certificates.{IsExact, NamesObstacle, HasNoCertificate}

@@ -5,9 +5,9 @@ use Rattle.net_rules.specs.MoveFaults.{NamesFirstMoveFault}
 use Rattle.net_rules.specs.MoveRules.{AcceptsMove}
 use Rattle.net_plan.specs.declared.plan.Plan.{Plan}
 use Rattle.net_plan.specs.declared.certificate.Certificate.{Certificate}
-use Rattle.net_plan.specs.declared.error.PlanError.{PlanError}
+use Rattle.net_json.specs.declared.error.PlanError.{PlanError}
 use Rattle.net_plan.specs.PlanValues.{plan_value}
-use Rattle.net_plan.specs.Unread.{GaveNoPlan, GaveNoCertificate}
+use Rattle.net_json.specs.Unread.{GaveNoPlan, GaveNoCertificate}
 use Rattle.plan_commands.specs.declared.refused.Input.{Input}
 use Rattle.plan_commands.specs.declared.refused.Input.TheVariants as input
 use Rattle.plan_commands.specs.declared.refused.Refused.{Refused}

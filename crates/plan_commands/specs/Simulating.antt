@@ -3,13 +3,13 @@ use Rattle.std.specs.Prelude.{◌≡◌, ◌⊎◌, ℕ, List, map, take, Result
 use Rattle.std.specs.Io.KnownBytes.{Appends}
 use Rattle.net_plan.specs.declared.plan.Plan.{Plan}
 use Rattle.net_plan.specs.declared.certificate.Certificate.{Certificate}
-use Rattle.net_plan.specs.declared.error.PlanError.{PlanError}
+use Rattle.net_json.specs.declared.error.PlanError.{PlanError}
 use Rattle.net_plan.specs.declared.event.Event.{Event}
-use Rattle.net_plan.specs.EventText.{AreEventsOf}
+use Rattle.net_json.specs.EventText.{AreEventsOf}
 use Rattle.net_plan.specs.EventValues.{event_entry}
 use Rattle.net_plan.specs.PlanValues.{plan_value}
-use Rattle.net_plan.specs.Texts.{Gave, StandsFor}
-use Rattle.net_plan.specs.Unread.{GaveNoEvents}
+use Rattle.net_json.specs.Texts.{Gave, StandsFor}
+use Rattle.net_json.specs.Unread.{GaveNoEvents}
 use Rattle.net_rules.specs.Rules.{Accepts}
 use Rattle.net_tables.specs.TwoPlans.{Tables, one_plan}
 use Rattle.net_runs.specs.WalkedRuns.{WalkedTurn, WalkedRunFrom}

@@ -1,21 +1,21 @@
 -- What `explain` says where a file can't be read.
 use Rattle.std.specs.Prelude.{◌≡◌, ◌≢◌, ◌⊎◌, ℕ, List, ◌++◌, codes, ⊤, Result, Option}
 use Rattle.serde_json.specs.Data.{Data}
-use Rattle.net_plan.specs.CertificateReading.{certificate}
-use Rattle.net_plan.specs.CertificateText.{IsCertificateOf}
-use Rattle.net_plan.specs.declared.error.PlanError.{PlanError}
-use Rattle.net_plan.specs.declared.error.PlanError.TheVariants as error_of
-use Rattle.net_plan.specs.declared.error.ValueFault.{ValueFault}
+use Rattle.net_json.specs.CertificateReading.{certificate}
+use Rattle.net_json.specs.CertificateText.{IsCertificateOf}
+use Rattle.net_json.specs.declared.error.PlanError.{PlanError}
+use Rattle.net_json.specs.declared.error.PlanError.TheVariants as error_of
+use Rattle.net_json.specs.declared.error.ValueFault.{ValueFault}
 use Rattle.net_plan.specs.declared.plan.Plan.{Plan}
-use Rattle.net_plan.specs.declared.stream.TextFault.{TextFault}
-use Rattle.net_plan.specs.declared.stream.TextFault.TheVariants as text_fault
-use Rattle.net_plan.specs.PlanReading.{plan}
-use Rattle.net_plan.specs.PlanText.{IsPlanOf}
+use Rattle.net_json.specs.declared.stream.TextFault.{TextFault}
+use Rattle.net_json.specs.declared.stream.TextFault.TheVariants as text_fault
+use Rattle.net_json.specs.PlanReading.{plan}
+use Rattle.net_json.specs.PlanText.{IsPlanOf}
 use Rattle.net_plan.specs.PlanValues.{plan_value, node_names}
-use Rattle.net_plan.specs.Refusals.{IsRefused}
-use Rattle.net_plan.specs.Stream.{TakesMoreThan}
-use Rattle.net_plan.specs.Texts.{Gave, StandsFor}
-use Rattle.net_plan.specs.Unread.{GaveNoPlan, GaveNoCertificate}
+use Rattle.net_json.specs.Refusals.{IsRefused}
+use Rattle.net_json.specs.Stream.{TakesMoreThan}
+use Rattle.net_json.specs.Texts.{Gave, StandsFor}
+use Rattle.net_json.specs.Unread.{GaveNoPlan, GaveNoCertificate}
 use Rattle.plan_commands.specs.declared.commands.inputs.Unread.{Unread}
 use Rattle.plan_commands.specs.declared.commands.inputs.Unread.TheVariants.{NoMemory, Failed, TooLong, Text}
 use Rattle.plan_commands.specs.declared.refused.Input.{Input}

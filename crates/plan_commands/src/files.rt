@@ -3,10 +3,10 @@ ghost use Rattle.std.specs.Io.{ReadsAtMost};
 ghost use Rattle.std.specs.Io.KnownBytes.{ReadConsumes};
 ghost use Rattle.std.specs.Option.{option_and_then};
 ghost use Rattle.either.specs.Either.{either};
-ghost use Rattle.net_plan.specs.Stream.{HasRoom};
+ghost use Rattle.net_json.specs.Stream.{HasRoom};
 
 use either::Either;
-use net_plan::{Sink, write_whole};
+use net_json::{Sink, write_whole};
 use std::alloc::Global;
 use std::fs::File;
 use std::io::{self, Input, Read};

@@ -1,12 +1,13 @@
 //! What a person at a terminal is told beside the line of a refusal. Want of memory for it and a sink that fails are passed
 //! over.
-ghost use Rattle.net_plan.specs.Stream.{HasRoom};
+ghost use Rattle.net_json.specs.Stream.{HasRoom};
 
 use crate::command_line::command_names;
 use crate::commands::certified::Question;
 use crate::commands::naming::first_named;
 use crate::commands::walk::named_terminus;
-use net_plan::{Plan, Sink, Source, read_plan, write_whole};
+use net_json::{Sink, Source, read_plan, write_whole};
+use net_plan::Plan;
 use net_pointers::nearest_name;
 use plan_texts::{guide_to, text_of};
 use record_fields::made_record;

@@ -13,27 +13,27 @@ use Rattle.json.specs.Strict.{keys}
 use Rattle.json.specs.Value as seen
 use Rattle.serde_json.specs.Data.{Data}
 use Rattle.serde_json.specs.Find.{get, get_item}
-use Rattle.net_plan.specs.CertificateText.{IsCertificateOf}
+use Rattle.net_json.specs.CertificateText.{IsCertificateOf}
 use Rattle.net_plan.specs.CertificateValues.{CertificateValue}
-use Rattle.net_plan.specs.Finding.{Located, Step, step_value}
-use Rattle.net_plan.specs.Grammar.{Fields, fields_of, fields_view, keys_of}
-use Rattle.net_plan.specs.Json.{is_among, items_count}
-use Rattle.net_plan.specs.PlanText.{IsPlanOf}
+use Rattle.net_json.specs.Finding.{Located, Step, step_value}
+use Rattle.net_json.specs.Grammar.{Fields, fields_of, fields_view, keys_of}
+use Rattle.net_json.specs.Json.{is_among, items_count}
+use Rattle.net_json.specs.PlanText.{IsPlanOf}
 use Rattle.net_plan.specs.PlanValues.{PlanValue, node_names}
-use Rattle.net_plan.specs.Texts.{IsJson, IsTree, StandsFor}
-use Rattle.net_plan.specs.Trees.{Tree, view, items_view, data_of}
-use Rattle.net_plan.proofs.Trees.{get_of}
-use Rattle.net_plan.proofs.PlanLaw.{plan_tells}
-use Rattle.net_plan.proofs.CertificateLaw.{certificate_tells}
-use Rattle.net_plan.proofs.Refusing.{single_read}
-use Rattle.net_plan.specs.CertificateReading.{certificate}
-use Rattle.net_plan.specs.PlanReading.{plan}
-use Rattle.net_plan.specs.SingleKeys.{unless_doubled}
-use Rattle.net_plan.specs.declared.error.ValueFault.{ValueFault}
-use Rattle.net_plan.specs.declared.error.ValueFault.TheVariants as fault
-use Rattle.net_plan.specs.declared.found.PointerStep.{PointerStep}
-use Rattle.net_plan.specs.declared.shape.Field.{Field, out-Field}
-use Rattle.net_plan.proofs.FieldKeys.{fields_cons}
+use Rattle.net_json.specs.Texts.{IsJson, IsTree, StandsFor}
+use Rattle.net_json.specs.Trees.{Tree, view, items_view, data_of}
+use Rattle.net_json.proofs.Trees.{get_of}
+use Rattle.net_json.proofs.PlanLaw.{plan_tells}
+use Rattle.net_json.proofs.CertificateLaw.{certificate_tells}
+use Rattle.net_json.proofs.Refusing.{single_read}
+use Rattle.net_json.specs.CertificateReading.{certificate}
+use Rattle.net_json.specs.PlanReading.{plan}
+use Rattle.net_json.specs.SingleKeys.{unless_doubled}
+use Rattle.net_json.specs.declared.error.ValueFault.{ValueFault}
+use Rattle.net_json.specs.declared.error.ValueFault.TheVariants as fault
+use Rattle.net_json.specs.declared.found.PointerStep.{PointerStep}
+use Rattle.net_json.specs.declared.shape.Field.{Field, out-Field}
+use Rattle.net_json.proofs.FieldKeys.{fields_cons}
 use Rattle.net_pointers.specs.Doubles.{item_at, member_at, part_at, part_after}
 use Rattle.net_pointers.specs.Pointers.{value_at, value_after}
 use Rattle.net_pointers.specs.TextTroubles.{IsJsonOf, IsToldOfPlanText, IsToldOfCertificateText}

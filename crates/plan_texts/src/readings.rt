@@ -1,11 +1,11 @@
 //! The lines that tell why a text doesn't read, and where.
 ghost use Rattle.std.specs.Prelude.{◌≡◌, [], Some, IfOk, string_bytes};
 ghost use Rattle.json.specs.Value.{value_view};
-ghost use Rattle.net_plan.specs.CertificateText.{IsCertificateOf};
+ghost use Rattle.net_json.specs.CertificateText.{IsCertificateOf};
 ghost use Rattle.net_plan.specs.CertificateValues.{CertificateValue};
-ghost use Rattle.net_plan.specs.PlanText.{IsPlanOf};
+ghost use Rattle.net_json.specs.PlanText.{IsPlanOf};
 ghost use Rattle.net_plan.specs.PlanValues.{PlanValue, plan_value, node_names};
-ghost use Rattle.net_plan.specs.Texts.{StandsFor};
+ghost use Rattle.net_json.specs.Texts.{StandsFor};
 ghost use Rattle.net_pointers.specs.CertificateTroubles.{IsToldOfCertificate};
 ghost use Rattle.net_pointers.specs.Offsets.{IsTextOf};
 ghost use Rattle.net_pointers.specs.PlanTroubles.{IsToldOfPlan};
@@ -24,7 +24,8 @@ mod values;
 
 use json::{Scratch, Value};
 use names::unknown_name_lines;
-use net_plan::{Plan, PlanError, json_of};
+use net_json::{PlanError, json_of};
+use net_plan::Plan;
 use net_pointers::{
     CertificateTrouble, PlanTrouble, TextTrouble, certificate_text_trouble, known_names, list_key,
     names_of_nodes, plan_text_trouble,

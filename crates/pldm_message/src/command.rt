@@ -1,4 +1,4 @@
-//! The commands that this crate has messages of.
+//! The commands that this crate has messages of (DSP0240, messaging control and discovery; DSP0248, GetPDR).
 ghost use Rattle.std.specs.Prelude.{◌≡◌};
 
 use crate::header::PldmType;

@@ -14,8 +14,9 @@ use mctp_transport::Wire;
 /// same.
 #[derive(Clone, Copy, Debug, PartialEq, Eq)]
 pub struct ErrorAnswer {
-    /// The header, which is that of a response.
+    /// The first four bytes, the header of a response.
     pub header: PldmHeader,
+    /// Byte 4: the completion code.
     pub code: ErrorCode,
     pub ghost response: { header.kind ≡ kind.Response },
 }

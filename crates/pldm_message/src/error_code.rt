@@ -1,4 +1,4 @@
-//! Completion codes that say why a request was not carried out.
+//! Completion codes that say why a request was not carried out (DSP0240, completion codes; DSP0248, GetPDR).
 ghost use Rattle.std.specs.Prelude.{◌≡◌, ◌<◌};
 
 /// The completion code of a request that was carried out.

@@ -11,7 +11,9 @@ use mctp_transport::Wire;
 /// those of the record and perhaps a check byte; or another completion code alone, 5 bytes (DSP0248, GetPDR).
 #[derive(Clone, Copy, Debug)]
 pub struct GetPdrAnswer<'a> {
+    /// What the sender chooses of the first four bytes.
     pub head: AnswerHead,
+    /// Byte 4 and what follows: a part of a record, or another completion code.
     pub outcome: Result<PdrPart<'a>, ErrorCode>,
 }
 

@@ -15,15 +15,17 @@ use mctp_transport::Wire;
 /// (2), each with its lowest byte first (DSP0248, GetPDR).
 #[derive(Clone, Copy, Debug, PartialEq, Eq)]
 pub struct GetPdrRequest {
+    /// What the sender chooses of the first four bytes.
     pub head: RequestHead,
-    /// The record's handle, 0 for the first record.
+    /// Four bytes: the record's handle, 0 for the first record.
     pub record_handle: u32,
-    /// Where the part begins. Of no meaning for a first part.
+    /// Four bytes: where the part begins. Of no meaning for a first part.
     pub transfer_handle: u32,
+    /// One byte: whether a first or a next part is asked for.
     pub operation: TransferOperation,
-    /// How many bytes of the record the answer may have at most.
+    /// Two bytes: how many bytes of the record the answer may have at most.
     pub count: u16,
-    /// The change number that the record's first part had. Of no meaning for a first part.
+    /// Two bytes: the change number that the record's first part had. Of no meaning for a first part.
     pub change_number: u16,
     pub ghost record_in_range: { record_handle < 2 ^ 32 },
     pub ghost transfer_in_range: { transfer_handle < 2 ^ 32 },

@@ -20,6 +20,7 @@ use mctp_transport::Wire;
 /// A request for the PLDM types of a terminus: the header alone, 4 bytes (DSP0240, GetPLDMTypes).
 #[derive(Clone, Copy, Debug, PartialEq, Eq)]
 pub struct GetPldmTypes {
+    /// What the sender chooses of the first four bytes.
     pub head: RequestHead,
 }
 
@@ -65,7 +66,9 @@ impl<'a> Wire<'a> for GetPldmTypes {
 /// GetPLDMTypes).
 #[derive(Clone, Copy, Debug, PartialEq, Eq)]
 pub struct GetPldmTypesAnswer {
+    /// What the sender chooses of the first four bytes.
     pub head: AnswerHead,
+    /// Byte 4 and what follows: eight bytes of types, or another completion code.
     pub outcome: Result<PldmTypes, ErrorCode>,
 }
 

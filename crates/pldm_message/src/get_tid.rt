@@ -20,6 +20,7 @@ use mctp_transport::Wire;
 /// A request for a terminus's ID: the header alone, 4 bytes (DSP0240, GetTID).
 #[derive(Clone, Copy, Debug, PartialEq, Eq)]
 pub struct GetTid {
+    /// What the sender chooses of the first four bytes.
     pub head: RequestHead,
 }
 
@@ -64,7 +65,9 @@ impl<'a> Wire<'a> for GetTid {
 /// completion code alone, 5 bytes (DSP0240, GetTID).
 #[derive(Clone, Copy, Debug, PartialEq, Eq)]
 pub struct GetTidAnswer {
+    /// What the sender chooses of the first four bytes.
     pub head: AnswerHead,
+    /// Byte 4 and what follows: one byte of a terminus ID, or another completion code.
     pub outcome: Result<Tid, ErrorCode>,
 }
 

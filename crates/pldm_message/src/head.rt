@@ -1,4 +1,5 @@
-//! What the headers of requests and answers say besides their command, and the fronts of both.
+//! What the headers of requests and answers say besides their command (DSP0240, PLDM message fields), and the fronts
+//! of both.
 ghost use Rattle.std.specs.Prelude.{◌≡◌, ◌≤◌, ◌++◌, ◌∷◌, [], length, drop};
 
 use crate::command::Command;
@@ -15,9 +16,11 @@ pub const OUTCOME_LENGTH: usize = HEADER_LENGTH + 1;
 /// What a request's header says besides its command.
 #[derive(Clone, Copy, Debug, PartialEq, Eq)]
 pub struct RequestHead {
+    /// Byte 1, bits 7 and 6: a request, or a request that wants no answer.
     pub kind: RequestKind,
-    /// The header's reserved bit, as it was read.
+    /// Byte 1, bit 5, as it was read.
     pub reserved: bool,
+    /// Byte 1, bits 4 to 0: the instance ID.
     pub instance: InstanceId,
 }
 
@@ -90,8 +93,9 @@ impl RequestHead {
 /// What an answer's header says besides its command.
 #[derive(Clone, Copy, Debug, PartialEq, Eq)]
 pub struct AnswerHead {
-    /// The header's reserved bit, as it was read.
+    /// Byte 1, bit 5, as it was read.
     pub reserved: bool,
+    /// Byte 1, bits 4 to 0: the instance ID.
     pub instance: InstanceId,
 }
 

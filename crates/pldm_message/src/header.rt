@@ -37,12 +37,15 @@ impl PldmType {
 /// then the command (DSP0240, PLDM message fields). The message type is 1 and the header version 0, so neither is kept.
 #[derive(Clone, Copy, Debug, PartialEq, Eq)]
 pub struct PldmHeader {
+    /// Byte 1, bits 7 and 6: request, response or a request that wants no answer.
     pub kind: MessageKind,
-    /// Bit 5 of the second byte, as it was read.
+    /// Byte 1, bit 5, as it was read.
     pub reserved: bool,
+    /// Byte 1, bits 4 to 0: the instance ID.
     pub instance: InstanceId,
+    /// Byte 2, bits 5 to 0: the PLDM type.
     pub pldm_type: PldmType,
-    /// The command: any byte. Which commands there are depends on the PLDM type.
+    /// Byte 3: the command, any byte. Which commands there are depends on the PLDM type.
     pub command: u8,
     pub ghost in_range: { command < 256 },
 }

@@ -1,4 +1,4 @@
-//! What a message is.
+//! What a message is (DSP0240, PLDM message fields).
 ghost use Rattle.std.specs.Prelude.{◌≡◌};
 
 /// What a message is, by the bits Rq and D of its header (DSP0240, PLDM message fields).

@@ -1,5 +1,5 @@
 //! PLDM messages (DSP0240, DSP0248): their headers, the base commands of termini, requests for parts of records and
-//! their answers, and instance IDs.
+//! their answers, and instance IDs. Parts of the standards are those of DSP0240 1.1 and DSP0248 1.2.
 #![tactic(auto)]
 
 mod command;

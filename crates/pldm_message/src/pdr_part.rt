@@ -17,14 +17,15 @@ const PART_NUMBERS: usize = 11;
 /// one check byte only where the flag is 4; numbers have their lowest byte first (DSP0248, GetPDR).
 #[derive(Clone, Copy, Debug)]
 pub struct PdrPart<'a> {
-    /// The handle of the record after this one, 0 where there is none.
+    /// Four bytes: the handle of the record after this one, 0 where there is none.
     pub next_record: u32,
-    /// The handle of the record's next part, 0 where there is none.
+    /// Four bytes: the handle of the record's next part, 0 where there is none.
     pub next_transfer: u32,
+    /// One byte: which part of the record this is.
     pub flag: TransferFlag,
-    /// The bytes of the record, fewer than 65536.
+    /// Two bytes for how many follow, and the bytes of the record, fewer than 65,536.
     pub bytes: &'a [u8],
-    /// The check byte over the whole record, where the flag is 4 and only there.
+    /// One byte, where the flag is 4 and only there: the check byte over the whole record.
     pub check: Option<u8>,
     pub ghost record_in_range: { next_record < 2 ^ 32 },
     pub ghost transfer_in_range: { next_transfer < 2 ^ 32 },

@@ -1,4 +1,4 @@
-//! Why bytes are not the message that was wanted.
+//! Why bytes are not the message that was wanted (DSP0240, PLDM message fields).
 ghost use Rattle.std.specs.Prelude.{◌≡◌};
 
 use std::error::Error;

@@ -9,6 +9,7 @@ pub const TYPES_LENGTH: usize = 8;
 /// A set of PLDM types, in 8 bytes: bit j of byte i says whether it has type 8 i + j (DSP0240, GetPLDMTypes).
 #[derive(Clone, Copy, Debug, PartialEq, Eq)]
 pub struct PldmTypes {
+    /// Eight bytes: bit j of byte i says whether type 8 i + j is there.
     pub bits: [u8; 8],
     pub ghost eight: { length bits ≡ 8 },
 }

@@ -20,8 +20,9 @@ use mctp_transport::Wire;
 /// A request that a terminus takes this ID: the header and the ID, 5 bytes (DSP0240, SetTID).
 #[derive(Clone, Copy, Debug, PartialEq, Eq)]
 pub struct SetTid {
+    /// What the sender chooses of the first four bytes.
     pub head: RequestHead,
-    /// Any byte: a terminus refuses those that it cannot take.
+    /// Byte 4, any byte: a terminus refuses those that it cannot take.
     pub tid: Tid,
 }
 
@@ -67,7 +68,9 @@ impl<'a> Wire<'a> for SetTid {
 /// The answer to a request to set a terminus ID: the header and a completion code, 5 bytes (DSP0240, SetTID).
 #[derive(Clone, Copy, Debug, PartialEq, Eq)]
 pub struct SetTidAnswer {
+    /// What the sender chooses of the first four bytes.
     pub head: AnswerHead,
+    /// Byte 4: success, or another completion code.
     pub outcome: Result<(), ErrorCode>,
 }
 

@@ -2,7 +2,7 @@
 
 use super::riser::{CERTIFICATE, PLAN};
 use super::{CutOff, NO_NODES, NO_RANKS, Narrow, expect_told, expect_written};
-use net_plan::Counted;
+use net_json::Counted;
 use plan_commands::{Question, Status, run_certified};
 use std::io::Read;
 use std::process::Abort;

@@ -1,7 +1,7 @@
 //! `move` on a network of four nodes: host, the bridges left and right, and x, which host reaches by either.
 
 use super::{CutOff, Narrow, expect_told, expect_written};
-use net_plan::Counted;
+use net_json::Counted;
 use plan_commands::{Status, run_move};
 use std::alloc::{AllocError, Global};
 use std::io::Read;

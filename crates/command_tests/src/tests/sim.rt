@@ -3,7 +3,7 @@
 use super::riser::{CERTIFICATE, PLAN};
 use super::{CutOff, Narrow, expect_told, expect_written};
 use net_check::check;
-use net_plan::{Counted, certificate_of_text, events_of_text, plan_of_text};
+use net_json::{Counted, certificate_of_text, events_of_text, plan_of_text};
 use net_sim::planned_termini_count;
 use pdr_repository::{ListTerminus, Terminus, is_lawful_list};
 use plan_commands::{Status, run_sim, simulate};

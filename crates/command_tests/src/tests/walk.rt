@@ -2,7 +2,7 @@
 
 use super::riser::{CERTIFICATE, PLAN};
 use super::{Narrow, expect_written};
-use net_plan::Counted;
+use net_json::Counted;
 use plan_commands::{PartSize, Question, Status, run_certified};
 
 #[test]

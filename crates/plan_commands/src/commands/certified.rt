@@ -2,7 +2,7 @@
 ghost use Rattle.std.specs.Prelude.{◌≡◌, ◌⊎◌, true, false, IfOk, IfErr};
 ghost use Rattle.std.specs.Cow.{cow_str_bytes};
 ghost use Rattle.net_check.specs.Errors.{NamesFirstFault};
-ghost use Rattle.net_plan.specs.Stream.{HasRoom};
+ghost use Rattle.net_json.specs.Stream.{HasRoom};
 ghost use Rattle.plan_commands.specs.declared.status.Status.TheVariants.{Yes, Fault, Unreadable, NoMemory};
 ghost use Rattle.plan_commands.specs.declared.refused.Refused.TheVariants as refused;
 ghost use Rattle.plan_commands.specs.Answers.{stream, IsWithoutPlan, BreaksOff};
@@ -21,7 +21,8 @@ use crate::commands::walk::{PartSize, named_terminus, records_text};
 use crate::refused::Refused;
 use crate::status::Status;
 use net_check::{CheckError, Checked, check};
-use net_plan::{Certificate, Plan, Sink, Source};
+use net_json::{Sink, Source};
+use net_plan::{Certificate, Plan};
 use std::alloc::Global;
 use std::borrow::CowStr;
 

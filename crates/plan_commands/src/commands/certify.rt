@@ -5,7 +5,8 @@ ghost use Rattle.plan_commands.specs.Certifying.{Certifies};
 
 use crate::commands::answer::Answer;
 use net_check::certify;
-use net_plan::{Plan, text_of_certificate};
+use net_json::text_of_certificate;
+use net_plan::Plan;
 use plan_texts::obstacle_line;
 use std::alloc::{AllocError, Global};
 

@@ -2,7 +2,7 @@
 ghost use Rattle.std.specs.Prelude.{◌≡◌, ◌≢◌, ◌⊎◌, IfOk, IfErr, string_bytes};
 ghost use Rattle.std.specs.Cow.{cow_str_bytes};
 ghost use Rattle.net_rules.specs.Certificates.{NamesObstacle, RulesOutCertificates};
-ghost use Rattle.net_plan.specs.Stream.{HasRoom};
+ghost use Rattle.net_json.specs.Stream.{HasRoom};
 ghost use Rattle.plan_commands.specs.declared.status.Status.TheVariants.{Yes, Fault, Unreadable, NoMemory};
 ghost use Rattle.plan_commands.specs.declared.refused.Refused.TheVariants as refused;
 ghost use Rattle.plan_commands.specs.Answers.{stream, BreaksOff};
@@ -19,7 +19,8 @@ use crate::refused::Refused;
 use crate::status::Status;
 use net_check::{CertifyError, certify};
 use net_explained::{most_hops, tried_edits};
-use net_plan::{Certificate, Plan, Sink, Source};
+use net_json::{Sink, Source};
+use net_plan::{Certificate, Plan};
 use plan_texts::{edit_lines, obstacle_line, obstacle_lines, summary_lines};
 use std::alloc::{AllocError, Global};
 use unread::unread_plan;

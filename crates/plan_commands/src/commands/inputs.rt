@@ -1,21 +1,19 @@
 //! The files that commands read.
 ghost use Rattle.std.specs.Prelude.{◌≡◌, IfOk, IfErr};
-ghost use Rattle.net_plan.specs.Stream.{HasRoom};
+ghost use Rattle.net_json.specs.Stream.{HasRoom};
 ghost use Rattle.plan_commands.specs.Answers.{stream, IsWithoutPlan, GavePlan, GaveCertificate, IsPlanUnread, IsCertificateUnread, AreGiven, AreUnread};
-ghost use Rattle.net_plan.specs.CertificateText.{IsCertificateOf};
+ghost use Rattle.net_json.specs.CertificateText.{IsCertificateOf};
 ghost use Rattle.net_plan.specs.CertificateValues.{certificate_value};
-ghost use Rattle.net_plan.specs.PlanText.{IsPlanOf};
+ghost use Rattle.net_json.specs.PlanText.{IsPlanOf};
 ghost use Rattle.net_plan.specs.PlanValues.{plan_value};
-ghost use Rattle.net_plan.specs.Texts.{StandsFor};
+ghost use Rattle.net_json.specs.Texts.{StandsFor};
 ghost use Rattle.plan_commands.specs.UnreadTexts.{IsNoPlanIn, IsNoPlanBy, IsNoCertificateIn, IsNoCertificateBy, IsTextOf, StandsForNothing, unread_of};
 ghost use Rattle.plan_commands.specs.Moving.{IsMoveGiven, IsMoveUnread};
 ghost use Rattle.plan_commands.specs.Simulating.{GaveEvents, AreEventsUnread};
 
 use crate::refused::{Input, Refused};
-use net_plan::{
-    Certificate, Event, Plan, PlanError, Source, TEXT_LIMIT, TextFault, certificate_of_text,
-    plan_of_text, read_certificate, read_events, read_plan, read_within,
-};
+use net_json::{PlanError, Source, TEXT_LIMIT, TextFault, certificate_of_text, plan_of_text, read_certificate, read_events, read_plan, read_within};
+use net_plan::{Certificate, Event, Plan};
 use std::alloc::Global;
 
 /// The plan that a source gives.

@@ -1,6 +1,6 @@
 //! The command `move`: whether the nodes of a running network may go from the rows of one plan to those of another.
 ghost use Rattle.std.specs.Prelude.{◌≡◌, ◌⊎◌, IfOk, IfErr};
-ghost use Rattle.net_plan.specs.Stream.{HasRoom};
+ghost use Rattle.net_json.specs.Stream.{HasRoom};
 ghost use Rattle.std.specs.Cow.{cow_str_bytes};
 ghost use Rattle.plan_commands.specs.declared.status.Status.TheVariants.{Yes, Fault, Unreadable, NoMemory};
 ghost use Rattle.plan_commands.specs.Answers.{stream, IsWithoutPlan, BreaksOff};
@@ -12,7 +12,8 @@ use crate::commands::inputs::read_move;
 use crate::refused::Refused;
 use crate::status::Status;
 use net_check::{MoveError, check_move};
-use net_plan::{Certificate, Plan, Sink, Source};
+use net_json::{Sink, Source};
+use net_plan::{Certificate, Plan};
 use plan_texts::move_error_line;
 use std::alloc::{AllocError, Global};
 

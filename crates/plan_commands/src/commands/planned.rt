@@ -1,7 +1,7 @@
 //! Commands that read a plan alone, and answer a question about it.
 ghost use Rattle.std.specs.Prelude.{◌≡◌, ◌⊎◌, IfOk, IfErr};
 ghost use Rattle.std.specs.Cow.{cow_str_bytes};
-ghost use Rattle.net_plan.specs.Stream.{HasRoom};
+ghost use Rattle.net_json.specs.Stream.{HasRoom};
 ghost use Rattle.plan_commands.specs.declared.status.Status.TheVariants.{Yes, Fault, Unreadable, NoMemory};
 ghost use Rattle.plan_commands.specs.Answers.{stream, IsPlanUnread, BreaksOff};
 ghost use Rattle.plan_commands.specs.Told.{IsSomeAnswer, Ends};
@@ -15,7 +15,8 @@ use crate::commands::lint::findings_of_plan;
 use crate::commands::listing::faults_of_plan;
 use crate::refused::Refused;
 use crate::status::Status;
-use net_plan::{Plan, Sink, Source};
+use net_json::{Sink, Source};
+use net_plan::Plan;
 use std::alloc::{AllocError, Global};
 
 /// A question about a plan: the command of the name asks it.

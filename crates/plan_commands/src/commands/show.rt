@@ -1,7 +1,7 @@
 //! The command `show`: what bytes are, or why they are nothing.
 ghost use Rattle.std.specs.Prelude.{◌≡◌, ◌⊎◌, IfOk, IfErr};
 ghost use Rattle.std.specs.Cow.{cow_str_bytes};
-ghost use Rattle.net_plan.specs.Stream.{HasRoom};
+ghost use Rattle.net_json.specs.Stream.{HasRoom};
 ghost use Rattle.plan_commands.specs.declared.status.Status.TheVariants.{Yes, Fault, Unreadable, NoMemory};
 ghost use Rattle.plan_commands.specs.Answers.{stream, BreaksOff};
 ghost use Rattle.plan_commands.specs.Show.{IsDecoded, IsNotShown, IsShown, ShowsSo};
@@ -12,7 +12,7 @@ use crate::refused::Refused;
 use crate::status::Status;
 use hex::FromHexError;
 use mctp_transport::{PacketView, Wire};
-use net_plan::Sink;
+use net_json::Sink;
 use pdr_record::Record;
 use plan_texts::{packet_text, record_text, refused_text};
 use std::alloc::{AllocError, Global};

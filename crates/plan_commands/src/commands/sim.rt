@@ -1,6 +1,6 @@
 //! The command `sim`: what comes of events in the network of a checked plan.
 ghost use Rattle.std.specs.Prelude.{◌≡◌, ℕ, List, length, map, take, false};
-ghost use Rattle.net_plan.specs.Stream.{HasRoom};
+ghost use Rattle.net_json.specs.Stream.{HasRoom};
 ghost use Rattle.plan_commands.specs.declared.status.Status.TheVariants.{Yes};
 ghost use Rattle.net_plan.specs.declared.certificate.Certificate.{Certificate};
 ghost use Rattle.net_tables.specs.TwoPlans.{Tables, one_plan, moving};
@@ -23,7 +23,8 @@ use crate::commands::gathered::Gathered;
 use crate::refused::Refused;
 use crate::status::Status;
 use net_check::{Checked, CheckedMove};
-use net_plan::{Event, Plan, Sink};
+use net_json::Sink;
+use net_plan::{Event, Plan};
 use net_sim::{Network, Outcome, Played};
 use pdr_repository::Terminus;
 use plan_texts::outcome_line;

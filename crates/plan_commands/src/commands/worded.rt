@@ -1,7 +1,7 @@
 //! Commands that answer on words alone: `describe` and `record`.
 ghost use Rattle.std.specs.Prelude.{◌≡◌, ◌⊎◌, IfOk, IfErr, map, string_bytes};
 ghost use Rattle.std.specs.Cow.{cow_str_bytes};
-ghost use Rattle.net_plan.specs.Stream.{HasRoom};
+ghost use Rattle.net_json.specs.Stream.{HasRoom};
 ghost use Rattle.plan_commands.specs.declared.status.Status.TheVariants.{Yes, Fault, Unreadable, NoMemory};
 ghost use Rattle.plan_commands.specs.Answers.{stream, BreaksOff};
 ghost use Rattle.plan_commands.specs.Told.{IsSomeAnswer, Ends};
@@ -15,7 +15,7 @@ use crate::commands::answer::{Answer, tell};
 use crate::refused::Refused;
 use crate::status::Status;
 use describe::described;
-use net_plan::Sink;
+use net_json::Sink;
 use record::recorded;
 use std::alloc::Global;
 

@@ -2,8 +2,8 @@
 ghost use Rattle.std.specs.Prelude.{◌≡◌, ◌≤◌, ◌<◌, length, map, get_or, [], IfOk, IfSome, Some, option_map, string_bytes};
 ghost use Rattle.json.specs.Strict.{keys};
 ghost use Rattle.json.specs.Value.{value_view, members_view};
-ghost use Rattle.net_plan.specs.Finding.{step_value};
-ghost use Rattle.net_plan.specs.Trees.{view};
+ghost use Rattle.net_json.specs.Finding.{step_value};
+ghost use Rattle.net_json.specs.Trees.{view};
 ghost use Rattle.net_pointers.specs.CertificateTroubles.{DoOverlap};
 ghost use Rattle.net_pointers.specs.Doubles.{HasDoubledKey, part_at};
 ghost use Rattle.net_pointers.specs.Offsets.{IsTextOf, LeadsToKey};
@@ -12,7 +12,7 @@ ghost use Rattle.plan_texts.specs.TroubleLines.{two_lines, entry_pointer, IsDoub
 use super::positions::{pointer_text, position_text};
 use super::values::{offset_there, text_of, value_at};
 use json::Value;
-use net_plan::PointerStep;
+use net_json::PointerStep;
 use net_pointers::{DoubledKey, Overlap, TwoIndices, offset_of_key, offset_of_pointer, part_after};
 use std::alloc::{AllocError, Global};
 

@@ -1,7 +1,8 @@
 //! Certificates made, and why there is none.
 use super::networks::{Endpoint, LINE, TWO_NODES, endpoints, fault, found};
 use net_check::{CertifyError, Rule, certify};
-use net_plan::{Certificate, NodeRanks, Plan, plan_of_text};
+use net_json::plan_of_text;
+use net_plan::{Certificate, NodeRanks, Plan};
 use sample_texts::certificates::has_ranges;
 use std::alloc::Global;
 use std::test::Fail;

@@ -1,7 +1,7 @@
 //! Changes of the riser network, and the faults of what they make.
 use super::networks::{FaultAt, found, is_at};
 use net_check::Fault;
-use net_plan::{certificate_of_text, plan_of_text};
+use net_json::{certificate_of_text, plan_of_text};
 use sample_texts::riser::{CERTIFICATE, PLAN};
 use sample_texts::{Changes, edited};
 use std::alloc::Global;

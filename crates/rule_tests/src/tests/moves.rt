@@ -2,7 +2,8 @@
 
 use mctp_transport::Eid;
 use net_check::{MoveError, MoveFault, MoveRule, Rule, check_move};
-use net_plan::{Plan, certificate_of_text, plan_of_text};
+use net_json::{certificate_of_text, plan_of_text};
+use net_plan::Plan;
 use std::alloc::{AllocError, Global};
 use std::test::Fail;
 

@@ -1,7 +1,8 @@
 //! Networks of endpoints and of a line, and the faults that are found in networks.
 use mctp_transport::Eid;
 use net_check::{CheckError, Fault, Rule, check};
-use net_plan::{Certificate, Plan, plan_of_text};
+use net_json::plan_of_text;
+use net_plan::{Certificate, Plan};
 use std::alloc::{AllocError, Global};
 use std::test::Fail;
 

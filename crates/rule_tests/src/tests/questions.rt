@@ -1,6 +1,7 @@
 //! Questions about the riser network and changes of it: what looks wrong, and who reaches whom.
 use net_check::{Checked, certify, check};
-use net_plan::{Plan, plan_of_text};
+use net_json::plan_of_text;
+use net_plan::Plan;
 use net_questions::{Finding, lint, reach};
 use sample_texts::riser::PLAN;
 use sample_texts::{Changes, edited};

@@ -3,7 +3,8 @@
 use super::networks::{FaultAt, found, is_at};
 use mctp_transport::Eid;
 use net_check::{CertifyError, MoveError, MoveFault, MoveRule, Rule, certify, check_move};
-use net_plan::{Certificate, Plan, certificate_of_text, plan_of_text};
+use net_json::{certificate_of_text, plan_of_text};
+use net_plan::{Certificate, Plan};
 use sample_texts::certificates::is_the_riser_certificate;
 use sample_texts::marks::{Mark, lacked, set_mark};
 use sample_texts::riser::{CERTIFICATE, PLAN};

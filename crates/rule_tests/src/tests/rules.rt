@@ -4,7 +4,8 @@ use super::networks::{
     fault, found, is_at,
 };
 use net_check::{Fault, Rule, check};
-use net_plan::{Certificate, Plan, certificate_of_text, plan_of_text};
+use net_json::{certificate_of_text, plan_of_text};
+use net_plan::{Certificate, Plan};
 use sample_texts::edited;
 use std::alloc::Global;
 use std::test::Fail;

@@ -5,7 +5,8 @@ use super::changes::{Changed, first_wrong_row};
 use super::networks::{FaultAt, LINE, RANKS_OF_THE_LINE, found, is_at};
 use mctp_transport::Eid;
 use net_check::Rule;
-use net_plan::{Plan, RankRange, certificate_of_text, plan_of_text};
+use net_json::{certificate_of_text, plan_of_text};
+use net_plan::{Plan, RankRange};
 use std::alloc::Global;
 use std::test::Fail;
 

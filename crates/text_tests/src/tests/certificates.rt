@@ -1,5 +1,6 @@
 //! Certificates from texts, and texts of certificates.
-use net_plan::{Plan, certificate_of_text, plan_of_text, read_back, text_of_certificate};
+use net_json::{certificate_of_text, plan_of_text, read_back, text_of_certificate};
+use net_plan::Plan;
 use sample_texts::certificates::is_the_riser_certificate;
 use sample_texts::{edited, riser};
 use std::alloc::Global;

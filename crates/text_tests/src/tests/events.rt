@@ -1,6 +1,7 @@
 //! Events from texts.
 use mctp_transport::{Eid, Key, Tag};
-use net_plan::{Event, events_of_text, plan_of_text};
+use net_json::{events_of_text, plan_of_text};
+use net_plan::Event;
 use sample_texts::riser;
 use std::test::Fail;
 

@@ -1,5 +1,5 @@
 //! Which texts are JSON. `serde_json` says the same of them.
-use net_plan::{PlanError, plan_of_text};
+use net_json::{PlanError, plan_of_text};
 use std::alloc::Global;
 
 /// Texts that are JSON, and no plans.

@@ -1,6 +1,7 @@
 //! Plans from texts.
 use mctp_transport::Eid;
-use net_plan::{Kind, Node, Plan, Pool, Row, plan_of_text};
+use net_json::plan_of_text;
+use net_plan::{Kind, Node, Plan, Pool, Row};
 use sample_texts::{edited, riser};
 use std::test::Fail;
 

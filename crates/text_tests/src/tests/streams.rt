@@ -1,10 +1,8 @@
 //! Reading and writing piece by piece, and failures in mid-stream.
 use super::events::are_the_riser_events;
 use super::plans::is_the_riser_network;
-use net_plan::{
-    Certificate, Counted, Failed, Plan, PlanError, Sink, certificate_of_text, plan_of_text,
-    read_certificate, read_events, read_plan, write_certificate, write_whole,
-};
+use net_json::{Counted, Failed, PlanError, Sink, certificate_of_text, plan_of_text, read_certificate, read_events, read_plan, write_certificate, write_whole};
+use net_plan::{Certificate, Plan};
 use sample_texts::certificates::is_the_riser_certificate;
 use sample_texts::riser;
 use std::alloc::Global;

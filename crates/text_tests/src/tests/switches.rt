@@ -1,5 +1,6 @@
 //! Lists of events with switches.
-use net_plan::{Event, events_of_text, plan_of_text};
+use net_json::{events_of_text, plan_of_text};
+use net_plan::Event;
 use sample_texts::riser;
 use std::test::Fail;
 

@@ -1,6 +1,7 @@
 //! Lists of events with walks through the network, which format 3 has.
 use mctp_transport::{Eid, Tag};
-use net_plan::{Event, events_of_text, plan_of_text};
+use net_json::{events_of_text, plan_of_text};
+use net_plan::Event;
 use sample_texts::riser::{self, HOST, NIC};
 use std::test::Fail;
 

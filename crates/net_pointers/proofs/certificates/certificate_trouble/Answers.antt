@@ -1,8 +1,8 @@
 use Rattle.std.proofs.Common.{rules, ◌≡◌, None, Some, map}
-use Rattle.net_plan.specs.Finding.{first_fault, located}
+use Rattle.net_json.specs.Finding.{first_fault, located}
 use Rattle.net_plan.specs.PlanValues.{node_value, node_names}
-use Rattle.net_plan.specs.Tables.{a_certificate}
-use Rattle.net_plan.specs.Trees.{view}
+use Rattle.net_json.specs.Tables.{a_certificate}
+use Rattle.net_json.specs.Trees.{view}
 use Rattle.net_pointers.proofs.LateCertificates.{found_in_certificate}
 use Rattle.net_pointers.proofs.certificates.certificate_trouble.Goals as goal
 

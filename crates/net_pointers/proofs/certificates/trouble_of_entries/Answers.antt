@@ -1,12 +1,12 @@
 use Rattle.std.proofs.Common.{rules, ◌≡◌, codes, true, Some, None, map, sym, subst}
 use Rattle.json.specs.Value.{value_view}
 use Rattle.serde_json.specs.Find.{get}
-use Rattle.net_plan.specs.Finding.{first_fault, located}
-use Rattle.net_plan.specs.Grammar.{Known, known_view}
+use Rattle.net_json.specs.Finding.{first_fault, located}
+use Rattle.net_json.specs.Grammar.{Known, known_view}
 use Rattle.net_plan.specs.PlanValues.{node_value, node_names}
-use Rattle.net_plan.specs.SingleKeys.{single}
-use Rattle.net_plan.specs.Tables.{a_certificate}
-use Rattle.net_plan.specs.Trees.{view}
+use Rattle.net_json.specs.SingleKeys.{single}
+use Rattle.net_json.specs.Tables.{a_certificate}
+use Rattle.net_json.specs.Trees.{view}
 use Rattle.net_pointers.specs.Ascending.{ranks_ascend}
 use Rattle.net_pointers.specs.CertificateTroubles.{known_nodes, nodes_at, list_key}
 use Rattle.net_pointers.specs.Doubles.{IsFirstDoubled}

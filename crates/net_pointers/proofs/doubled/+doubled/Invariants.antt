@@ -1,7 +1,7 @@
 -- What is left decides.
 use Rattle.std.proofs.Common.{◌≡◌, drop}
 use Rattle.json.specs.Value.{items_view, members_view}
-use Rattle.net_plan.specs.SingleKeys.{items_single, members_single}
+use Rattle.net_json.specs.SingleKeys.{items_single, members_single}
 use Rattle.net_pointers.proofs.Doubling.{ItemsPassed, MembersPassed}
 use Rattle.net_pointers.proofs.doubled.+doubled.Given as goal
 

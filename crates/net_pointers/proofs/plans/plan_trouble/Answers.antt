@@ -1,8 +1,8 @@
 use Rattle.std.proofs.Common.{rules, ◌≡◌, Some, None, subst}
-use Rattle.net_plan.specs.Finding.{first_fault, located}
-use Rattle.net_plan.specs.PlanReading.{plan_format}
-use Rattle.net_plan.specs.Tables.{a_plan}
-use Rattle.net_plan.specs.Trees.{view}
+use Rattle.net_json.specs.Finding.{first_fault, located}
+use Rattle.net_json.specs.PlanReading.{plan_format}
+use Rattle.net_json.specs.Tables.{a_plan}
+use Rattle.net_json.specs.Trees.{view}
 use Rattle.net_pointers.specs.Plans.{IsFoundInPlan}
 use Rattle.net_pointers.proofs.Agrees.{found_in_plan}
 use Rattle.net_pointers.proofs.plans.plan_trouble.Goals as goal

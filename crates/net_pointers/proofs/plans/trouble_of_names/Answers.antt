@@ -1,12 +1,12 @@
 use Rattle.std.proofs.Common.{rules, ◌≡◌, ◌∙◌, true, Some, None, sym, ap, subst}
 use Rattle.json.specs.Value.{value_view}
-use Rattle.net_plan.specs.Finding.{first_fault, located}
-use Rattle.net_plan.specs.Grammar.{Known, known_view}
-use Rattle.net_plan.specs.Names.{names_differ}
-use Rattle.net_plan.specs.PlanReading.{plan_format}
-use Rattle.net_plan.specs.SingleKeys.{single}
-use Rattle.net_plan.specs.Tables.{a_plan}
-use Rattle.net_plan.specs.Trees.{view}
+use Rattle.net_json.specs.Finding.{first_fault, located}
+use Rattle.net_json.specs.Grammar.{Known, known_view}
+use Rattle.net_json.specs.Names.{names_differ}
+use Rattle.net_json.specs.PlanReading.{plan_format}
+use Rattle.net_json.specs.SingleKeys.{single}
+use Rattle.net_json.specs.Tables.{a_plan}
+use Rattle.net_json.specs.Trees.{view}
 use Rattle.net_pointers.specs.KnownNames.{known_in}
 use Rattle.net_pointers.proofs.LatePlans.{late_well, late_unknown, late_read}
 use Rattle.net_pointers.proofs.Leads.{leads}

@@ -1,6 +1,6 @@
 -- What is left decides. The end is that of the range before.
 use Rattle.std.proofs.Common.{◌≡◌, ◌+◌, ℕ, drop, get_or}
-use Rattle.net_plan.specs.Trees.{Tree, view, items_view}
+use Rattle.net_json.specs.Trees.{Tree, view, items_view}
 use Rattle.net_pointers.specs.Ascending.{ranges_ascend}
 use Rattle.net_pointers.specs.CertificateTroubles.{end_in}
 use Rattle.net_pointers.proofs.ranges.overlap_within.Given as goal

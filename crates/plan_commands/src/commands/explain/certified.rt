@@ -3,7 +3,7 @@ ghost use Rattle.std.specs.Prelude.{◌≡◌, ◌≢◌, ◌⊎◌, IfOk, IfErr
 ghost use Rattle.std.specs.Cow.{cow_str_bytes};
 ghost use Rattle.net_check.specs.Errors.{NamesFirstFault};
 ghost use Rattle.net_rules.specs.Faults.{IsFirstFault, site_of};
-ghost use Rattle.net_plan.specs.Stream.{HasRoom};
+ghost use Rattle.net_json.specs.Stream.{HasRoom};
 ghost use Rattle.plan_commands.specs.declared.refused.Refused.TheVariants as refused;
 ghost use Rattle.plan_commands.specs.declared.status.Status.TheVariants as status;
 ghost use Rattle.plan_commands.specs.Answers.{stream, IsWithoutPlan, BreaksOff};
@@ -19,7 +19,8 @@ use crate::refused::Refused;
 use crate::status::Status;
 use net_check::{CertifyError, CheckError, Fault, certify, check};
 use net_explained::{Cause, find_cause};
-use net_plan::{Certificate, Sink, Source};
+use net_json::{Sink, Source};
+use net_plan::Certificate;
 use plan_texts::{NO_CERTIFICATE, REMEDY, cause_lines, certificate_fault_lines, fault_line};
 use std::alloc::{AllocError, Global};
 

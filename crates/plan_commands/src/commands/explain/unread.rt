@@ -1,8 +1,8 @@
 //! What `explain` says where a file can't be read.
 ghost use Rattle.std.specs.Prelude.{◌≡◌, ◌++◌, IfOk, IfErr, string_bytes};
 ghost use Rattle.std.specs.Cow.{cow_str_bytes};
-ghost use Rattle.net_plan.specs.CertificateText.{IsCertificateOf};
-ghost use Rattle.net_plan.specs.PlanText.{IsPlanOf};
+ghost use Rattle.net_json.specs.CertificateText.{IsCertificateOf};
+ghost use Rattle.net_json.specs.PlanText.{IsPlanOf};
 ghost use Rattle.net_plan.specs.PlanValues.{plan_value};
 ghost use Rattle.plan_commands.specs.declared.status.Status.TheVariants.{Unreadable};
 ghost use Rattle.plan_commands.specs.Answers.{Stream};
@@ -13,7 +13,8 @@ ghost use Rattle.plan_texts.specs.ReadingLines.{unread_line};
 use crate::commands::answer::Answer;
 use crate::commands::inputs::Unread;
 use crate::refused::{Input, Refused};
-use net_plan::{Plan, PlanError};
+use net_json::PlanError;
+use net_plan::Plan;
 use plan_texts::{certificate_reading_lines, plan_reading_lines, unread_line};
 use std::alloc::{AllocError, Global};
 

@@ -1,7 +1,7 @@
 //! The command `simmove` over the files that it reads.
 ghost use Rattle.std.specs.Prelude.{◌≡◌, ◌⊎◌, IfOk, IfErr, map};
 ghost use Rattle.net_tables.specs.TwoPlans.{moving};
-ghost use Rattle.net_plan.specs.Stream.{HasRoom};
+ghost use Rattle.net_json.specs.Stream.{HasRoom};
 ghost use Rattle.net_sim.specs.Outcomes.{event_value};
 ghost use Rattle.plan_commands.specs.declared.status.Status.TheVariants.{Yes, Fault, Unreadable, NoMemory};
 ghost use Rattle.plan_commands.specs.Answers.{stream, IsWithoutPlan, BreaksOff};
@@ -17,7 +17,8 @@ use crate::commands::sim::termini::planned_termini;
 use crate::refused::Refused;
 use crate::status::Status;
 use net_check::{CheckedMove, check_move};
-use net_plan::{Certificate, Event, Plan, Sink, Source};
+use net_json::{Sink, Source};
+use net_plan::{Certificate, Event, Plan};
 use std::alloc::Global;
 
 /// Gives on `output` what comes of the events of a file in the network of the plan before, whose nodes may switch to

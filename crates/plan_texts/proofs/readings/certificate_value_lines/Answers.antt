@@ -2,7 +2,7 @@ use Rattle.std.proofs.Common.{ℕ, List, codes, string_bytes, sym, subst}
 use Rattle.std.specs.Prelude.{IfOk}
 use Rattle.json.specs.Value.{value_view}
 use Rattle.net_plan.specs.PlanValues.{plan_value, node_names}
-use Rattle.net_plan.specs.Trees.{view}
+use Rattle.net_json.specs.Trees.{view}
 use Rattle.net_pointers.specs.declared.certificates.CertificateTrouble.{CertificateTrouble}
 use Rattle.plan_texts.specs.TroubleLines.{AreCertificateLines, IsDoubledNameTold, one_entry}
 use Rattle.plan_texts.proofs.readings.certificate_value_lines.Goals as goal

@@ -1,5 +1,5 @@
-use Rattle.net_plan.specs.CertificateReading.{certificate}
-use Rattle.net_plan.specs.CertificateText.{IsCertificateOf}
+use Rattle.net_json.specs.CertificateReading.{certificate}
+use Rattle.net_json.specs.CertificateText.{IsCertificateOf}
 use Rattle.net_plan.specs.PlanValues.{plan_value, node_names}
 use Rattle.plan_commands.proofs.UnreadTexts.{unread_by, none_stands}
 use Rattle.plan_commands.proofs.commands.inputs.certificate_or_text.Goals as goal

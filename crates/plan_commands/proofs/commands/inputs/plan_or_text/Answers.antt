@@ -1,5 +1,5 @@
-use Rattle.net_plan.specs.PlanReading.{plan}
-use Rattle.net_plan.specs.PlanText.{IsPlanOf}
+use Rattle.net_json.specs.PlanReading.{plan}
+use Rattle.net_json.specs.PlanText.{IsPlanOf}
 use Rattle.plan_commands.proofs.UnreadTexts.{unread_by, none_stands}
 use Rattle.plan_commands.proofs.commands.inputs.plan_or_text.Goals as goal
 

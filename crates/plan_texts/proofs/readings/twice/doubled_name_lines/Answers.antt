@@ -1,7 +1,7 @@
 use Rattle.std.proofs.Common.{◌≡◌, map, string_bytes, sym, ap, ◌∙◌, subst, rules}
 use Rattle.std.specs.Prelude.{IfOk}
-use Rattle.net_plan.specs.Trees.{view}
-use Rattle.net_plan.specs.Finding.{step_value}
+use Rattle.net_json.specs.Trees.{view}
+use Rattle.net_json.specs.Finding.{step_value}
 use Rattle.plan_texts.specs.TroubleLines.{IsOffsetOf, two_lines, entry_pointer, doubled_name, name_line, again_line}
 use Rattle.plan_texts.proofs.ToldTexts.{name_told_twice}
 use Rattle.plan_texts.proofs.readings.twice.doubled_name_lines.Goals as goal

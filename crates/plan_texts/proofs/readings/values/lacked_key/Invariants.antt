@@ -1,6 +1,6 @@
 use Rattle.std.proofs.Common.{◌≡◌, drop}
-use Rattle.net_plan.specs.Trees.{view}
-use Rattle.net_plan.specs.Grammar.{fields_view}
+use Rattle.net_json.specs.Trees.{view}
+use Rattle.net_json.specs.Grammar.{fields_view}
 use Rattle.plan_texts.specs.TroubleLines.{lacked_key}
 use Rattle.plan_texts.proofs.readings.values.lacked_key.Given as goal
 

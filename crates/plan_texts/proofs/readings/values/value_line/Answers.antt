@@ -1,9 +1,9 @@
 use Rattle.std.proofs.Common.{◌≡◌, Some, string_bytes, rules}
 use Rattle.json.specs.Value.{value_view}
-use Rattle.net_plan.specs.Trees.{view}
+use Rattle.net_json.specs.Trees.{view}
 use Rattle.net_pointers.specs.Offsets.{LeadsTo}
 use Rattle.net_pointers.specs.Pointers.{value_at}
-use Rattle.net_plan.specs.Finding.{located}
+use Rattle.net_json.specs.Finding.{located}
 use Rattle.plan_texts.specs.TroubleLines.{tree_at}
 use Rattle.plan_texts.proofs.ToldTexts.{value_told, rest_is_text}
 use Rattle.plan_texts.proofs.readings.values.value_line.Goals as goal

@@ -1,8 +1,8 @@
 use Rattle.std.proofs.Common.{List, ℕ, string_bytes, refl, sym, subst}
-use Rattle.net_plan.specs.CertificateReading.{certificate}
-use Rattle.net_plan.specs.CertificateText.{IsCertificateOf}
+use Rattle.net_json.specs.CertificateReading.{certificate}
+use Rattle.net_json.specs.CertificateText.{IsCertificateOf}
 use Rattle.net_plan.specs.PlanValues.{plan_value, node_names}
-use Rattle.net_plan.specs.Texts.{StandsFor}
+use Rattle.net_json.specs.Texts.{StandsFor}
 use Rattle.plan_commands.specs.declared.refused.Input.TheVariants as input
 use Rattle.plan_commands.specs.UnreadTexts.{StandsForNothing}
 use Rattle.plan_texts.specs.TroubleLines.{IsCertificateTextTold}

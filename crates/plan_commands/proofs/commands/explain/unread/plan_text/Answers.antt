@@ -1,7 +1,7 @@
 use Rattle.std.proofs.Common.{List, ℕ, string_bytes, refl, sym, subst}
-use Rattle.net_plan.specs.PlanReading.{plan}
-use Rattle.net_plan.specs.PlanText.{IsPlanOf}
-use Rattle.net_plan.specs.Texts.{StandsFor}
+use Rattle.net_json.specs.PlanReading.{plan}
+use Rattle.net_json.specs.PlanText.{IsPlanOf}
+use Rattle.net_json.specs.Texts.{StandsFor}
 use Rattle.plan_commands.specs.declared.refused.Input.TheVariants as input
 use Rattle.plan_commands.specs.UnreadTexts.{StandsForNothing}
 use Rattle.plan_texts.specs.TroubleLines.{IsPlanTextTold}

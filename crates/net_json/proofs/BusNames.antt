@@ -1,0 +1,39 @@
+-- The names of buses and nodes, and what finds their indices.
+use Rattle.std.proofs.Common.{◌≡◌, ℕ, List, [], ◌∷◌, map, refl, ap}
+use Rattle.serde_json.specs.Data.{Data}
+use Rattle.net_json.specs.Trees.{Tree, view, items_view}
+use Rattle.net_json.specs.CertificateReading.{entries}
+use Rattle.net_json.specs.EventReading.{event}
+use Rattle.net_json.specs.Json.{list_within}
+use Rattle.net_json.specs.Names.{index_among, text_at, each_text_at}
+use Rattle.net_json.specs.PlanReading.{node}
+use Rattle.net_plan.specs.PlanValues.{name_bytes, bus_value, bus_names, node_value, node_names}
+use Rattle.net_json.specs.declared.event_text.Format.{Format}
+use Rattle.net_plan.specs.declared.nodes.Bus.{Bus}
+use Rattle.net_plan.specs.declared.nodes.Node.{Node}
+
+pub bus_names_of : (bs : List Bus) → map (λ b. name_bytes b.name) bs ≡ bus_names (map bus_value bs)
+bus_names_of [] = refl
+bus_names_of (b ∷ bs) = ap (λ rest. name_bytes b.name ∷ rest) (bus_names_of bs)
+
+pub node_names_of : (ns : List Node) → map (λ n. name_bytes n.name) ns ≡ node_names (map node_value ns)
+node_names_of [] = refl
+node_names_of (n ∷ ns) = ap (λ rest. name_bytes n.name ∷ rest) (node_names_of ns)
+
+pub texts_of : (key : List ℕ) (vs : List Tree) → map (λ v. text_at key (view v)) vs ≡ each_text_at key (items_view vs)
+texts_of key [] = refl
+texts_of key (v ∷ vs) = ap (λ rest. text_at key (view v) ∷ rest) (texts_of key vs)
+
+-- nodes read by what finds the indices of these names
+pub nodes_found : (buses names : List (List ℕ)) (find_bus find_node : List ℕ → ℕ) (d : Data) → ((q : List ℕ) → find_bus q ≡ index_among buses q) → ((q : List ℕ) → find_node q ≡ index_among names q)
+    → list_within 64 (node find_bus find_node) d ≡ list_within 64 (node (index_among buses) (index_among names)) d
+nodes_found buses names find_bus find_node d b n = λ i. list_within 64 (node (λ q. b q i) (λ q. n q i)) d
+
+-- entries read by what finds the indices of these names
+pub entries_found : (names : List (List ℕ)) (find : List ℕ → ℕ) (d : Data) → ((q : List ℕ) → find q ≡ index_among names q) → entries find d ≡ entries (index_among names) d
+entries_found names find d n = λ i. entries (λ q. n q i) d
+
+-- events read by what finds the indices of these names
+pub events_found : (f : Format) (names : List (List ℕ)) (find : List ℕ → ℕ) (d : Data) → ((q : List ℕ) → find q ≡ index_among names q)
+    → list_within 100000 (event f find) d ≡ list_within 100000 (event f (index_among names)) d
+events_found f names find d n = λ i. list_within 100000 (event f (λ q. n q i)) d

@@ -1,0 +1,270 @@
+-- Members that are gathered one after another.
+use Rattle.std.proofs.Common.{◌≡◌, ℕ, ◌<◌, ◌≤◌, List, [], ◌∷◌, ◌++◌, length, map, subst, Bool, true, false, not, ◌&&◌, ◌||◌, cond, is_some, Option, Some, None, IfSome, option_map, Ok, refl, sym, ap, ◌∙◌, true≢false, append-nil, append_assoc, codes, IsUtf8}
+use Rattle.std.proofs.lemmas.List.{length-map}
+use Rattle.std.proofs.lemmas.Slice.Eq.{bytes_eq-Decides}
+use Rattle.std.specs.List.{list_any}
+use Rattle.std.specs.Str.{bytes_eq}
+use Rattle.json.specs.Find.{later_or, get_member}
+use Rattle.json.specs.Token.{Token}
+use Rattle.json.specs.Json.{Json, object, Items, no_items, item, Members, no_members, member, parse_map, value}
+use Rattle.json.specs.Strict.{keys}
+use Rattle.json.proofs.Grammar.{left, skip_value-shorter, value_is}
+use Rattle.hex.specs.Hex.{decode_of}
+use Rattle.serde_json.specs.Data as whole
+use Rattle.serde_json.specs.Data.{Data, Num, unsigned, negative, float, number}
+use Rattle.serde_json.specs.Find.{as_u64}
+use Rattle.serde_json.specs.Read.{number_of}
+use Rattle.net_json.specs.Gathered.{with_last, IsPlain, ArePlain, IsGathered, IsNext, EachIs, IsArrayOf, IsPlainText}
+use Rattle.net_json.specs.Json.{is_among}
+use Rattle.net_json.specs.JsonWords.{HasKeys, At, AreItems, IsShortListOf, IsNumber, IsName, IsIndexOfName, IsText, IsTruth, IsHex}
+use Rattle.net_plan.specs.NameText.{is_name}
+use Rattle.net_json.specs.Names.{are_new, names_differ}
+use Rattle.net_json.specs.NameIndexes.{IsIndexOf}
+use Rattle.net_json.specs.SingleKeys.{single, items_single, members_single}
+use Rattle.net_json.specs.Texts.{StandsFor}
+use Rattle.net_json.specs.Trees.{data_of, items_of, members_of, or_other, num_of, fits, items_fit, members_fit}
+use Rattle.net_json.proofs.KeysLaw.{among_Contains, any_false, not_false}
+use Rattle.net_json.proofs.PlanLaw.{first_index}
+use Rattle.net_json.proofs.Telling.{both}
+use Rattle.net_json.proofs.SingleKeys.{single_sound, whole_tree}
+use Rattle.net_json.proofs.Trees.{get_of, read_whole}
+
+pub no_Some : {A : Type 0} {a : A} → Some a ≡ None → ⊥
+no_Some e = cc
+
+pub same_Some : {A : Type 0} {a b : A} → Some a ≡ Some b → a ≡ b
+same_Some e = cc
+
+pub if_some : {A : Type 0} {P Q : A → Type 0} (o : Option A) → ((x : A) → P x → Q x) → IfSome o P → IfSome o Q
+if_some None f h = tt
+if_some (Some x) f h = f x h
+
+abbrev pub joined : Members → Members → Members
+joined no_members rest = rest
+joined (member k j ms) rest = member k j (joined ms rest)
+
+joined_last : (ms : Members) (k : List ℕ) (j : Json) (rest : Members) → joined ms (member k j rest) ≡ joined (with_last ms k j) rest
+joined_last no_members k j rest = refl
+joined_last (member l i ms) k j rest = ap (member l i) (joined_last ms k j rest)
+
+pub joined_none : (ms : Members) → joined ms no_members ≡ ms
+joined_none no_members = refl
+joined_none (member k j ms) = ap (member k j) (joined_none ms)
+
+pub one_more : (ms : Members) (k : List ℕ) (j : Json) (r : Option (Members × List Token)) → parse_map (joined ms) (parse_map (member k j) r) ≡ parse_map (joined (with_last ms k j)) r
+one_more ms k j None = refl
+one_more ms k j (Some p) = ap (λ js. Some (js, p.1)) (joined_last ms k j p.0)
+
+-- a value takes a token at least
+pub value_shorter : (depth : ℕ) (ts r : List Token) (j : Json) → value depth ts ≡ Some (j, r) → length r < length ts
+value_shorter depth ts r j e = skip_value-shorter depth ts r (ap left e)
+
+-- ---- look-ups
+
+latest : (b : Bool) (j : Json) (o p : Option Json) → later_or (cond b (Some j) o) p ≡ cond b (Some j) (later_or o p)
+latest true j o p = refl
+latest false j o p = refl
+
+pub get_last : (name : List ℕ) (ms : Members) (k : List ℕ) (j : Json) → get_member name (with_last ms k j) ≡ cond (bytes_eq k name) (Some j) (get_member name ms)
+get_last name no_members k j = refl
+get_last name (member l i ms) k j = ap (λ o. later_or o (cond (bytes_eq l name) (Some i) None)) (get_last name ms k j) ∙ latest (bytes_eq k name) j (get_member name ms) (cond (bytes_eq l name) (Some i) None)
+
+pub gathered_now : {A : Type 0} (R : Data → A → Type 0) (x : A) (ms : Members) (k : List ℕ) (j : Json) → R (data_of j) x → IsGathered k R (Some x) (with_last ms k j)
+gathered_now R x ms k j r = (j, get_last k ms k j ∙ ap (λ b. cond b (Some j) (get_member k ms)) ((bytes_eq-Decides k k).1 refl), r)
+
+pub gathered_other : {A : Type 0} (name : List ℕ) (R : Data → A → Type 0) (o : Option A) (ms : Members) (k : List ℕ) (j : Json) → bytes_eq k name ≡ false → IsGathered name R o ms → IsGathered name R o (with_last ms k j)
+gathered_other name R None ms k j other h = get_last name ms k j ∙ ap (λ b. cond b (Some j) (get_member name ms)) other ∙ h
+gathered_other name R (Some x) ms k j other h = (h.0, get_last name ms k j ∙ ap (λ b. cond b (Some j) (get_member name ms)) other ∙ h.1, h.2)
+
+-- ---- plain members
+
+pub shown : (b c : Bool) → b ≡ true → c ≡ true → (b && c) ≡ true
+shown true true e f = refl
+shown true false e f = f
+shown false c e f = e
+
+fit_last : (ms : Members) (k : List ℕ) (j : Json) → members_fit ms ≡ true → fits j ≡ true → members_fit (with_last ms k j) ≡ true
+fit_last no_members k j e f = shown (fits j) true f refl
+fit_last (member l i ms) k j e f = let p = both (fits i) (members_fit ms) e in shown (fits i) (members_fit (with_last ms k j)) p.0 (fit_last ms k j p.1 f)
+
+single_last : (ms : Members) (k : List ℕ) (j : Json) → members_single ms ≡ true → single j ≡ true → members_single (with_last ms k j) ≡ true
+single_last no_members k j e f = shown (single j) true f refl
+single_last (member l i ms) k j e f = let p = both (single i) (members_single ms) e in shown (single i) (members_single (with_last ms k j)) p.0 (single_last ms k j p.1 f)
+
+keys_last : (ms : Members) (k : List ℕ) (j : Json) → keys (with_last ms k j) ≡ keys ms ++ k ∷ []
+keys_last no_members k j = refl
+keys_last (member l i ms) k j = ap (λ ks. l ∷ ks) (keys_last ms k j)
+
+new_last : (seen ns : List (List ℕ)) (n : List ℕ) → are_new seen ns ≡ true → is_among (seen ++ ns) n ≡ false → are_new seen (ns ++ n ∷ []) ≡ true
+new_last seen [] n e new = shown (not (is_among seen n)) true (ap (λ s. not (is_among s n)) (sym (append-nil seen)) ∙ ap not new) refl
+new_last seen (m ∷ ns) n e new =
+    let p = both (not (is_among seen m)) (are_new (seen ++ m ∷ []) ns) e in
+    shown (not (is_among seen m)) (are_new (seen ++ m ∷ []) (ns ++ n ∷ [])) p.0 (new_last (seen ++ m ∷ []) ns n p.1 (ap (λ s. is_among s n) (append_assoc seen (m ∷ []) ns) ∙ new))
+
+absent : (ms : Members) (k : List ℕ) → get_member k ms ≡ None → is_among (keys ms) k ≡ false
+absent no_members k e = refl
+absent (member l i ms) k e = by (get_member k ms) (bytes_eq l k) (bytes_eq k l) refl refl refl e (absent ms k)
+  where
+    by : (o : Option Json) (b c : Bool) → get_member k ms ≡ o → bytes_eq l k ≡ b → bytes_eq k l ≡ c → later_or o (cond b (Some i) None) ≡ None → (get_member k ms ≡ None → is_among (keys ms) k ≡ false) → (c || is_among (keys ms) k) ≡ false
+    by (Some j) b c is at back none rest = absurd (no_Some none)
+    by None true c is at back none rest = absurd (no_Some none)
+    by None false true is at back none rest = absurd (true≢false (sym ((bytes_eq-Decides l k).1 (sym ((bytes_eq-Decides k l).0 back))) ∙ at))
+    by None false false is at back none rest = rest is
+
+pub is_some_map : {A B : Type 0} (f : A → B) (o : Option A) → is_some (option_map f o) ≡ is_some o
+is_some_map f None = refl
+is_some_map f (Some a) = refl
+
+module _ (known : List (List ℕ)) where
+  pub none_plain : ArePlain known no_members
+  none_plain = record { fit = refl; differ = refl; single = refl; among = λ k there. absurd (true≢false (sym there)) }
+
+  pub plain_last : (ms : Members) (k : List ℕ) (j : Json) → ArePlain known ms → is_among known k ≡ true → get_member k ms ≡ None → IsPlain j → ArePlain known (with_last ms k j)
+  plain_last ms k j h among new plain = record {
+    fit = fit_last ms k j h.fit plain.0;
+    differ = ap names_differ (keys_last ms k j) ∙ new_last [] (keys ms) k h.differ (absent ms k new);
+    single = single_last ms k j h.single plain.1;
+    among = λ name there. by name (bytes_eq k name) refl (ap is_some (sym (get_last name ms k j)) ∙ there);
+  }
+    where
+      by : (name : List ℕ) (b : Bool) → bytes_eq k name ≡ b → is_some (cond b (Some j) (get_member name ms)) ≡ true → is_among known name ≡ true
+      by name true same there = ap (is_among known) (sym ((bytes_eq-Decides k name).0 same)) ∙ among
+      by name false other there = h.among name there
+
+  pub object_plain : (ms : Members) → ArePlain known ms → IsPlain (object ms)
+  object_plain ms h = (h.fit, ap (λ b. b && members_single ms) h.differ ∙ h.single)
+
+  -- each of the keys that may stand there does
+  pub all_keys : (ms : Members) → ArePlain known ms → list_any (λ key. not (is_some (get_member key ms))) known ≡ false → HasKeys known (data_of (object ms))
+  all_keys ms h none =
+      let found = λ (k : List ℕ). ap is_some (get_of k (object ms)) ∙ is_some_map data_of (get_member k ms) in (
+        members_of ms whole.no_members,
+        refl,
+        λ k. (
+          λ there. among_Contains known k (h.among k (sym (found k) ∙ there)),
+          λ among. found k ∙ not_false (is_some (get_member k ms)) (any_false (λ key. not (is_some (get_member key ms))) known none k among),
+        ),
+      )
+
+-- where nothing stands at the other keys, all keys are among these
+pub only_keys : (known own : List (List ℕ)) (ms : Members) → ArePlain known ms → list_any (λ key. not (is_among own key) && is_some (get_member key ms)) known ≡ false → ArePlain own ms
+only_keys known own ms h none = record {
+  fit = h.fit;
+  differ = h.differ;
+  single = h.single;
+  among = λ k there.
+      let one = any_false (λ key. not (is_among own key) && is_some (get_member key ms)) known none k (among_Contains known k (h.among k there)) in
+      not_false (is_among own k) (left_false (not (is_among own k)) (is_some (get_member k ms)) one there);
+}
+  where
+    left_false : (a b : Bool) → (a && b) ≡ false → b ≡ true → a ≡ false
+    left_false false b e there = refl
+    left_false true b e there = absurd (true≢false (sym there ∙ e))
+
+pub at_gathered : {A : Type 0} (key : List ℕ) (R : Data → A → Type 0) (x : A) (ms : Members) → IsGathered key R (Some x) ms → At key R (data_of (object ms)) x
+at_gathered key R x ms h = (data_of h.0, get_of key (object ms) ∙ ap (option_map data_of) h.1, h.2)
+
+-- the first of the nodes that has the name at `node`
+pub placed_at : (names : List (List ℕ)) (find : List ℕ → Option ℕ) → IsIndexOf find names → (name : List ℕ) (place : ℕ) → find name ≡ Some place → (ms : Members) → IsGathered (codes "node") IsName (Some name) ms
+    → At (codes "node") (IsIndexOfName names) (data_of (object ms)) place
+placed_at names find places name place found ms h = at_gathered (codes "node") (IsIndexOfName names) place ms (h.0, h.1, (name, h.2, first_index names name place (sym (places name) ∙ found)))
+
+pub not_yet : {A : Type 0} (key : List ℕ) (R : Data → A → Type 0) (o : Option A) (ms : Members) → is_some o ≡ false → IsGathered key R o ms → get_member key ms ≡ None
+not_yet key R None ms e h = h
+not_yet key R (Some x) ms e h = absurd (true≢false e)
+
+-- ---- values that stand in one token
+
+whole_number_plain : (o : Option Num) (n : ℕ) → as_u64 (or_other o) ≡ Some n → (or_other o ≡ unsigned n) × (is_some o ≡ true)
+whole_number_plain None n e = absurd (no_Some (sym e))
+whole_number_plain (Some (unsigned m)) n e = (ap unsigned (same_Some e), refl)
+whole_number_plain (Some (negative z)) n e = absurd (no_Some (sym e))
+whole_number_plain (Some (float x)) n e = absurd (no_Some (sym e))
+
+pub next_is : (j : Json) (P : Json → Type 0) (t : Token) (old new : List Token) → old ≡ t ∷ new → ((depth : ℕ) → value depth (t ∷ new) ≡ Some (j, new)) → P j → IsNext old new P
+next_is j P t old new is read h = (j, λ depth. ap (value depth) is ∙ read depth, h)
+
+pub number_next : (old new : List Token) (s : List ℕ) (o : Option ℕ) → old ≡ Token.number s ∷ new → o ≡ as_u64 (num_of s) → IfSome o (λ n. IsNext old new (λ j. IsNumber (data_of j) n × IsPlain j))
+number_next old new s None is e = tt
+number_next old new s (Some n) is e =
+    let h = whole_number_plain (number_of s) n (sym e) in
+    next_is (Json.number s) (λ j. IsNumber (data_of j) n × IsPlain j) (Token.number s) old new is (λ depth. value_is depth (Token.number s ∷ new)) (ap number h.0, (h.1, refl))
+
+pub short_next : (old new : List Token) (s : List ℕ) (o : Option ℕ) → old ≡ Token.number s ∷ new → IfSome o (λ n. as_u64 (num_of s) ≡ Some n) → IfSome o (λ n. IsNext old new (λ j. IsNumber (data_of j) n × IsPlain j))
+short_next old new s None is e = tt
+short_next old new s (Some n) is e = number_next old new s (Some n) is (sym e)
+
+pub hex_next : (old new : List Token) (s bytes : List ℕ) → old ≡ Token.string s ∷ new → decode_of s ≡ Ok bytes → IsNext old new (λ j. IsHex (data_of j) bytes × IsPlain j)
+hex_next old new s bytes is e = next_is (Json.string s) (λ j. IsHex (data_of j) bytes × IsPlain j) (Token.string s) old new is (λ depth. value_is depth (Token.string s ∷ new)) ((s, refl, e), (refl, refl))
+
+pub name_next : (old new : List Token) (s : List ℕ) → old ≡ Token.string s ∷ new → is_name s ≡ true → IsNext old new (λ j. IsName (data_of j) s × IsPlain j)
+name_next old new s is e = next_is (Json.string s) (λ j. IsName (data_of j) s × IsPlain j) (Token.string s) old new is (λ depth. value_is depth (Token.string s ∷ new)) ((refl, e), (refl, refl))
+
+pub text_next : (old new : List Token) (s : List ℕ) → old ≡ Token.string s ∷ new → IsNext old new (λ j. IsText s (data_of j) × IsPlain j)
+text_next old new s is = next_is (Json.string s) (λ j. IsText s (data_of j) × IsPlain j) (Token.string s) old new is (λ depth. value_is depth (Token.string s ∷ new)) (refl, (refl, refl))
+
+pub truth_next : (old new : List Token) (b : Bool) → old ≡ Token.boolean b ∷ new → IsNext old new (λ j. IsTruth (data_of j) b × IsPlain j)
+truth_next old new b is = next_is (Json.boolean b) (λ j. IsTruth (data_of j) b × IsPlain j) (Token.boolean b) old new is (λ depth. value_is depth (Token.boolean b ∷ new)) (refl, (refl, refl))
+
+-- ---- items that are read one after another
+
+abbrev pub items_joined : Items → Items → Items
+items_joined no_items rest = rest
+items_joined (item j js) rest = item j (items_joined js rest)
+
+abbrev pub item_last : Items → Json → Items
+item_last no_items j = item j no_items
+item_last (item i js) j = item i (item_last js j)
+
+items_joined_last : (js : Items) (j : Json) (rest : Items) → items_joined js (item j rest) ≡ items_joined (item_last js j) rest
+items_joined_last no_items j rest = refl
+items_joined_last (item i js) j rest = ap (item i) (items_joined_last js j rest)
+
+pub items_joined_none : (js : Items) → items_joined js no_items ≡ js
+items_joined_none no_items = refl
+items_joined_none (item j js) = ap (item j) (items_joined_none js)
+
+pub one_more_item : (js : Items) (j : Json) (r : Option (Items × List Token)) → parse_map (items_joined js) (parse_map (item j) r) ≡ parse_map (items_joined (item_last js j)) r
+one_more_item js j None = refl
+one_more_item js j (Some p) = ap (λ is. Some (is, p.1)) (items_joined_last js j p.0)
+
+module _ {A : Type 0} (R : Json → A → Type 0) where
+  pub each_last : (js : Items) (xs : List A) (j : Json) (x : A) → EachIs R js xs → R j x → EachIs R (item_last js j) (xs ++ x ∷ [])
+  each_last no_items [] j x h r = (r, tt)
+  each_last no_items (y ∷ ys) j x h r = absurd h
+  each_last (item i js) [] j x h r = absurd h
+  each_last (item i js) (y ∷ ys) j x h r = (h.0, each_last js ys j x h.1 r)
+
+array_plain : {A : Type 0} (R : Json → A → Type 0) (js : Items) (xs : List A) → ((j : Json) (x : A) → R j x → IsPlain j) → EachIs R js xs → (items_fit js ≡ true) × (items_single js ≡ true)
+array_plain R no_items [] each h = (refl, refl)
+array_plain R no_items (x ∷ xs) each h = absurd h
+array_plain R (item j js) [] each h = absurd h
+array_plain R (item j js) (x ∷ xs) each h =
+    let here = each j x h.0 in
+    let rest = array_plain R js xs each h.1 in
+    (shown (fits j) (items_fit js) here.0 rest.0, shown (single j) (items_single js) here.1 rest.1)
+
+each_item : {A B : Type 0} (R : Data → A → Type 0) (see : B → A) (js : Items) (xs : List B) → EachIs (λ j x. R (data_of j) (see x) × IsPlain j) js xs → AreItems R (items_of js) (map see xs)
+each_item R see no_items [] h = tt
+each_item R see no_items (x ∷ xs) h = absurd h
+each_item R see (item j js) [] h = absurd h
+each_item R see (item j js) (x ∷ xs) h = (h.0.0, each_item R see js xs h.1)
+
+pub list_of : {A B : Type 0} (R : Data → A → Type 0) (see : B → A) (most : ℕ) (j : Json) (xs : List B) → IsArrayOf (λ j x. R (data_of j) (see x) × IsPlain j) j xs → length xs ≤ most
+    → IsShortListOf most R (data_of j) (map see xs) × IsPlain j
+list_of R see most j xs h few =
+    let all = each_item R see h.0 xs h.2 in
+    let plain = array_plain (λ j x. R (data_of j) (see x) × IsPlain j) h.0 xs (λ j x r. r.1) h.2 in
+    ((((items_of h.0, ap data_of h.1, all)), subst (λ n. n ≤ most) (sym (length-map xs see)) few), (ap fits h.1 ∙ plain.0, ap single h.1 ∙ plain.1))
+
+-- ---- the whole text
+
+pub stands_for_plain : {A : Type 0} (R : Data → A → Type 0) (text : List ℕ) (x : A) → IsUtf8 text → IsPlainText R text x → StandsFor R text x
+stands_for_plain R text x utf8 h = (data_of h.0, (utf8, read_whole text h.0 h.1 h.2.0), (h.0, whole_tree text h.0 h.1, single_sound h.0 h.2.1), h.3)
+
+-- where two values stand in the same place, so do they in a longer list
+pub each_moved : {A : Type 0} (R S : Data → A → Type 0) (ds : whole.Items) (xs : List A) → ((d : Data) (x : A) → R d x → S d x) → AreItems R ds xs → AreItems S ds xs
+each_moved R S whole.no_items [] move h = tt
+each_moved R S whole.no_items (x ∷ xs) move h = absurd h
+each_moved R S (whole.item d ds) [] move h = absurd h
+each_moved R S (whole.item d ds) (x ∷ xs) move h = (move d x h.0, each_moved R S ds xs move h.1)

@@ -1,0 +1,152 @@
+-- What is gathered of a certificate, with one more key.
+use Rattle.std.proofs.Common.{◌≡◌, ◌≢◌, ◌<◌, ◌+◌, ◌∙◌, ◌||◌, ◌==◌, ℕ, zero, suc, List, [], ◌∷◌, length, map, take, get_or, Vec, Global, Bor, Bool, true, false, is_some, Some, None, codes, option_map, AllPairs, subst, sym, ap, refl, true≢false, arith}
+use Rattle.std.proofs.lemmas.Bool.Decides.{Decides-eqb}
+use Rattle.std.proofs.lemmas.List.{length-map, get_or-map}
+use Rattle.std.specs.List.{list_any}
+use Rattle.json.specs.Json.{Json, object, Members, no_members}
+use Rattle.serde_json.specs.Data.{Data}
+use Rattle.net_json.specs.CertificateText.{IsLevelOf, ArePlacesOf, AreRanksOf}
+use Rattle.net_plan.specs.CertificateValues.{level_value, places_value, node_ranks_value}
+use Rattle.net_json.specs.Gathered.{with_last, IsPlain, IsGathered}
+use Rattle.net_json.specs.JsonWords.{IsNumber, IsNumberWithin, IsListOf}
+use Rattle.net_json.specs.Keys.{certificate_keys}
+use Rattle.net_json.specs.LevelParts.{IsLevelBy}
+use Rattle.net_json.specs.PlaceParts.{ArePlacesBy}
+use Rattle.net_json.specs.NameIndexes.{noted}
+use Rattle.net_json.specs.PlainCertificate.{AreCertificateParts, IsCertificateBy}
+use Rattle.net_plan.specs.PlanValues.{node_names}
+use Rattle.net_json.specs.RankParts.{AreRanksBy}
+use Rattle.net_json.specs.Trees.{data_of}
+use Rattle.net_plan.specs.declared.certificate.NodeLevel.{NodeLevel}
+use Rattle.net_plan.specs.declared.certificate.NodePlaces.{NodePlaces}
+use Rattle.net_plan.specs.declared.certificate.NodeRanks.{NodeRanks}
+use Rattle.net_json.specs.declared.name_index.NameIndex.{NameIndex}
+use Rattle.net_json.specs.declared.plain_certificate.CertificateParts.{CertificateParts}
+use Rattle.net_json.proofs.Gathered.{gathered_now, gathered_other, none_plain, plain_last, object_plain, all_keys, at_gathered, not_yet, is_some_map, each_moved}
+
+module _ (p : CertificateParts) (ms : Members) (j : Json) (plain : IsPlain j) (h : AreCertificateParts p ms) where
+  pub with_format : (x : ℕ) → is_some p.format ≡ false → (IsNumberWithin 1 1) (data_of j) x
+      → AreCertificateParts (record { nodes = p.nodes; format = Some x; levels = p.levels; places = p.places; ranks = p.ranks }) (with_last ms (codes "format") j)
+  with_format x none is = record {
+    plain = plain_last certificate_keys ms (codes "format") j h.plain refl (not_yet (codes "format") (IsNumberWithin 1 1) p.format ms none h.format) plain;
+    format = gathered_now (IsNumberWithin 1 1) x ms (codes "format") j is;
+    levels = gathered_other (codes "levels") (IsListOf (IsLevelBy (noted p.nodes.now))) (option_map (λ v. map level_value v.items) p.levels) ms (codes "format") j refl h.levels;
+    places = gathered_other (codes "places") (IsListOf (ArePlacesBy (noted p.nodes.now))) (option_map (λ v. map places_value v.items) p.places) ms (codes "format") j refl h.places;
+    ranks = gathered_other (codes "ranks") (IsListOf (AreRanksBy (noted p.nodes.now))) (option_map (λ v. map node_ranks_value v.items) p.ranks) ms (codes "format") j refl h.ranks;
+  }
+
+  pub with_levels : (x : Vec NodeLevel Global) → is_some p.levels ≡ false → (IsListOf (IsLevelBy (noted p.nodes.now))) (data_of j) (map level_value x.items)
+      → AreCertificateParts (record { nodes = p.nodes; format = p.format; levels = Some x; places = p.places; ranks = p.ranks }) (with_last ms (codes "levels") j)
+  with_levels x none is = record {
+    plain = plain_last certificate_keys ms (codes "levels") j h.plain refl (not_yet (codes "levels") (IsListOf (IsLevelBy (noted p.nodes.now))) (option_map (λ v. map level_value v.items) p.levels) ms (is_some_map (λ (x : Vec NodeLevel Global). map level_value x.items) p.levels ∙ none) h.levels) plain;
+    format = gathered_other (codes "format") (IsNumberWithin 1 1) p.format ms (codes "levels") j refl h.format;
+    levels = gathered_now (IsListOf (IsLevelBy (noted p.nodes.now))) (map level_value x.items) ms (codes "levels") j is;
+    places = gathered_other (codes "places") (IsListOf (ArePlacesBy (noted p.nodes.now))) (option_map (λ v. map places_value v.items) p.places) ms (codes "levels") j refl h.places;
+    ranks = gathered_other (codes "ranks") (IsListOf (AreRanksBy (noted p.nodes.now))) (option_map (λ v. map node_ranks_value v.items) p.ranks) ms (codes "levels") j refl h.ranks;
+  }
+
+  pub with_places : (x : Vec NodePlaces Global) → is_some p.places ≡ false → (IsListOf (ArePlacesBy (noted p.nodes.now))) (data_of j) (map places_value x.items)
+      → AreCertificateParts (record { nodes = p.nodes; format = p.format; levels = p.levels; places = Some x; ranks = p.ranks }) (with_last ms (codes "places") j)
+  with_places x none is = record {
+    plain = plain_last certificate_keys ms (codes "places") j h.plain refl (not_yet (codes "places") (IsListOf (ArePlacesBy (noted p.nodes.now))) (option_map (λ v. map places_value v.items) p.places) ms (is_some_map (λ (x : Vec NodePlaces Global). map places_value x.items) p.places ∙ none) h.places) plain;
+    format = gathered_other (codes "format") (IsNumberWithin 1 1) p.format ms (codes "places") j refl h.format;
+    levels = gathered_other (codes "levels") (IsListOf (IsLevelBy (noted p.nodes.now))) (option_map (λ v. map level_value v.items) p.levels) ms (codes "places") j refl h.levels;
+    places = gathered_now (IsListOf (ArePlacesBy (noted p.nodes.now))) (map places_value x.items) ms (codes "places") j is;
+    ranks = gathered_other (codes "ranks") (IsListOf (AreRanksBy (noted p.nodes.now))) (option_map (λ v. map node_ranks_value v.items) p.ranks) ms (codes "places") j refl h.ranks;
+  }
+
+  pub with_ranks : (x : Vec NodeRanks Global) → is_some p.ranks ≡ false → (IsListOf (AreRanksBy (noted p.nodes.now))) (data_of j) (map node_ranks_value x.items)
+      → AreCertificateParts (record { nodes = p.nodes; format = p.format; levels = p.levels; places = p.places; ranks = Some x }) (with_last ms (codes "ranks") j)
+  with_ranks x none is = record {
+    plain = plain_last certificate_keys ms (codes "ranks") j h.plain refl (not_yet (codes "ranks") (IsListOf (AreRanksBy (noted p.nodes.now))) (option_map (λ v. map node_ranks_value v.items) p.ranks) ms (is_some_map (λ (x : Vec NodeRanks Global). map node_ranks_value x.items) p.ranks ∙ none) h.ranks) plain;
+    format = gathered_other (codes "format") (IsNumberWithin 1 1) p.format ms (codes "ranks") j refl h.format;
+    levels = gathered_other (codes "levels") (IsListOf (IsLevelBy (noted p.nodes.now))) (option_map (λ v. map level_value v.items) p.levels) ms (codes "ranks") j refl h.levels;
+    places = gathered_other (codes "places") (IsListOf (ArePlacesBy (noted p.nodes.now))) (option_map (λ v. map places_value v.items) p.places) ms (codes "ranks") j refl h.places;
+    ranks = gathered_now (IsListOf (AreRanksBy (noted p.nodes.now))) (map node_ranks_value x.items) ms (codes "ranks") j is;
+  }
+
+pub no_parts : (nodes : Bor NameIndex) → AreCertificateParts (record { nodes = nodes; format = None; levels = None; places = None; ranks = None }) no_members
+no_parts nodes = record { plain = none_plain certificate_keys; format = refl; levels = refl; places = refl; ranks = refl }
+
+-- ---- entries of other nodes
+
+-- no element before a place passes the test
+none_before : {A : Type 0} (p : A → Bool) (xs : List A) (n i : ℕ) (d : A) → i < n → i < length xs → list_any p (take n xs) ≡ false → p (get_or xs i d) ≡ false
+none_before p [] n i d below within none = absurd (omega arith)
+none_before p (x ∷ xs) zero i d below within none = absurd (omega arith)
+none_before p (x ∷ xs) (suc n) zero d below within none = by (p x) none
+  where
+    by : (b : Bool) → (b || list_any p (take n xs)) ≡ false → b ≡ false
+    by false e = refl
+    by true e = e
+none_before p (x ∷ xs) (suc n) (suc i) d below within none = none_before p xs n i d (omega arith) (omega arith) (by (p x) none)
+  where
+    by : (b : Bool) → (b || list_any p (take n xs)) ≡ false → list_any p (take n xs) ≡ false
+    by false e = e
+    by true e = absurd (true≢false e)
+
+not_equal : (a b : ℕ) → (a == b) ≡ false → a ≢ b
+not_equal a b e same = true≢false (sym ((Decides-eqb a b).1 same) ∙ e)
+
+same_default : {A : Type 0} (xs : List A) (n : ℕ) (d e : A) → n < length xs → get_or xs n d ≡ get_or xs n e
+same_default [] n d e within = absurd (omega arith)
+same_default (x ∷ xs) zero d e within = refl
+same_default (x ∷ xs) (suc n) d e within = same_default xs n d e (omega arith)
+
+-- one more entry, of another node than those before it
+pub apart_more : {A : Type 0} (f : A → ℕ) (xs : List A) (n : ℕ) (x : A) → n < length xs → x ≡ get_or xs n x → list_any (λ y. f y == f x) (take n xs) ≡ false
+    → ((i j : ℕ) (d : A) → i < j → j < n → f (get_or xs i d) ≢ f (get_or xs j d)) → (i j : ℕ) (d : A) → i < j → j < n + 1 → f (get_or xs i d) ≢ f (get_or xs j d)
+apart_more f xs n x within is none before i j d below most same = by (j == n) refl
+  where
+    by : (b : Bool) → (j == n) ≡ b → ⊥
+    by true e =
+        let last : j ≡ n = (Decides-eqb j n).0 e in
+        let here : get_or xs j d ≡ x = ap (λ k. get_or xs k d) last ∙ same_default xs n d x within ∙ sym is in
+        not_equal (f (get_or xs i d)) (f x) (none_before (λ y. f y == f x) xs n i d (omega arith) (omega arith) none) (same ∙ ap f here)
+    by false e =
+        let other : j ≢ n = not_equal j n e in
+        before i j d below (omega arith) same
+
+pairs_seen : {A B : Type 0} (see : A → B) (R : B → B → Type 0) (xs : List A) → AllPairs (λ a b. R (see a) (see b)) xs → AllPairs R (map see xs)
+pairs_seen see R [] h i j d below within = absurd (omega arith)
+pairs_seen see R (x ∷ xs) h i j d below within =
+    let all = x ∷ xs in
+    let in_j : j < length all = omega (arith, length-map all see) in
+    let in_i : i < length all = omega arith in
+    let first = sym (get_or-map see all i x d in_i) in
+    let second = sym (get_or-map see all j x d in_j) in
+    subst (λ b. R (get_or (map see all) i d) b) second (subst (λ a. R a (see (get_or all j x))) first (h i j x below in_j))
+
+-- ---- the certificate
+
+moved : {A : Type 0} (R S : Data → A → Type 0) (d : Data) (xs : List A) → ((d : Data) (x : A) → R d x → S d x) → IsListOf R d xs → IsListOf S d xs
+moved R S d xs move h = (h.0, h.1, each_moved R S h.0 xs move h.2)
+
+only_one : (d : Data) (n : ℕ) → IsNumberWithin 1 1 d n → IsNumber d 1
+only_one d n h =
+    let one : n ≡ 1 = omega (arith, h.1, h.2) in
+    subst (IsNumber d) one h.0
+
+pub certificate_of : (p : CertificateParts) (format : ℕ) (levels : Vec NodeLevel Global) (places : Vec NodePlaces Global) (ranks : Vec NodeRanks Global) → p.format ≡ Some format → p.levels ≡ Some levels → p.places ≡ Some places → p.ranks ≡ Some ranks
+    → AllPairs (λ a b. a.node ≢ b.node) levels.items → AllPairs (λ a b. a.node ≢ b.node) places.items → AllPairs (λ a b. a.node ≢ b.node) ranks.items → (ms : Members) → AreCertificateParts p ms
+    → IsCertificateBy (noted p.nodes.now) (data_of (object ms)) (record { levels = map level_value levels.items; places = map places_value places.items; ranks = map node_ranks_value ranks.items }) × IsPlain (object ms)
+certificate_of p format levels places ranks is_format is_levels is_places is_ranks one_level one_places one_ranks ms h =
+    let format_here = subst (λ o. IsGathered (codes "format") (IsNumberWithin 1 1) o ms) is_format h.format in
+    let levels_here = subst (λ o. IsGathered (codes "levels") (IsListOf (IsLevelBy (noted p.nodes.now))) (option_map (λ v. map level_value v.items) o) ms) is_levels h.levels in
+    let places_here = subst (λ o. IsGathered (codes "places") (IsListOf (ArePlacesBy (noted p.nodes.now))) (option_map (λ v. map places_value v.items) o) ms) is_places h.places in
+    let ranks_here = subst (λ o. IsGathered (codes "ranks") (IsListOf (AreRanksBy (noted p.nodes.now))) (option_map (λ v. map node_ranks_value v.items) o) ms) is_ranks h.ranks in (
+      λ plan found. let names = node_names plan.nodes in record {
+        keys = all_keys certificate_keys ms h.plain (rw (format_here.1, levels_here.1, places_here.1, ranks_here.1) refl);
+        format = at_gathered (codes "format") IsNumber 1 ms (format_here.0, format_here.1, only_one (data_of format_here.0) format format_here.2);
+        levels = at_gathered (codes "levels") (IsListOf (IsLevelOf names)) (map level_value levels.items) ms
+            (levels_here.0, levels_here.1, moved (IsLevelBy (noted p.nodes.now)) (IsLevelOf names) (data_of levels_here.0) (map level_value levels.items) (λ d x is. is names found) levels_here.2);
+        places = at_gathered (codes "places") (IsListOf (ArePlacesOf names)) (map places_value places.items) ms
+            (places_here.0, places_here.1, moved (ArePlacesBy (noted p.nodes.now)) (ArePlacesOf names) (data_of places_here.0) (map places_value places.items) (λ d x is. is names found) places_here.2);
+        ranks = at_gathered (codes "ranks") (IsListOf (AreRanksOf names)) (map node_ranks_value ranks.items) ms
+            (ranks_here.0, ranks_here.1, moved (AreRanksBy (noted p.nodes.now)) (AreRanksOf names) (data_of ranks_here.0) (map node_ranks_value ranks.items) (λ d x is. is names found) ranks_here.2);
+        one_level = pairs_seen level_value (λ a b. a.node ≢ b.node) levels.items one_level;
+        one_places = pairs_seen places_value (λ a b. a.node ≢ b.node) places.items one_places;
+        one_ranks = pairs_seen node_ranks_value (λ a b. a.node ≢ b.node) ranks.items one_ranks;
+      },
+      object_plain certificate_keys ms h.plain,
+    )

@@ -1,0 +1,206 @@
+-- A function from JSON values that answers what a relation tells, and nothing else.
+use Rattle.std.proofs.Common.{◌≡◌, ◌≢◌, ℕ, suc, ◌≤◌, List, [], ◌∷◌, length, Bool, true, false, nat_le, ◌&&◌, Option, Some, None, Result, Ok, Err, refl, sym, ap, ◌∙◌, subst, cond, true≢false}
+use Rattle.std.proofs.lemmas.Bool.{leb-true, le-leb}
+use Rattle.std.specs.List.{list_all}
+use Rattle.serde_json.specs.Data.{Num, Data, null, boolean, number, string, array, object, unsigned, negative, float, Items, no_items, item}
+use Rattle.serde_json.specs.Find.{get, as_u64}
+use Rattle.net_json.specs.declared.error.ValueFault.{ValueFault}
+use Rattle.net_json.specs.declared.error.ValueFault.TheVariants.{OutOfRange, OverLimit}
+use Rattle.net_json.specs.Json.{each, items_count, all_of, list_within, optional, demand, found, at_key, whole_number, number_within, truth}
+use Rattle.net_json.specs.JsonWords.{At, AreItems, IsListOf, IsShortListOf, IsOptional, IsNumberWithin, IsTruth}
+use Rattle.net_plan.specs.Placed.{is_none_or}
+use Rattle.net_json.specs.Reading.{then_with}
+
+-- what f reads and passes the test is what R tells
+pub record Tells {A : Type 0} (f : Data → Result A ValueFault) (test : A → Bool) (R : Data → A → Type 0) : Type 0 where
+  pub sound : (d : Data) (x : A) → f d ≡ Ok x → test x ≡ true → R d x
+  pub whole : (d : Data) (x : A) → R d x → f d ≡ Ok x
+  pub passes : (d : Data) (x : A) → R d x → test x ≡ true
+
+-- any value passes
+abbrev pub any : {A : Type 0} → A → Bool
+any x = true
+
+pub no_value : {A : Type 0} {fault : ValueFault} {x : A} → Err fault ≡ Ok x → ⊥
+no_value e = cc
+
+pub same_Ok : {A : Type 0} {a b : A} → ◌≡◌ {A = Result A ValueFault} (Ok a) (Ok b) → a ≡ b
+same_Ok e = cc
+
+-- both readings of a chain gave a value
+pub then_Ok : {A B : Type 0} (r : Result A ValueFault) (f : A → Result B ValueFault) (b : B) → then_with r f ≡ Ok b → (a : A) × (r ≡ Ok a) × (f a ≡ Ok b)
+then_Ok (Ok a) f b e = (a, refl, e)
+then_Ok (Err fault) f b e = absurd (no_value e)
+
+-- a value that no reading gave is not told
+pub none_told : {A : Type 0} {f : Data → Result A ValueFault} {test : A → Bool} {R : Data → A → Type 0} → Tells f test R → (d : Data) (fault : ValueFault) → f d ≡ Err fault → (x : A) → R d x → ⊥
+none_told t d fault e x r = no_value (sym e ∙ t.whole d x r)
+
+pub demanded : (fault : ValueFault) (b : Bool) (u : Unit {0}) → demand fault b ≡ Ok u → b ≡ true
+demanded fault true u e = refl
+demanded fault false u e = absurd (no_value e)
+
+pub both : (a b : Bool) → (a && b) ≡ true → (a ≡ true) × (b ≡ true)
+both true b e = (refl, e)
+both false b e = absurd (true≢false (sym e))
+
+found_Some : {A : Type 0} (o : Option A) (a : A) → found o ≡ Ok a → o ≡ Some a
+found_Some (Some b) a e = ap Some (same_Ok e)
+found_Some None a e = absurd (no_value e)
+
+pub at_key_tells : {A : Type 0} (key : List ℕ) (f : Data → Result A ValueFault) (test : A → Bool) (R : Data → A → Type 0) → Tells f test R → Tells (at_key key f) test (At key R)
+at_key_tells key f test R t = record {
+  sound = λ d x e pass. let p = then_Ok (found (get key d)) f x e in (p.0, found_Some (get key d) p.0 p.1, t.sound p.0 x p.2 pass);
+  whole = λ d x h. ap (λ o. then_with (found o) f) h.1 ∙ t.whole h.0 x h.2;
+  passes = λ d x h. t.passes h.0 x h.2;
+}
+
+all_any : {A : Type 0} (xs : List A) → list_all any xs ≡ true
+all_any [] = refl
+all_any (x ∷ xs) = all_any xs
+
+none_or_any : {A : Type 0} (o : Option A) → is_none_or any o ≡ true
+none_or_any None = refl
+none_or_any (Some x) = refl
+
+module _ {A : Type 0} (f : Data → Result A ValueFault) (test : A → Bool) (R : Data → A → Type 0) (t : Tells f test R) where
+  items_sound : (ds : Items) (xs : List A) → each f ds ≡ Ok xs → list_all test xs ≡ true → AreItems R ds xs
+  items_sound no_items [] e pass = tt
+  items_sound no_items (x ∷ xs) e pass = cc
+  items_sound (item d ds) xs e pass =
+      let p = then_Ok (f d) (λ a. then_with (each f ds) (λ rest. Ok (a ∷ rest))) xs e in
+      let q = then_Ok (each f ds) (λ rest. Ok (p.0 ∷ rest)) xs p.2 in
+      let same : p.0 ∷ q.0 ≡ xs = same_Ok q.2 in
+      let pass = both (test p.0) (list_all test q.0) (ap (list_all test) same ∙ pass) in
+      subst (AreItems R (item d ds)) same (t.sound d p.0 p.1 pass.0, items_sound ds q.0 q.1 pass.1)
+
+  items_whole : (ds : Items) (xs : List A) → AreItems R ds xs → each f ds ≡ Ok xs
+  items_whole no_items [] h = refl
+  items_whole no_items (x ∷ xs) h = absurd h
+  items_whole (item d ds) [] h = absurd h
+  items_whole (item d ds) (x ∷ xs) h =
+      ap (λ r. then_with r (λ a. then_with (each f ds) (λ rest. Ok (a ∷ rest)))) (t.whole d x h.0) ∙ ap (λ r. then_with r (λ rest. Ok (x ∷ rest))) (items_whole ds xs h.1)
+
+  items_pass : (ds : Items) (xs : List A) → AreItems R ds xs → list_all test xs ≡ true
+  items_pass no_items [] h = refl
+  items_pass no_items (x ∷ xs) h = absurd h
+  items_pass (item d ds) [] h = absurd h
+  items_pass (item d ds) (x ∷ xs) h = ap (λ b. b && list_all test xs) (t.passes d x h.0) ∙ items_pass ds xs h.1
+
+  items_length : (ds : Items) (xs : List A) → AreItems R ds xs → items_count ds ≡ length xs
+  items_length no_items [] h = refl
+  items_length no_items (x ∷ xs) h = absurd h
+  items_length (item d ds) [] h = absurd h
+  items_length (item d ds) (x ∷ xs) h = ap suc (items_length ds xs h.1)
+
+  all_sound : (d : Data) (xs : List A) → all_of f d ≡ Ok xs → list_all test xs ≡ true → IsListOf R d xs
+  all_sound (array ds) xs e pass = (ds, refl, items_sound ds xs e pass)
+  all_sound null xs e pass = absurd (no_value e)
+  all_sound (boolean b) xs e pass = absurd (no_value e)
+  all_sound (number n) xs e pass = absurd (no_value e)
+  all_sound (string s) xs e pass = absurd (no_value e)
+  all_sound (object ms) xs e pass = absurd (no_value e)
+
+  pub all_tells : Tells (all_of f) (list_all test) (IsListOf R)
+  all_tells = record { sound = all_sound; whole = λ d xs h. ap (all_of f) h.1 ∙ items_whole h.0 xs h.2; passes = λ d xs h. items_pass h.0 xs h.2 }
+
+  within_sound : (most : ℕ) (d : Data) (xs : List A) → list_within most f d ≡ Ok xs → list_all test xs ≡ true → IsShortListOf most R d xs
+  within_sound most (array ds) xs e pass = by (nat_le (items_count ds) most) refl e
+    where
+      by : (b : Bool) → nat_le (items_count ds) most ≡ b → cond b (each f ds) (Err OverLimit) ≡ Ok xs → IsShortListOf most R (array ds) xs
+      by true few e = let h = items_sound ds xs e pass in ((ds, refl, h), subst (λ n. n ≤ most) (items_length ds xs h) (leb-true (items_count ds) most few))
+      by false few e = absurd (no_value e)
+  within_sound most null xs e pass = absurd (no_value e)
+  within_sound most (boolean b) xs e pass = absurd (no_value e)
+  within_sound most (number n) xs e pass = absurd (no_value e)
+  within_sound most (string s) xs e pass = absurd (no_value e)
+  within_sound most (object ms) xs e pass = absurd (no_value e)
+
+  pub within_tells : (most : ℕ) → Tells (list_within most f) (list_all test) (IsShortListOf most R)
+  within_tells most = record {
+    sound = within_sound most;
+    whole = λ d xs h.
+        let few : nat_le (items_count h.0.0) most ≡ true = le-leb (items_count h.0.0) most (subst (λ n. n ≤ most) (sym (items_length h.0.0 xs h.0.2)) h.1) in
+        ap (list_within most f) h.0.1 ∙ ap (λ b. cond b (each f h.0.0) (Err OverLimit)) few ∙ items_whole h.0.0 xs h.0.2;
+    passes = λ d xs h. items_pass h.0.0 xs h.0.2;
+  }
+
+  some_sound : (d : Data) (x : Option A) → d ≢ null → then_with (f d) (λ a. Ok (Some a)) ≡ Ok x → is_none_or test x ≡ true → IsOptional R d x
+  some_sound d x some e pass =
+      let p = then_Ok (f d) (λ a. Ok (Some a)) x e in
+      let same : Some p.0 ≡ x = same_Ok p.2 in
+      subst (IsOptional R d) same (some, t.sound d p.0 p.1 (ap (is_none_or test) same ∙ pass))
+
+  optional_sound : (d : Data) (x : Option A) → optional f d ≡ Ok x → is_none_or test x ≡ true → IsOptional R d x
+  optional_sound null x e pass = subst (IsOptional R null) (same_Ok e) refl
+  optional_sound (boolean b) x e pass = some_sound (boolean b) x (λ h. cc) e pass
+  optional_sound (number n) x e pass = some_sound (number n) x (λ h. cc) e pass
+  optional_sound (string s) x e pass = some_sound (string s) x (λ h. cc) e pass
+  optional_sound (array ds) x e pass = some_sound (array ds) x (λ h. cc) e pass
+  optional_sound (object ms) x e pass = some_sound (object ms) x (λ h. cc) e pass
+
+  optional_some : (d : Data) → d ≢ null → optional f d ≡ then_with (f d) (λ a. Ok (Some a))
+  optional_some null some = absurd (some refl)
+  optional_some (boolean b) some = refl
+  optional_some (number n) some = refl
+  optional_some (string s) some = refl
+  optional_some (array ds) some = refl
+  optional_some (object ms) some = refl
+
+  optional_whole : (d : Data) (x : Option A) → IsOptional R d x → optional f d ≡ Ok x
+  optional_whole d None h = ap (optional f) h
+  optional_whole d (Some x) h = optional_some d h.0 ∙ ap (λ r. then_with r (λ a. Ok (Some a))) (t.whole d x h.1)
+
+  optional_passes : (d : Data) (x : Option A) → IsOptional R d x → is_none_or test x ≡ true
+  optional_passes d None h = refl
+  optional_passes d (Some x) h = t.passes d x h.1
+
+  pub optional_tells : Tells (optional f) (is_none_or test) (IsOptional R)
+  optional_tells = record { sound = optional_sound; whole = optional_whole; passes = optional_passes }
+
+-- the same where any value passes
+module _ {A : Type 0} (f : Data → Result A ValueFault) (R : Data → A → Type 0) (t : Tells f any R) where
+  pub all_any_tells : Tells (all_of f) any (IsListOf R)
+  all_any_tells = let all = all_tells f any R t in record { sound = λ d xs e pass. all.sound d xs e (all_any xs); whole = all.whole; passes = λ d xs h. refl }
+
+  pub within_any_tells : (most : ℕ) → Tells (list_within most f) any (IsShortListOf most R)
+  within_any_tells most = let all = within_tells f any R t most in record { sound = λ d xs e pass. all.sound d xs e (all_any xs); whole = all.whole; passes = λ d xs h. refl }
+
+  pub optional_any_tells : Tells (optional f) any (IsOptional R)
+  optional_any_tells = let all = optional_tells f any R t in record { sound = λ d x e pass. all.sound d x e (none_or_any x); whole = all.whole; passes = λ d x h. refl }
+
+number_sound : (least most : ℕ) (n : Num) (x : ℕ) → number_within least most (as_u64 n) ≡ Ok x → IsNumberWithin least most (number n) x
+number_sound least most (unsigned m) x e = by (nat_le least m) (nat_le m most) refl refl e
+  where
+    by : (b c : Bool) → nat_le least m ≡ b → nat_le m most ≡ c → cond (b && c) (Ok m) (Err OutOfRange) ≡ Ok x → IsNumberWithin least most (number (unsigned m)) x
+    by true true low high e = subst (IsNumberWithin least most (number (unsigned m))) (same_Ok e) (refl, leb-true least m low, leb-true m most high)
+    by true false low high e = absurd (no_value e)
+    by false c low high e = absurd (no_value e)
+number_sound least most (negative z) x e = absurd (no_value e)
+number_sound least most (float f) x e = absurd (no_value e)
+
+whole_sound : (least most : ℕ) (d : Data) (x : ℕ) → whole_number least most d ≡ Ok x → IsNumberWithin least most d x
+whole_sound least most (number n) x e = number_sound least most n x e
+whole_sound least most null x e = absurd (no_value e)
+whole_sound least most (boolean b) x e = absurd (no_value e)
+whole_sound least most (string s) x e = absurd (no_value e)
+whole_sound least most (array ds) x e = absurd (no_value e)
+whole_sound least most (object ms) x e = absurd (no_value e)
+
+pub number_tells : (least most : ℕ) → Tells (whole_number least most) any (IsNumberWithin least most)
+number_tells least most = record {
+  sound = λ d x e pass. whole_sound least most d x e;
+  whole = λ d x h. ap (whole_number least most) h.0 ∙ ap (λ b. cond (b && nat_le x most) (Ok x) (Err OutOfRange)) (le-leb least x h.1) ∙ ap (λ b. cond b (Ok x) (Err OutOfRange)) (le-leb x most h.2);
+  passes = λ d x h. refl;
+}
+
+truth_sound : (d : Data) (b : Bool) → truth d ≡ Ok b → IsTruth d b
+truth_sound (boolean c) b e = ap boolean (same_Ok e)
+truth_sound null b e = absurd (no_value e)
+truth_sound (number n) b e = absurd (no_value e)
+truth_sound (string s) b e = absurd (no_value e)
+truth_sound (array ds) b e = absurd (no_value e)
+truth_sound (object ms) b e = absurd (no_value e)
+
+pub truth_tells : Tells truth any IsTruth
+truth_tells = record { sound = λ d b e pass. truth_sound d b e; whole = λ d b h. ap truth h; passes = λ d b h. refl }

@@ -1,0 +1,39 @@
+-- What is gathered of a list of events, and what its text stands for.
+use Rattle.std.specs.Prelude.{ℕ, Bool, true, codes, List, map, Option, option_map}
+use Rattle.json.specs.Json.{Members}
+use Rattle.serde_json.specs.Data.{Data}
+use Rattle.net_json.specs.EventParts.{IsEventBy}
+use Rattle.net_json.specs.EventReading.{is_in}
+use Rattle.net_json.specs.EventText.{IsFormat, AreEventsOf}
+use Rattle.net_plan.specs.EventValues.{EventEntry, put, move, lose, expire, answer}
+use Rattle.net_plan.specs.EventValues.{switch, walk, ask, collected, event_entry}
+use Rattle.net_json.specs.Gathered.{ArePlain, IsGathered}
+use Rattle.net_json.specs.JsonWords.{IsShortListOf}
+use Rattle.net_json.specs.Keys.{events_keys}
+use Rattle.net_json.specs.NameIndexes.{noted, IsIndexOf}
+use Rattle.net_plan.specs.PlanValues.{PlanValue, node_names}
+use Rattle.net_json.specs.declared.event_text.Format.{Format}
+use Rattle.net_json.specs.declared.event_text.Verb.TheVariants as verb
+use Rattle.net_json.specs.declared.plain_events.EventsParts.{EventsParts}
+
+pub record AreEventsParts (p : EventsParts) (ms : Members) : Type 0 where
+  pub plain : ArePlain events_keys ms
+  pub format : IsGathered (codes "format") IsFormat p.format ms
+  pub events : IsGathered (codes "events") (IsShortListOf 100000 (IsEventBy (noted p.nodes.now)))
+      (option_map (λ v. map event_entry v.items) p.events) ms
+
+-- lists of the format have this event
+abbrev pub is_event_in : Format → EventEntry → Bool
+is_event_in f (put node bytes) = true
+is_event_in f (move flight keep) = true
+is_event_in f (lose flight) = true
+is_event_in f (expire node source tag owner) = true
+is_event_in f (answer node) = true
+is_event_in f (switch node) = is_in f verb.Switch
+is_event_in f (walk node eid tag count) = is_in f verb.Walk
+is_event_in f (ask walker) = is_in f verb.Ask
+is_event_in f (collected walker) = is_in f verb.Collected
+
+-- events at the nodes whose indices are found
+abbrev pub AreEventsBy : (List ℕ → Option ℕ) → Data → List EventEntry → Type 0
+AreEventsBy find d es = (plan : PlanValue) → IsIndexOf find (node_names plan.nodes) → AreEventsOf plan d es

@@ -1,0 +1,55 @@
+//! Plans, certificates and events as JSON: how they are read, and how a certificate is written.
+#![tactic(auto)]
+
+mod certificate_json;
+mod certificate_text;
+mod error;
+mod event_parts;
+mod event_text;
+mod field_keys;
+mod find;
+mod found;
+mod gather;
+mod json_keys;
+mod json_number;
+mod json_text;
+mod json_value;
+mod level_parts;
+mod name_index;
+mod naming;
+mod next_value;
+mod one_each;
+mod place_parts;
+mod plain_certificate;
+mod plain_events;
+mod plain_values;
+mod plan_format;
+mod plan_text;
+mod rank_parts;
+mod reading;
+mod record_parts;
+mod row_parts;
+mod shape;
+mod skeleton;
+mod stream;
+mod tables;
+mod terminus_parts;
+mod terminus_text;
+mod words;
+mod writing;
+
+pub use error::{PlanError, ValueFault};
+pub use find::{find_fault, own_fault};
+pub use found::{Found, PointerStep};
+pub use json_value::{at, check_keys, read_number};
+pub use plain_values::{byte_at, range_end};
+pub use plan_format::{PlanFormat, format_of};
+pub use reading::{
+    TEXT_LIMIT, certificate_of_text, events_of_text, json_of, plan_of_text, read_certificate,
+    read_events, read_plan,
+};
+pub use shape::{Field, KnownNames, Named, Rule, Shape, Word, fields_of};
+pub use stream::{Counted, Failed, Sink, Source, TextFault, read_within, write_whole};
+pub use tables::{certificate_shape, plan_shape};
+pub use words::{read_address, read_hex, read_kind};
+pub use writing::{read_back, text_of_certificate, write_certificate};

@@ -1,0 +1,144 @@
+//! The events of a text in which nothing is unusual.
+ghost use Rattle.std.specs.Prelude.{◌≡◌, codes, map, IfSome};
+ghost use Rattle.std.specs.List.{list_all};
+ghost use Rattle.json.specs.Json.{Members, no_members, object};
+ghost use Rattle.net_json.specs.EventParts.{IsEventBy};
+ghost use Rattle.net_json.specs.EventText.{IsFormat, AreEventsOf};
+ghost use Rattle.net_plan.specs.EventValues.{event_entry};
+ghost use Rattle.net_json.specs.Gathered.{IsMore, IsNext, IsPlain, IsPlainText};
+ghost use Rattle.net_json.specs.PlainEvents.{AreEventsParts, AreEventsBy, is_event_in};
+ghost use Rattle.net_json.specs.NameIndexes.{noted};
+ghost use Rattle.net_plan.specs.PlanValues.{plan_value};
+ghost use Rattle.net_json.specs.Trees.{data_of};
+ghost use Rattle.net_json.specs.declared.name_index.NameIndex.{NameIndex};
+
+use crate::event_parts::NextEvent;
+use crate::event_text::{Format, MOST_EVENTS, Verb, format_of, is_in};
+use crate::gather::{Gather, next_list, read_text};
+use crate::name_index::NameIndex;
+use crate::naming::NodeName;
+use crate::next_value::next_number_within;
+use json::{Reader, Scratch};
+use net_plan::{Event, Plan};
+use std::alloc::Global;
+
+/// What is known so far of a list of events at nodes that this index finds.
+#[derive(Drop)]
+pub struct EventsParts<'p, 'n> {
+    nodes: &'p NameIndex<'n>,
+    format: Option<Format>,
+    events: Option<Vec<Event>>,
+}
+
+impl<'p, 'n> EventsParts<'p, 'n> {
+    fn none(nodes: &'p NameIndex<'n>) -> EventsParts<'p, 'n>
+        ensures none { AreEventsParts result no_members }
+        ensures nodes { result.nodes.now ≡ nodes.now }
+    {
+        EventsParts {
+            nodes,
+            format: None,
+            events: None,
+        }
+    }
+
+    fn take_format(&mut self, reader: &mut Reader<'_>, depth: usize) -> Option<()>
+        ensures more { IfSome result (λ _. IsMore depth (codes "format") reader.old reader.new (AreEventsParts self.old) (AreEventsParts self.new)) }
+        ensures kept { self.new.nodes.now ≡ self.old.nodes.now }
+    {
+        if self.format.is_some() {
+            return None;
+        }
+        self.format = Some(next_format(reader)?);
+        Some(())
+    }
+
+    fn take_events(&mut self, alloc: Global, reader: &mut Reader<'_>, depth: usize) -> Option<()>
+        ensures more { IfSome result (λ _. IsMore depth (codes "events") reader.old reader.new (AreEventsParts self.old) (AreEventsParts self.new)) }
+        ensures kept { self.new.nodes.now ≡ self.old.nodes.now }
+    {
+        if self.events.is_some() {
+            return None;
+        }
+        let next = NextEvent { nodes: self.nodes };
+        self.events = Some(next_list(alloc, &next, reader, depth, MOST_EVENTS)?);
+        Some(())
+    }
+
+    fn events(self) -> Option<Vec<Event>>
+        ensures { IfSome result (λ v. (ms : Members) → AreEventsParts self.entry ms → AreEventsBy (noted self.entry.nodes.now) (data_of (object ms)) (map event_entry v.items) × IsPlain (object ms)) }
+    {
+        let format = self.format?;
+        let events = self.events?;
+        if !are_in(format, events.as_slice()) {
+            return None;
+        }
+        Some(events)
+    }
+}
+
+impl<'p, 'n, 't> Gather<'t> for EventsParts<'p, 'n> {
+    ghost Holds = { AreEventsParts };
+
+    ghost Given = { NameIndex };
+
+    ghost given = { λ p. p.nodes.now };
+
+    fn take(
+        &mut self,
+        alloc: Global,
+        key: &'t str,
+        reader: &mut Reader<'t>,
+        depth: usize,
+    ) -> Option<()> {
+        match key {
+            "format" => self.take_format(reader, depth),
+            "events" => self.take_events(alloc, reader, depth),
+            _ => None,
+        }
+    }
+}
+
+/// The format of a list of events.
+fn next_format(reader: &mut Reader<'_>) -> Option<Format>
+    ensures { IfSome result (λ f. IsNext reader.old reader.new (λ j. IsFormat (data_of j) f × IsPlain j)) }
+{
+    Some(format_of(next_number_within(reader, 1, 3)?))
+}
+
+/// Whether lists of a format have these events.
+fn are_in(format: Format, events: &[Event]) -> bool
+    ensures { result ≡ list_all (λ e. is_event_in format (event_entry e)) events.now }
+{
+    events.iter().all(|event| is_event_in(format, event))
+}
+
+/// Whether lists of a format have an event.
+fn is_event_in(format: Format, event: &Event) -> bool
+    ensures { result ≡ is_event_in format (event_entry event.now) }
+{
+    match event {
+        Event::Put { .. }
+        | Event::Move { .. }
+        | Event::Lose { .. }
+        | Event::Expire { .. }
+        | Event::Answer { .. } => true,
+        Event::Switch { .. } => is_in(format, Verb::Switch),
+        Event::Walk { .. } => is_in(format, Verb::Walk),
+        Event::Ask { .. } => is_in(format, Verb::Ask),
+        Event::Collected { .. } => is_in(format, Verb::Collected),
+    }
+}
+
+/// The events of a text in which nothing is unusual. Of any other text it says nothing.
+pub fn plain_events(alloc: Global, plan: &Plan, text: &str) -> Option<Vec<Event>>
+    ensures { IfSome result (λ v. IsPlainText (AreEventsOf (plan_value plan.now)) text.now (map event_entry v.items)) }
+{
+    let Ok(index) = NameIndex::of(alloc, &NodeName, plan.nodes.as_slice()) else {
+        return None;
+    };
+    let mut scratch = Scratch::new(alloc);
+    let mut parts = EventsParts::none(&index);
+    read_text(alloc, &mut parts, text, &mut scratch)?;
+    parts.events()
+}
