@@ -36,10 +36,14 @@ abbrev pub IsOwnerKept : Plan → Option ℕ → Option Data → Type 0
 IsOwnerKept plan owner said = ((said ≡ None) × (owner ≡ None))
     ⊎ ((m : ℕ) × (name : List ℕ) × (owner ≡ Some m) × (node_name plan m ≡ Some name) × SaysText said name)
 
--- a pool by its endpoint IDs or by its size; none where nothing stands there
+-- the endpoint IDs of a pool, or its size
+abbrev pub SaysPool : Pool → Option Data → Type 0
+SaysPool pool said = SaysText said (eids_text pool.first.value pool.size) ⊎ SaysNumber said pool.size
+
+-- a pool; none where nothing stands there
 abbrev pub IsPoolKept : Option Pool → Option Data → Type 0
 IsPoolKept pool said = ((said ≡ None) × (pool ≡ None))
-    ⊎ ((p : Pool) × (pool ≡ Some p) × (SaysText said (eids_text p.first.value p.size) ⊎ SaysNumber said p.size))
+    ⊎ ((p : Pool) × (pool ≡ Some p) × SaysPool p said)
 
 -- a port by its bus and its address
 abbrev pub IsPortKept : Plan → Port → Data → Type 0
@@ -49,9 +53,13 @@ IsPortKept plan port d = SaysText (Some d) (port_text plan port)
 abbrev pub IsAmongRows : Plan → List Row → Option Data → Type 0
 IsAmongRows plan rows said = (r : ℕ) × (row : Row) × (slice_get rows r ≡ Some row) × SaysText said (row_text plan row)
 
+-- nothing stands at the index of the list, or one of the rows
+abbrev pub IsRowKeptAt : Plan → List Row → Data → ℕ → Type 0
+IsRowKeptAt plan rows d i = (item_at (codes "rows") i d ≡ None) ⊎ IsAmongRows plan rows (item_at (codes "rows") i d)
+
 -- each row that stands in the list is one of these
 abbrev pub AreRowsKept : Plan → List Row → Data → Type 0
-AreRowsKept plan rows d = (i : ℕ) → (item_at (codes "rows") i d ≡ None) ⊎ IsAmongRows plan rows (item_at (codes "rows") i d)
+AreRowsKept plan rows d = (i : ℕ) → IsRowKeptAt plan rows d i
 
 -- the handle of the record that follows, 0 behind the last
 abbrev pub next_handle : List PlannedRecord → ℕ → ℕ

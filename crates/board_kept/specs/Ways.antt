@@ -15,11 +15,20 @@ SendsOn plan hops n = (hops ≡ 0) ⊎ IsBridge plan n
 -- so many hops over buses lead from a to b: neighbours share a bus, and each node between the two is a bridge
 abbrev pub ComesOver : Plan → ℕ → ℕ → ℕ → Type 0
 ComesOver plan a zero b = a ≡ b
-ComesOver plan a (suc hops) b = (n : ℕ) × ComesOver plan a hops n × SendsOn plan hops n × ShareBus plan n b
+ComesOver plan a (suc hops) b = (n : ℕ) × (n < length plan.nodes.items) × ComesOver plan a hops n
+    × SendsOn plan hops n × ShareBus plan n b
 
 -- no fewer hops over buses lead from a to b
 abbrev pub NoneFewer : Plan → ℕ → ℕ → ℕ → Type 0
 NoneFewer plan a b hops = (fewer : ℕ) → fewer < hops → ¬ ComesOver plan a fewer b
+
+-- the flags have m, which sends on what has come to it with so many hops, over a bus of n
+abbrev pub LeadsTo : Plan → List Bool → ℕ → ℕ → ℕ → Type 0
+LeadsTo plan flags hops m n = (slice_get flags m ≡ Some true) × SendsOn plan hops m × ShareBus plan m n
+
+-- some node does so
+abbrev pub IsNext : Plan → List Bool → ℕ → ℕ → Type 0
+IsNext plan flags hops n = (m : ℕ) × LeadsTo plan flags hops m n
 
 -- the flags have every node to which so many hops over buses lead from a
 abbrev pub HaveReached : Plan → ℕ → ℕ → List Bool → Type 0

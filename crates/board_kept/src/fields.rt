@@ -208,10 +208,20 @@ fn eid_text(alloc: Global, eid: Eid) -> Result<String, AllocError>
 fn holder(plan: &Plan, name: &str) -> Option<Eid>
     ensures { IfSome result (λ eid. NamesHolder plan.now name.now eid.value) }
 {
-    for node in &plan.nodes {
-        if node.name.text.as_str() == name {
-            return Some(node.eid);
+    for index in 0..plan.nodes.len() {
+        if let Some(eid) = eid_of_name(plan, index, name) {
+            return Some(eid);
         }
     }
     None
+}
+
+/// The endpoint ID of the node at an index, if it has the name.
+fn eid_of_name(plan: &Plan, index: usize, name: &str) -> Option<Eid>
+    ensures { IfSome result (λ eid. NamesHolder plan.now name.now eid.value) }
+{
+    match plan.nodes.get(index) {
+        Some(node) if node.name.text.as_str() == name => Some(node.eid),
+        _ => None,
+    }
 }

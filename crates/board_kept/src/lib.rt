@@ -11,6 +11,3 @@ mod ways;
 
 pub use kept::keeps;
 pub use said::board_of_text;
-
-#[test]
-fn nothing() {}

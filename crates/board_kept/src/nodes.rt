@@ -1,9 +1,9 @@
 //! Whether a plan keeps what a board says of a node.
-ghost use Rattle.std.specs.Prelude.{◌≡◌, ◌⊎◌, IfOk, IsTrue, codes, None, Some, option_map};
+ghost use Rattle.std.specs.Prelude.{IfOk, IsTrue, codes, Some};
 ghost use Rattle.toml.specs.Data.{get};
 ghost use Rattle.toml.specs.View.{view};
-ghost use Rattle.board_kept.specs.Said.{IsItemKept, AreItemsKept, item_at};
-ghost use Rattle.board_kept.specs.Kept.{IsKindKept, IsOwnerKept, IsPoolKept, IsPortKept, IsAmongRows, AreRowsKept, IsNodeKept};
+ghost use Rattle.board_kept.specs.Said.{IsItemKept, AreItemsKept};
+ghost use Rattle.board_kept.specs.Kept.{IsKindKept, IsOwnerKept, SaysPool, IsPoolKept, IsPortKept, IsAmongRows, IsRowKeptAt, AreRowsKept, IsNodeKept};
 
 use crate::records::keeps_terminus;
 use crate::said::{is_left_out, is_text, item, says_none_or, says_number, says_text};
@@ -28,7 +28,7 @@ pub fn keeps_node(
     Ok(keeps_pool(alloc, node.pool, said)?
         && keeps_ports(alloc, plan, &node.ports, said)?
         && keeps_rows(alloc, plan, &node.rows, said)?
-        && keeps_terminus(alloc, plan, node.terminus.as_ref(), said)?
+        && keeps_terminus(alloc, plan, node, said)?
         && head)
 }
 
@@ -62,7 +62,7 @@ fn keeps_pool(alloc: Global, pool: Option<Pool>, said: &Value) -> Result<bool, A
 }
 
 fn says_pool(alloc: Global, pool: Pool, said: &Value) -> Result<bool, AllocError>
-    ensures { IfOk result (λ answer. IsTrue answer → IsPoolKept (Some pool) (get (codes "pool") (view said.now))) }
+    ensures { IfOk result (λ answer. IsTrue answer → SaysPool pool (get (codes "pool") (view said.now))) }
 {
     let eids = eids_text(alloc, pool.first, pool.size)?;
     Ok(says_text(said, "pool", &eids) || says_number(said, "pool", u32::from(pool.size)))
@@ -96,7 +96,10 @@ fn keeps_port_at(
     match ports.get(index) {
         Some(port) => {
             let text = port_text(alloc, plan, port)?;
-            Ok(is_text(item(said, "ports", index), &text))
+            match item(said, "ports", index) {
+                Some(value) => Ok(is_text(value, &text)),
+                None => Ok(false),
+            }
         }
         None => Ok(true),
     }
@@ -124,12 +127,10 @@ fn keeps_row_at(
     said: &Value,
     index: usize,
 ) -> Result<bool, AllocError>
-    ensures { IfOk result (λ answer. IsTrue answer → ((item_at (codes "rows") index (view said.now) ≡ None)
-        ⊎ IsAmongRows plan.now rows.now (item_at (codes "rows") index (view said.now)))) }
+    ensures { IfOk result (λ answer. IsTrue answer → IsRowKeptAt plan.now rows.now (view said.now) index) }
 {
-    let given = item(said, "rows", index);
-    match given {
-        Some(_) => is_among_rows(alloc, plan, rows, given),
+    match item(said, "rows", index) {
+        Some(value) => is_among_rows(alloc, plan, rows, value),
         None => Ok(true),
     }
 }
@@ -139,14 +140,29 @@ pub fn is_among_rows(
     alloc: Global,
     plan: &Plan,
     rows: &[Row],
-    said: Option<&Value>,
+    said: &Value,
 ) -> Result<bool, AllocError>
-    ensures { IfOk result (λ answer. IsTrue answer → IsAmongRows plan.now rows.now (option_map (λ v. view v.now) said)) }
+    ensures { IfOk result (λ answer. IsTrue answer → IsAmongRows plan.now rows.now (Some (view said.now))) }
 {
-    for row in rows {
-        if is_text(said, &row_text(alloc, plan, row)?) {
+    for index in 0..rows.len() {
+        if is_row_at(alloc, plan, rows, said, index)? {
             return Ok(true);
         }
     }
     Ok(false)
+}
+
+fn is_row_at(
+    alloc: Global,
+    plan: &Plan,
+    rows: &[Row],
+    said: &Value,
+    index: usize,
+) -> Result<bool, AllocError>
+    ensures { IfOk result (λ answer. IsTrue answer → IsAmongRows plan.now rows.now (Some (view said.now))) }
+{
+    match rows.get(index) {
+        Some(row) => Ok(is_text(said, &row_text(alloc, plan, row)?)),
+        None => Ok(false),
+    }
 }

@@ -1,5 +1,5 @@
 //! Whether a plan keeps what a board says of a terminus.
-ghost use Rattle.std.specs.Prelude.{◌≡◌, ◌+◌, ◌<◌, IfOk, IsTrue, codes, Some, option_map, length};
+ghost use Rattle.std.specs.Prelude.{◌≡◌, ◌+◌, ◌<◌, IfOk, IsTrue, codes, length};
 ghost use Rattle.toml.specs.Data.{get};
 ghost use Rattle.toml.specs.View.{view};
 ghost use Rattle.board_kept.specs.Said.{SaysOr};
@@ -7,7 +7,7 @@ ghost use Rattle.board_kept.specs.Kept.{next_handle, AreBytesKept, IsRecordKept,
 
 use crate::fields::are_fields_given;
 use crate::said::{is_left_out, item, says_or, says_text};
-use net_plan::{Plan, PlannedRecord, PlannedTerminus};
+use net_plan::{Node, Plan, PlannedRecord, PlannedTerminus};
 use std::alloc::{AllocError, Global};
 use toml::Value;
 
@@ -15,12 +15,12 @@ use toml::Value;
 pub fn keeps_terminus(
     alloc: Global,
     plan: &Plan,
-    terminus: Option<&PlannedTerminus>,
+    node: &Node,
     said: &Value,
 ) -> Result<bool, AllocError>
-    ensures { IfOk result (λ answer. IsTrue answer → IsTerminusKept plan.now (option_map (λ t. t.now) terminus) (view said.now)) }
+    ensures { IfOk result (λ answer. IsTrue answer → IsTerminusKept plan.now node.now.terminus (view said.now)) }
 {
-    match terminus {
+    match &node.terminus {
         Some(terminus) => is_terminus_given(alloc, plan, terminus, said),
         None => Ok(is_left_out(said, "tid") && is_left_out(said, "record")),
     }
@@ -78,15 +78,15 @@ fn keeps_record(
     plan: &Plan,
     records: &[PlannedRecord],
     index: usize,
-    record: &PlannedRecord,
+    own: &PlannedRecord,
     given: &Value,
 ) -> Result<bool, AllocError>
     requires { index < length records.now }
-    ensures { IfOk result (λ answer. IsTrue answer → IsRecordKept plan.now records.now index record.now (view given.now)) }
+    ensures { IfOk result (λ answer. IsTrue answer → IsRecordKept plan.now records.now index own.now (view given.now)) }
 {
-    let handles = says_handle(given, record.handle, index)
-        && says_or(given, "next", record.next, next_handle(records, index));
-    Ok(are_bytes_kept(alloc, plan, &record.bytes, given)? && handles)
+    let handles = says_handle(given, own.handle, index)
+        && says_or(given, "next", own.next, next_handle(records, index));
+    Ok(are_bytes_kept(alloc, plan, &own.bytes, given)? && handles)
 }
 
 /// The most records of a terminus.

@@ -1,5 +1,5 @@
 //! What the values of a board say.
-ghost use Rattle.std.specs.Prelude.{◌≡◌, ◌↔◌, IfOk, IsTrue, None, option_map};
+ghost use Rattle.std.specs.Prelude.{◌≡◌, ◌↔◌, IfOk, IsTrue, Some, None, option_map};
 ghost use Rattle.toml.specs.Data.{get};
 ghost use Rattle.toml.specs.View.{view};
 ghost use Rattle.board_kept.specs.Said.{IsTomlOf, SaysText, SaysNumber, SaysOr, SaysNoneOr, item_at};
@@ -8,7 +8,6 @@ use std::alloc::Global;
 use toml::Value;
 
 /// The table of a TOML document, as a value.
-#[tactic(auto, using(toml::proofs::Views::view_Table))]
 pub fn board_of_text(alloc: Global, text: &str) -> Result<Value, toml::de::Error>
     ensures { IfOk result (λ board. IsTomlOf text.now (view board)) }
 {
@@ -35,28 +34,22 @@ pub fn item<'v>(value: &'v Value, key: &str, index: usize) -> Option<&'v Value>
     }
 }
 
-/// Whether the value, if there is one, is this text.
-pub fn is_text(value: Option<&Value>, text: &str) -> bool
-    ensures { IsTrue result ↔ SaysText (option_map (λ v. view v.now) value) text.now }
+/// Whether the value is this text.
+pub fn is_text(value: &Value, text: &str) -> bool
+    ensures { IsTrue result ↔ SaysText (Some (view value.now)) text.now }
 {
-    match value {
-        Some(value) => match value.as_str() {
-            Some(said) => said == text,
-            None => false,
-        },
+    match value.as_str() {
+        Some(said) => said == text,
         None => false,
     }
 }
 
-/// Whether the value, if there is one, is this number.
-fn is_number(value: Option<&Value>, number: u32) -> bool
-    ensures { IsTrue result ↔ SaysNumber (option_map (λ v. view v.now) value) number }
+/// Whether the value is this number.
+fn is_number(value: &Value, number: u32) -> bool
+    ensures { IsTrue result ↔ SaysNumber (Some (view value.now)) number }
 {
-    match value {
-        Some(value) => match value.as_integer() {
-            Some(said) => said == i64::from(number),
-            None => false,
-        },
+    match value.as_integer() {
+        Some(said) => said == i64::from(number),
         None => false,
     }
 }
@@ -65,14 +58,20 @@ fn is_number(value: Option<&Value>, number: u32) -> bool
 pub fn says_text(value: &Value, key: &str, text: &str) -> bool
     ensures { IsTrue result ↔ SaysText (get key.now (view value.now)) text.now }
 {
-    is_text(value.get(key), text)
+    match value.get(key) {
+        Some(value) => is_text(value, text),
+        None => false,
+    }
 }
 
 /// Whether this number stands at the key.
 pub fn says_number(value: &Value, key: &str, number: u32) -> bool
     ensures { IsTrue result ↔ SaysNumber (get key.now (view value.now)) number }
 {
-    is_number(value.get(key), number)
+    match value.get(key) {
+        Some(value) => is_number(value, number),
+        None => false,
+    }
 }
 
 /// Whether this number stands at the key, or nothing does and it is the default.

@@ -1,7 +1,7 @@
 //! Ways over buses and bridges, whatever the rows.
 ghost use Rattle.std.specs.Prelude.{◌≡◌, ◌≢◌, ◌+◌, ◌<◌, ◌≤◌, ℕ, IfOk, IsTrue, length, slice_get, Some, true};
 ghost use Rattle.net_tables.specs.Rows.{IsOnBus};
-ghost use Rattle.board_kept.specs.Ways.{ShareBus, SendsOn, HaveReached, NoneFewerToEach};
+ghost use Rattle.board_kept.specs.Ways.{ShareBus, SendsOn, IsNext, HaveReached, NoneFewerToEach};
 
 use net_plan::Plan;
 use net_tables::lookup::{is_bridge, is_on_bus};
@@ -80,7 +80,7 @@ fn next_reached(
 
 /// Whether a node that was reached with so many hops sends on over a bus of this one.
 fn is_next(plan: &Plan, reached: &[bool], hops: usize, node: usize) -> bool
-    ensures { (n : ℕ) → slice_get reached.now n ≡ Some true → SendsOn plan.now hops n → ShareBus plan.now n node → IsTrue result }
+    ensures { IsNext plan.now reached.now hops node → IsTrue result }
 {
     for before in 0..reached.len() {
         if reached[before] && sends_on(plan, hops, before) && share_bus(plan, before, node) {
