@@ -5,7 +5,7 @@ import textwrap
 
 TOP = os.path.dirname(os.path.dirname(os.path.dirname(os.path.realpath(__file__))))
 SOURCE = "docs/REFUSALS.md"
-TARGET = "crates/plan_texts/src/codes.rt"
+TARGET = "crates/program_texts/src/codes.rt"
 COMPLETIONS = ["completions/mctpplan.bash", "completions/_mctpplan"]
 OFFERED = re.compile(r"(?m)^(# tools/made writes these codes\n_mctpplan_codes=')[^']*'")
 WIDTH = 100

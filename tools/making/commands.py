@@ -1,6 +1,6 @@
 """What the program and its manual page say of the commands, of docs/COMMANDS.md, and the schemas that the program prints.
 
-crates/plan_texts/src/guides.rt has the list of the commands, a text for each, and the version, whose name is in CHANGELOG.md
+crates/program_texts/src/guides.rt has the list of the commands, a text for each, and the version, whose name is in CHANGELOG.md
 and whose kit in README.md; schemas.rt beside it has the files of docs/schema. The list stands in docs/GUIDE.md too, and in
 the completions. Of docs/mctpplan.1 what stands between two comments each is made: the synopsis and the commands.
 """
@@ -10,8 +10,8 @@ import textwrap
 
 TOP = pathlib.Path(__file__).resolve().parent.parent.parent
 SOURCE = "docs/COMMANDS.md"
-GUIDES = "crates/plan_texts/src/guides.rt"
-SCHEMAS = "crates/plan_texts/src/schemas.rt"
+GUIDES = "crates/program_texts/src/guides.rt"
+SCHEMAS = "crates/program_texts/src/schemas.rt"
 MANUAL = "docs/mctpplan.1"
 LIST = "docs/GUIDE.md"
 BASH, ZSH = "completions/mctpplan.bash", "completions/_mctpplan"

@@ -2,7 +2,8 @@
 use Rattle.std.specs.Prelude.{ℕ, ◌+◌, ◌&&◌, codes, List, [], ◌∷◌, length, Bool, true, nat_le, nat_lt, ⊤, Result, Ok}
 use Rattle.std.specs.List.{list_all}
 use Rattle.serde_json.specs.Data.{Data}
-use Rattle.net_plan.specs.CertificateValues.{LevelValue, PlacesValue, RangeValue, NodeRanksValue, CertificateValue, are_known}
+use Rattle.net_plan.specs.CertificateValues.{LevelValue, PlacesValue, RangeValue, NodeRanksValue}
+use Rattle.net_plan.specs.CertificateValues.{CertificateValue, are_known}
 use Rattle.net_json.specs.Json.{keyed, at_key, all_of, demand, reference, whole_number}
 use Rattle.net_json.specs.Keys.{certificate_keys, level_keys, places_keys, ranks_keys, range_keys}
 use Rattle.net_json.specs.Names.{index_among, names_differ, texts_at}

@@ -2,7 +2,8 @@
 use Rattle.std.specs.Prelude.{ℕ, ◌≢◌, ◌+◌, ◌≤◌, codes, List, AllPairs}
 use Rattle.serde_json.specs.Data.{Data}
 use Rattle.net_json.specs.Keys.{certificate_keys, level_keys, places_keys, ranks_keys, range_keys}
-use Rattle.net_plan.specs.CertificateValues.{LevelValue, PlacesValue, RangeValue, NodeRanksValue, CertificateValue, IsAscending}
+use Rattle.net_plan.specs.CertificateValues.{LevelValue, PlacesValue, RangeValue, NodeRanksValue}
+use Rattle.net_plan.specs.CertificateValues.{CertificateValue, IsAscending}
 use Rattle.net_json.specs.JsonWords.{HasKeys, At, IsListOf, IsNumber, IsNumberWithin, IsIndexOfName}
 use Rattle.net_json.specs.PlanText.{IsByte}
 use Rattle.net_plan.specs.PlanValues.{PlanValue, node_names}

@@ -17,7 +17,7 @@ use Rattle.plan_commands.specs.declared.commands.inputs.Unread.TheVariants.{NoMe
 use Rattle.plan_commands.specs.declared.refused.Input.{Input}
 use Rattle.plan_commands.specs.Answers.{Stream, Fails, GaveNothing}
 use Rattle.plan_commands.specs.UnreadTexts.{IsUnreadAs, IsUnreadBy, StandsForNothing, IsTextOfUnread, failed_line, long_line}
-use Rattle.plan_texts.specs.ReadingLines.{unread_line}
+use Rattle.reading_texts.specs.ReadingLines.{unread_line}
 use Rattle.plan_commands.specs.Statuses.{role_of}
 
 -- ---- a text that is refused stands for nothing

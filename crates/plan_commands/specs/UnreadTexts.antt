@@ -22,8 +22,8 @@ use Rattle.plan_commands.specs.declared.refused.Input.{Input}
 use Rattle.plan_commands.specs.declared.refused.Input.TheVariants as input
 use Rattle.plan_commands.specs.Answers.{Stream, Fails, GaveNothing}
 use Rattle.plan_commands.specs.Statuses.{role_of}
-use Rattle.plan_texts.specs.ReadingLines.{unread_line}
-use Rattle.plan_texts.specs.TroubleLines.{IsPlanTextTold, IsCertificateTextTold}
+use Rattle.reading_texts.specs.ReadingLines.{unread_line}
+use Rattle.reading_texts.specs.TroubleLines.{IsPlanTextTold, IsCertificateTextTold}
 
 -- the text is that of the plan
 abbrev pub IsTextOf : List ℕ → Plan → Type 0

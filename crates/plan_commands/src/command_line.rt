@@ -6,7 +6,7 @@ use crate::commands::walk::PartSize;
 use crate::commands::worded::WordQuestion;
 use crate::refused::Refused;
 use clap::{Arg, ArgAction, ArgMatches};
-use plan_texts::{GUIDE, VERSION, guide_to, schema_of, text_of};
+use program_texts::{GUIDE, VERSION, guide_to, schema_of, text_of};
 use std::alloc::{AllocError, Global};
 
 /// A command with its arguments. Files stand by their paths.

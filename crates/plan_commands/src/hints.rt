@@ -9,7 +9,7 @@ use crate::commands::walk::named_terminus;
 use net_json::{Sink, Source, read_plan, write_whole};
 use net_plan::Plan;
 use net_pointers::nearest_name;
-use plan_texts::{guide_to, text_of};
+use program_texts::{guide_to, text_of};
 use record_fields::made_record;
 use std::alloc::{AllocError, Global};
 

@@ -24,6 +24,6 @@ pub use commands::walk::PartSize;
 pub use commands::worded::{WordQuestion, run_worded};
 pub use files::FileAtPath;
 pub use hints::{hint_nodes, hint_words};
-pub use plan_texts::{GUIDE, VERSION};
+pub use program_texts::{GUIDE, VERSION};
 pub use refused::{Input, Refused};
 pub use status::Status;

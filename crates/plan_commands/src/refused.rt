@@ -6,7 +6,7 @@ ghost use Rattle.plan_commands.specs.Statuses.{refusal_text, IsReportedFor};
 use crate::status::Status;
 use clap::error::ErrorKind;
 use net_json::PlanError;
-use plan_texts::unread_line;
+use reading_texts::unread_line;
 use std::alloc::{AllocError, Global};
 use std::borrow::CowStr;
 use std::io;

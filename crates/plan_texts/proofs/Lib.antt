@@ -1,5 +1,3 @@
 pub mod Drawn
 pub mod Traced
-pub mod ToldTexts
 pub mod Chains
-pub mod DoubledTold

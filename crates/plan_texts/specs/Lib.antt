@@ -14,8 +14,5 @@ pub mod AssignmentLines
 pub mod OutcomeLines
 pub mod DrawingLines
 pub mod WalkLines
-pub mod ReadingLines
-pub mod Standing
-pub mod TroubleLines
 pub mod Shown
 pub mod EditLines

@@ -1,4 +1,4 @@
-//! Every text of an answer that a user of the program sees.
+//! The lines that answers about plans have, and why they are so.
 #![tactic(auto)]
 
 ghost use Rattle.std.specs.Prelude.{◌≡◌, Some, IfOk, string_bytes};
@@ -7,21 +7,17 @@ ghost use Rattle.plan_texts.specs.Lines.{name_or_dash, bus_name_or_dash, names_t
 mod assignments;
 mod causes;
 mod certificates;
-mod codes;
 mod drawings;
 mod edits;
 mod explanations;
 mod fault_lists;
 mod findings;
-mod guides;
 mod lookups;
 mod moves;
 mod outcomes;
 mod pairs;
 mod pieces;
 mod proposals;
-mod readings;
-mod schemas;
 mod shown;
 mod summaries;
 mod walks;
@@ -29,12 +25,10 @@ mod ways;
 
 pub use assignments::assignment_lines;
 pub use certificates::certificate_fault_lines;
-pub use codes::text_of;
 pub use drawings::drawing;
 pub use explanations::{cause_lines, obstacle_lines};
 pub use fault_lists::{counted_line, fault_lines};
 pub use findings::lint_lines;
-pub use guides::{GUIDE, VERSION, guide_to};
 use mctp_transport::Eid;
 pub use moves::move_error_line;
 use net_plan::Plan;
@@ -42,8 +36,6 @@ use net_rules::{CertifyError, ChainFault, Fault};
 pub use outcomes::outcome_line;
 pub use pairs::reach_lines;
 pub use proposals::edit_lines;
-pub use readings::{certificate_reading_lines, plan_reading_lines, unread_line};
-pub use schemas::schema_of;
 pub use shown::{packet_text, record_text, refused_text};
 use std::alloc::{AllocError, Global};
 use std::fmt;

@@ -12,7 +12,10 @@ ghost use Rattle.plan_commands.specs.Moving.{IsMoveGiven, IsMoveUnread};
 ghost use Rattle.plan_commands.specs.Simulating.{GaveEvents, AreEventsUnread};
 
 use crate::refused::{Input, Refused};
-use net_json::{PlanError, Source, TEXT_LIMIT, TextFault, certificate_of_text, plan_of_text, read_certificate, read_events, read_plan, read_within};
+use net_json::{
+    PlanError, Source, TEXT_LIMIT, TextFault, certificate_of_text, plan_of_text, read_certificate,
+    read_events, read_plan, read_within,
+};
 use net_plan::{Certificate, Event, Plan};
 use std::alloc::Global;
 

@@ -8,14 +8,14 @@ ghost use Rattle.plan_commands.specs.declared.status.Status.TheVariants.{Unreada
 ghost use Rattle.plan_commands.specs.Answers.{Stream};
 ghost use Rattle.plan_commands.specs.Statuses.{role_of};
 ghost use Rattle.plan_commands.specs.UnreadTexts.{IsNoPlanBy, IsNoCertificateBy, StandsForNothing, IsUnreadText, IsUnreadCertificateText};
-ghost use Rattle.plan_texts.specs.ReadingLines.{unread_line};
+ghost use Rattle.reading_texts.specs.ReadingLines.{unread_line};
 
 use crate::commands::answer::Answer;
 use crate::commands::inputs::Unread;
 use crate::refused::{Input, Refused};
 use net_json::PlanError;
 use net_plan::Plan;
-use plan_texts::{certificate_reading_lines, plan_reading_lines, unread_line};
+use reading_texts::{certificate_reading_lines, plan_reading_lines, unread_line};
 use std::alloc::{AllocError, Global};
 
 /// What is said of a file that can't be opened or read.

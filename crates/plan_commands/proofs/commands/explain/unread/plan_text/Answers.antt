@@ -4,7 +4,7 @@ use Rattle.net_json.specs.PlanText.{IsPlanOf}
 use Rattle.net_json.specs.Texts.{StandsFor}
 use Rattle.plan_commands.specs.declared.refused.Input.TheVariants as input
 use Rattle.plan_commands.specs.UnreadTexts.{StandsForNothing}
-use Rattle.plan_texts.specs.TroubleLines.{IsPlanTextTold}
+use Rattle.reading_texts.specs.TroubleLines.{IsPlanTextTold}
 use Rattle.plan_commands.proofs.UnreadTexts.{failed_told, long_told, text_told}
 use Rattle.plan_commands.proofs.commands.explain.unread.plan_text.Goals as goal
 

@@ -1,8 +1,0 @@
-use Rattle.plan_texts.proofs.ToldTexts.{item_given, tree_given}
-use Rattle.plan_texts.proofs.readings.values.item_of.Goals as goal
-
-pub returns-clause-data : goal.returns-clause-data
-returns-clause-data c = item_given c.args.items.now c.args.index c.get.result c.get.ensures.lookup
-
-pub returns-clause-tree : goal.returns-clause-tree
-returns-clause-tree c = tree_given c.args.items.now c.args.index c.get.result c.get.ensures.lookup

@@ -1,0 +1,326 @@
+-- The lines that tell what is wrong with a text, and where.
+use Rattle.std.specs.Prelude.{◌≡◌, ◌<◌, ◌≤◌, ◌+◌, ⊤, ℕ, zero, suc, not, codes, is_some, get_or}
+use Rattle.std.specs.Prelude.{List, [], ◌∷◌, ◌++◌, length, drop}
+use Rattle.std.specs.Prelude.{Option, Some, None, MatchOption, option_and_then}
+use Rattle.std.specs.Fmt.{decimal}
+use Rattle.std.specs.List.{find}
+use Rattle.json.specs.Json.{Json, object, Members, no_members, member}
+use Rattle.json.specs.Find as written
+use Rattle.json.specs.Lex.{tokens}
+use Rattle.json.specs.Strict.{keys}
+use Rattle.json.specs.Token.{Token}
+use Rattle.json.specs.Token as token
+use Rattle.serde_json.specs.Data.{Data}
+use Rattle.serde_json.specs.Data as tree
+use Rattle.serde_json.specs.Find.{get}
+use Rattle.net_json.specs.Finding.{Located, key, index, Step, names_of, located}
+use Rattle.net_json.specs.Grammar.{Grammar, plain, Fields, fields_of, keys_of, Known}
+use Rattle.net_json.specs.Json.{is_among, items_count}
+use Rattle.net_json.specs.Names.{text_found}
+use Rattle.net_json.specs.Trees.{data_of}
+use Rattle.net_json.specs.declared.error.ValueFault.{ValueFault}
+use Rattle.net_json.specs.declared.error.ValueFault.TheVariants as fault
+use Rattle.net_json.specs.declared.shape.Named.{Named}
+use Rattle.net_json.specs.declared.shape.Named.TheVariants.{Buses, Nodes}
+use Rattle.net_json.specs.declared.shape.Word.TheVariants as word
+use Rattle.net_pointers.specs.CertificateTroubles.{list_key, known_nodes}
+use Rattle.net_pointers.specs.Doubles.{part_at, part_after}
+use Rattle.net_pointers.specs.KnownNames.{known_in}
+use Rattle.net_pointers.specs.Nearest.{IsNearest}
+use Rattle.net_pointers.specs.Offsets.{LeadsTo, LeadsToKey}
+use Rattle.net_pointers.specs.Pointers.{value_at}
+use Rattle.net_pointers.specs.TextTroubles.{IsJsonOf, IsToldOfPlanText, IsToldOfCertificateText}
+use Rattle.net_pointers.specs.declared.certificates.CertificateTrouble.{CertificateTrouble}
+use Rattle.net_pointers.specs.declared.certificates.CertificateTrouble.TheVariants as of_certificate
+use Rattle.net_pointers.specs.declared.doubled.DoubledKey.{DoubledKey}
+use Rattle.net_pointers.specs.declared.doubled.TwoIndices.{TwoIndices}
+use Rattle.net_pointers.specs.declared.plans.PlanTrouble.{PlanTrouble}
+use Rattle.net_pointers.specs.declared.plans.PlanTrouble.TheVariants as of_plan
+use Rattle.net_pointers.specs.declared.ranges.Overlap.{Overlap}
+use Rattle.net_pointers.specs.declared.syntax.JsonFault.{JsonFault}
+use Rattle.net_pointers.specs.declared.syntax.JsonFault.TheVariants.{NotUtf8, Unreadable}
+use Rattle.net_pointers.specs.declared.syntax.Wanted.{Wanted}
+use Rattle.net_pointers.specs.declared.syntax.Wanted.TheVariants as wanted
+use Rattle.net_pointers.specs.declared.texts.TextTrouble.{TextTrouble}
+use Rattle.net_pointers.specs.declared.texts.TextTrouble.TheVariants.{TooLong, NotJson, Plan, Certificate}
+use Rattle.reading_texts.specs.ReadingLines.{position_text, pointer_text, joined, number_noun, shape_words}
+use Rattle.reading_texts.specs.Standing.{IsShown, shown_key}
+
+-- ---- no JSON
+
+-- the text is too long
+abbrev pub long_line : ℕ → List ℕ
+long_line count = codes "The text has " ++ (decimal count ++ codes " bytes; it may have 16777216.\n")
+
+-- what may stand where a text stops being JSON; none where it nests too deep
+abbrev pub wanted_words : Wanted → Option (List ℕ)
+wanted_words wanted.Value = Some (codes "a value")
+wanted_words wanted.ValueOrEnd = Some (codes "a value or ']'")
+wanted_words wanted.Key = Some (codes "a key in quotes")
+wanted_words wanted.KeyOrEnd = Some (codes "a key in quotes or '}'")
+wanted_words wanted.Colon = Some (codes "':'")
+wanted_words wanted.CommaOrEndOfList = Some (codes "',' or ']'")
+wanted_words wanted.CommaOrEndOfObject = Some (codes "',' or '}'")
+wanted_words wanted.End = Some (codes "the end of the text")
+wanted_words wanted.LessDepth = None
+
+-- the line of a text that is UTF-8 and no JSON, by what may stand there
+abbrev pub syntax_line : List ℕ → Option (List ℕ) → List ℕ
+syntax_line position (Some words) = position ++ (codes "there may stand " ++ (words ++ codes ", and nothing else.\n"))
+syntax_line position None = position ++ codes "lists and objects nest 128 deep there, and 127 is the most.\n"
+
+-- where the text stops being JSON, and what may stand there
+abbrev pub json_line : List ℕ → JsonFault → List ℕ
+json_line text (NotUtf8 offset) = position_text text (Some offset) ++ codes "there the text is no UTF-8.\n"
+json_line text (Unreadable offset w) = syntax_line (position_text text (Some offset)) (wanted_words w)
+
+-- ---- a value that is wrong in itself
+
+-- the part of a tree to which a step leads: of a key that stands twice, the last one
+abbrev pub tree_after : Step → Json → Option Json
+tree_after (key k) j = written.get k j
+tree_after (index i) j = written.at i j
+
+-- the part of a tree to which a pointer leads
+abbrev pub tree_at : List Step → Json → Option Json
+tree_at [] j = Some j
+tree_at (s ∷ ss) j = option_and_then (tree_at ss) (tree_after s j)
+
+-- what stands there, as it is shown
+abbrev pub IsStandingTold : List ℕ → List ℕ → Type 0
+IsStandingTold rest words = (shown : List ℕ) × IsShown rest shown × (words ≡ codes "is " ++ shown)
+
+-- the first of the keys that the object lacks
+abbrev pub lacked_key : Fields → Data → Option (List ℕ)
+lacked_key fs d = find (λ k. not (is_some (get k d))) (keys_of fs)
+
+abbrev pub lack_words : Option (List ℕ) → List ℕ
+lack_words (Some k) = codes "lacks the key " ++ k
+lack_words None = codes "lacks a key that belongs there"
+
+-- an object that has a key which doesn't belong there
+abbrev pub some_unknown_key : List ℕ
+some_unknown_key = codes "has a key that doesn't belong there"
+
+abbrev pub unknown_words : Option (List ℕ) → List ℕ
+unknown_words (Some k) = codes "has the key " ++ shown_key k
+unknown_words None = some_unknown_key
+
+-- the first key of an object, as it is written, that is none of those that may stand there
+abbrev pub first_unknown : Fields → Members → Option (List ℕ)
+first_unknown fs ms = find (λ k. not (is_among (keys_of fs) k)) (keys ms)
+
+abbrev pub unknown_key_words : Fields → Json → List ℕ
+unknown_key_words fs (object ms) = unknown_words (first_unknown fs ms)
+unknown_key_words fs _ = some_unknown_key
+
+-- how long a list is; of anything else what stands there
+abbrev pub IsLengthTold : Data → List ℕ → List ℕ → Type 0
+IsLengthTold (tree.array ds) rest words = words ≡ codes "is a list of " ++ (decimal (items_count ds) ++ codes " items")
+IsLengthTold _ rest words = IsStandingTold rest words
+
+-- what is wrong with a value: the key that it lacks or that doesn't belong there, its length, or what stands there
+abbrev pub IsWrongTold : Fields → ValueFault → Json → List ℕ → List ℕ → Type 0
+IsWrongTold fs fault.MissingKey j rest words = words ≡ lack_words (lacked_key fs (data_of j))
+IsWrongTold fs fault.UnknownKey j rest words = words ≡ unknown_key_words fs j
+IsWrongTold fs fault.OverLimit j rest words = IsLengthTold (data_of j) rest words
+IsWrongTold fs f j rest words = IsStandingTold rest words
+
+-- where the value is, what is wrong with it, and what may stand there
+abbrev pub value_line : List ℕ → ℕ → Located → List ℕ → List ℕ
+value_line text offset l words =
+    joined (position_text text (Some offset) ++ (pointer_text l.pointer ++ (codes " " ++ words)))
+    (shape_words (number_noun l.pointer) l.grammar)
+
+-- the line of a value, with what is wrong with it
+abbrev pub IsLineOf : List ℕ → Located → Json → ℕ → List ℕ → Type 0
+IsLineOf text l j offset line = (words : List ℕ) × IsWrongTold (fields_of l.grammar) l.fault j (drop offset text) words
+    × (line ≡ value_line text offset l words)
+
+-- The line tells of a value of the tree that has a fault: where it is, what is wrong with it, and what may stand there.
+-- The offset is that to which the pointer leads.
+pub record IsValueTold (text : List ℕ) (j : Json) (l : Located) (line : List ℕ) : Type 0 where
+  pub offset : ℕ
+  pub stands : Json
+  pub at : LeadsTo text l.pointer offset
+  pub tree : tree_at l.pointer j ≡ Some stands
+  pub leads : value_at l.pointer (data_of j) ≡ Some (data_of stands)
+  pub written : IsLineOf text l stands offset line
+
+-- ---- a name that nothing has
+
+-- whose name may stand there
+abbrev pub named_there : Grammar → Named
+named_there (plain (word.Named names)) = names
+named_there _ = Nodes
+
+-- what would have the name
+abbrev pub named_noun : Named → List ℕ
+named_noun Buses = codes "bus"
+named_noun Nodes = codes "node"
+
+-- the name that is nearest, where one is close
+abbrev pub nearest_line : List (List ℕ) → Option ℕ → List ℕ
+nearest_line names (Some i) = codes "The nearest name is " ++ (get_or names i [] ++ codes ".\n")
+nearest_line names None = codes "No name is close to it.\n"
+
+abbrev pub missing_words : List ℕ → List ℕ
+missing_words noun = codes "no " ++ (noun ++ codes " has that name")
+
+abbrev pub unknown_line : List ℕ → ℕ → List Step → List ℕ → List ℕ → List ℕ
+unknown_line text offset pointer name noun =
+    joined (position_text text (Some offset) ++ (pointer_text pointer ++ (codes " is " ++ name)))
+    (missing_words noun)
+
+-- The lines tell of a name in the data that is none of those that are known: where it stands, and the nearest of them,
+-- where one is close.
+pub record IsUnknownNameTold (text : List ℕ) (d : Data) (known : Known) (l : Located) (lines : List ℕ) : Type 0 where
+  pub offset : ℕ
+  pub nearest : Option ℕ
+  pub at : LeadsTo text l.pointer offset
+  pub is_nearest : IsNearest (names_of (named_there l.grammar) known) (text_found (value_at l.pointer d)) nearest
+  pub written : lines ≡ unknown_line text offset l.pointer (text_found (value_at l.pointer d))
+      (named_noun (named_there l.grammar)) ++ nearest_line (names_of (named_there l.grammar) known) nearest
+
+-- ---- what stands twice
+
+-- the offset is that to which the pointer leads; there is none where it leads to no value
+abbrev pub IsOffsetOf : List ℕ → Data → List Step → Option ℕ → Type 0
+IsOffsetOf text d pointer o = MatchOption o (value_at pointer d ≡ None) (LeadsTo text pointer)
+
+-- two lines, each with its line and column, where they are told
+abbrev pub two_lines : List ℕ → (first second : Option ℕ) → (one other : List ℕ) → List ℕ
+two_lines text first second one other =
+    position_text text first ++ (one ++ (position_text text second ++ other))
+
+-- to a value at a key of an item of the list at a key
+abbrev pub entry_pointer : List ℕ → ℕ → List ℕ → List Step
+entry_pointer list i k = key list ∷ (index i ∷ (key k ∷ []))
+
+-- the name that stands at the first of two items of a list
+abbrev pub doubled_name : Data → List ℕ → List ℕ → TwoIndices → List ℕ
+doubled_name d list k indices = text_found (value_at (entry_pointer list indices.first k) d)
+
+abbrev pub name_line : List Step → List ℕ → List ℕ
+name_line pointer name = pointer_text pointer ++ (codes " is " ++ (name ++ codes ".\n"))
+
+abbrev pub again_line : List Step → List ℕ → List ℕ → List ℕ
+again_line pointer name why =
+    pointer_text pointer ++ (codes " is " ++ (name ++ (codes " too.\n" ++ (why ++ codes ".\n"))))
+
+-- the lines tell of a name that stands at two items of a list, each with its pointer
+abbrev pub IsDoubledNameTold : List ℕ → Data → List ℕ → List ℕ → List ℕ → TwoIndices → List ℕ → Type 0
+IsDoubledNameTold text d list k why indices lines = let name = doubled_name d list k indices in
+    (first second : Option ℕ)
+    × IsOffsetOf text d (entry_pointer list indices.first k) first
+    × IsOffsetOf text d (entry_pointer list indices.second k) second
+    × (lines ≡ two_lines text first second (name_line (entry_pointer list indices.first k) name)
+    (again_line (entry_pointer list indices.second k) name why))
+
+abbrev pub one_bus : List ℕ
+one_bus = codes "No two buses have one name"
+
+abbrev pub one_entry : List ℕ
+one_entry = codes "A list names a node once"
+
+-- the key of the member at an index
+abbrev pub key_at : ℕ → Members → List ℕ
+key_at i no_members = []
+key_at zero (member k j ms) = k
+key_at (suc i) (member k j ms) = key_at i ms
+
+-- the step to a part of a tree by its index: the key of a member, or the index of an item
+abbrev pub part_step : ℕ → Json → List ℕ
+part_step i (object ms) = codes "/" ++ key_at i ms
+part_step i _ = codes "/" ++ decimal i
+
+-- the steps of a path of such indices, as those of a JSON pointer
+abbrev pub path_text : List ℕ → Option Json → List ℕ
+path_text [] j = []
+path_text (i ∷ is) None = []
+path_text (i ∷ is) (Some j) = part_step i j ++ path_text is (part_after i j)
+
+-- the object to which a path leads; the whole text is said in words
+abbrev pub object_text : List ℕ → Json → List ℕ
+object_text [] j = codes "the whole text"
+object_text (i ∷ is) j = path_text (i ∷ is) (Some j)
+
+abbrev pub keys_in : Option Json → List (List ℕ)
+keys_in (Some (object ms)) = keys ms
+keys_in _ = []
+
+-- the key that an object has twice
+abbrev pub key_of : Json → DoubledKey → List ℕ
+key_of j k = get_or (keys_in (part_at k.path.items j)) k.members.first []
+
+abbrev pub key_line : List ℕ → List ℕ → List ℕ
+key_line whole k = whole ++ (codes " has the key " ++ (k ++ codes ".\n"))
+
+abbrev pub key_again_line : List ℕ → List ℕ → List ℕ
+key_again_line whole k = whole ++ (codes " has the key " ++ (k ++ codes " again.\nAn object has a key once.\n"))
+
+-- the lines tell of a key that an object has twice, and where both stand
+abbrev pub IsDoubledKeyTold : List ℕ → Json → DoubledKey → List ℕ → Type 0
+IsDoubledKeyTold text j k lines = (first second : ℕ)
+    × LeadsToKey text k.path.items k.members.first first × LeadsToKey text k.path.items k.members.second second
+    × (lines ≡ two_lines text (Some first) (Some second) (key_line (object_text k.path.items j) (key_of j k))
+    (key_again_line (object_text k.path.items j) (key_of j k)))
+
+-- to a range of ranks
+abbrev pub range_pointer : ℕ → ℕ → List Step
+range_pointer entry range =
+    key (codes "ranks") ∷ (index entry ∷ (key (codes "ranges") ∷ (index range ∷ [])))
+
+abbrev pub range_line : List Step → List ℕ
+range_line pointer = pointer_text pointer ++ codes " is one range.\n"
+
+abbrev pub next_range_line : List Step → List ℕ
+next_range_line pointer =
+    pointer_text pointer ++ codes " is the next one, and begins before that one has ended.\n"
+
+-- the lines tell of two ranges of a node, of which the second begins before the first has ended, and where both stand
+abbrev pub IsOverlapTold : List ℕ → Overlap → List ℕ → Type 0
+IsOverlapTold text o lines = (first second : ℕ)
+    × LeadsTo text (range_pointer o.entry o.range) first × LeadsTo text (range_pointer o.entry (o.range + 1)) second
+    × (lines ≡ two_lines text (Some first) (Some second) (range_line (range_pointer o.entry o.range))
+    (next_range_line (range_pointer o.entry (o.range + 1))))
+
+-- ---- a text
+
+-- the lines tell of what is wrong with the plan that a tree is
+abbrev pub ArePlanLines : List ℕ → Json → PlanTrouble → List ℕ → Type 0
+ArePlanLines text j (of_plan.Value found) lines = IsValueTold text j (located found) lines
+ArePlanLines text j (of_plan.DoubledBus indices) lines =
+    IsDoubledNameTold text (data_of j) (codes "buses") (codes "name") one_bus indices lines
+ArePlanLines text j (of_plan.DoubledKey doubled) lines = IsDoubledKeyTold text j doubled lines
+ArePlanLines text j (of_plan.UnknownName found) lines =
+    IsUnknownNameTold text (data_of j) (known_in (data_of j)) (located found) lines
+
+-- the lines tell of what is wrong with the certificate that a tree is, among nodes of these names
+abbrev pub AreCertificateLines : List (List ℕ) → List ℕ → Json → CertificateTrouble → List ℕ → Type 0
+AreCertificateLines nodes text j (of_certificate.Value found) lines =
+    IsValueTold text j (located found) lines
+AreCertificateLines nodes text j (of_certificate.DoubledNode list indices) lines =
+    IsDoubledNameTold text (data_of j) (list_key list) (codes "node") one_entry indices lines
+AreCertificateLines nodes text j (of_certificate.Overlap overlap) lines = IsOverlapTold text overlap lines
+AreCertificateLines nodes text j (of_certificate.DoubledKey doubled) lines = IsDoubledKeyTold text j doubled lines
+AreCertificateLines nodes text j (of_certificate.UnknownName found) lines =
+    IsUnknownNameTold text (data_of j) (known_nodes nodes) (located found) lines
+
+-- the lines tell of what is wrong with a text
+abbrev pub AreTroubleLines : List (List ℕ) → List ℕ → TextTrouble → List ℕ → Type 0
+AreTroubleLines nodes text (TooLong count) lines = lines ≡ long_line count
+AreTroubleLines nodes text (NotJson fault) lines = lines ≡ json_line text fault
+AreTroubleLines nodes text (Plan trouble) lines = IsJsonOf text (λ j. ArePlanLines text j trouble lines)
+AreTroubleLines nodes text (Certificate trouble) lines =
+    IsJsonOf text (λ j. AreCertificateLines nodes text j trouble lines)
+
+-- the lines tell of what is wrong with the text of a plan
+abbrev pub IsPlanTextTold : List ℕ → List ℕ → Type 0
+IsPlanTextTold text lines = (trouble : TextTrouble) × IsToldOfPlanText text (Some trouble)
+    × AreTroubleLines [] text trouble lines
+
+-- the lines tell of what is wrong with the text of a certificate among nodes of these names
+abbrev pub IsCertificateTextTold : List (List ℕ) → List ℕ → List ℕ → Type 0
+IsCertificateTextTold nodes text lines = (trouble : TextTrouble) × IsToldOfCertificateText nodes text (Some trouble)
+    × AreTroubleLines nodes text trouble lines

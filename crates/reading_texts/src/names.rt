@@ -1,0 +1,116 @@
+//! A name that is that of nothing: where it stands, and the nearest name that exists.
+ghost use Rattle.std.specs.Prelude.{◌≡◌, ◌≤◌, [], true, is_some, length, map, get_or, IfOk, string_bytes};
+ghost use Rattle.net_json.specs.Finding.{located, names_of, step_value};
+ghost use Rattle.net_json.specs.Grammar.{grammar, known_view};
+ghost use Rattle.net_json.specs.Trees.{view};
+ghost use Rattle.json.specs.Value.{value_view};
+ghost use Rattle.net_pointers.specs.Offsets.{IsTextOf};
+ghost use Rattle.net_pointers.specs.Pointers.{value_at};
+ghost use Rattle.reading_texts.specs.TroubleLines.{IsUnknownNameTold, named_there, named_noun, nearest_line, missing_words, unknown_line};
+
+use crate::joined::joined;
+use crate::positions::{pointer_text, position_text};
+use crate::values::{offset_there, text_of, value_at};
+use json::Value;
+use net_json::{Found, KnownNames, Named, PointerStep, Shape, Word};
+use net_pointers::nearest_name;
+use std::alloc::{AllocError, Global};
+
+/// The lines of a name that is none of those that are known.
+pub fn unknown_name_lines(
+    alloc: Global,
+    text: &[u8],
+    value: &Value<'_>,
+    known: &KnownNames<'_>,
+    found: &Found,
+) -> Result<String, AllocError>
+    requires text { IsTextOf text.now (value_view value.now) }
+    requires leads { is_some (value_at (located found.now).pointer (view value.now)) ≡ true }
+    ensures { IfOk result (λ lines. IsUnknownNameTold text.now (view value.now) (known_view known.now) (located found.now) (string_bytes lines)) }
+{
+    let offset = offset_there(alloc, text, value, found.pointer.as_slice())?;
+    let name = text_of(value_at(value, found.pointer.as_slice()));
+    let named = named_there(found.shape);
+    let names = names_of(known, named);
+    let nearest = nearest_name(alloc, name, names)?;
+    let mut lines = unknown_line(alloc, text, offset, found.pointer.as_slice(), name, named)?;
+    lines.push_str(&nearest_line(alloc, names, nearest)?)?;
+    Ok(lines)
+}
+
+fn unknown_line(
+    alloc: Global,
+    text: &[u8],
+    offset: usize,
+    pointer: &[PointerStep],
+    name: &str,
+    named: Named,
+) -> Result<String, AllocError>
+    requires { offset ≤ length text.now }
+    ensures { IfOk result (λ line. string_bytes line ≡ unknown_line text.now offset (map step_value pointer.now) name.now (named_noun named)) }
+{
+    let position = position_text(alloc, text, Some(offset))?;
+    let pointer = pointer_text(alloc, pointer)?;
+    let stands = format!(in alloc; "{position}{pointer} is {name}")?;
+    let missing = missing_words(alloc, named_noun(named))?;
+    joined(alloc, &stands, &missing)
+}
+
+fn missing_words(alloc: Global, noun: &str) -> Result<String, AllocError>
+    ensures { IfOk result (λ words. string_bytes words ≡ missing_words noun.now) }
+{
+    format!(in alloc; "no {noun} has that name")
+}
+
+/// The line of the nearest name.
+fn nearest_line(alloc: Global, names: &[&str], nearest: Option<usize>) -> Result<String, AllocError>
+    ensures { IfOk result (λ line. string_bytes line ≡ nearest_line (map (λ name. name.now) names.now) nearest) }
+{
+    match nearest {
+        Some(index) => {
+            let name = name_at(names, index);
+            format!(in alloc; "The nearest name is {name}.\n")
+        }
+        None => "No name is close to it.\n".to_string(alloc),
+    }
+}
+
+/// The name at an index of a list; an empty one past its end.
+fn name_at<'n>(names: &[&'n str], index: usize) -> &'n str
+    ensures { result.now ≡ get_or (map (λ name. name.now) names.now) index [] }
+{
+    match names.get(index) {
+        Some(name) => name,
+        None => "",
+    }
+}
+
+/// Whose name may stand there.
+fn named_there(shape: &Shape) -> Named
+    ensures { result ≡ named_there (grammar shape.now) }
+{
+    match shape {
+        Shape::Plain(Word::Named(names)) => *names,
+        _ => Named::Nodes,
+    }
+}
+
+/// The names among which one is looked for.
+fn names_of<'k, 't>(known: &'k KnownNames<'t>, named: Named) -> &'k [&'t str]
+    ensures { map (λ name. name.now) result.now ≡ names_of named (known_view known.now) }
+{
+    match named {
+        Named::Buses => known.buses.as_slice(),
+        Named::Nodes => known.nodes.as_slice(),
+    }
+}
+
+/// What would have the name.
+fn named_noun(named: Named) -> &'static str
+    ensures { result.now ≡ named_noun named }
+{
+    match named {
+        Named::Buses => "bus",
+        Named::Nodes => "node",
+    }
+}

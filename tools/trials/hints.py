@@ -1,0 +1,59 @@
+"""What a person at a terminal is told behind the line of a refusal, and that nothing is added elsewhere.
+
+Each command runs twice: with a terminal for its standard error, where the hint has to follow the line, and with a pipe,
+where the line has to stand alone.
+"""
+import os
+import pty
+
+from runner import RISER, TOP
+
+PLAN, CERTIFICATE = RISER / "plan.json", RISER / "certificate.json"
+# The words, the line of the refusal, and the hint.
+HINTS = [
+    ([], "usage", ["mctpplan guide lists the commands"]),
+    (["chek"], "usage", ["there is no command chek; the nearest is check"]),
+    (["--help"], "usage", ["there is no command --help; mctpplan guide lists the commands"]),
+    (["check", PLAN], "usage", ["mctpplan check PLAN CERT", "mctpplan guide check tells more"]),
+    (["code", "C99"], "usage", ["mctpplan code CODE", "there is no code C99", "mctpplan guide code tells more"]),
+    (
+        ["walk", PLAN, CERTIFICATE, "nic", "0"],
+        "usage",
+        ["mctpplan walk PLAN CERT NODE COUNT", "COUNT is a number of 8 to 4079, and not 0", "mctpplan guide walk tells more"],
+    ),
+    (
+        ["schema", "plans"],
+        "usage",
+        ["mctpplan schema plan|certificate|events", "plans is none of plan, certificate and events", "mctpplan guide schema tells more"],
+    ),
+    (["trace", PLAN, CERTIFICATE, "host", "nics"], "unreadable node: J06", ["there is no node nics; the nearest is nic"]),
+    (["walk", PLAN, CERTIFICATE, "Host", "16"], "unreadable node: J06", ["there is no node Host; the nearest is host"]),
+    (["walk", PLAN, CERTIFICATE, "host", "16"], "unreadable node: J06", ["host has no terminus"]),
+    (["check", TOP / "README.md", CERTIFICATE], "unreadable plan: J01", []),
+]
+
+
+def said_at_a_terminal(trial, words):
+    """What the program writes on standard error where that is a terminal."""
+    ours, theirs = pty.openpty()
+    trial.run(words, stderr=theirs)
+    os.close(theirs)
+    said = b""
+    try:
+        while part := os.read(ours, 4096):
+            said += part
+    except OSError:
+        # (a terminal whose other end is closed has no end of file)
+        pass
+    os.close(ours)
+    return said.decode().replace("\r\n", "\n")
+
+
+def try_all(trial):
+    for words, line, hint in HINTS:
+        name = " ".join(str(it).removeprefix(f"{TOP}/") for it in words) or "no words"
+        if not trial.has(name):
+            continue
+        at_terminal, elsewhere = said_at_a_terminal(trial, words), trial.run(words)[2].decode()
+        trial.note(at_terminal == "".join(f"{it}\n" for it in [line, *hint]), f"{name}, at a terminal: {at_terminal!r}")
+        trial.note(elsewhere == f"{line}\n", f"{name}, elsewhere: {elsewhere!r}")
