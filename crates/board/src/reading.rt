@@ -169,7 +169,7 @@ fn read_node(given: &Given, names: Names) -> Result<BoardNode, BoardError> {
     check_node_keys(given)?;
     let name = read_name(given)?.to_string(given.alloc)?;
     let kind = read_kind(given)?;
-    let eid = given.byte("eid", "a number from 8 to 254")?;
+    let eid = read_eid(given)?;
     let owner = read_owner(given, names)?;
     let pool = read_pool(given)?;
     let ports = read_ports(given, names)?;
@@ -207,6 +207,13 @@ fn read_kind(given: &Given) -> Result<Option<Kind>, BoardError> {
         Some("bridge") => Ok(Some(Kind::Bridge)),
         Some("endpoint") => Ok(Some(Kind::Endpoint)),
         Some(_) => Err(given.fault("kind", None, wanted)),
+    }
+}
+
+fn read_eid(given: &Given) -> Result<Option<u8>, BoardError> {
+    match given.number("eid", 8, 254, "a number from 8 to 254")? {
+        Some(eid) => Ok(u8::try_from(eid).ok()),
+        None => Ok(None),
     }
 }
 

@@ -1,2 +1,3 @@
 pub mod Beyond
 pub mod Reaching
+pub mod Asking

@@ -1,11 +1,10 @@
 -- Records that a board gives by the names of their fields.
-use Rattle.std.specs.Prelude.{◌≡◌, ◌≢◌, ◌⊎◌, ℕ, ℤ, List, [], ◌∷◌, ◌++◌, codes, Some, slice_get, ⊤}
+use Rattle.std.specs.Prelude.{◌≡◌, ◌≢◌, ◌⊎◌, ℕ, ℤ, List, [], ◌∷◌, ◌++◌, codes, Some, slice_get, string_bytes, ⊤}
 use Rattle.std.specs.Fmt.{decimal, signed_decimal}
 use Rattle.toml.specs.Data.{Data, Items, Members, no_members, member, table, at, as_str, as_integer, as_array}
 use Rattle.net_plan.specs.declared.plan.Plan.{Plan}
 use Rattle.net_plan.specs.declared.nodes.Node.{Node}
 use Rattle.record_fields.specs.Said.{IsRecordOfWords}
-use Rattle.board_kept.specs.Texts.{node_name}
 
 -- the word that says what the field of the name holds
 abbrev pub word_of : List ℕ → List ℕ → List ℕ
@@ -14,7 +13,7 @@ word_of name text = name ++ (codes "=" ++ text)
 -- the text names a node that holds the endpoint ID
 abbrev pub NamesHolder : Plan → List ℕ → ℕ → Type 0
 NamesHolder plan name e = (n : ℕ) × (node : Node) × (slice_get plan.nodes.items n ≡ Some node)
-    × (node_name plan n ≡ Some name) × (node.eid.value ≡ e)
+    × (string_bytes node.name.text ≡ name) × (node.eid.value ≡ e)
 
 -- The value stands for this text at a field of the name: a number in decimal digits; a text itself, but at `eid` the
 -- endpoint ID of the node that it names.

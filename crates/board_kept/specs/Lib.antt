@@ -3,3 +3,4 @@ pub mod Texts
 pub mod Fields
 pub mod Kept
 pub mod Ways
+pub mod Made

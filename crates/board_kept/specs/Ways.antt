@@ -1,12 +1,17 @@
 -- Ways over buses and bridges, whatever the rows.
 use Rattle.std.specs.Prelude.{◌≡◌, ◌⊎◌, ℕ, zero, suc, ◌<◌, List, length, Bool, true, Some, slice_get}
 use Rattle.net_plan.specs.declared.plan.Plan.{Plan}
-use Rattle.net_tables.specs.Routing.{IsBridge}
+use Rattle.net_plan.specs.declared.nodes.Port.{Port}
+use Rattle.net_tables.specs.Routing.{IsBridge, ports_of}
 use Rattle.net_tables.specs.Rows.{IsOnBus}
 
--- both nodes have a port on one of the plan's buses
+-- m's port p is on a bus of n
+abbrev pub IsPortOnBusOf : Plan → ℕ → ℕ → ℕ → Type 0
+IsPortOnBusOf plan m p n = (port : Port) × (slice_get (ports_of plan m) p ≡ Some port) × IsOnBus plan n port.bus
+
+-- m has a port on a bus of n
 abbrev pub ShareBus : Plan → ℕ → ℕ → Type 0
-ShareBus plan m n = (bus : ℕ) × (bus < length plan.buses.items) × IsOnBus plan m bus × IsOnBus plan n bus
+ShareBus plan m n = (p : ℕ) × IsPortOnBusOf plan m p n
 
 -- the node sends on what has come to it with so many hops: its own, or it is a bridge
 abbrev pub SendsOn : Plan → ℕ → ℕ → Type 0

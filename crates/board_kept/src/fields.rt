@@ -7,7 +7,7 @@ ghost use Rattle.board_kept.specs.Kept.{AreBytesKept};
 ghost use Rattle.record_fields.specs.Said.{IsRecordOfWords};
 
 use mctp_transport::Eid;
-use net_plan::Plan;
+use net_plan::{Node, Plan};
 use record_fields::is_record_of;
 use std::alloc::{AllocError, Global};
 use toml::{Table, Value};
@@ -221,7 +221,18 @@ fn eid_of_name(plan: &Plan, index: usize, name: &str) -> Option<Eid>
     ensures { IfSome result (λ eid. NamesHolder plan.now name.now eid.value) }
 {
     match plan.nodes.get(index) {
-        Some(node) if node.name.text.as_str() == name => Some(node.eid),
-        _ => None,
+        Some(node) => eid_if_named(node, name),
+        None => None,
+    }
+}
+
+/// The endpoint ID of a node, if it has the name.
+fn eid_if_named(node: &Node, name: &str) -> Option<Eid>
+    ensures { IfSome result (λ eid. (string_bytes node.now.name.text ≡ name.now) × (eid ≡ node.now.eid)) }
+{
+    if node.name.text.as_str() == name {
+        Some(node.eid)
+    } else {
+        None
     }
 }

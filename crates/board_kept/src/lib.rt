@@ -1,7 +1,9 @@
 //! Whether a plan keeps what a board says, and whether its nodes reach each other as the board asks.
 #![tactic(auto)]
 
+mod asked;
 mod fields;
+mod fit;
 mod kept;
 mod nodes;
 mod records;
@@ -9,5 +11,6 @@ mod said;
 mod texts;
 mod ways;
 
+pub use fit::{Unfit, judge};
 pub use kept::keeps;
 pub use said::board_of_text;

@@ -56,7 +56,7 @@ fn keeps_pool(alloc: Global, pool: Option<Pool>, said: &Value) -> Result<bool, A
     ensures { IfOk result (λ answer. IsTrue answer → IsPoolKept pool (get (codes "pool") (view said.now))) }
 {
     match pool {
-        Some(pool) => says_pool(alloc, pool, said),
+        Some(pool) => Ok(says_pool(alloc, pool, said)?),
         None => Ok(is_left_out(said, "pool")),
     }
 }

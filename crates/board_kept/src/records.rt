@@ -21,7 +21,7 @@ pub fn keeps_terminus(
     ensures { IfOk result (λ answer. IsTrue answer → IsTerminusKept plan.now node.now.terminus (view said.now)) }
 {
     match &node.terminus {
-        Some(terminus) => is_terminus_given(alloc, plan, terminus, said),
+        Some(terminus) => Ok(is_terminus_given(alloc, plan, terminus, said)?),
         None => Ok(is_left_out(said, "tid") && is_left_out(said, "record")),
     }
 }

@@ -1,10 +1,9 @@
 //! Ways over buses and bridges, whatever the rows.
 ghost use Rattle.std.specs.Prelude.{◌≡◌, ◌≢◌, ◌+◌, ◌<◌, ◌≤◌, ℕ, IfOk, IsTrue, length, slice_get, Some, true};
-ghost use Rattle.net_tables.specs.Rows.{IsOnBus};
-ghost use Rattle.board_kept.specs.Ways.{ShareBus, SendsOn, IsNext, HaveReached, NoneFewerToEach};
+ghost use Rattle.board_kept.specs.Ways.{IsPortOnBusOf, ShareBus, SendsOn, IsNext, HaveReached, NoneFewerToEach};
 
 use net_plan::Plan;
-use net_tables::lookup::{is_bridge, is_on_bus};
+use net_tables::lookup::{is_bridge, is_on_bus, port_at, ports_at};
 use std::alloc::{AllocError, Global};
 
 /// Whether no fewer hops over buses lead from a node to each node than are said of it.
@@ -97,14 +96,23 @@ fn sends_on(plan: &Plan, hops: usize, node: usize) -> bool
     hops == 0 || is_bridge(plan, node)
 }
 
-/// Whether both nodes have a port on one of the plan's buses.
+/// Whether a node has a port on a bus of another.
 fn share_bus(plan: &Plan, one: usize, other: usize) -> bool
     ensures { ShareBus plan.now one other → IsTrue result }
 {
-    for bus in 0..plan.buses.len() {
-        if is_on_bus(plan, one, bus) && is_on_bus(plan, other, bus) {
+    for port in 0..ports_at(plan, one).len() {
+        if is_port_on_bus_of(plan, one, port, other) {
             return true;
         }
     }
     false
+}
+
+fn is_port_on_bus_of(plan: &Plan, one: usize, port: usize, other: usize) -> bool
+    ensures { IsPortOnBusOf plan.now one port other → IsTrue result }
+{
+    match port_at(plan, one, port) {
+        Some(port) => is_on_bus(plan, other, port.bus),
+        None => false,
+    }
 }

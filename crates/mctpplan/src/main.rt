@@ -7,7 +7,7 @@ use net_json::Counted;
 use plan_commands::{
     FileAtPath, PlanQuestion, Question, Refused, ShownKind, Status, Subcommand, WordQuestion,
     hint_nodes, hint_words, parse_command, refuse, run_certified, run_explain,
-    run_explain_certified, run_known, run_move, run_planned, run_show, run_worded, simulate,
+    run_explain_certified, run_known, run_make, run_move, run_planned, run_show, run_worded, simulate,
     simulate_move,
 };
 use std::env;
@@ -55,6 +55,7 @@ fn run_command<'a>(rt: &'a HostRuntime, command: Subcommand<'a>) -> Status {
             plan,
             certificate: None,
         } => explain(rt, plan),
+        Subcommand::Make { board } => make(rt, board),
         Subcommand::Sim {
             plan,
             certificate,
@@ -117,6 +118,14 @@ fn planned<'a>(rt: &'a HostRuntime, question: PlanQuestion, plan: &'a str) -> St
     let mut output = Counted::new(rt.stdout());
     let mut errors = Counted::new(rt.stderr());
     run_planned(rt.alloc(), question, &mut plan, &mut output, &mut errors)
+}
+
+/// Makes a plan of a board.
+fn make<'a>(rt: &'a HostRuntime, board: &'a str) -> Status {
+    let mut board = file(rt, board);
+    let mut output = Counted::new(rt.stdout());
+    let mut errors = Counted::new(rt.stderr());
+    run_make(rt.alloc(), &mut board, &mut output, &mut errors)
 }
 
 /// Plays events in the network of a plan.

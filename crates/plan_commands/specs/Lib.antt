@@ -21,3 +21,4 @@ pub mod Certified
 pub mod Simulating
 pub mod Moving
 pub mod MoveSimulating
+pub mod Making

@@ -28,6 +28,10 @@ pub enum Subcommand<'a> {
         plan: &'a str,
         certificate: Option<&'a str>,
     },
+    /// Which plan is made of the board in a file?
+    Make {
+        board: &'a str,
+    },
     /// What comes of the events in a file?
     Sim {
         plan: &'a str,
@@ -93,7 +97,8 @@ fn worded(list: &[String]) -> Option<Subcommand<'_>> {
 }
 
 /// The name of each command, the names of its arguments, and those of the arguments that may be left out.
-const COMMANDS: [(&str, &[&str], &[&str]); 18] = [
+const COMMANDS: [(&str, &[&str], &[&str]); 19] = [
+    ("make", &["board"], &[]),
     ("check", &["plan", "certificate"], &[]),
     ("certify", &["plan"], &[]),
     ("assign", &["plan", "certificate"], &[]),
@@ -153,6 +158,7 @@ fn with_arguments<'a>(
 fn chosen<'a>(matches: &ArgMatches<'a>) -> Option<Subcommand<'a>> {
     let (name, arguments) = matches.subcommand()?;
     match name {
+        "make" => making(arguments),
         "check" => certified(arguments, Question::Check),
         "certify" => planned(arguments, PlanQuestion::Certify),
         "assign" => certified(arguments, Question::Assign),
@@ -187,6 +193,12 @@ fn planned<'a>(arguments: &ArgMatches<'a>, question: PlanQuestion) -> Option<Sub
     Some(Subcommand::Planned {
         question,
         plan: arguments.get_str("plan")?,
+    })
+}
+
+fn making<'a>(arguments: &ArgMatches<'a>) -> Option<Subcommand<'a>> {
+    Some(Subcommand::Make {
+        board: arguments.get_str("board")?,
     })
 }
 

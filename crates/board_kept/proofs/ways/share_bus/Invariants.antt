@@ -1,6 +1,6 @@
 use Rattle.std.proofs.Common.{ℕ, ◌<◌}
-use Rattle.net_tables.specs.Rows.{IsOnBus}
+use Rattle.board_kept.specs.Ways.{IsPortOnBusOf}
 use Rattle.board_kept.proofs.ways.share_bus.Given as goal
 
-abbrev pub invariant-loop-bus : goal.invariant-loop-bus
-invariant-loop-bus l = (bus : ℕ) → bus < l.bus → ¬ (IsOnBus l.plan l.one bus × IsOnBus l.plan l.other bus)
+abbrev pub invariant-loop-port : goal.invariant-loop-port
+invariant-loop-port l = (p : ℕ) → p < l.port → ¬ IsPortOnBusOf l.plan l.one p l.other
