@@ -77,6 +77,8 @@ def wanted_of(row, words):
     status = next((int(it.split()[1]) for it in row.wanted if it.startswith("status ")), 2 if errors else 0)
     # (`explain` is asked why a text doesn't read, and answers on standard output)
     errors = [] if words[0] == "explain" else errors
+    # (`make` says there why a board doesn't)
+    errors = [] if words[0] == "make" else errors
     lines = [it for it in row.wanted if it not in errors and not it.startswith("status ")]
     return "".join(f"{it}\n" for it in lines), "".join(f"{it}\n" for it in errors), status
 

@@ -17,11 +17,19 @@ use std::alloc::{AllocError, AllocFailed, Global};
 #[derive(Clone, Copy, Debug, PartialEq, Eq)]
 pub enum NoPlan {
     /// The node is owned by itself, or round a circle.
-    OwnerLoop { node: usize },
+    OwnerLoop {
+        node: usize,
+    },
     /// The node's owner has no pool.
-    NoPool { node: usize, owner: usize },
+    NoPool {
+        node: usize,
+        owner: usize,
+    },
     /// No endpoint ID of the owner's pool is left for the node; where nobody owns it, none of 8 to 254.
-    NoEid { node: usize, owner: Option<usize> },
+    NoEid {
+        node: usize,
+        owner: Option<usize>,
+    },
     /// No run of so many endpoint IDs of the owner's pool is left for the node's pool.
     NoRun {
         node: usize,
@@ -29,11 +37,19 @@ pub enum NoPlan {
         owner: Option<usize>,
     },
     /// No way over buses and bridges leads from the one node to the other.
-    NoWay { from: usize, to: usize },
+    NoWay {
+        from: usize,
+        to: usize,
+    },
     /// The node would have more than 256 rows.
-    TooManyRows { node: usize },
+    TooManyRows {
+        node: usize,
+    },
     /// The record of the node names no field of its type, or gives what the field can't hold.
-    WrongRecord { node: usize, record: usize },
+    WrongRecord {
+        node: usize,
+        record: usize,
+    },
     /// There is too little memory.
     OutOfMemory,
 }

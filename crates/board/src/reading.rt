@@ -13,8 +13,11 @@ use toml::{Table, Value};
 const MOST: usize = 64;
 
 const A_NAME: &str = "a name of 1 to 32 letters, digits, '-', '_' or '.'";
+
 const A_NODE: &str = "the name of a node";
+
 const NODES: &str = "a list of at most 64 tables, each under [[node]],";
+
 const BUSES: &str = "a list of at most 64 tables, each under [[bus]],";
 
 /// The board that a text stands for, whose table this is.
@@ -263,7 +266,11 @@ fn text_in<'v>(
 
 fn read_ports(given: &Given, names: Names) -> Result<Vec<BoardPort>, BoardError> {
     let mut ports = Vec::new(given.alloc);
-    for (index, value) in given.list("ports", 32, "a list of at most 32 ports")?.iter().enumerate() {
+    for (index, value) in given
+        .list("ports", 32, "a list of at most 32 ports")?
+        .iter()
+        .enumerate()
+    {
         ports.push(read_one_port(given, names, index, value)?)?;
     }
     Ok(ports)
@@ -291,7 +298,11 @@ fn read_reaches(given: &Given, names: Names) -> Result<Option<Vec<usize>>, Board
         return Ok(None);
     }
     let mut nodes = Vec::new(given.alloc);
-    for (index, value) in given.list("reaches", MOST, "a list of names")?.iter().enumerate() {
+    for (index, value) in given
+        .list("reaches", MOST, "a list of names")?
+        .iter()
+        .enumerate()
+    {
         nodes.push(read_one_node(given, names, index, value)?)?;
     }
     Ok(Some(nodes))
@@ -312,7 +323,11 @@ fn read_one_node(
 
 fn read_rows(given: &Given, names: Names) -> Result<Vec<BoardRow>, BoardError> {
     let mut rows = Vec::new(given.alloc);
-    for (index, value) in given.list("rows", 256, "a list of at most 256 rows")?.iter().enumerate() {
+    for (index, value) in given
+        .list("rows", 256, "a list of at most 256 rows")?
+        .iter()
+        .enumerate()
+    {
         rows.push(read_one_row(given, names, index, value)?)?;
     }
     Ok(rows)

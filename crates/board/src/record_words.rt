@@ -15,14 +15,20 @@ const MOST_RECORDS: usize = 4096;
 const MOST_VALUES: usize = 256;
 
 const RECORDS: &str = "a list of at most 4096 tables, each under [[node.record]],";
+
 const A_TYPE: &str =
     "\"terminus-locator\", \"numeric-sensor\", \"state-sensor\" or \"entity-association\"";
+
 const A_FIELD: &str = "a number, a text or a list of these";
 
 /// The records of a node.
 pub fn read_records(given: &Given, names: Names) -> Result<Vec<BoardRecord>, BoardError> {
     let mut records = Vec::new(given.alloc);
-    for (index, value) in given.list("record", MOST_RECORDS, RECORDS)?.iter().enumerate() {
+    for (index, value) in given
+        .list("record", MOST_RECORDS, RECORDS)?
+        .iter()
+        .enumerate()
+    {
         records.push(read_record_at(given, names, index, value)?)?;
     }
     Ok(records)

@@ -26,7 +26,11 @@ pub fn plan_text(
         add_rows(&mut text, alloc, board, list_at(rows, index))?;
         add_terminus(&mut text, alloc, node, list_at(records, index))?;
     }
-    text.push_str(if board.nodes.is_empty() { "]\n}\n" } else { "\n  ]\n}\n" })?;
+    text.push_str(if board.nodes.is_empty() {
+        "]\n}\n"
+    } else {
+        "\n  ]\n}\n"
+    })?;
     Ok(text)
 }
 
@@ -50,14 +54,20 @@ fn add_buses(text: &mut String, alloc: Global, board: &Board) -> Result<(), Allo
         text.push_str(if index == 0 { "\n" } else { ",\n" })?;
         add_bus(text, alloc, bus)?;
     }
-    text.push_str(if board.buses.is_empty() { "],\n" } else { "\n  ],\n" })
+    text.push_str(if board.buses.is_empty() {
+        "],\n"
+    } else {
+        "\n  ],\n"
+    })
 }
 
 fn add_bus(text: &mut String, alloc: Global, bus: &BoardBus) -> Result<(), AllocError> {
     let name = bus.name.as_str();
     let binding = bus.binding;
     let media = bus.media;
-    text.push_str(&format!(in alloc; "    {{ \"name\": \"{name}\", \"binding\": {binding}, \"media\": {media} }}")?)
+    text.push_str(&format!(in alloc;
+        "    {{ \"name\": \"{name}\", \"binding\": {binding}, \"media\": {media} }}"
+    )?)
 }
 
 fn name_of(board: &Board, node: usize) -> &str {
@@ -84,7 +94,9 @@ fn add_identity(
         Kind::Endpoint => "endpoint",
     };
     let eid = own.eid;
-    let line = format!(in alloc; "    {{\n      \"name\": \"{name}\", \"kind\": \"{kind}\", \"eid\": {eid}, \"owner\": ")?;
+    let line = format!(in alloc;
+        "    {{\n      \"name\": \"{name}\", \"kind\": \"{kind}\", \"eid\": {eid}, \"owner\": "
+    )?;
     text.push_str(&line)?;
     add_owner(text, alloc, board, index)?;
     add_pool(text, alloc, own.pool)
@@ -114,7 +126,9 @@ fn add_pool(text: &mut String, alloc: Global, pool: Option<MadePool>) -> Result<
         Some(pool) => {
             let first = pool.first;
             let size = pool.size;
-            text.push_str(&format!(in alloc; "      \"pool\": {{ \"first\": {first}, \"size\": {size} }},\n")?)
+            text.push_str(&format!(in alloc;
+                "      \"pool\": {{ \"first\": {first}, \"size\": {size} }},\n"
+            )?)
         }
         None => text.push_str("      \"pool\": null,\n"),
     }
@@ -134,7 +148,9 @@ fn add_ports(
             None => "",
         };
         let address = port.address.as_str();
-        let line = format!(in alloc; "{comma}{{ \"bus\": \"{bus}\", \"address\": \"{address}\" }}")?;
+        let line = format!(in alloc;
+            "{comma}{{ \"bus\": \"{bus}\", \"address\": \"{address}\" }}"
+        )?;
         text.push_str(&line)?;
     }
     text.push_str("],\n")
@@ -151,14 +167,20 @@ fn add_rows(
         text.push_str(if index == 0 { "\n" } else { ",\n" })?;
         add_row(text, alloc, name_of(board, row.next), *row)?;
     }
-    text.push_str(if rows.is_empty() { "],\n" } else { "\n      ],\n" })
+    text.push_str(if rows.is_empty() {
+        "],\n"
+    } else {
+        "\n      ],\n"
+    })
 }
 
 fn add_row(text: &mut String, alloc: Global, next: &str, row: BoardRow) -> Result<(), AllocError> {
     let first = row.first;
     let size = row.size;
     let port = row.port;
-    let line = format!(in alloc; "        {{ \"first\": {first}, \"size\": {size}, \"port\": {port}, \"next\": \"{next}\" }}")?;
+    let line = format!(in alloc;
+        "        {{ \"first\": {first}, \"size\": {size}, \"port\": {port}, \"next\": \"{next}\" }}"
+    )?;
     text.push_str(&line)
 }
 
@@ -173,19 +195,27 @@ fn add_terminus(
         return text.push_str("      \"terminus\": null\n    }");
     }
     let tid = node.tid.unwrap_or(0);
-    let head = format!(in alloc; "      \"terminus\": {{\n        \"tid\": {tid},\n        \"records\": [")?;
+    let head = format!(in alloc;
+        "      \"terminus\": {{\n        \"tid\": {tid},\n        \"records\": ["
+    )?;
     text.push_str(&head)?;
     for (index, record) in records.iter().enumerate() {
         text.push_str(if index == 0 { "\n" } else { ",\n" })?;
         add_record(text, alloc, record)?;
     }
-    text.push_str(if records.is_empty() { "]\n      }\n    }" } else { "\n        ]\n      }\n    }" })
+    text.push_str(if records.is_empty() {
+        "]\n      }\n    }"
+    } else {
+        "\n        ]\n      }\n    }"
+    })
 }
 
 fn add_record(text: &mut String, alloc: Global, record: &MadeRecord) -> Result<(), AllocError> {
     let handle = record.handle;
     let next = record.next;
     let bytes = record.hex.as_str();
-    let line = format!(in alloc; "          {{ \"handle\": {handle}, \"next\": {next}, \"bytes\": \"{bytes}\" }}")?;
+    let line = format!(in alloc;
+        "          {{ \"handle\": {handle}, \"next\": {next}, \"bytes\": \"{bytes}\" }}"
+    )?;
     text.push_str(&line)
 }

@@ -21,7 +21,8 @@ abbrev pub StandsForText : Plan → List ℕ → Data → List ℕ → Type 0
 StandsForText plan name d text =
     ((z : ℤ) × (as_integer d ≡ Some z) × (text ≡ signed_decimal z))
     ⊎ ((name ≢ codes "eid") × (as_str d ≡ Some text))
-    ⊎ ((name ≡ codes "eid") × (said : List ℕ) × (as_str d ≡ Some said) × (e : ℕ) × NamesHolder plan said e × (text ≡ decimal e))
+    ⊎ ((name ≡ codes "eid") × (said : List ℕ) × (as_str d ≡ Some said) × (e : ℕ) × NamesHolder plan said e
+    × (text ≡ decimal e))
 
 -- the bytes are a record's of the type, which has a field of the name that holds what the value stands for
 abbrev pub IsFieldValue : Plan → List ℕ → List ℕ → List ℕ → Data → Type 0

@@ -1,5 +1,5 @@
 -- Which plans keep all that a board gives.
-use Rattle.std.specs.Prelude.{◌≡◌, ◌≢◌, ◌⊎◌, ℕ, suc, ◌+◌, ◌<◌, List, codes, length, Option, Some, None, option_map, unwrap_or}
+use Rattle.std.specs.Prelude.{◌≡◌, ◌⊎◌, ℕ, ◌+◌, List, codes, length, Option, Some, None, option_map, unwrap_or}
 use Rattle.std.specs.Prelude.{slice_get, string_bytes}
 use Rattle.hex.specs.Hex.{encode_lower}
 use Rattle.toml.specs.Data.{Data, get}
@@ -70,9 +70,10 @@ abbrev pub AreBytesKept : Plan → List ℕ → Data → Type 0
 AreBytesKept plan bytes d = SaysText (get (codes "hex") d) (encode_lower bytes)
     ⊎ ((type : List ℕ) × SaysText (get (codes "type") d) type × AreFieldsGiven plan type bytes d)
 
--- A record, and its place in the list: handles that are left out count from 1, and next handles that are left out follow
--- the list.
-pub record IsRecordKept (plan : Plan) (records : List PlannedRecord) (j : ℕ) (r : PlannedRecord) (d : Data) : Type 0 where
+-- A record, and its place in the list: handles that are left out count from 1, and next handles that are left out
+-- follow the list.
+pub record IsRecordKept (plan : Plan) (records : List PlannedRecord) (j : ℕ) (r : PlannedRecord) (d : Data)
+    : Type 0 where
   pub handle : SaysOr (j + 1) (get (codes "handle") d) r.handle
   pub next : SaysOr (next_handle records j) (get (codes "next") d) r.next
   pub bytes : AreBytesKept plan r.bytes.items d

@@ -34,7 +34,8 @@ ListsRow d plan row = (i : ℕ) × SaysText (item_at (codes "rows") i d) (row_te
 
 -- node n has a row that covers e and stands in the list of what stands of it
 abbrev pub GivesRowAt : Data → Plan → ℕ → ℕ → Type 0
-GivesRowAt d plan n e = (r : ℕ) × (row : Row) × (slice_get (rows_of plan n) r ≡ Some row) × Covers row e × ListsRow d plan row
+GivesRowAt d plan n e =
+    (r : ℕ) × (row : Row) × (slice_get (rows_of plan n) r ≡ Some row) × Covers row e × ListsRow d plan row
 
 -- some node has a row for e that the board gives
 abbrev pub GivesRow : Data → Plan → ℕ → Type 0
@@ -44,7 +45,7 @@ GivesRow board plan e = (n : ℕ) × (d : Data) × (item_at (codes "node") n boa
 abbrev pub GivesRowTo : Data → Plan → ℕ → Type 0
 GivesRowTo board plan b = (e : ℕ) × Holds plan b e × GivesRow board plan e
 
--- Packets that are put in at a reach b, after so many hops, or by a way on which the board may have put a row of its own.
+-- packets that are put in at a reach b, after so many hops, or the board gives a row for the endpoint ID of b
 abbrev pub ReachesAfter : Data → Plan → ℕ → ℕ → ℕ → Type 0
 ReachesAfter board plan a b moves =
     ComesTo plan a b moves ⊎ ((more : ℕ) × ComesTo plan a b more × GivesRowTo board plan b)
@@ -56,7 +57,8 @@ HaveGiven board plan flags = (b : ℕ) → slice_get flags b ≡ Some true → G
 -- a list has such hops from a for each of the first nodes, as many as are said
 pub record AreHopsAsked (board : Data) (plan : Plan) (a count : ℕ) (hops : List ℕ) : Type 0 where
   pub counted : length hops ≡ count
-  pub reached : (b moves : ℕ) → slice_get hops b ≡ Some moves → AsksFor board plan a b → ReachesAfter board plan a b moves
+  pub reached : (b moves : ℕ) → slice_get hops b ≡ Some moves
+      → AsksFor board plan a b → ReachesAfter board plan a b moves
 
 -- Packets that are put in at a reach b. Where the board gives no row for b's endpoint ID, they do so after as few hops
 -- as the buses and bridges allow.
@@ -66,10 +68,11 @@ ReachesWell board plan a b =
 
 -- so it is of all of the plan's nodes for which the board asks at a
 abbrev pub ReachesAllAsked : Data → Plan → ℕ → Type 0
-ReachesAllAsked board plan a = (b : ℕ) → b < length plan.nodes.items → AsksFor board plan a b → ReachesWell board plan a b
+ReachesAllAsked board plan a =
+    (b : ℕ) → b < length plan.nodes.items → AsksFor board plan a b → ReachesWell board plan a b
 
--- Every rule holds of the plan and the certificate, all that the board gives is in the plan, and every node reaches those
--- for which the board asks.
+-- Every rule holds of the plan and the certificate, all that the board gives is in the plan, and every node reaches
+-- those for which the board asks.
 pub record IsFitFor (board : Data) (plan : Plan) (certificate : Certificate) : Type 0 where
   pub accepted : Accepts plan certificate
   pub keeps : Keeps board plan

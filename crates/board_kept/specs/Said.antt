@@ -27,7 +27,7 @@ SaysNoneOr said n = (said ≡ None) ⊎ SaysNumber said n
 abbrev pub item_at : List ℕ → ℕ → Data → Option Data
 item_at key i d = option_and_then (at i) (get key d)
 
--- what stands at the index of the list at the key has the property with the item of that index, if there is such an item
+-- where there is an item of the index, what stands at the index of the list at the key has the property with it
 abbrev pub IsItemKept : {A : Type 0} → (A → Data → Type 0) → List A → List ℕ → Data → ℕ → Type 0
 IsItemKept {A} P items key d i =
     (item : A) → slice_get items i ≡ Some item → (e : Data) × (item_at key i d ≡ Some e) × P item e

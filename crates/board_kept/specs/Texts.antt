@@ -1,6 +1,6 @@
 -- How a board writes what stands in a plan.
-use Rattle.std.specs.Prelude.{ℕ, ◌+◌, ◌-◌, nat_eq, if◌then◌else◌, List, [], ◌∷◌, ◌++◌, codes, length, Option, Some, None}
-use Rattle.std.specs.Prelude.{option_map, unwrap_or, slice_get, string_bytes}
+use Rattle.std.specs.Prelude.{ℕ, ◌+◌, ◌-◌, nat_eq, if◌then◌else◌, List, [], ◌++◌, codes, length, Option, Some}
+use Rattle.std.specs.Prelude.{None, option_map, unwrap_or, slice_get, string_bytes}
 use Rattle.std.specs.Fmt.{decimal}
 use Rattle.hex.specs.Hex.{encode_lower}
 use Rattle.net_plan.specs.declared.plan.Plan.{Plan}

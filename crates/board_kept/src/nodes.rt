@@ -13,23 +13,20 @@ use std::alloc::{AllocError, Global};
 use toml::Value;
 
 /// Whether what is said of a node is so of it.
-pub fn keeps_node(
-    alloc: Global,
-    plan: &Plan,
-    node: &Node,
-    said: &Value,
-) -> Result<bool, AllocError>
+pub fn keeps_node(alloc: Global, plan: &Plan, node: &Node, said: &Value) -> Result<bool, AllocError>
     ensures { IfOk result (λ answer. IsTrue answer → IsNodeKept plan.now node.now (view said.now)) }
 {
     let head = says_text(said, "name", node.name.text.as_str())
         && keeps_kind(node.kind, said)
         && says_none_or(said, "eid", u32::from(node.eid.value))
         && keeps_owner(plan, node.owner, said);
-    Ok(keeps_pool(alloc, node.pool, said)?
-        && keeps_ports(alloc, plan, &node.ports, said)?
-        && keeps_rows(alloc, plan, &node.rows, said)?
-        && keeps_terminus(alloc, plan, node, said)?
-        && head)
+    Ok(
+        keeps_pool(alloc, node.pool, said)?
+            && keeps_ports(alloc, plan, &node.ports, said)?
+            && keeps_rows(alloc, plan, &node.rows, said)?
+            && keeps_terminus(alloc, plan, node, said)?
+            && head,
+    )
 }
 
 fn keeps_kind(kind: Kind, said: &Value) -> bool
@@ -68,12 +65,7 @@ fn says_pool(alloc: Global, pool: Pool, said: &Value) -> Result<bool, AllocError
     Ok(says_text(said, "pool", &eids) || says_number(said, "pool", u32::from(pool.size)))
 }
 
-fn keeps_ports(
-    alloc: Global,
-    plan: &Plan,
-    ports: &[Port],
-    said: &Value,
-) -> Result<bool, AllocError>
+fn keeps_ports(alloc: Global, plan: &Plan, ports: &[Port], said: &Value) -> Result<bool, AllocError>
     ensures { IfOk result (λ answer. IsTrue answer → AreItemsKept (IsPortKept plan.now) ports.now (codes "ports") (view said.now)) }
 {
     for index in 0..ports.len() {

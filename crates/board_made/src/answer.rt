@@ -28,9 +28,9 @@ pub fn answer_board(alloc: Global, text: &[u8]) -> Result<BoardAnswer, AllocErro
 {
     match std::str::from_utf8(text) {
         Ok(text) => answer_text(alloc, text),
-        Err(_) => Ok(BoardAnswer::Unread(
-            "unreadable board: the text is not UTF-8\n".to_string(alloc)?,
-        )),
+        Err(_) => Ok(BoardAnswer::Unread("unreadable board: the text is not UTF-8\n".to_string(
+            alloc,
+        )?)),
     }
 }
 
@@ -74,13 +74,13 @@ fn answer_value(alloc: Global, text: &str, board: &Value) -> Result<BoardAnswer,
 {
     match read_value(alloc, text, board) {
         Ok(given) => Ok(answer_given(alloc, text, board, &given)?),
-        Err(BoardError::Unread {
-            line,
-            column,
-            reason,
-        }) => Ok(BoardAnswer::Unread(unread_line(
-            alloc, line, column, &reason,
-        )?)),
+        Err(
+            BoardError::Unread {
+                line,
+                column,
+                reason,
+            },
+        ) => Ok(BoardAnswer::Unread(unread_line(alloc, line, column, &reason)?)),
         Err(BoardError::OutOfMemory) => Err(AllocError),
     }
 }

@@ -11,7 +11,7 @@ ghost use Rattle.board_made.specs.Made.{IsAnswerFor};
 use crate::answer::BoardAnswer;
 use crate::reasons::{obstacle_reason, unfit_line};
 use board_kept::judge;
-use net_check::{CheckError, check, certify};
+use net_check::{CheckError, certify, check};
 use net_json::{PlanError, plan_of_text};
 use net_plan::{Certificate, Plan};
 use std::alloc::{AllocError, Global};
@@ -29,9 +29,9 @@ pub fn judged(
     match plan_of_text(alloc, made.as_str().as_bytes()) {
         Ok(plan) => Ok(judged_plan(alloc, text, board, made, &plan)?),
         Err(PlanError::OutOfMemory) => Err(AllocError),
-        Err(_) => Ok(BoardAnswer::NoPlan(
-            "no plan: what was made reads as no plan\n".to_string(alloc)?,
-        )),
+        Err(_) => Ok(BoardAnswer::NoPlan("no plan: what was made reads as no plan\n".to_string(
+            alloc,
+        )?)),
     }
 }
 
@@ -47,9 +47,7 @@ fn judged_plan(
 {
     match certify(alloc, plan) {
         Ok(certificate) => Ok(judged_with(alloc, text, board, made, plan, &certificate)?),
-        Err(obstacle) => Ok(BoardAnswer::NoPlan(obstacle_reason(
-            alloc, text, plan, &obstacle,
-        )?)),
+        Err(obstacle) => Ok(BoardAnswer::NoPlan(obstacle_reason(alloc, text, plan, &obstacle)?)),
     }
 }
 
@@ -85,9 +83,9 @@ fn why_unfit(
             Ok(()) => Ok(None),
             Err(unfit) => Ok(Some(unfit_line(alloc, text, plan, unfit)?)),
         },
-        Err(CheckError::Fault(_)) => Ok(Some(
-            "no plan: its certificate breaks a rule\n".to_string(alloc)?,
-        )),
+        Err(CheckError::Fault(_)) => Ok(Some("no plan: its certificate breaks a rule\n".to_string(
+            alloc,
+        )?)),
         Err(CheckError::OutOfMemory) => Err(AllocError),
     }
 }

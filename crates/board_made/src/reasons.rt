@@ -19,12 +19,7 @@ pub fn unread_line(
 }
 
 /// A node by its name and the line of its table.
-fn node_text(
-    alloc: Global,
-    text: &str,
-    name: &str,
-    node: usize,
-) -> Result<String, AllocError> {
+fn node_text(alloc: Global, text: &str, name: &str, node: usize) -> Result<String, AllocError> {
     let line = line_of_node(text, node);
     format!(in alloc; "node \"{name}\" (line {line})")
 }
@@ -41,12 +36,7 @@ fn node_of_board(
     }
 }
 
-fn node_of_plan(
-    alloc: Global,
-    text: &str,
-    plan: &Plan,
-    node: usize,
-) -> Result<String, AllocError> {
+fn node_of_plan(alloc: Global, text: &str, plan: &Plan, node: usize) -> Result<String, AllocError> {
     match plan.nodes.get(node) {
         Some(own) => node_text(alloc, text, own.name.text.as_str(), node),
         None => node_text(alloc, text, "", node),
@@ -68,7 +58,9 @@ pub fn no_plan_line(
         NoPlan::NoPool { node, owner } => {
             let node = node_of_board(alloc, text, board, node)?;
             let owner = node_of_board(alloc, text, board, owner)?;
-            format!(in alloc; "no plan: {node} has no endpoint ID, and its owner, {owner}, no pool to take one from\n")
+            format!(in alloc;
+                "no plan: {node} has no endpoint ID, and its owner, {owner}, no pool to take one from\n"
+            )
         }
         NoPlan::NoEid { node, owner } => {
             let node = node_of_board(alloc, text, board, node)?;
@@ -78,7 +70,9 @@ pub fn no_plan_line(
         NoPlan::NoRun { node, size, owner } => {
             let node = node_of_board(alloc, text, board, node)?;
             let whose = pool_text(alloc, text, board, owner)?;
-            format!(in alloc; "no plan: no {size} endpoint IDs of {whose}, one after another, are left for the pool of {node}\n")
+            format!(in alloc;
+                "no plan: no {size} endpoint IDs of {whose}, one after another, are left for the pool of {node}\n"
+            )
         }
         _ => other_line(alloc, text, board, why),
     }
@@ -100,17 +94,14 @@ fn pool_text(
     }
 }
 
-fn other_line(
-    alloc: Global,
-    text: &str,
-    board: &Board,
-    why: NoPlan,
-) -> Result<String, AllocError> {
+fn other_line(alloc: Global, text: &str, board: &Board, why: NoPlan) -> Result<String, AllocError> {
     match why {
         NoPlan::NoWay { from, to } => {
             let from = node_of_board(alloc, text, board, from)?;
             let to = node_of_board(alloc, text, board, to)?;
-            format!(in alloc; "no plan: no way over buses, bridges and given rows leads from {from} to {to}\n")
+            format!(in alloc;
+                "no plan: no way over buses, bridges and given rows leads from {from} to {to}\n"
+            )
         }
         NoPlan::TooManyRows { node } => {
             let node = node_of_board(alloc, text, board, node)?;
@@ -118,7 +109,9 @@ fn other_line(
         }
         NoPlan::WrongRecord { node, record } => {
             let node = node_of_board(alloc, text, board, node)?;
-            format!(in alloc; "no plan: record {record} of {node} gives a field that its type doesn't have, or what the field can't hold\n")
+            format!(in alloc;
+                "no plan: record {record} of {node} gives a field that its type doesn't have, or what the field can't hold\n"
+            )
         }
         _ => Err(AllocError),
     }
@@ -175,7 +168,9 @@ pub fn unfit_line(
         }
         Unfit::Longer { from } => {
             let from = node_of_plan(alloc, text, plan, from)?;
-            format!(in alloc; "no plan: packets of {from} would go a longer way than the buses and bridges allow\n")
+            format!(in alloc;
+                "no plan: packets of {from} would go a longer way than the buses and bridges allow\n"
+            )
         }
         Unfit::OutOfMemory => Err(AllocError),
     }

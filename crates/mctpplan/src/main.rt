@@ -7,8 +7,8 @@ use net_json::Counted;
 use plan_commands::{
     FileAtPath, PlanQuestion, Question, Refused, ShownKind, Status, Subcommand, WordQuestion,
     hint_nodes, hint_words, parse_command, refuse, run_certified, run_explain,
-    run_explain_certified, run_known, run_make, run_move, run_planned, run_show, run_worded, simulate,
-    simulate_move,
+    run_explain_certified, run_known, run_make, run_move, run_planned, run_show, run_worded,
+    simulate, simulate_move,
 };
 use std::env;
 use std::io::IsTerminal;

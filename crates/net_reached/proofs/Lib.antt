@@ -1,3 +1,1 @@
-pub mod Missed
 pub mod Arriving
-pub mod Saying

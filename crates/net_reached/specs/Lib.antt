@@ -1,4 +1,1 @@
-pub mod Lines
 pub mod Wishes
-pub mod Reading
-pub mod Matrices

@@ -6,6 +6,7 @@ use std::alloc::Global;
 
 /// The first endpoint ID that can be assigned, and the last.
 pub const FIRST: u8 = 8;
+
 pub const LAST: u8 = 254;
 
 /// What is known of a node so far.
@@ -123,11 +124,7 @@ fn free_eid(board: &Board, known: &[Known], index: usize) -> Result<u8, NoPlan> 
 }
 
 /// The endpoint IDs that an owner gives to a node, from the first to the last.
-pub fn owned_range(
-    known: &[Known],
-    node: usize,
-    owner: Option<usize>,
-) -> Result<(u8, u8), NoPlan> {
+pub fn owned_range(known: &[Known], node: usize, owner: Option<usize>) -> Result<(u8, u8), NoPlan> {
     let Some(owner) = owner else {
         return Ok((FIRST, LAST));
     };

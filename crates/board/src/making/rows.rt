@@ -69,7 +69,10 @@ struct Ways {
 }
 
 fn target_of(board: &Board, chosen: &[Chosen], eid: u8) -> Option<Target> {
-    let is_given = board.nodes.iter().any(|node| given_row(node, eid).is_some());
+    let is_given = board
+        .nodes
+        .iter()
+        .any(|node| given_row(node, eid).is_some());
     if let Some(node) = holder_of(chosen, eid) {
         return Some(Target {
             eid,
