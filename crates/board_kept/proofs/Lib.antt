@@ -1,3 +1,4 @@
 pub mod Beyond
+pub mod More
 pub mod Reaching
 pub mod Asking

@@ -51,8 +51,8 @@ ReachesAfter board plan a b moves =
     ComesTo plan a b moves ⊎ ((more : ℕ) × ComesTo plan a b more × GivesRowTo board plan b)
 
 -- the flags have only nodes for whose endpoint ID the board gives a row
-abbrev pub HaveGiven : Data → Plan → List Bool → Type 0
-HaveGiven board plan flags = (b : ℕ) → slice_get flags b ≡ Some true → GivesRowTo board plan b
+pub record HaveGiven (board : Data) (plan : Plan) (flags : List Bool) : Type 0 where
+  pub given : (b : ℕ) → slice_get flags b ≡ Some true → GivesRowTo board plan b
 
 -- a list has such hops from a for each of the first nodes, as many as are said
 pub record AreHopsAsked (board : Data) (plan : Plan) (a count : ℕ) (hops : List ℕ) : Type 0 where
@@ -67,13 +67,16 @@ ReachesWell board plan a b =
     (moves : ℕ) × ComesTo plan a b moves × (NoneFewer plan a b moves ⊎ GivesRowTo board plan b)
 
 -- so it is of all of the plan's nodes for which the board asks at a
-abbrev pub ReachesAllAsked : Data → Plan → ℕ → Type 0
-ReachesAllAsked board plan a =
-    (b : ℕ) → b < length plan.nodes.items → AsksFor board plan a b → ReachesWell board plan a b
+pub record ReachesAllAsked (board : Data) (plan : Plan) (a : ℕ) : Type 0 where
+  pub each : (b : ℕ) → b < length plan.nodes.items → AsksFor board plan a b → ReachesWell board plan a b
+
+-- so it is of every node
+pub record AllReachAsked (board : Data) (plan : Plan) : Type 0 where
+  pub each : (a : ℕ) → a < length plan.nodes.items → ReachesAllAsked board plan a
 
 -- Every rule holds of the plan and the certificate, all that the board gives is in the plan, and every node reaches
 -- those for which the board asks.
 pub record IsFitFor (board : Data) (plan : Plan) (certificate : Certificate) : Type 0 where
   pub accepted : Accepts plan certificate
   pub keeps : Keeps board plan
-  pub reaches : (a : ℕ) → a < length plan.nodes.items → ReachesAllAsked board plan a
+  pub reaches : AllReachAsked board plan

@@ -33,7 +33,7 @@ LeadsTo plan flags hops m n = (slice_get flags m ≡ Some true) × SendsOn plan 
 
 -- some node does so
 abbrev pub IsNext : Plan → List Bool → ℕ → ℕ → Type 0
-IsNext plan flags hops n = (m : ℕ) × LeadsTo plan flags hops m n
+IsNext plan flags hops n = (m : ℕ) × (m < length plan.nodes.items) × LeadsTo plan flags hops m n
 
 -- the flags have every node to which so many hops over buses lead from a
 abbrev pub HaveReached : Plan → ℕ → ℕ → List Bool → Type 0
@@ -41,6 +41,5 @@ HaveReached plan a hops flags =
     (n : ℕ) → n < length plan.nodes.items → ComesOver plan a hops n → slice_get flags n ≡ Some true
 
 -- no fewer hops lead from a to each node than are said of it
-abbrev pub NoneFewerToEach : Plan → ℕ → List ℕ → Type 0
-NoneFewerToEach plan a hops =
-    (b said : ℕ) → b < length plan.nodes.items → slice_get hops b ≡ Some said → NoneFewer plan a b said
+pub record NoneFewerToEach (plan : Plan) (a : ℕ) (hops : List ℕ) : Type 0 where
+  pub none : (b said : ℕ) → b < length plan.nodes.items → slice_get hops b ≡ Some said → NoneFewer plan a b said

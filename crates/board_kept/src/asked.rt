@@ -42,12 +42,13 @@ const MOST_NAMES: usize = 64;
 fn lists_name(said: &Value, name: &str) -> bool
     ensures { ListsName (view said.now) name.now → IsTrue result }
 {
+    let are_more = item(said, "reaches", MOST_NAMES).is_some();
     for index in 0..MOST_NAMES {
         if is_name_at(said, name, index) {
             return true;
         }
     }
-    item(said, "reaches", MOST_NAMES).is_some()
+    are_more
 }
 
 fn is_name_at(said: &Value, name: &str, index: usize) -> bool

@@ -1,7 +1,8 @@
 //! Whether a checked plan is fit for a board.
-ghost use Rattle.std.specs.Prelude.{◌≡◌, ◌⊎◌, IfOk, OnOk, length, slice_get, Some, true};
+ghost use Rattle.std.specs.Prelude.{◌≡◌, ◌⊎◌, IfOk, IsTrue, OnOk, length, slice_get, Some, true};
 ghost use Rattle.toml.specs.View.{view};
-ghost use Rattle.board_kept.specs.Made.{AsksFor, HaveGiven, ReachesAfter, ReachesAllAsked, IsFitFor, AreHopsAsked};
+ghost use Rattle.board_kept.specs.Ways.{NoneFewerToEach};
+ghost use Rattle.board_kept.specs.Made.{AsksFor, HaveGiven, ReachesAfter, ReachesAllAsked, AllReachAsked, IsFitFor, AreHopsAsked};
 
 use crate::asked::{asks_for, gives_row_to};
 use crate::kept::keeps;
@@ -47,10 +48,7 @@ pub fn judge(alloc: Global, board: &Value, checked: &Checked) -> Result<(), Unfi
         return Err(Unfit::NotKept);
     }
     let given = rows_given(alloc, board, plan)?;
-    for from in 0..plan.nodes.len() {
-        judge_from(alloc, board, checked, &given, from)?;
-    }
-    Ok(())
+    judge_all(alloc, board, checked, &given)
 }
 
 /// For which nodes' endpoint IDs the board gives a row.
@@ -64,8 +62,18 @@ fn rows_given(alloc: Global, board: &Value, plan: &Plan) -> Result<Vec<bool>, Al
     Ok(flags)
 }
 
+/// That every node reaches those for which the board asks.
+fn judge_all(alloc: Global, board: &Value, checked: &Checked, given: &[bool]) -> Result<(), Unfit>
+    requires { HaveGiven (view board.now) checked.now.0 given.now }
+    ensures { OnOk result (AllReachAsked (view board.now) checked.now.0) }
+{
+    for from in 0..checked.plan().nodes.len() {
+        judge_from(alloc, board, checked, given, from)?;
+    }
+    Ok(())
+}
+
 /// That a node reaches those for which the board asks.
-#[tactic(auto, using(crate::proofs::Asking::all_reached))]
 fn judge_from(
     alloc: Global,
     board: &Value,
@@ -77,10 +85,22 @@ fn judge_from(
     ensures { OnOk result (ReachesAllAsked (view board.now) checked.now.0 from) }
 {
     let hops = hops_asked(alloc, board, checked, given, from)?;
-    if !none_fewer(alloc, checked.plan(), from, &hops)? {
-        return Err(Unfit::Longer { from });
+    if are_fewest(alloc, checked, from, &hops)? {
+        return Ok(());
     }
-    Ok(())
+    Err(Unfit::Longer { from })
+}
+
+/// Whether no fewer hops over buses lead from a node to each node than are said of it.
+fn are_fewest(
+    alloc: Global,
+    checked: &Checked,
+    from: usize,
+    hops: &[usize],
+) -> Result<bool, AllocError>
+    ensures { IfOk result (λ answer. IsTrue answer → NoneFewerToEach checked.now.0 from hops.now) }
+{
+    none_fewer(alloc, checked.plan(), from, hops)
 }
 
 /// For each node the number of hops from one, which is to be the least; 0 where that isn't asked.
@@ -101,7 +121,6 @@ fn hops_asked(
     Ok(hops)
 }
 
-#[tactic(auto, using(crate::proofs::Asking::judged_reached))]
 fn hops_to(
     alloc: Global,
     board: &Value,

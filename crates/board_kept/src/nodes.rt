@@ -122,7 +122,7 @@ fn keeps_row_at(
     ensures { IfOk result (λ answer. IsTrue answer → IsRowKeptAt plan.now rows.now (view said.now) index) }
 {
     match item(said, "rows", index) {
-        Some(value) => is_among_rows(alloc, plan, rows, value),
+        Some(value) => Ok(is_among_rows(alloc, plan, rows, value)?),
         None => Ok(true),
     }
 }

@@ -1,6 +1,6 @@
 //! Ways over buses and bridges, whatever the rows.
 ghost use Rattle.std.specs.Prelude.{◌≡◌, ◌≢◌, ◌+◌, ◌<◌, ◌≤◌, ℕ, IfOk, IsTrue, length, slice_get, Some, true};
-ghost use Rattle.board_kept.specs.Ways.{IsPortOnBusOf, ShareBus, SendsOn, IsNext, HaveReached, NoneFewerToEach};
+ghost use Rattle.board_kept.specs.Ways.{IsPortOnBusOf, ShareBus, SendsOn, LeadsTo, IsNext, HaveReached, NoneFewerToEach};
 
 use net_plan::Plan;
 use net_tables::lookup::{is_bridge, is_on_bus, port_at, ports_at};
@@ -81,12 +81,22 @@ fn next_reached(
 fn is_next(plan: &Plan, reached: &[bool], hops: usize, node: usize) -> bool
     ensures { IsNext plan.now reached.now hops node → IsTrue result }
 {
-    for before in 0..reached.len() {
-        if reached[before] && sends_on(plan, hops, before) && share_bus(plan, before, node) {
+    for before in 0..plan.nodes.len() {
+        if leads_to(plan, reached, hops, before, node) {
             return true;
         }
     }
     false
+}
+
+/// Whether a node was reached with so many hops, and sends on over a bus of another.
+fn leads_to(plan: &Plan, reached: &[bool], hops: usize, before: usize, node: usize) -> bool
+    ensures { LeadsTo plan.now reached.now hops before node → IsTrue result }
+{
+    match reached.get(before) {
+        Some(true) => sends_on(plan, hops, before) && share_bus(plan, before, node),
+        _ => false,
+    }
 }
 
 /// Whether the node sends on what has come to it with so many hops.
@@ -100,7 +110,8 @@ fn sends_on(plan: &Plan, hops: usize, node: usize) -> bool
 fn share_bus(plan: &Plan, one: usize, other: usize) -> bool
     ensures { ShareBus plan.now one other → IsTrue result }
 {
-    for port in 0..ports_at(plan, one).len() {
+    let count = ports_at(plan, one).len();
+    for port in 0..count {
         if is_port_on_bus_of(plan, one, port, other) {
             return true;
         }
