@@ -30,7 +30,7 @@ comes_next plan a hops flags n reached comes =
 -- no port of a node is on a bus of another
 pub none_shared : (plan : Plan) (m n count end : ℕ) (ports : List Port) → ports ≡ ports_of plan m → count ≡ length ports → count ≤ end
     → ((p : ℕ) → p < end → ¬ IsPortOnBusOf plan m p n) → ¬ ShareBus plan m n
-none_shared plan m n count end ports same counted reached none (p, port, found, on) =
+none_shared plan m n count end ports same counted reached none (p, (port, found, on)) =
     let within : p < length (ports_of plan m) = slice_get_within (ports_of plan m) p port found in
     let all : length ports ≡ length (ports_of plan m) = ap length same in
     none p (omega (arith, within, all, counted, reached)) (port, found, on)

@@ -99,12 +99,16 @@ IsTerminusKept plan terminus d =
     ((get (codes "tid") d ≡ None) × (get (codes "record") d ≡ None) × (terminus ≡ None))
     ⊎ ((t : PlannedTerminus) × (terminus ≡ Some t) × IsTerminusGiven plan t d)
 
--- a node
-pub record IsNodeKept (plan : Plan) (node : Node) (d : Data) : Type 0 where
+-- the name, the kind, the endpoint ID and the owner of a node
+pub record IsHeadKept (plan : Plan) (node : Node) (d : Data) : Type 0 where
   pub name : SaysText (get (codes "name") d) (string_bytes node.name.text)
   pub kind : IsKindKept node.kind (get (codes "kind") d)
   pub eid : SaysNoneOr (get (codes "eid") d) node.eid.value
   pub owner : IsOwnerKept plan node.owner (get (codes "owner") d)
+
+-- a node
+pub record IsNodeKept (plan : Plan) (node : Node) (d : Data) : Type 0 where
+  pub head : IsHeadKept plan node d
   pub pool : IsPoolKept node.pool (get (codes "pool") d)
   pub ports : AreItemsKept (IsPortKept plan) node.ports.items (codes "ports") d
   pub rows : AreRowsKept plan node.rows.items d

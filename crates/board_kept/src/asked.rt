@@ -4,7 +4,7 @@ ghost use Rattle.toml.specs.View.{view};
 ghost use Rattle.board_kept.specs.Said.{SaysText, item_at};
 ghost use Rattle.board_kept.specs.Made.{ListsName, Asks, AsksFor, ListsRow, GivesRowAt, GivesRow, GivesRowTo};
 
-use crate::said::{is_left_out, is_text, item};
+use crate::said::{has_item, is_left_out, is_text, item};
 use crate::texts::{node_name, row_text};
 use mctp_transport::Eid;
 use net_plan::{Plan, Row};
@@ -42,7 +42,7 @@ const MOST_NAMES: usize = 64;
 fn lists_name(said: &Value, name: &str) -> bool
     ensures { ListsName (view said.now) name.now → IsTrue result }
 {
-    let are_more = item(said, "reaches", MOST_NAMES).is_some();
+    let are_more = has_item(said, "reaches", MOST_NAMES);
     for index in 0..MOST_NAMES {
         if is_name_at(said, name, index) {
             return true;

@@ -1,11 +1,12 @@
 //! Whether a record is given by the names of its fields.
-ghost use Rattle.std.specs.Prelude.{◌≡◌, ◌∷◌, [], ℕ, IfOk, IfSome, IsTrue, codes, decimal, string_bytes, option_map, option_and_then, Some};
-ghost use Rattle.toml.specs.Data.{Data, string, at, as_str, get};
+ghost use Rattle.std.specs.Prelude.{◌≡◌, ◌∷◌, [], ℕ, IfOk, IfSome, IsTrue, codes, decimal, string_bytes, option_map, option_and_then, slice_get, Some};
+ghost use Rattle.toml.specs.Data.{Data, at, as_str, get};
 ghost use Rattle.toml.specs.View.{view, table_view};
 ghost use Rattle.board_kept.specs.Fields.{word_of, NamesHolder, StandsForText, IsFieldValue, IsFieldGiven, IsMemberGiven, AreMembersGiven, AreFieldsGiven};
 ghost use Rattle.board_kept.specs.Kept.{AreBytesKept};
 ghost use Rattle.record_fields.specs.Said.{IsRecordOfWords};
 
+use crate::said::has_value;
 use mctp_transport::Eid;
 use net_plan::{Node, Plan};
 use record_fields::is_record_of;
@@ -83,7 +84,7 @@ fn is_member_given(
         return Ok(true);
     }
     match value.as_array() {
-        Some(_) => are_values_given(alloc, plan, kind, bytes, name, value),
+        Some(_) => Ok(are_values_given(alloc, plan, kind, bytes, name, value)?),
         None => is_field_value(alloc, plan, kind, bytes, name, value),
     }
 }
@@ -108,7 +109,7 @@ fn are_values_given(
             return Ok(false);
         }
     }
-    Ok(list.get(MOST_VALUES).is_none())
+    Ok(!has_value(list, MOST_VALUES))
 }
 
 fn is_value_at(
@@ -124,7 +125,7 @@ fn is_value_at(
         → IsFieldValue plan.now kind.now bytes.now name.now e) }
 {
     match list.get(index) {
-        Some(value) => is_field_value(alloc, plan, kind, bytes, name, value),
+        Some(value) => Ok(is_field_value(alloc, plan, kind, bytes, name, value)?),
         None => Ok(true),
     }
 }
@@ -174,7 +175,7 @@ pub fn text_of(
         return Ok(Some(format!(in alloc; "{number}")?));
     }
     match value.as_str() {
-        Some(said) => text_of_text(alloc, plan, name, said),
+        Some(said) => text_of_text(alloc, plan, name, value, said),
         None => Ok(None),
     }
 }
@@ -184,9 +185,11 @@ fn text_of_text(
     alloc: Global,
     plan: &Plan,
     name: &str,
+    value: &Value,
     said: &str,
 ) -> Result<Option<String>, AllocError>
-    ensures { IfOk result (λ found. IfSome found (λ text. StandsForText plan.now name.now (string said.now) (string_bytes text))) }
+    requires { as_str (view value.now) ≡ Some said.now }
+    ensures { IfOk result (λ found. IfSome found (λ text. StandsForText plan.now name.now (view value.now) (string_bytes text))) }
 {
     if name != "eid" {
         return Ok(Some(said.to_string(alloc)?));
@@ -220,10 +223,16 @@ fn holder(plan: &Plan, name: &str) -> Option<Eid>
 fn eid_of_name(plan: &Plan, index: usize, name: &str) -> Option<Eid>
     ensures { IfSome result (λ eid. NamesHolder plan.now name.now eid.value) }
 {
-    match plan.nodes.get(index) {
+    match node_in(plan, index) {
         Some(node) => eid_if_named(node, name),
         None => None,
     }
+}
+
+fn node_in(plan: &Plan, index: usize) -> Option<&Node>
+    ensures { option_map (λ node. node.now) result ≡ slice_get plan.now.nodes.items index }
+{
+    plan.nodes.get(index)
 }
 
 /// The endpoint ID of a node, if it has the name.

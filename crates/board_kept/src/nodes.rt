@@ -1,12 +1,12 @@
 //! Whether a plan keeps what a board says of a node.
-ghost use Rattle.std.specs.Prelude.{IfOk, IsTrue, codes, Some};
+ghost use Rattle.std.specs.Prelude.{◌≡◌, IfOk, IsTrue, codes, option_map, slice_get, Some};
 ghost use Rattle.toml.specs.Data.{get};
 ghost use Rattle.toml.specs.View.{view};
 ghost use Rattle.board_kept.specs.Said.{IsItemKept, AreItemsKept};
-ghost use Rattle.board_kept.specs.Kept.{IsKindKept, IsOwnerKept, SaysPool, IsPoolKept, IsPortKept, IsAmongRows, IsRowKeptAt, AreRowsKept, IsNodeKept};
+ghost use Rattle.board_kept.specs.Kept.{IsKindKept, IsOwnerKept, SaysPool, IsPoolKept, IsPortKept, IsAmongRows, IsRowKeptAt, AreRowsKept, IsHeadKept, IsNodeKept};
 
 use crate::records::keeps_terminus;
-use crate::said::{is_left_out, is_text, item, says_none_or, says_number, says_text};
+use crate::said::{has_item, is_left_out, is_text, item, says_none_or, says_number, says_text};
 use crate::texts::{eids_text, kind_word, node_name, port_text, row_text};
 use net_plan::{Kind, Node, Plan, Pool, Port, Row};
 use std::alloc::{AllocError, Global};
@@ -16,17 +16,29 @@ use toml::Value;
 pub fn keeps_node(alloc: Global, plan: &Plan, node: &Node, said: &Value) -> Result<bool, AllocError>
     ensures { IfOk result (λ answer. IsTrue answer → IsNodeKept plan.now node.now (view said.now)) }
 {
-    let head = says_text(said, "name", node.name.text.as_str())
+    if !keeps_head(plan, node, said) {
+        return Ok(false);
+    }
+    if !keeps_pool(alloc, node.pool, said)? {
+        return Ok(false);
+    }
+    if !keeps_ports(alloc, plan, &node.ports, said)? {
+        return Ok(false);
+    }
+    if !keeps_rows(alloc, plan, &node.rows, said)? {
+        return Ok(false);
+    }
+    Ok(keeps_terminus(alloc, plan, node, said)?)
+}
+
+/// Whether the name, the kind, the endpoint ID and the owner are what stands there.
+fn keeps_head(plan: &Plan, node: &Node, said: &Value) -> bool
+    ensures { IsTrue result → IsHeadKept plan.now node.now (view said.now) }
+{
+    says_text(said, "name", node.name.text.as_str())
         && keeps_kind(node.kind, said)
         && says_none_or(said, "eid", u32::from(node.eid.value))
-        && keeps_owner(plan, node.owner, said);
-    Ok(
-        keeps_pool(alloc, node.pool, said)?
-            && keeps_ports(alloc, plan, &node.ports, said)?
-            && keeps_rows(alloc, plan, &node.rows, said)?
-            && keeps_terminus(alloc, plan, node, said)?
-            && head,
-    )
+        && keeps_owner(plan, node.owner, said)
 }
 
 fn keeps_kind(kind: Kind, said: &Value) -> bool
@@ -109,7 +121,7 @@ fn keeps_rows(alloc: Global, plan: &Plan, rows: &[Row], said: &Value) -> Result<
             return Ok(false);
         }
     }
-    Ok(item(said, "rows", MOST_ROWS).is_none())
+    Ok(!has_item(said, "rows", MOST_ROWS))
 }
 
 fn keeps_row_at(
@@ -153,8 +165,14 @@ fn is_row_at(
 ) -> Result<bool, AllocError>
     ensures { IfOk result (λ answer. IsTrue answer → IsAmongRows plan.now rows.now (Some (view said.now))) }
 {
-    match rows.get(index) {
+    match row_in(rows, index) {
         Some(row) => Ok(is_text(said, &row_text(alloc, plan, row)?)),
         None => Ok(false),
     }
+}
+
+fn row_in(rows: &[Row], index: usize) -> Option<&Row>
+    ensures { option_map (λ row. row.now) result ≡ slice_get rows.now index }
+{
+    rows.get(index)
 }

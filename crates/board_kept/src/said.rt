@@ -1,6 +1,6 @@
 //! What the values of a board say.
-ghost use Rattle.std.specs.Prelude.{◌≡◌, ◌↔◌, IfOk, IsTrue, Some, None, option_map};
-ghost use Rattle.toml.specs.Data.{get};
+ghost use Rattle.std.specs.Prelude.{◌≡◌, ◌↔◌, IfOk, IsTrue, Some, None, false, option_map};
+ghost use Rattle.toml.specs.Data.{at, get};
 ghost use Rattle.toml.specs.View.{view};
 ghost use Rattle.board_kept.specs.Said.{IsTomlOf, SaysText, SaysNumber, SaysOr, SaysNoneOr, item_at};
 
@@ -32,6 +32,20 @@ pub fn item<'v>(value: &'v Value, key: &str, index: usize) -> Option<&'v Value>
         Some(list) => list.get(index),
         None => None,
     }
+}
+
+/// Whether anything stands at an index of the list at a key.
+pub fn has_item(value: &Value, key: &str, index: usize) -> bool
+    ensures { result ≡ false → item_at key.now index (view value.now) ≡ None }
+{
+    item(value, key, index).is_some()
+}
+
+/// Whether anything stands at an index of a list.
+pub fn has_value(list: &Value, index: usize) -> bool
+    ensures { result ≡ false → at index (view list.now) ≡ None }
+{
+    list.get(index).is_some()
 }
 
 /// Whether the value is this text.

@@ -1,4 +1,4 @@
-use Rattle.std.proofs.Common.{◌≡◌}
+use Rattle.std.proofs.Common.{◌≡◌, arith}
 use Rattle.board_kept.specs.Ways.{LeadsTo}
 use Rattle.board_kept.proofs.More.{one_more, denied}
 use Rattle.board_kept.proofs.Reaching.{none_leads}
@@ -9,5 +9,5 @@ loop-before-preserved c = one_more (λ m. ¬ LeadsTo c.args.plan.now c.args.reac
     c.loop-before.invariant (denied c.leads_to.result c.leads_to.ensures c.if-leads_to.false)
 
 pub returns : goal.returns
-returns c = λ next. absurd (none_leads c.args.plan.now c.args.reached.now c.args.hops c.args.node _ c.loop-before.before
-    c.len-before-end.ensures c.loop-before-test.false c.loop-before.invariant next)
+returns c = λ next. absurd (none_leads c.args.plan.now c.args.reached.now c.args.hops c.args.node c.len-before-end.result c.loop-before.before
+    (omega (arith, c.len-before-end.ensures)) c.loop-before-test.false c.loop-before.invariant next)

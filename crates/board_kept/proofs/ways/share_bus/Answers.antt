@@ -1,4 +1,4 @@
-use Rattle.std.proofs.Common.{◌≡◌}
+use Rattle.std.proofs.Common.{◌≡◌, refl}
 use Rattle.board_kept.specs.Ways.{IsPortOnBusOf}
 use Rattle.board_kept.proofs.More.{one_more, denied}
 use Rattle.board_kept.proofs.Reaching.{none_shared}
@@ -9,5 +9,5 @@ loop-port-preserved c = one_more (λ p. ¬ IsPortOnBusOf c.args.plan.now c.args.
     (denied c.is_port_on_bus_of.result c.is_port_on_bus_of.ensures c.if-is_port_on_bus_of.false)
 
 pub returns : goal.returns
-returns c = λ shares. absurd (none_shared c.args.plan.now c.args.one c.args.other _ c.loop-port.port _ c.ports_at.ensures c.len-count.ensures
+returns c = λ shares. absurd (none_shared c.args.plan.now c.args.one c.args.other _ c.loop-port.port _ c.ports_at-count.ensures refl
     c.loop-port-test.false c.loop-port.invariant shares)
