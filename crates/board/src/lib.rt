@@ -19,6 +19,3 @@ pub use fault::BoardError;
 pub use making::{NoPlan, made_plan};
 pub use places::line_of_node;
 pub use reading::read_board;
-
-#[test]
-fn nothing() {}

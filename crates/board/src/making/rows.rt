@@ -240,11 +240,16 @@ fn add_row(
 fn lengthen(rows: &mut Vec<BoardRow>, given: usize, link: Link, eid: u8) -> bool {
     for index in given..rows.len() {
         let row = rows[index];
-        let end = u16::from(row.first) + u16::from(row.size);
+        let end = end_of(row.first, row.size);
         if row.next == link.next && row.port == link.port && end == u16::from(eid) {
             rows[index].size = row.size.saturating_add(1);
             return true;
         }
     }
     false
+}
+
+/// The number after that of the last of some endpoint IDs.
+fn end_of(first: u8, size: u8) -> u16 {
+    u16::from(first) + u16::from(size)
 }
