@@ -102,7 +102,6 @@ def commands():
         ("walk", [[plan, certificate, "nic", "16"]]),
         ("reach", [[plan, certificate]]),
         ("trace", [[plan, certificate, "host", "18"]]),
-        ("script", [[plan, certificate, "walk", "host", "17", "16", "--lose", "1"], [plan, certificate, "walk", "ssd", "17", "16"]]),
         ("draw", [[plan], [loop], [plan, certificate], [loop, "--rows"], [loop, "--rows", "16"]]),
         ("explain", [[plan], [loop], [row], [plan, certificate]]),
         ("faults", [[plan], [loop], [row], [plan, certificate]]),

@@ -20,6 +20,5 @@ pub mod Planned
 pub mod Certified
 pub mod Simulating
 pub mod Expecting
-pub mod Scripting
 pub mod Moving
 pub mod MoveSimulating

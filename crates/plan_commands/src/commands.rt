@@ -18,7 +18,6 @@ pub mod naming;
 pub mod planned;
 pub mod reach;
 pub mod repositories;
-pub mod script;
 pub mod show;
 pub mod sim;
 pub mod trace;

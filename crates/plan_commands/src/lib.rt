@@ -18,7 +18,6 @@ pub use commands::explain::run_explain;
 pub use commands::known::run_known;
 pub use commands::moving::run_move;
 pub use commands::planned::{PlanQuestion, run_planned};
-pub use commands::script::{Flights, WalkScript, run_script};
 pub use commands::show::{ShownKind, run_show};
 pub use commands::sim::files::simulate;
 pub use commands::sim::moves::simulate_move;
