@@ -2,14 +2,15 @@
 # Source it, or put it into /usr/share/bash-completion/completions/mctpplan.
 
 # tools/made writes these commands
-_mctpplan_commands='check certify move assign sim expect simmove walk reach trace draw explain faults lint show describe
-record code schema guide version'
+_mctpplan_commands='check certify move assign sim expect simmove walk reach matrix require trace draw explain faults
+lint show describe record code schema guide version'
 
 # tools/made writes these codes
 _mctpplan_codes='A01 A02 A03 A04 A05 B01 B02 B03 B10 B11 B12 C01 C02 C03 C04 C05 C06 C07 C08 C09 C10 C11 C12 C13 C14
 C15 C16 D01 D02 D03 D04 D05 D06 E01 E02 E03 E04 E05 G01 G02 G03 G04 G05 G06 G07 G08 G09 G10 G11 H01
-H02 H03 H04 H05 H06 H07 H08 H09 H10 H11 H12 J01 J02 J03 J04 J05 J06 J07 J08 J09 K01 K02 K03 K04 L01
-L02 L03 L04 L05 L06 M01 M02 M03 N01 N02 N03 N04 N05 N06 N07 N08 N09 N10 N11 N12 N13 P01 P02 P03 P04'
+H02 H03 H04 H05 H06 H07 H08 H09 H10 H11 H12 H13 H14 H15 H16 H17 H18 H19 J01 J02 J03 J04 J05 J06 J07
+J08 J09 K01 K02 K03 K04 L01 L02 L03 L04 L05 L06 M01 M02 M03 N01 N02 N03 N04 N05 N06 N07 N08 N09 N10
+N11 N12 N13 P01 P02 P03 P04'
 
 # The word without its quotes and backslashes. Nothing in it is run.
 _mctpplan_unquoted() {
@@ -38,7 +39,7 @@ _mctpplan() {
     fi
     case $command in
         certify | lint) files=1 ;;
-        check | assign | walk | reach | trace | draw | explain | faults) files=2 ;;
+        check | assign | walk | reach | matrix | require | trace | draw | explain | faults) files=2 ;;
         move | sim) files=3 ;;
         simmove) files=4 ;;
         expect) files=3 ;;
@@ -81,6 +82,9 @@ _mctpplan() {
     elif [ "$((place - 1))" -le "$files" ]; then
         compopt -o filenames 2>/dev/null
         mapfile -t COMPREPLY < <(compgen -d -- "$current"; compgen -f -X '!*.json' -- "$current")
+    elif [[ $command == require && $place -eq 4 ]]; then
+        compopt -o filenames 2>/dev/null
+        mapfile -t COMPREPLY < <(compgen -f -- "$current")
     elif [[ $command == walk && $place -eq 4 || $command == trace && $place -le 5 ]]; then
         plan=$(_mctpplan_unquoted "${COMP_WORDS[2]}")
         [ -f "$plan" ] || return

@@ -75,8 +75,8 @@ def wanted_of(row, words):
     """What a row wants on standard output and on standard error, and its status."""
     errors = [it for it in row.wanted if it.startswith("unreadable ")]
     status = next((int(it.split()[1]) for it in row.wanted if it.startswith("status ")), 2 if errors else 0)
-    # (`explain` is asked why a text doesn't read, and answers on standard output)
-    errors = [] if words[0] == "explain" else errors
+    # (`explain` is asked why a text doesn't read, and answers on standard output; `require` does so of its wishes)
+    errors = [] if words[0] == "explain" else [it for it in errors if not it.startswith("unreadable wanted")]
     lines = [it for it in row.wanted if it not in errors and not it.startswith("status ")]
     return "".join(f"{it}\n" for it in lines), "".join(f"{it}\n" for it in errors), status
 
@@ -229,12 +229,26 @@ def known():
         yield "known.rows", Case(scene, {}, [row])
 
 
+def named_in(printed, paths):
+    """What was printed, with the word that stands for a text in place of its path."""
+    text = printed.decode()
+    for name, path in paths.items():
+        text = text.replace(str(path), name)
+    return text
+
+
 def try_all(trial):
     named = [*read(trial)]
 
     def run(case):
-        status, output, error = trial.run(case.words(trial.file))
-        return case.wrong(output.decode(), error.decode(), status)
+        paths = {}
+
+        def path_of(name, text):
+            paths[name] = trial.file(name, text)
+            return paths[name]
+
+        status, output, error = trial.run(case.words(path_of))
+        return case.wrong(named_in(output, paths), named_in(error, paths), status)
 
     for (name, case), wrong in zip(named, each(run, [case for _, case in named])):
         instead = {row: came for row, came in wrong}

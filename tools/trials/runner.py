@@ -101,6 +101,8 @@ def commands():
         ("expect", [[plan, certificate, RISER / "events-tid.json", RISER / "README.md"]]),
         ("walk", [[plan, certificate, "nic", "16"]]),
         ("reach", [[plan, certificate]]),
+        ("matrix", [[plan, certificate]]),
+        ("require", [[plan, certificate, TOP / "examples/questions/wanted.txt"]]),
         ("trace", [[plan, certificate, "host", "18"]]),
         ("draw", [[plan], [loop], [plan, certificate], [loop, "--rows"], [loop, "--rows", "16"]]),
         ("explain", [[plan], [loop], [row], [plan, certificate]]),

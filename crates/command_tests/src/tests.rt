@@ -63,7 +63,7 @@ fn expect_certify<P: Read + Drop>(
     let mut errors = Counted::new(Vec::new(rt.alloc()));
     let ended = run_planned(
         rt.alloc(),
-        PlanQuestion::Certify,
+        &PlanQuestion::Certify,
         &mut Counted::new(plan),
         &mut output,
         &mut errors,

@@ -7,8 +7,8 @@ use net_json::Counted;
 use plan_commands::{
     FileAtPath, PlanQuestion, Question, Refused, ShownKind, Status, Subcommand, WordQuestion,
     hint_nodes, hint_words, parse_command, refuse, run_certified, run_expect, run_explain,
-    run_explain_certified, run_known, run_move, run_planned, run_show, run_worded, simulate,
-    simulate_move,
+    run_explain_certified, run_known, run_move, run_planned, run_require, run_show, run_worded,
+    simulate, simulate_move,
 };
 use std::env;
 use std::io::IsTerminal;
@@ -46,7 +46,7 @@ fn run_command<'a>(rt: &'a HostRuntime, command: Subcommand<'a>) -> Status {
             plan,
             certificate,
         } => certified(rt, &question, plan, certificate),
-        Subcommand::Planned { question, plan } => planned(rt, question, plan),
+        Subcommand::Planned { question, plan } => planned(rt, &question, plan),
         Subcommand::Explain {
             plan,
             certificate: Some(certificate),
@@ -55,6 +55,11 @@ fn run_command<'a>(rt: &'a HostRuntime, command: Subcommand<'a>) -> Status {
             plan,
             certificate: None,
         } => explain(rt, plan),
+        Subcommand::Require {
+            plan,
+            certificate,
+            wanted,
+        } => require(rt, plan, certificate, wanted),
         Subcommand::Sim {
             plan,
             certificate,
@@ -118,11 +123,33 @@ fn tell_nodes<'a>(rt: &'a HostRuntime, question: &Question<'a>, plan: &'a str) {
 }
 
 /// Answers a question about a plan.
-fn planned<'a>(rt: &'a HostRuntime, question: PlanQuestion, plan: &'a str) -> Status {
+fn planned<'a>(rt: &'a HostRuntime, question: &PlanQuestion<'a>, plan: &'a str) -> Status {
     let mut plan = file(rt, plan);
     let mut output = Counted::new(rt.stdout());
     let mut errors = Counted::new(rt.stderr());
     run_planned(rt.alloc(), question, &mut plan, &mut output, &mut errors)
+}
+
+/// Tells which wishes for ways a plan doesn't meet.
+fn require<'a>(
+    rt: &'a HostRuntime,
+    plan: &'a str,
+    certificate: &'a str,
+    wanted: &'a str,
+) -> Status {
+    let mut plan = file(rt, plan);
+    let mut certificate = file(rt, certificate);
+    let mut wanted = file(rt, wanted);
+    let mut output = Counted::new(rt.stdout());
+    let mut errors = Counted::new(rt.stderr());
+    run_require(
+        rt.alloc(),
+        &mut plan,
+        &mut certificate,
+        &mut wanted,
+        &mut output,
+        &mut errors,
+    )
 }
 
 /// Plays events in the network of a plan.
@@ -227,26 +254,28 @@ fn show(rt: &HostRuntime, kind: ShownKind, hex: &str) -> Status {
 }
 
 /// Explains a plan. Where its file can't be opened or read, standard error tells the path and the system's reason.
-fn explain<'a>(rt: &'a HostRuntime, plan: &'a str) -> Status {
+fn explain<'a>(rt: &'a HostRuntime, name: &'a str) -> Status {
     let alloc = rt.alloc();
-    let mut plan = file(rt, plan);
+    let mut plan = file(rt, name);
     let mut output = Counted::new(rt.stdout());
     let mut errors = Counted::new(rt.stderr());
-    let status = run_explain(alloc, &mut plan, &mut output, &mut errors);
+    let status = run_explain(alloc, name, &mut plan, &mut output, &mut errors);
     plan.inner()
         .tell_failure(alloc, &mut Counted::new(rt.stderr()));
     status
 }
 
 /// The same of a plan with its certificate.
-fn explain_certified<'a>(rt: &'a HostRuntime, plan: &'a str, certificate: &'a str) -> Status {
+fn explain_certified<'a>(rt: &'a HostRuntime, name: &'a str, certified_by: &'a str) -> Status {
     let alloc = rt.alloc();
-    let mut plan = file(rt, plan);
-    let mut certificate = file(rt, certificate);
+    let mut plan = file(rt, name);
+    let mut certificate = file(rt, certified_by);
     let mut output = Counted::new(rt.stdout());
     let mut errors = Counted::new(rt.stderr());
     let status = run_explain_certified(
         alloc,
+        name,
+        certified_by,
         &mut plan,
         &mut certificate,
         &mut output,

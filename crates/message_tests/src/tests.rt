@@ -1,23 +1,15 @@
-//! Each file goes through what one crate, or a part of it, makes public.
+//! Each file goes through what one crate, or a part of it, makes public. What commands show of it the rows in `tests/`
+//! tell: `show.rows`, `records.rows`, `runs.rows`, `walks.rows`, `units.rows` and `answers.rows`.
 mod assembly;
 mod codes;
 mod control;
 mod cutting;
-mod damaged;
-mod damaged_answers;
-mod damaged_pldm;
-mod damaged_records;
-mod five_packets;
-mod mangled;
+mod messages;
 mod packets;
 mod pieces;
 mod pldm;
 mod readers;
-mod records;
-mod refused;
 mod refused_walks;
 mod repositories;
-mod spelling;
 mod tables;
-mod units;
 mod walks;

@@ -11,7 +11,7 @@ use Rattle.net_rules.specs.declared.certify_error.CertifyError.{CertifyError}
 use Rattle.net_rules.specs.declared.certify_error.CertifyError.TheVariants as error
 
 -- no numbers come before none
-not_less : (numbers : List ℕ) → ¬ LessByFirstDifference numbers []
+pub not_less : (numbers : List ℕ) → ¬ LessByFirstDifference numbers []
 not_less [] h = h
 not_less (n ∷ rest) h = h
 

@@ -7,3 +7,4 @@ pub mod RowsOf
 pub mod SamePlan
 pub mod Later
 pub mod Editing
+pub mod Healing

@@ -1,13 +1,15 @@
 -- The order of what rules certificates of a plan out, and what an edit leaves of it.
-use Rattle.std.specs.Prelude.{◌≡◌, ℕ, List, [], ◌∷◌, Option, Some, None}
+use Rattle.std.specs.Prelude.{◌≡◌, ◌⊎◌, ℕ, List, [], ◌∷◌, Option, Some, None}
 use Rattle.net_plan.specs.declared.certificate.Certificate.{Certificate}
 use Rattle.net_plan.specs.declared.plan.Plan.{Plan}
 use Rattle.net_plan.specs.PlanValues.{PlanValue, plan_value}
 use Rattle.net_rules.specs.Certificates.{HasNoCertificate, NamesObstacle}
-use Rattle.net_rules.specs.Faults.{LessByFirstDifference, order_of, order_of_number}
+use Rattle.net_rules.specs.Faults.{FaultSite, LessByFirstDifference, ComesBefore, site_of, order_of, order_of_number}
+use Rattle.net_rules.specs.PlanFaults.{IsMetByPlan}
 use Rattle.net_rules.specs.Rules.{Accepts}
 use Rattle.net_rules.specs.declared.certify_error.CertifyError.{CertifyError}
 use Rattle.net_rules.specs.declared.certify_error.CertifyError.TheVariants as error
+use Rattle.net_rules.specs.declared.fault.Fault.{Fault}
 use Rattle.net_rules.specs.declared.rule.Rule.TheVariants.{C07, C10, C14}
 use Rattle.net_tables.specs.Routing.{eid_number}
 use Rattle.net_explained.specs.Edits.{IsEdited}
@@ -39,3 +41,18 @@ pub record IsTried (before : PlanValue) (obstacle : CertifyError) (tried : Tried
   pub after : Plan
   pub by_edit : IsEdited before tried.edit (plan_value after)
   pub left : IsLeft obstacle after tried.left
+
+-- ---- laws
+
+-- the site is that of the fault, or comes before it
+abbrev pub IsUpTo : FaultSite → Fault → Type 0
+IsUpTo site fault = ComesBefore site (site_of fault) ⊎ (site ≡ site_of fault)
+
+-- the plan itself has neither this fault nor one that comes before it
+abbrev pub IsRidOf : Plan → Fault → Type 0
+IsRidOf plan fault = (site : FaultSite) → IsUpTo site fault → IsMetByPlan plan site
+
+-- After an edit that was tried on a fault, the plan has neither that fault nor one that comes before it.
+abbrev pub EditsTakeFaultsAway : Type 0
+EditsTakeFaultsAway = (before : PlanValue) (fault : Fault) (tried : Tried)
+    (tries : IsTried before (error.Fault fault) tried) → IsRidOf tries.after fault

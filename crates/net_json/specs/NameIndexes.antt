@@ -1,13 +1,14 @@
 -- What finds the index of a name.
 use Rattle.std.specs.Prelude.{ℕ, ◌≡◌, List, Option, unwrap_or}
-use Rattle.std.specs.Str.{bytes_eq}
-use Rattle.indexmap.specs.IndexMap.{get_by}
+use Rattle.std.specs.BTreeMap.{get_by}
+use Rattle.std.specs.Cmp.Lexicographic.{slice_cmp}
+use Rattle.std.specs.Ordering.{nat_cmp}
 use Rattle.net_json.specs.Names.{index_of}
 use Rattle.net_json.specs.declared.name_index.NameIndex.{NameIndex}
 
 -- the index that was noted for a name
 abbrev pub noted : NameIndex → List ℕ → Option ℕ
-noted p name = get_by (λ k. bytes_eq name k.now) p.by_name
+noted p name = get_by (λ k. slice_cmp nat_cmp name k.now) p.by_name
 
 -- the index of a name; the count of the list for one that has none
 abbrev pub find_in : NameIndex → List ℕ → ℕ

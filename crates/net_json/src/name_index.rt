@@ -2,8 +2,8 @@
 ghost use Rattle.std.specs.Prelude.{◌≡◌, ℕ, List, map, IfOk};
 ghost use Rattle.net_json.specs.Names.{index_among, names_differ};
 
-use indexmap::IndexMap;
 use std::alloc::{AllocError, Global};
+use std::collections::BTreeMap;
 
 /// Tells the names of items.
 pub trait Naming {
@@ -15,10 +15,11 @@ pub trait Naming {
         ensures { result.now ≡ name_of self.now item.now };
 }
 
-/// The indices of the names of a list. Of two items of one name it is the first's.
+/// The indices of the names of a list. Of two items of one name it is the first's. Names are found by comparison, since
+/// who writes a text could choose names that collide in a hash.
 #[derive(Drop)]
 pub struct NameIndex<'a> {
-    by_name: IndexMap<&'a str, usize>,
+    by_name: BTreeMap<&'a str, usize>,
     /// How long the list is.
     count: usize,
 }
@@ -51,12 +52,12 @@ impl<'a> NameIndex<'a> {
         ensures count { result.count ≡ count }
     {
         NameIndex {
-            by_name: IndexMap::new(alloc),
+            by_name: BTreeMap::new(alloc),
             count,
         }
     }
 
-    /// Gives a name an index, if it has none, and tells whether it had none. A name that has none is hashed once.
+    /// Gives a name an index, if it has none, and tells whether it had none. A name that has none is looked up once.
     fn note(&mut self, name: &'a str, index: usize) -> Result<bool, AllocError>
         ensures first { IfOk result (λ first. first ≡ not (is_some (noted self.old name.now))) }
         ensures noted { OnOk result ((q : List ℕ) → noted self.new q ≡ option_or (noted self.old q) (if bytes_eq q name.now then Some index else None)) }

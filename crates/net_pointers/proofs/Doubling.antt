@@ -1,19 +1,20 @@
 -- Names and keys that stand twice, as they are looked for.
-use Rattle.std.proofs.Common.{◌≡◌, ◌≢◌, ◌<◌, ◌+◌, false, subst, ℕ, zero, suc, List, [], ◌∷◌, ◌++◌, map, length, take, get_or, Bool, true, not, Option, Some, None, ◌⊎◌, inl, inr, ◌==◌, option_and_then, Bor, refl, sym, ap, ◌∙◌, append-nil, append_assoc, arith, true≢false, AllPairs}
+use Rattle.std.proofs.Common.{◌≡◌, ◌≢◌, ◌<◌, ◌+◌, false, subst, ℕ, zero, suc, List, [], ◌∷◌, ◌++◌, map, length, take, get_or, Bool, true, not, Option, Some, None, option_map, is_some, cond, if◌then◌else◌, ◌⊎◌, inl, inr, ◌==◌, option_and_then, Bor, refl, sym, ap, ◌∙◌, append-nil, append_assoc, arith, true≢false, AllPairs}
 use Rattle.std.proofs.lemmas.List.{length-map, length-take-le}
 use Rattle.std.proofs.lemmas.Bool.Decides.{Decides-eqb}
-use Rattle.std.specs.List.{list_any}
+use Rattle.std.proofs.lemmas.Option.{same_Some}
+use Rattle.std.proofs.lemmas.Slice.Eq.{bytes_eq-Decides}
+use Rattle.std.specs.Option.{option_or}
 use Rattle.std.specs.Str.{bytes_eq}
 use Rattle.json.specs.Json.{Json, null, boolean, number, string, array, object, Items, no_items, item, Members, no_members, member}
 use Rattle.json.specs.Strict.{keys}
 use Rattle.json.specs.Value.{value_view, items_view, members_view}
 use Rattle.net_json.specs.Json.{is_among}
-use Rattle.net_json.specs.Names.{are_new, names_differ}
+use Rattle.net_json.specs.Names.{are_new, names_differ, index_of}
 use Rattle.net_json.specs.SingleKeys.{single, items_single, members_single}
 use Rattle.net_json.specs.Trees.{Tree}
 use Rattle.net_json.proofs.Differing.{differ_sound}
-use Rattle.net_json.proofs.Keys.{list_any-map}
-use Rattle.net_json.proofs.Names.{one_new, names_take}
+use Rattle.net_json.proofs.Names.{one_new, names_take, noted_now, index_of-take, index_of-among, index_within}
 use Rattle.net_json.proofs.Telling.{both}
 use Rattle.net_pointers.specs.Doubles.{IsFirstDoubled, item_at, member_at, part_after, part_at, HasDoubledKey, IsBefore, NoneBefore, IsFirstDoubledKey}
 use Rattle.net_pointers.specs.declared.doubled.DoubledKey.{DoubledKey}
@@ -98,13 +99,42 @@ found_twice names i j d within before same single =
       before = subst (AllPairs (λ a b. a ≢ b)) (texts_taken names j) (differ_sound (texts (take j names)) single);
     }
 
--- the name at j stands nowhere before
-pub found_once : (names : Texts) (j : ℕ) (d : Bor (List ℕ)) → j < length names → names_differ (texts (take j names)) ≡ true → list_any (λ other. bytes_eq (get_or names j d).now other.now) (take j names) ≡ false
-    → names_differ (texts (take (j + 1) names)) ≡ true
-found_once names j d within single none =
+-- what was noted of the names before j
+abbrev pub AreNoted : Texts → ℕ → (List ℕ → Option ℕ) → Type 0
+AreNoted names j find = (q : List ℕ) → find q ≡ index_of (texts (take j names)) q
+
+-- a name stands at its index
+index_there : (ns : List (List ℕ)) (q : List ℕ) (n : ℕ) → index_of ns q ≡ Some n → get_or ns n [] ≡ q
+index_there [] q n e = absurd (cc)
+index_there (m ∷ ns) q n e = by (bytes_eq q m) refl (index_of ns q) refl e (index_there ns q)
+  where
+    by : (b : Bool) → bytes_eq q m ≡ b → (o : Option ℕ) → index_of ns q ≡ o → cond b (Some 0) (option_map suc o) ≡ Some n → ((k : ℕ) → index_of ns q ≡ Some k → get_or ns k [] ≡ q) → get_or (m ∷ ns) n [] ≡ q
+    by true same o is e rest = ap (λ k. get_or (m ∷ ns) k []) (sym (same_Some 0 n e)) ∙ sym ((bytes_eq-Decides q m).0 same)
+    by false other None is e rest = absurd (cc)
+    by false other (Some k) is e rest = ap (λ i. get_or (m ∷ ns) i []) (sym (same_Some (suc k) n e)) ∙ rest k is
+
+-- the name at j was noted
+pub noted_twice : (names : Texts) (i j : ℕ) (d : Bor (List ℕ)) (find : List ℕ → Option ℕ) → j < length names → AreNoted names j find → Some i ≡ find (get_or names j d).now → names_differ (texts (take j names)) ≡ true
+    → IsFirstDoubled (texts names) (record { first = i; second = j })
+noted_twice names i j d find within noted had single =
+    let q = (get_or names j d).now in
+    let at : index_of (texts (take j names)) q ≡ Some i = sym (had ∙ noted q) in
+    let before : i < length (take j names) = omega (arith, index_within (texts (take j names)) q i at, length-map (take j names) (λ (n : Bor (List ℕ)). n.now)) in
+    found_twice names i j d within before (index_there (texts (take j names)) q i at) single
+
+-- the name at j was not noted, and now it is
+pub noted_once : (names : Texts) (j : ℕ) (d : Bor (List ℕ)) (find after : List ℕ → Option ℕ) → j < length names → AreNoted names j find → find (get_or names j d).now ≡ None
+    → ((q : List ℕ) → after q ≡ cond (bytes_eq (get_or names j d).now q) (Some j) (find q)) → names_differ (texts (take j names)) ≡ true
+    → (names_differ (texts (take (j + 1) names)) ≡ true) × AreNoted names (j + 1) after
+noted_once names j d find after within noted none updates single =
     let x = get_or names j d in
-    ap names_differ (names_take (λ (n : Bor (List ℕ)). n.now) names j x within (any_default names j d x within))
-    ∙ differ_push (texts (take j names)) x.now single (list_any-map (λ other. bytes_eq x.now other) (λ (n : Bor (List ℕ)). n.now) (take j names) ∙ none)
+    let at = any_default names j d x within in
+    let new : is_some (find x.now) ≡ false = ap is_some none in
+    let among : is_among (texts (take j names)) x.now ≡ false = sym (index_of-among (texts (take j names)) x.now) ∙ ap is_some (sym (noted x.now)) ∙ new in (
+      ap names_differ (names_take (λ (n : Bor (List ℕ)). n.now) names j x within at) ∙ differ_push (texts (take j names)) x.now single among,
+      λ q. noted_now find after x.now j q new (updates q) ∙ ap (λ (o : Option ℕ). option_or o (if bytes_eq q x.now then Some j else None)) (noted q)
+          ∙ sym (index_of-take (λ (n : Bor (List ℕ)). n.now) names j x q within at),
+    )
 
 -- a list with such a name
 pub first_differs : (names : List (List ℕ)) (p : TwoIndices) → IsFirstDoubled names p → names_differ names ≡ false

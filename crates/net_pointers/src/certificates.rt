@@ -123,7 +123,7 @@ fn doubled_in(
         IfOk result (λ found. MatchOption found (names_differ nodes ≡ true) (λ places. IsFirstDoubled nodes places)) }
 {
     let nodes = nodes_at(alloc, certificate, list_key(list))?;
-    Ok(first_doubled(nodes.as_slice()))
+    first_doubled(alloc, nodes.as_slice())
 }
 
 /// The nodes that the entries of a list name.

@@ -1,7 +1,8 @@
 //! Names and keys that stand twice.
-ghost use Rattle.std.specs.Prelude.{◌≡◌, ◌<◌, [], false, true, map, length, get_or, IfOk, MatchOption};
-ghost use Rattle.std.specs.List.{list_any};
-ghost use Rattle.std.specs.Str.{bytes_eq};
+ghost use Rattle.std.specs.Prelude.{◌≡◌, true, map, IfOk, MatchOption};
+ghost use Rattle.std.specs.BTreeMap.{get_by};
+ghost use Rattle.std.specs.Cmp.Lexicographic.{slice_cmp};
+ghost use Rattle.std.specs.Ordering.{nat_cmp};
 ghost use Rattle.json.specs.Json.{array, object};
 ghost use Rattle.json.specs.Strict.{keys};
 ghost use Rattle.json.specs.Value.{value_view, items_view, members_view};
@@ -11,6 +12,7 @@ ghost use Rattle.net_pointers.specs.Doubles.{IsFirstDoubled, IsFirstDoubledKey};
 
 use json::Value;
 use std::alloc::{AllocError, Global};
+use std::collections::BTreeMap;
 
 /// Two places of a list, from 0.
 #[derive(Clone, Copy, Debug, PartialEq, Eq)]
@@ -27,28 +29,29 @@ pub struct DoubledKey {
     pub members: TwoIndices,
 }
 
-/// The first name of a list that stands before it too.
-pub fn first_doubled(names: &[&str]) -> Option<TwoIndices>
-    ensures { MatchOption result (names_differ (map (λ name. name.now) names.now) ≡ true) (λ places. IsFirstDoubled (map (λ name. name.now) names.now) places) }
+/// The first name of a list that stands before it too. Names are found by comparison, since who writes a text could choose
+/// names that collide in a hash.
+pub fn first_doubled(alloc: Global, names: &[&str]) -> Result<Option<TwoIndices>, AllocError>
+    ensures { IfOk result (λ found. MatchOption found (names_differ (map (λ name. name.now) names.now) ≡ true) (λ places. IsFirstDoubled (map (λ name. name.now) names.now) places)) }
 {
+    let mut passed = BTreeMap::new(alloc);
     for (second, name) in names.iter().enumerate() {
-        if let Some(first) = index_of(&names[..second], name) {
-            return Some(TwoIndices { first, second });
+        if let Some(first) = index_of(&passed, name) {
+            return Ok(Some(TwoIndices { first, second }));
+        }
+        match passed.insert(*name, second) {
+            Ok(_) => {}
+            Err(_) => return Err(AllocError),
         }
     }
-    None
+    Ok(None)
 }
 
-/// Where a name stands in a list.
-fn index_of(names: &[&str], name: &str) -> Option<usize>
-    ensures { MatchOption result (list_any (λ other. bytes_eq name.now other.now) names.now ≡ false) (λ index. (index < length names.now) × (get_or (map (λ other. other.now) names.now) index [] ≡ name.now)) }
+/// The index that was noted for a name, if there is one.
+fn index_of(passed: &BTreeMap<&str, usize>, name: &str) -> Option<usize>
+    ensures { result ≡ get_by (λ other. slice_cmp nat_cmp name.now other.now) passed.now }
 {
-    for (index, other) in names.iter().enumerate() {
-        if name == *other {
-            return Some(index);
-        }
-    }
-    None
+    passed.get(name).copied()
 }
 
 /// The first object, depth first, that has a key twice.
@@ -108,7 +111,7 @@ fn doubled_here(
     ensures { IfOk result (λ found. MatchOption found (names_differ (keys (members_view members.now.items)) ≡ true) (λ places. IsFirstDoubled (keys (members_view members.now.items)) places)) }
 {
     let keys = keys_of(alloc, members.as_slice())?;
-    Ok(first_doubled(keys.as_slice()))
+    first_doubled(alloc, keys.as_slice())
 }
 
 fn keys_of<'v>(alloc: Global, members: &'v [(&str, Value<'_>)]) -> Result<Vec<&'v str>, AllocError>

@@ -57,7 +57,7 @@ fn trouble_of_names(alloc: Global, value: &Value<'_>) -> Result<Option<PlanTroub
     ensures { IfOk result (λ trouble. IsToldOfPlan (value_view value.now) trouble) }
 {
     let known = known_names(alloc, value)?;
-    if let Some(places) = first_doubled(known.buses.as_slice()) {
+    if let Some(places) = first_doubled(alloc, known.buses.as_slice())? {
         return Ok(Some(PlanTrouble::DoubledBus(places)));
     }
     if let Some(doubled) = doubled_key(alloc, value)? {

@@ -1,5 +1,5 @@
 -- What is found stands where it is looked for, and nothing else stands there.
-use Rattle.std.proofs.Common.{◌≡◌, ℕ, zero, suc, ◌<◌, List, [], ◌∷◌, ◌++◌, length, get_or, Some, refl, sym, ◌∙◌, ap, subst, arith, inl, inr, ◌⊎◌, ◌≤◌}
+use Rattle.std.proofs.Common.{◌≡◌, ℕ, zero, suc, ◌<◌, List, [], ◌∷◌, ◌++◌, get_or, Some, refl, sym, ◌∙◌, ap, subst, arith, inl, inr, ◌⊎◌, ◌≤◌}
 use Rattle.std.proofs.Props.{props}
 use Rattle.std.specs.Prelude.{slice_get}
 use Rattle.std.proofs.lemmas.Bool.{cases_lt}
@@ -13,7 +13,8 @@ use Rattle.net_questions.specs.declared.code.Code.TheVariants as code
 use Rattle.net_questions.specs.declared.finding.Finding.{Finding}
 use Rattle.net_questions.specs.declared.finding.Finding.TheVariants.{SharedAddress, MissingAddress, SharedTid}
 use Rattle.net_questions.specs.declared.finding.Finding.TheVariants.{MissingLocator, SharedSensorId, OwnerHasNoWay, NoWayToOwner, IdleRow, PoolEidNotLedOn, LonePort, EmptyReadableRange, Isolated}
-use Rattle.net_questions.specs.Findings.{IsSo, order_of, subject_of, key_of, items_of, others_of, other_items_of, BeginsWith, Adds, IsUnder, AreFindings}
+use Rattle.net_questions.specs.declared.finding.Finding.TheVariants.{ForeignMedia, ReservedBinding, ReservedAddress, EmptyBus, CrossedThresholds, UnknownTerminusHandle, UncontainedEntity}
+use Rattle.net_questions.specs.Findings.{IsSo, order_of, subject_of, key_of, sites_of, items_of, others_of, other_items_of, BeginsWith, Adds, IsUnder, AreFindings}
 use Rattle.net_questions.proofs.Within.{port_within, row_within, record_within, terminus_within, holder_within, bridge_within, owned_within}
 use Rattle.net_questions.proofs.TopmostOwners.{topmost_within}
 use Rattle.net_questions.proofs.Ascending.{NextBelow, Below, start, one, nothing, all_pairs}
@@ -21,7 +22,8 @@ use Rattle.net_questions.proofs.Ascending.{NextBelow, Below, start, one, nothing
 -- ---- the codes in their order
 
 abbrev in_order : List Code
-in_order = code.SharedAddress ∷ code.MissingAddress ∷ code.SharedTid ∷ code.MissingLocator ∷ code.SharedSensorId ∷ code.OwnerHasNoWay ∷ code.NoWayToOwner ∷ code.IdleRow ∷ code.PoolEidNotLedOn ∷ code.LonePort ∷ code.EmptyReadableRange ∷ code.Isolated ∷ []
+in_order = code.SharedAddress ∷ code.MissingAddress ∷ code.SharedTid ∷ code.MissingLocator ∷ code.SharedSensorId ∷ code.OwnerHasNoWay ∷ code.NoWayToOwner ∷ code.IdleRow ∷ code.PoolEidNotLedOn ∷ code.LonePort ∷ code.EmptyReadableRange ∷ code.Isolated
+    ∷ code.ForeignMedia ∷ code.ReservedBinding ∷ code.ReservedAddress ∷ code.EmptyBus ∷ code.CrossedThresholds ∷ code.UnknownTerminusHandle ∷ code.UncontainedEntity ∷ []
 
 stands_in_order : (c : Code) → slice_get in_order (order_of c) ≡ Some c
 stands_in_order code.SharedAddress = refl
@@ -36,11 +38,18 @@ stands_in_order code.PoolEidNotLedOn = refl
 stands_in_order code.LonePort = refl
 stands_in_order code.EmptyReadableRange = refl
 stands_in_order code.Isolated = refl
+stands_in_order code.ForeignMedia = refl
+stands_in_order code.ReservedBinding = refl
+stands_in_order code.ReservedAddress = refl
+stands_in_order code.EmptyBus = refl
+stands_in_order code.CrossedThresholds = refl
+stands_in_order code.UnknownTerminusHandle = refl
+stands_in_order code.UncontainedEntity = refl
 
 pub one_order : (a b : Code) → order_of a ≡ order_of b → a ≡ b
 one_order a b same = same_Some a b (sym (stands_in_order a) ∙ (ap (λ k. slice_get in_order k) same ∙ stands_in_order b))
 
-pub order_at : (k : ℕ) (d : Code) → k < 12 → order_of (get_or in_order k d) ≡ k
+pub order_at : (k : ℕ) (d : Code) → k < 19 → order_of (get_or in_order k d) ≡ k
 order_at zero d less = refl
 order_at (suc zero) d less = refl
 order_at (suc (suc zero)) d less = refl
@@ -53,9 +62,16 @@ order_at (suc (suc (suc (suc (suc (suc (suc (suc zero)))))))) d less = refl
 order_at (suc (suc (suc (suc (suc (suc (suc (suc (suc zero))))))))) d less = refl
 order_at (suc (suc (suc (suc (suc (suc (suc (suc (suc (suc zero)))))))))) d less = refl
 order_at (suc (suc (suc (suc (suc (suc (suc (suc (suc (suc (suc zero))))))))))) d less = refl
-order_at (suc (suc (suc (suc (suc (suc (suc (suc (suc (suc (suc (suc k)))))))))))) d less = absurd (omega arith)
+order_at (suc (suc (suc (suc (suc (suc (suc (suc (suc (suc (suc (suc zero)))))))))))) d less = refl
+order_at (suc (suc (suc (suc (suc (suc (suc (suc (suc (suc (suc (suc (suc zero))))))))))))) d less = refl
+order_at (suc (suc (suc (suc (suc (suc (suc (suc (suc (suc (suc (suc (suc (suc zero)))))))))))))) d less = refl
+order_at (suc (suc (suc (suc (suc (suc (suc (suc (suc (suc (suc (suc (suc (suc (suc zero))))))))))))))) d less = refl
+order_at (suc (suc (suc (suc (suc (suc (suc (suc (suc (suc (suc (suc (suc (suc (suc (suc zero)))))))))))))))) d less = refl
+order_at (suc (suc (suc (suc (suc (suc (suc (suc (suc (suc (suc (suc (suc (suc (suc (suc (suc zero))))))))))))))))) d less = refl
+order_at (suc (suc (suc (suc (suc (suc (suc (suc (suc (suc (suc (suc (suc (suc (suc (suc (suc (suc zero)))))))))))))))))) d less = refl
+order_at (suc (suc (suc (suc (suc (suc (suc (suc (suc (suc (suc (suc (suc (suc (suc (suc (suc (suc (suc k))))))))))))))))))) d less = absurd (omega arith)
 
-order_within : (c : Code) → order_of c < 12
+order_within : (c : Code) → order_of c < 19
 order_within code.SharedAddress = omega arith
 order_within code.MissingAddress = omega arith
 order_within code.SharedTid = omega arith
@@ -68,24 +84,38 @@ order_within code.PoolEidNotLedOn = omega arith
 order_within code.LonePort = omega arith
 order_within code.EmptyReadableRange = omega arith
 order_within code.Isolated = omega arith
+order_within code.ForeignMedia = omega arith
+order_within code.ReservedBinding = omega arith
+order_within code.ReservedAddress = omega arith
+order_within code.EmptyBus = omega arith
+order_within code.CrossedThresholds = omega arith
+order_within code.UnknownTerminusHandle = omega arith
+order_within code.UncontainedEntity = omega arith
 
 -- ---- where findings stand
 
-node_within : (plan : Plan) (f : Finding) → IsSo plan f → (subject_of f).node < length plan.nodes.items
-node_within plan (SharedAddress n p m q) (early, (a, is, rest)) = port_within plan n p a is
-node_within plan (MissingAddress n p) (a, is, rest) = port_within plan n p a is
-node_within plan (SharedTid n m) (early, (t, is, rest)) = terminus_within plan n t is
-node_within plan (MissingLocator n) (t, is, rest) = terminus_within plan n t is
-node_within plan (SharedSensorId n j) (r, is, rest) = record_within plan n j r is
-node_within plan (OwnerHasNoWay n m) so = owned_within plan n so.0.1.0 so.0.1.1
-node_within plan (NoWayToOwner n m) so = owned_within plan n so.0.1.0 so.0.1.1
-node_within plan (IdleRow n r) (row, is, rest) = row_within plan n r row is
-node_within plan (PoolEidNotLedOn n eid) so = bridge_within plan n so.0
-node_within plan (LonePort n p) (a, is, rest) = port_within plan n p a is
-node_within plan (EmptyReadableRange n j) (r, is, rest) = record_within plan n j r is
-node_within plan (Isolated n) so = holder_within plan n so.1.0 so.1.1
+site_within : (plan : Plan) (f : Finding) → IsSo plan f → (subject_of f).site < sites_of plan (subject_of f).code
+site_within plan (SharedAddress n p m q) (early, (a, is, rest)) = port_within plan n p a is
+site_within plan (MissingAddress n p) (a, is, rest) = port_within plan n p a is
+site_within plan (SharedTid n m) (early, (t, is, rest)) = terminus_within plan n t is
+site_within plan (MissingLocator n) (t, is, rest) = terminus_within plan n t is
+site_within plan (SharedSensorId n j) (r, is, rest) = record_within plan n j r is
+site_within plan (OwnerHasNoWay n m) so = owned_within plan n so.0.1.0 so.0.1.1
+site_within plan (NoWayToOwner n m) so = owned_within plan n so.0.1.0 so.0.1.1
+site_within plan (IdleRow n r) (row, is, rest) = row_within plan n r row is
+site_within plan (PoolEidNotLedOn n eid) so = bridge_within plan n so.0
+site_within plan (LonePort n p) (a, is, rest) = port_within plan n p a is
+site_within plan (EmptyReadableRange n j) (r, is, rest) = record_within plan n j r is
+site_within plan (Isolated n) so = holder_within plan n so.1.0 so.1.1
+site_within plan (ForeignMedia b) (bus, is, rest) = slice_get_within plan.buses.items b bus is
+site_within plan (ReservedBinding b) (bus, is, rest) = slice_get_within plan.buses.items b bus is
+site_within plan (ReservedAddress n p) (a, is, rest) = port_within plan n p a is
+site_within plan (EmptyBus b) (bus, is, rest) = slice_get_within plan.buses.items b bus is
+site_within plan (CrossedThresholds n j) (r, is, rest) = record_within plan n j r is
+site_within plan (UnknownTerminusHandle n j) (r, is, rest) = record_within plan n j r is
+site_within plan (UncontainedEntity n j) (r, is, rest) = record_within plan n j r is
 
-item_within : (plan : Plan) (f : Finding) → IsSo plan f → (subject_of f).item < items_of plan (subject_of f).code (subject_of f).node
+item_within : (plan : Plan) (f : Finding) → IsSo plan f → (subject_of f).item < items_of plan (subject_of f).code (subject_of f).site
 item_within plan (SharedAddress n p m q) (early, (a, is, rest)) = slice_get_within (ports_of plan n) p a is
 item_within plan (MissingAddress n p) (a, is, rest) = slice_get_within (ports_of plan n) p a is
 item_within plan (SharedTid n m) so = omega arith
@@ -98,6 +128,13 @@ item_within plan (PoolEidNotLedOn n eid) so = eid.in_range
 item_within plan (LonePort n p) (a, is, rest) = slice_get_within (ports_of plan n) p a is
 item_within plan (EmptyReadableRange n j) (r, is, rest) = slice_get_within (records_of plan n) j r is
 item_within plan (Isolated n) so = omega arith
+item_within plan (ForeignMedia b) so = omega arith
+item_within plan (ReservedBinding b) so = omega arith
+item_within plan (ReservedAddress n p) (a, is, rest) = slice_get_within (ports_of plan n) p a is
+item_within plan (EmptyBus b) so = omega arith
+item_within plan (CrossedThresholds n j) (r, is, rest) = slice_get_within (records_of plan n) j r is
+item_within plan (UnknownTerminusHandle n j) (r, is, rest) = slice_get_within (records_of plan n) j r is
+item_within plan (UncontainedEntity n j) (r, is, rest) = slice_get_within (records_of plan n) j r is
 
 other_within : (plan : Plan) (f : Finding) → IsSo plan f → (subject_of f).other < others_of plan (subject_of f).code
 other_within plan (SharedAddress n p m q) (early, (a, is, (b, at, rest))) = port_within plan m q b at
@@ -112,6 +149,13 @@ other_within plan (PoolEidNotLedOn n eid) so = omega arith
 other_within plan (LonePort n p) so = omega arith
 other_within plan (EmptyReadableRange n j) so = omega arith
 other_within plan (Isolated n) so = omega arith
+other_within plan (ForeignMedia b) so = omega arith
+other_within plan (ReservedBinding b) so = omega arith
+other_within plan (ReservedAddress n p) so = omega arith
+other_within plan (EmptyBus b) so = omega arith
+other_within plan (CrossedThresholds n j) so = omega arith
+other_within plan (UnknownTerminusHandle n j) so = omega arith
+other_within plan (UncontainedEntity n j) so = omega arith
 
 other_item_within : (plan : Plan) (f : Finding) → IsSo plan f → (subject_of f).other_item < other_items_of plan (subject_of f).code (subject_of f).other
 other_item_within plan (SharedAddress n p m q) (early, (a, is, (b, at, rest))) = slice_get_within (ports_of plan m) q b at
@@ -126,15 +170,22 @@ other_item_within plan (PoolEidNotLedOn n eid) so = omega arith
 other_item_within plan (LonePort n p) so = omega arith
 other_item_within plan (EmptyReadableRange n j) so = omega arith
 other_item_within plan (Isolated n) so = omega arith
+other_item_within plan (ForeignMedia b) so = omega arith
+other_item_within plan (ReservedBinding b) so = omega arith
+other_item_within plan (ReservedAddress n p) so = omega arith
+other_item_within plan (EmptyBus b) so = omega arith
+other_item_within plan (CrossedThresholds n j) so = omega arith
+other_item_within plan (UnknownTerminusHandle n j) so = omega arith
+other_item_within plan (UncontainedEntity n j) so = omega arith
 
 -- ---- the ends of the loops
 
 module _ (plan : Plan) (f : Finding) (so : IsSo plan f) where
-  pub end_of_codes : NextBelow [] 12 (key_of f)
+  pub end_of_codes : NextBelow [] 19 (key_of f)
   end_of_codes = order_within (subject_of f).code
 
-  pub end_of_nodes : (c : Code) → BeginsWith (order_of c ∷ []) (key_of f) → NextBelow (order_of c ∷ []) (length plan.nodes.items) (key_of f)
-  end_of_nodes c at = (at.0, node_within plan f so)
+  pub end_of_sites : (c : Code) → BeginsWith (order_of c ∷ []) (key_of f) → NextBelow (order_of c ∷ []) (sites_of plan c) (key_of f)
+  end_of_sites c at = (at.0, subst (λ d. (subject_of f).site < sites_of plan d) (sym (one_order c (subject_of f).code at.0)) (site_within plan f so))
 
   pub end_of_items : (c : Code) (n : ℕ) → BeginsWith (order_of c ∷ n ∷ []) (key_of f) → NextBelow (order_of c ∷ n ∷ []) (items_of plan c n) (key_of f)
   end_of_items c n at =
@@ -143,7 +194,7 @@ module _ (plan : Plan) (f : Finding) (so : IsSo plan f) where
         (
           at.1.0,
           subst (λ k. Within c k) (sym at.1.0)
-              (subst (λ d. Within d (subject_of f).node) (sym (one_order c (subject_of f).code at.0)) (item_within plan f so)),
+              (subst (λ d. Within d (subject_of f).site) (sym (one_order c (subject_of f).code at.0)) (item_within plan f so)),
         ),
       )
 
@@ -214,8 +265,15 @@ made code.PoolEidNotLedOn n i m j = PoolEidNotLedOn n (eid_of i)
 made code.LonePort n i m j = LonePort n i
 made code.EmptyReadableRange n i m j = EmptyReadableRange n i
 made code.Isolated n i m j = Isolated n
+made code.ForeignMedia n i m j = ForeignMedia n
+made code.ReservedBinding n i m j = ReservedBinding n
+made code.ReservedAddress n i m j = ReservedAddress n i
+made code.EmptyBus n i m j = EmptyBus n
+made code.CrossedThresholds n i m j = CrossedThresholds n i
+made code.UnknownTerminusHandle n i m j = UnknownTerminusHandle n i
+made code.UncontainedEntity n i m j = UncontainedEntity n i
 
-made_again : (f : Finding) → made (subject_of f).code (subject_of f).node (subject_of f).item (subject_of f).other (subject_of f).other_item ≡ f
+made_again : (f : Finding) → made (subject_of f).code (subject_of f).site (subject_of f).item (subject_of f).other (subject_of f).other_item ≡ f
 unfolding made
 made_again (SharedAddress n p m q) = refl
 made_again (MissingAddress n p) = refl
@@ -229,6 +287,13 @@ made_again (PoolEidNotLedOn n eid) = ap (λ e. PoolEidNotLedOn n e) (same_eid (e
 made_again (LonePort n p) = refl
 made_again (EmptyReadableRange n j) = refl
 made_again (Isolated n) = refl
+made_again (ForeignMedia b) = refl
+made_again (ReservedBinding b) = refl
+made_again (ReservedAddress n p) = refl
+made_again (EmptyBus b) = refl
+made_again (CrossedThresholds n j) = refl
+made_again (UnknownTerminusHandle n j) = refl
+made_again (UncontainedEntity n j) = refl
 
 one_made : (c d : Code) (n k i j m l p q : ℕ) → c ≡ d → n ≡ k → i ≡ j → m ≡ l → p ≡ q → made c n i m p ≡ made d k j l q
 one_made c d n k i j m l p q a b e f g = cc
@@ -238,7 +303,7 @@ one_finding f g at =
     let s = subject_of f in
     let t = subject_of g in
     sym (made_again f)
-    ∙ (one_made s.code t.code s.node t.node s.item t.item s.other t.other s.other_item t.other_item (one_order s.code t.code at.0) at.1.0 at.1.1.0 at.1.1.1.0 at.1.1.1.1.0
+    ∙ (one_made s.code t.code s.site t.site s.item t.item s.other t.other s.other_item t.other_item (one_order s.code t.code at.0) at.1.0 at.1.1.0 at.1.1.1.0 at.1.1.1.1.0
     ∙ made_again g)
 
 -- ---- what is added where it is so, and where it isn't
@@ -252,7 +317,7 @@ none_added plan f old not = nothing (IsUnder plan (key_of f)) old (λ g at. not 
 
 -- ---- the whole list
 
-pub are_findings : (plan : Plan) (findings : List Finding) → Adds (Below plan [] 12) [] findings → AreFindings plan findings
+pub are_findings : (plan : Plan) (findings : List Finding) → Adds (Below plan [] 19) [] findings → AreFindings plan findings
 are_findings plan findings (more, is, all) =
     let whole : findings ≡ more = is in
     subst (λ fs. AreFindings plan fs) (sym whole) (record {

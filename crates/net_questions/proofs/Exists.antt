@@ -39,3 +39,10 @@ of_some o x Q b is told = (λ h. (x, sym is, told.0 h), λ (a, at, q). told.1 (s
 
 pub of_none : {A : Type 0} (o : Option A) (Q : A → Type 0) → None ≡ o → IsTrue false ↔ ((a : A) × (o ≡ Some a) × Q a)
 of_none o Q is = (λ h. absurd (cc h), λ (a, at, q). absurd (none-some a (is ∙ at)))
+
+-- what is asked of the only value of which something is so
+pub of_only : {A : Type 0} (R : A → Type 0) (x : A) (P : A → Type 0) (b : Bool) → R x → ((a : A) → R a → x ≡ a) → IsTrue b ↔ P x → IsTrue b ↔ ((a : A) × R a × P a)
+of_only R x P b is only told = (λ h. (x, is, told.0 h), λ (a, at, p). told.1 (subst P (sym (only a at)) p))
+
+pub of_nobody : {A : Type 0} (R : A → Type 0) (P : A → Type 0) → ((a : A) → R a → ⊥) → IsTrue false ↔ ((a : A) × R a × P a)
+of_nobody R P none = (λ h. absurd (cc h), λ (a, at, p). absurd (none a at))

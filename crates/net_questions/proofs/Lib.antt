@@ -11,3 +11,5 @@ pub mod SensorIds
 pub mod Walks
 pub mod FirstRows
 pub mod TopmostOwners
+pub mod Referring
+pub mod Crossing

@@ -13,7 +13,7 @@ use Rattle.net_tables.specs.Routing.{Holds, HasRow, IsBridge, rows_of}
 use Rattle.net_tables.specs.Ownership.{IsOwnedBy, pool_of, IsInPoolOf}
 use Rattle.net_tables.specs.Repositories.{terminus_of, records_of}
 use Rattle.net_rules.proofs.Beyond.{no_owner}
-use Rattle.net_questions.specs.Lint.{IsPort}
+use Rattle.net_questions.specs.Ports.{IsPort}
 
 by_past : (plan : Plan) (n : ℕ) → (length plan.nodes.items ≤ n → ⊥) → n < length plan.nodes.items
 by_past plan n not = elim (cases_lt n (length plan.nodes.items)) [ inl lt ↦ lt | inr past ↦ absurd (not past) ]

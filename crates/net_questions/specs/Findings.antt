@@ -12,9 +12,14 @@ use Rattle.net_questions.specs.declared.finding.Finding.TheVariants.{MissingLoca
 use Rattle.net_questions.specs.declared.finding.Finding.TheVariants.{OwnerHasNoWay, NoWayToOwner}
 use Rattle.net_questions.specs.declared.finding.Finding.TheVariants.{IdleRow, PoolEidNotLedOn}
 use Rattle.net_questions.specs.declared.finding.Finding.TheVariants.{LonePort, EmptyReadableRange, Isolated}
+use Rattle.net_questions.specs.declared.finding.Finding.TheVariants.{ForeignMedia, ReservedBinding, ReservedAddress}
+use Rattle.net_questions.specs.declared.finding.Finding.TheVariants.{EmptyBus, CrossedThresholds}
+use Rattle.net_questions.specs.declared.finding.Finding.TheVariants.{UnknownTerminusHandle, UncontainedEntity}
 use Rattle.net_questions.specs.Lint.{ShareAddress, LacksAddress, IsAloneOnBus, ShareTid, LacksLocator}
 use Rattle.net_questions.specs.Lint.{SharesSensorId, HasNoWayFromOwner, HasNoWayToOwner, HasIdleRow, LeavesHeld}
 use Rattle.net_questions.specs.Lint.{HasEmptyReadableRange, IsIsolated}
+use Rattle.net_questions.specs.Buses.{HasForeignMedia, HasReservedBinding, IsReservedPort, IsEmptyBus}
+use Rattle.net_questions.specs.Sensors.{HasCrossedThresholds, NamesNoTerminus, MeasuresUncontained}
 
 -- the finding is so in the plan
 abbrev pub IsSo : Plan → Finding → Type 0
@@ -30,6 +35,13 @@ IsSo plan (PoolEidNotLedOn n eid) = LeavesHeld plan n eid.value
 IsSo plan (LonePort n p) = IsAloneOnBus plan n p
 IsSo plan (EmptyReadableRange n j) = HasEmptyReadableRange plan n j
 IsSo plan (Isolated n) = IsIsolated plan n
+IsSo plan (ForeignMedia b) = HasForeignMedia plan b
+IsSo plan (ReservedBinding b) = HasReservedBinding plan b
+IsSo plan (ReservedAddress n p) = IsReservedPort plan n p
+IsSo plan (EmptyBus b) = IsEmptyBus plan b
+IsSo plan (CrossedThresholds n j) = HasCrossedThresholds plan n j
+IsSo plan (UnknownTerminusHandle n j) = NamesNoTerminus plan n j
+IsSo plan (UncontainedEntity n j) = MeasuresUncontained plan n j
 
 -- the index of a code among the codes
 abbrev pub order_of : Code → ℕ
@@ -45,36 +57,53 @@ order_of code.PoolEidNotLedOn = 8
 order_of code.LonePort = 9
 order_of code.EmptyReadableRange = 10
 order_of code.Isolated = 11
+order_of code.ForeignMedia = 12
+order_of code.ReservedBinding = 13
+order_of code.ReservedAddress = 14
+order_of code.EmptyBus = 15
+order_of code.CrossedThresholds = 16
+order_of code.UnknownTerminusHandle = 17
+order_of code.UncontainedEntity = 18
 
--- What a finding is about: its code; a node, and one of its ports, rows, records or EIDs; another node, and one of its
--- ports or records. What is not spoken of is 0.
+-- What a finding is about: its code; a node or a bus, and one of the node's ports, rows, records or EIDs; another node,
+-- and one of its ports or records. What is not spoken of is 0.
 pub record Subject : Type 0 where
   pub code : Code
-  pub node : ℕ
+  pub site : ℕ
   pub item : ℕ
   pub other : ℕ
   pub other_item : ℕ
 
 abbrev pub subject_of : Finding → Subject
 subject_of (SharedAddress n p m q) =
-    record { code = code.SharedAddress; node = n; item = p; other = m; other_item = q }
-subject_of (MissingAddress n p) = record { code = code.MissingAddress; node = n; item = p; other = 0; other_item = 0 }
-subject_of (SharedTid n m) = record { code = code.SharedTid; node = n; item = 0; other = m; other_item = 0 }
-subject_of (MissingLocator n) = record { code = code.MissingLocator; node = n; item = 0; other = 0; other_item = 0 }
-subject_of (SharedSensorId n j) = record { code = code.SharedSensorId; node = n; item = j; other = 0; other_item = 0 }
-subject_of (OwnerHasNoWay n m) = record { code = code.OwnerHasNoWay; node = n; item = 0; other = m; other_item = 0 }
-subject_of (NoWayToOwner n m) = record { code = code.NoWayToOwner; node = n; item = 0; other = m; other_item = 0 }
-subject_of (IdleRow n r) = record { code = code.IdleRow; node = n; item = r; other = 0; other_item = 0 }
+    record { code = code.SharedAddress; site = n; item = p; other = m; other_item = q }
+subject_of (MissingAddress n p) = record { code = code.MissingAddress; site = n; item = p; other = 0; other_item = 0 }
+subject_of (SharedTid n m) = record { code = code.SharedTid; site = n; item = 0; other = m; other_item = 0 }
+subject_of (MissingLocator n) = record { code = code.MissingLocator; site = n; item = 0; other = 0; other_item = 0 }
+subject_of (SharedSensorId n j) = record { code = code.SharedSensorId; site = n; item = j; other = 0; other_item = 0 }
+subject_of (OwnerHasNoWay n m) = record { code = code.OwnerHasNoWay; site = n; item = 0; other = m; other_item = 0 }
+subject_of (NoWayToOwner n m) = record { code = code.NoWayToOwner; site = n; item = 0; other = m; other_item = 0 }
+subject_of (IdleRow n r) = record { code = code.IdleRow; site = n; item = r; other = 0; other_item = 0 }
 subject_of (PoolEidNotLedOn n eid) =
-    record { code = code.PoolEidNotLedOn; node = n; item = eid.value; other = 0; other_item = 0 }
-subject_of (LonePort n p) = record { code = code.LonePort; node = n; item = p; other = 0; other_item = 0 }
+    record { code = code.PoolEidNotLedOn; site = n; item = eid.value; other = 0; other_item = 0 }
+subject_of (LonePort n p) = record { code = code.LonePort; site = n; item = p; other = 0; other_item = 0 }
 subject_of (EmptyReadableRange n j) =
-    record { code = code.EmptyReadableRange; node = n; item = j; other = 0; other_item = 0 }
-subject_of (Isolated n) = record { code = code.Isolated; node = n; item = 0; other = 0; other_item = 0 }
+    record { code = code.EmptyReadableRange; site = n; item = j; other = 0; other_item = 0 }
+subject_of (Isolated n) = record { code = code.Isolated; site = n; item = 0; other = 0; other_item = 0 }
+subject_of (ForeignMedia b) = record { code = code.ForeignMedia; site = b; item = 0; other = 0; other_item = 0 }
+subject_of (ReservedBinding b) = record { code = code.ReservedBinding; site = b; item = 0; other = 0; other_item = 0 }
+subject_of (ReservedAddress n p) = record { code = code.ReservedAddress; site = n; item = p; other = 0; other_item = 0 }
+subject_of (EmptyBus b) = record { code = code.EmptyBus; site = b; item = 0; other = 0; other_item = 0 }
+subject_of (CrossedThresholds n j) =
+    record { code = code.CrossedThresholds; site = n; item = j; other = 0; other_item = 0 }
+subject_of (UnknownTerminusHandle n j) =
+    record { code = code.UnknownTerminusHandle; site = n; item = j; other = 0; other_item = 0 }
+subject_of (UncontainedEntity n j) =
+    record { code = code.UncontainedEntity; site = n; item = j; other = 0; other_item = 0 }
 
 -- by code, then by what it is about
 abbrev pub numbers_of : Subject → List ℕ
-numbers_of s = order_of s.code ∷ s.node ∷ s.item ∷ s.other ∷ s.other_item ∷ []
+numbers_of s = order_of s.code ∷ s.site ∷ s.item ∷ s.other ∷ s.other_item ∷ []
 
 abbrev pub key_of : Finding → List ℕ
 key_of f = numbers_of (subject_of f)
@@ -112,6 +141,28 @@ Adds P old new = (more : List Finding) × (new ≡ old ++ more) × AreAll P more
 abbrev pub IsUnder : Plan → List ℕ → Finding → Type 0
 IsUnder plan numbers f = IsSo plan f × BeginsWith numbers (key_of f)
 
+-- how many buses a code looks at, or how many nodes
+abbrev pub sites_of : Plan → Code → ℕ
+sites_of plan code.SharedAddress = length plan.nodes.items
+sites_of plan code.MissingAddress = length plan.nodes.items
+sites_of plan code.SharedTid = length plan.nodes.items
+sites_of plan code.MissingLocator = length plan.nodes.items
+sites_of plan code.SharedSensorId = length plan.nodes.items
+sites_of plan code.OwnerHasNoWay = length plan.nodes.items
+sites_of plan code.NoWayToOwner = length plan.nodes.items
+sites_of plan code.IdleRow = length plan.nodes.items
+sites_of plan code.PoolEidNotLedOn = length plan.nodes.items
+sites_of plan code.LonePort = length plan.nodes.items
+sites_of plan code.EmptyReadableRange = length plan.nodes.items
+sites_of plan code.Isolated = length plan.nodes.items
+sites_of plan code.ForeignMedia = length plan.buses.items
+sites_of plan code.ReservedBinding = length plan.buses.items
+sites_of plan code.ReservedAddress = length plan.nodes.items
+sites_of plan code.EmptyBus = length plan.buses.items
+sites_of plan code.CrossedThresholds = length plan.nodes.items
+sites_of plan code.UnknownTerminusHandle = length plan.nodes.items
+sites_of plan code.UncontainedEntity = length plan.nodes.items
+
 -- how many items of a node a code looks at; one where it speaks of none
 abbrev pub items_of : Plan → Code → ℕ → ℕ
 items_of plan code.SharedAddress n = length (ports_of plan n)
@@ -126,6 +177,13 @@ items_of plan code.PoolEidNotLedOn n = 256
 items_of plan code.LonePort n = length (ports_of plan n)
 items_of plan code.EmptyReadableRange n = length (records_of plan n)
 items_of plan code.Isolated n = 1
+items_of plan code.ForeignMedia n = 1
+items_of plan code.ReservedBinding n = 1
+items_of plan code.ReservedAddress n = length (ports_of plan n)
+items_of plan code.EmptyBus n = 1
+items_of plan code.CrossedThresholds n = length (records_of plan n)
+items_of plan code.UnknownTerminusHandle n = length (records_of plan n)
+items_of plan code.UncontainedEntity n = length (records_of plan n)
 
 -- how many other nodes a code looks at; one where it speaks of none
 abbrev pub others_of : Plan → Code → ℕ
@@ -141,6 +199,13 @@ others_of plan code.PoolEidNotLedOn = 1
 others_of plan code.LonePort = 1
 others_of plan code.EmptyReadableRange = 1
 others_of plan code.Isolated = 1
+others_of plan code.ForeignMedia = 1
+others_of plan code.ReservedBinding = 1
+others_of plan code.ReservedAddress = 1
+others_of plan code.EmptyBus = 1
+others_of plan code.CrossedThresholds = 1
+others_of plan code.UnknownTerminusHandle = 1
+others_of plan code.UncontainedEntity = 1
 
 -- how many other items a code looks at; one where it speaks of none
 abbrev pub other_items_of : Plan → Code → ℕ → ℕ
@@ -156,3 +221,10 @@ other_items_of plan code.PoolEidNotLedOn m = 1
 other_items_of plan code.LonePort m = 1
 other_items_of plan code.EmptyReadableRange m = 1
 other_items_of plan code.Isolated m = 1
+other_items_of plan code.ForeignMedia m = 1
+other_items_of plan code.ReservedBinding m = 1
+other_items_of plan code.ReservedAddress m = 1
+other_items_of plan code.EmptyBus m = 1
+other_items_of plan code.CrossedThresholds m = 1
+other_items_of plan code.UnknownTerminusHandle m = 1
+other_items_of plan code.UncontainedEntity m = 1

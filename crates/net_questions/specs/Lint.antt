@@ -8,17 +8,14 @@ use Rattle.net_plan.specs.declared.terminus.PlannedRecord.{PlannedRecord}
 use Rattle.net_plan.specs.declared.terminus.PlannedTerminus.{PlannedTerminus}
 use Rattle.pdr_record.specs.Layouts.{NumericValue}
 use Rattle.pdr_record.specs.Records.{RecordValue, BodyValue, Spelled}
-use Rattle.net_tables.specs.Routing.{ports_of, rows_of, IsBridge, Holds, Covers, HasRow, OfItem}
+use Rattle.net_tables.specs.Routing.{rows_of, IsBridge, Holds, Covers, HasRow, OfItem}
 use Rattle.net_rules.specs.Moves.{Leads, IsEnd}
 use Rattle.net_tables.specs.Ownership.{IsOwnedBy, IsInPoolOf}
 use Rattle.net_tables.specs.Repositories.{terminus_of, records_of}
 use Rattle.net_rules.specs.Locators.{IsEidLocator}
+use Rattle.net_questions.specs.Ports.{IsPort}
 
 -- ---- ports
-
--- this is n's port p
-abbrev pub IsPort : Plan → ℕ → ℕ → Port → Type 0
-IsPort plan n p port = slice_get (ports_of plan n) p ≡ Some port
 
 -- n comes before m, or is m and p comes before q
 abbrev pub IsEarlier : ℕ → ℕ → ℕ → ℕ → Type 0

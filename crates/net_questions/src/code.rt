@@ -15,10 +15,17 @@ pub enum Code {
     LonePort,
     EmptyReadableRange,
     Isolated,
+    ForeignMedia,
+    ReservedBinding,
+    ReservedAddress,
+    EmptyBus,
+    CrossedThresholds,
+    UnknownTerminusHandle,
+    UncontainedEntity,
 }
 
 /// The codes, in their order.
-pub const CODES: [Code; 12] = [
+pub const CODES: [Code; 19] = [
     Code::SharedAddress,
     Code::MissingAddress,
     Code::SharedTid,
@@ -31,4 +38,11 @@ pub const CODES: [Code; 12] = [
     Code::LonePort,
     Code::EmptyReadableRange,
     Code::Isolated,
+    Code::ForeignMedia,
+    Code::ReservedBinding,
+    Code::ReservedAddress,
+    Code::EmptyBus,
+    Code::CrossedThresholds,
+    Code::UnknownTerminusHandle,
+    Code::UncontainedEntity,
 ];

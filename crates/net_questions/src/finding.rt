@@ -1,8 +1,8 @@
 //! What is lawful in a plan, and still looks wrong.
 use mctp_transport::Eid;
 
-/// What looks wrong, and whom it is about. A node is told by its index in the plan's list; a port, a row or a record by
-/// its index in its node's list.
+/// What looks wrong, and whom it is about. A node or a bus is told by its index in the plan's list; a port, a row or a
+/// record by its index in its node's list.
 #[derive(Clone, Copy, Debug, PartialEq, Eq)]
 pub enum Finding {
     /// H01: two ports on one bus have one address. The second port comes later in the plan.
@@ -64,5 +64,37 @@ pub enum Finding {
     /// H12: a node has no rows, and no node has a row for its endpoint ID.
     Isolated {
         node: usize,
+    },
+    /// H13: a bus has media of another physical transport binding than its own.
+    ForeignMedia {
+        bus: usize,
+    },
+    /// H14: a bus has the reserved binding 0.
+    ReservedBinding {
+        bus: usize,
+    },
+    /// H15: the address of a port is reserved on its bus.
+    ReservedAddress {
+        node: usize,
+        port: usize,
+    },
+    /// H16: no port is on a bus.
+    EmptyBus {
+        bus: usize,
+    },
+    /// H17: a record is a numeric sensor's, of whose thresholds a lower one is over a higher one.
+    CrossedThresholds {
+        node: usize,
+        record: usize,
+    },
+    /// H18: a record is a numeric or state sensor's, and no terminus locator of its terminus has its terminus handle.
+    UnknownTerminusHandle {
+        node: usize,
+        record: usize,
+    },
+    /// H19: a record is a numeric or state sensor's, and no entity association of its terminus contains its entity.
+    UncontainedEntity {
+        node: usize,
+        record: usize,
     },
 }

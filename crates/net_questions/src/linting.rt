@@ -1,10 +1,12 @@
 //! All that is lawful in a plan and still looks wrong.
 ghost use Rattle.std.specs.Prelude.{◌<◌, ◌≡◌, ◌↔◌, [], ◌∷◌, IsTrue, IfOk, OnOk};
-ghost use Rattle.net_questions.specs.Findings.{IsSo, AreFindings, Adds, IsUnder, order_of, key_of, items_of, others_of, other_items_of};
+ghost use Rattle.net_questions.specs.Findings.{IsSo, AreFindings, Adds, IsUnder, order_of, key_of, sites_of, items_of, others_of, other_items_of};
 
 use crate::code::{CODES, Code};
 use crate::finding::Finding;
-use crate::lints::{locators, ports, rows, sensors, termini, ways};
+use crate::lints::{
+    buses, entities, handles, locators, ports, rows, sensors, termini, thresholds, ways,
+};
 use mctp_transport::Eid;
 use net_plan::Plan;
 use net_tables::lookup::{ports_at, records_at, rows_at};
@@ -26,59 +28,59 @@ pub fn lint(alloc: Global, plan: &Plan) -> Result<Vec<Finding>, AllocError>
 fn add_of_code(findings: &mut Vec<Finding>, plan: &Plan, code: Code) -> Result<(), AllocError>
     ensures { OnOk result (Adds (IsUnder plan.now (order_of code ∷ [])) findings.old.items findings.new.items) }
 {
-    for node in 0..plan.nodes.len() {
-        add_at_node(findings, plan, code, node)?;
+    for site in 0..sites(plan, code) {
+        add_at_site(findings, plan, code, site)?;
     }
     Ok(())
 }
 
-/// Adds what a code finds at a node.
-fn add_at_node(
+/// Adds what a code finds at a node or a bus.
+fn add_at_site(
     findings: &mut Vec<Finding>,
     plan: &Plan,
     code: Code,
-    node: usize,
+    site: usize,
 ) -> Result<(), AllocError>
-    ensures { OnOk result (Adds (IsUnder plan.now (order_of code ∷ node ∷ [])) findings.old.items findings.new.items) }
+    ensures { OnOk result (Adds (IsUnder plan.now (order_of code ∷ site ∷ [])) findings.old.items findings.new.items) }
 {
-    for item in 0..items(plan, code, node) {
-        add_at_item(findings, plan, code, node, item)?;
+    for item in 0..items(plan, code, site) {
+        add_at_item(findings, plan, code, site, item)?;
     }
     Ok(())
 }
 
-/// Adds what a code finds at a node's item.
+/// Adds what a code finds at an item.
 fn add_at_item(
     findings: &mut Vec<Finding>,
     plan: &Plan,
     code: Code,
-    node: usize,
+    site: usize,
     item: usize,
 ) -> Result<(), AllocError>
-    requires { item < items_of plan.now code node }
-    ensures { OnOk result (Adds (IsUnder plan.now (order_of code ∷ node ∷ item ∷ [])) findings.old.items findings.new.items) }
+    requires { item < items_of plan.now code site }
+    ensures { OnOk result (Adds (IsUnder plan.now (order_of code ∷ site ∷ item ∷ [])) findings.old.items findings.new.items) }
 {
     for other in 0..others(plan, code) {
-        add_between(findings, plan, code, node, item, other)?;
+        add_between(findings, plan, code, site, item, other)?;
     }
     Ok(())
 }
 
-/// Adds what a code finds at a node's item and another node.
+/// Adds what a code finds at an item and another node.
 fn add_between(
     findings: &mut Vec<Finding>,
     plan: &Plan,
     code: Code,
-    node: usize,
+    site: usize,
     item: usize,
     other: usize,
 ) -> Result<(), AllocError>
-    requires item { item < items_of plan.now code node }
+    requires item { item < items_of plan.now code site }
     requires other { other < others_of plan.now code }
-    ensures { OnOk result (Adds (IsUnder plan.now (order_of code ∷ node ∷ item ∷ other ∷ [])) findings.old.items findings.new.items) }
+    ensures { OnOk result (Adds (IsUnder plan.now (order_of code ∷ site ∷ item ∷ other ∷ [])) findings.old.items findings.new.items) }
 {
     for other_item in 0..other_items(plan, code, other) {
-        let finding = finding_at(plan, code, node, item, other, other_item);
+        let finding = finding_at(plan, code, site, item, other, other_item);
         add_if_so(findings, plan, finding)?;
     }
     Ok(())
@@ -95,16 +97,31 @@ fn add_if_so(findings: &mut Vec<Finding>, plan: &Plan, finding: Finding) -> Resu
     Ok(())
 }
 
-/// How many items of a node a code looks at, one where it speaks of none.
-fn items(plan: &Plan, code: Code, node: usize) -> usize
-    ensures { result ≡ items_of plan.now code node }
+/// How many buses a code looks at, or how many nodes.
+fn sites(plan: &Plan, code: Code) -> usize
+    ensures { result ≡ sites_of plan.now code }
 {
     match code {
-        Code::SharedAddress | Code::MissingAddress | Code::LonePort => ports_at(plan, node).len(),
-        Code::IdleRow => rows_at(plan, node).len(),
+        Code::ForeignMedia | Code::ReservedBinding | Code::EmptyBus => plan.buses.len(),
+        _ => plan.nodes.len(),
+    }
+}
+
+/// How many items of a node a code looks at, one where it speaks of none.
+fn items(plan: &Plan, code: Code, site: usize) -> usize
+    ensures { result ≡ items_of plan.now code site }
+{
+    match code {
+        Code::SharedAddress | Code::MissingAddress | Code::LonePort => ports_at(plan, site).len(),
+        Code::IdleRow => rows_at(plan, site).len(),
         Code::PoolEidNotLedOn => 256,
-        Code::SharedSensorId | Code::EmptyReadableRange => records_at(plan, node).len(),
+        Code::SharedSensorId | Code::EmptyReadableRange => records_at(plan, site).len(),
+        Code::ReservedAddress => ports_at(plan, site).len(),
+        Code::CrossedThresholds | Code::UnknownTerminusHandle | Code::UncontainedEntity => {
+            records_at(plan, site).len()
+        }
         Code::SharedTid | Code::MissingLocator | Code::Isolated => 1,
+        Code::ForeignMedia | Code::ReservedBinding | Code::EmptyBus => 1,
         Code::OwnerHasNoWay | Code::NoWayToOwner => 1,
     }
 }
@@ -134,37 +151,77 @@ fn other_items(plan: &Plan, code: Code, other: usize) -> usize
 fn finding_at(
     plan: &Plan,
     code: Code,
-    node: usize,
+    site: usize,
     item: usize,
     other: usize,
     other_item: usize,
 ) -> Finding
-    requires item { item < items_of plan.now code node }
+    requires item { item < items_of plan.now code site }
     requires other { other < others_of plan.now code }
     requires other_item { other_item < other_items_of plan.now code other }
-    ensures { key_of result ≡ order_of code ∷ node ∷ item ∷ other ∷ other_item ∷ [] }
+    ensures { key_of result ≡ order_of code ∷ site ∷ item ∷ other ∷ other_item ∷ [] }
 {
     match code {
         Code::SharedAddress => Finding::SharedAddress {
-            node,
+            node: site,
             port: item,
             other,
             other_port: other_item,
         },
-        Code::MissingAddress => Finding::MissingAddress { node, port: item },
-        Code::SharedTid => Finding::SharedTid { node, other },
-        Code::MissingLocator => Finding::MissingLocator { node },
-        Code::SharedSensorId => Finding::SharedSensorId { node, record: item },
-        Code::OwnerHasNoWay => Finding::OwnerHasNoWay { node, owner: other },
-        Code::NoWayToOwner => Finding::NoWayToOwner { node, owner: other },
-        Code::IdleRow => Finding::IdleRow { node, row: item },
+        Code::MissingAddress => Finding::MissingAddress {
+            node: site,
+            port: item,
+        },
+        Code::SharedTid => Finding::SharedTid { node: site, other },
+        Code::MissingLocator => Finding::MissingLocator { node: site },
+        Code::SharedSensorId => Finding::SharedSensorId {
+            node: site,
+            record: item,
+        },
+        Code::OwnerHasNoWay => Finding::OwnerHasNoWay {
+            node: site,
+            owner: other,
+        },
+        Code::NoWayToOwner => Finding::NoWayToOwner {
+            node: site,
+            owner: other,
+        },
+        Code::IdleRow => Finding::IdleRow {
+            node: site,
+            row: item,
+        },
         Code::PoolEidNotLedOn => Finding::PoolEidNotLedOn {
-            node,
+            node: site,
             eid: Eid::new(item as u8),
         },
-        Code::LonePort => Finding::LonePort { node, port: item },
-        Code::EmptyReadableRange => Finding::EmptyReadableRange { node, record: item },
-        Code::Isolated => Finding::Isolated { node },
+        Code::LonePort => Finding::LonePort {
+            node: site,
+            port: item,
+        },
+        Code::EmptyReadableRange => Finding::EmptyReadableRange {
+            node: site,
+            record: item,
+        },
+        Code::Isolated => Finding::Isolated { node: site },
+        Code::ForeignMedia => Finding::ForeignMedia { bus: site },
+        Code::ReservedBinding => Finding::ReservedBinding { bus: site },
+        Code::ReservedAddress => Finding::ReservedAddress {
+            node: site,
+            port: item,
+        },
+        Code::EmptyBus => Finding::EmptyBus { bus: site },
+        Code::CrossedThresholds => Finding::CrossedThresholds {
+            node: site,
+            record: item,
+        },
+        Code::UnknownTerminusHandle => Finding::UnknownTerminusHandle {
+            node: site,
+            record: item,
+        },
+        Code::UncontainedEntity => Finding::UncontainedEntity {
+            node: site,
+            record: item,
+        },
     }
 }
 
@@ -192,5 +249,18 @@ fn is_so(plan: &Plan, finding: Finding) -> bool
             sensors::has_empty_readable_range(plan, node, record)
         }
         Finding::Isolated { node } => rows::is_isolated(plan, node),
+        Finding::ForeignMedia { bus } => buses::has_foreign_media(plan, bus),
+        Finding::ReservedBinding { bus } => buses::has_reserved_binding(plan, bus),
+        Finding::ReservedAddress { node, port } => buses::is_reserved_port(plan, node, port),
+        Finding::EmptyBus { bus } => buses::is_empty_bus(plan, bus),
+        Finding::CrossedThresholds { node, record } => {
+            thresholds::has_crossed_thresholds(plan, node, record)
+        }
+        Finding::UnknownTerminusHandle { node, record } => {
+            handles::names_no_terminus(plan, node, record)
+        }
+        Finding::UncontainedEntity { node, record } => {
+            entities::measures_uncontained(plan, node, record)
+        }
     }
 }

@@ -1,7 +1,12 @@
 //! The tests of what looks wrong.
+mod bodies;
+pub mod buses;
+pub mod entities;
+pub mod handles;
 pub mod locators;
 pub mod ports;
 pub mod rows;
 pub mod sensors;
 pub mod termini;
+pub mod thresholds;
 pub mod ways;

@@ -11,6 +11,8 @@ mod Deciding
 mod Tabled
 mod Slots
 mod Keeping
+mod Counting
+mod Tallying
 mod Rooms
 mod Lacking
 mod Changes

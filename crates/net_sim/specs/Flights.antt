@@ -4,13 +4,10 @@ use Rattle.std.specs.Prelude.{Option, Some, None, option_map, option_and_then, v
 use Rattle.std.specs.List.{range_with_len}
 use Rattle.mctp_transport.specs.Frames.{Frame}
 use Rattle.net_runs.specs.States as state
-use Rattle.net_sim.specs.KeptPackets.{kept_frame}
+pub use Rattle.net_sim.specs.FlightValues.{flight_value}
 use Rattle.net_sim.specs.declared.flights.Flight.{Flight}
 use Rattle.net_sim.specs.declared.flights.Slot.{Slot}
 use Rattle.net_sim.specs.declared.flights.Flights.{Flights}
-
-abbrev pub flight_value : Flight → state.Flight
-flight_value f = record { packet = kept_frame f.packet; origin = f.origin; node = f.node; hops = f.hops }
 
 -- the flight that is kept under a number
 abbrev pub kept : List Slot → ℕ → Option Flight

@@ -1,13 +1,19 @@
 -- What a network that has settled for a key and a destination holds, part by part.
-use Rattle.std.specs.Prelude.{◌≡◌, ◌≢◌, ℕ, Option, Some, None, All}
+use Rattle.std.specs.Prelude.{◌≡◌, ◌≢◌, ℕ, Bool, false, Option, Some, None, All}
 use Rattle.mctp_transport.specs.Frames.{KeyValue, key_of}
 use Rattle.mctp_transport.specs.Histories.{IsOpen}
+use Rattle.net_sim.specs.KeyCounts.{are_these}
 use Rattle.net_runs.specs.Termini.{TerminusState}
 use Rattle.net_runs.specs.States.{NetworkState, Flight, destination, slots, limit}
 
 -- its packet is of the key and goes to d
 abbrev pub IsTo : KeyValue → ℕ → Flight → Type 0
 IsTo key d f = (key_of f.packet ≡ key) × (destination f ≡ d)
+
+-- the same of a flight that may be there, as a test
+abbrev pub goes_to : KeyValue → ℕ → Option Flight → Bool
+goes_to key d None = false
+goes_to key d (Some f) = are_these (key_of f.packet) (destination f) key d
 
 -- no flight is there, or one that isn't
 abbrev pub IsNotTo : KeyValue → ℕ → Option Flight → Type 0

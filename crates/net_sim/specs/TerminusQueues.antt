@@ -8,7 +8,7 @@ use Rattle.pdr_repository.specs.Answers.{Answers}
 use Rattle.net_runs.specs.Termini.{TerminusState, WaitingMessage, with_waiting}
 use Rattle.net_sim.specs.declared.refusal.Refusal.{Refusal}
 use Rattle.net_sim.specs.declared.refusal.Refusal.TheVariants.{NoTerminus, NothingWaits}
-use Rattle.net_sim.specs.declared.terminus_queue.Waiting.{Waiting}
+use Rattle.net_sim.specs.declared.waiting.Waiting.{Waiting}
 use Rattle.net_sim.specs.declared.terminus_queue.TerminusQueue.{TerminusQueue}
 
 abbrev pub waiting_value : Waiting → WaitingMessage
@@ -17,12 +17,12 @@ waiting_value m = record { key = key_value m.key; bytes = m.bytes.items }
 -- the terminus ID and the records by the termini's own meaning
 abbrev pub queue_state : {T : Type 0} → (T → ℕ) → (T → List Entry) → TerminusQueue T → TerminusState
 queue_state tid records d =
-    record { tid = tid d.terminus; records = records d.terminus; waiting = map waiting_value d.waiting.items }
+    record { tid = tid d.terminus; records = records d.terminus; waiting = map waiting_value d.waiting.messages.items }
 
 -- where there is a terminus, one message more can wait without growing
 abbrev pub HasRoomFor : {T : Type 0} → Option (TerminusQueue T) → Type 0
 HasRoomFor None = Unit {0}
-HasRoomFor (Some d) = deque_len d.waiting < deque_capacity d.waiting
+HasRoomFor (Some d) = deque_len d.waiting.messages < deque_capacity d.waiting.messages
 
 -- a node's terminus once a message has come there: it waits if its source owns the tag
 abbrev pub with_message : WaitingMessage → Option TerminusState → Option TerminusState

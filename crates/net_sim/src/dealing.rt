@@ -38,26 +38,27 @@ pub fn deal<T: Terminus>(
     let mut queues = Vec::new(alloc);
     let mut left = termini.into_iter();
     for node in &plan.nodes {
-        queues.push(deal_to(alloc, node, &mut left))?;
+        queues.push(deal_to(alloc, &plan.nodes, node, &mut left)?)?;
     }
     Ok(queues)
 }
 
-/// The queue of a node, if it has a terminus and one is left.
+/// The queue of a node among these nodes, if it has a terminus and one is left.
 fn deal_to<T: Terminus>(
     alloc: Global,
+    among: &[Node],
     node: &Node,
     left: &mut IntoIter<T>,
-) -> Option<TerminusQueue<T>>
-    ensures { (nodes : List Node) → dealt (node.now ∷ nodes) (map (resting T.tid T.records) (into_iter_items left.old))
-        ≡ option_map (queue_state T.tid T.records) result
-        ∷ dealt nodes (map (resting T.tid T.records) (into_iter_items left.new)) }
+) -> Result<Option<TerminusQueue<T>>, AllocError>
+    ensures { IfOk result (λ queue. (nodes : List Node) → dealt (node.now ∷ nodes) (map (resting T.tid T.records) (into_iter_items left.old))
+        ≡ option_map (queue_state T.tid T.records) queue
+        ∷ dealt nodes (map (resting T.tid T.records) (into_iter_items left.new))) }
 {
     if node.terminus.is_none() {
-        return None;
+        return Ok(None);
     }
     match left.next() {
-        Some(terminus) => Some(TerminusQueue::new(alloc, terminus)),
-        None => None,
+        Some(terminus) => Ok(Some(TerminusQueue::new(alloc, among, terminus)?)),
+        None => Ok(None),
     }
 }

@@ -1,13 +1,20 @@
 //! The packets on their way, by number.
-ghost use Rattle.std.specs.Prelude.{◌≡◌, ◌↔◌, ◌≢◌, ◌+◌, ◌*◌, ◌<◌, ◌≤◌, ◌++◌, ◌∷◌, [], length, None, option_map, slice_set, is_some, is_none, All, AllPairs, IsTrue, IfOk, IfSome, IfNone, OnOk, OnErr, true};
+ghost use Rattle.std.specs.Prelude.{◌≡◌, ◌↔◌, ◌≢◌, ◌+◌, ◌*◌, ◌<◌, ◌≤◌, ◌++◌, ◌∷◌, [], length, None, option_map, slice_set, is_some, is_none, All, AllPairs, IsTrue, ℕ, ◌-◌, ◌^◌, if◌then◌else◌, IfOk, IfSome, IfNone, OnOk, OnErr, true};
 ghost use Rattle.std.specs.List.{HoldsAt, count_by};
 ghost use Rattle.mctp_transport.specs.Packets.{key_value};
-ghost use Rattle.net_sim.specs.Settling.{IsTo, IsNotTo};
+ghost use Rattle.mctp_transport.specs.Frames.{KeyValue, key_of};
+ghost use Rattle.net_runs.specs.States.{destination};
+ghost use Rattle.net_sim.specs.Settling.{IsTo, IsNotTo, goes_to};
+ghost use Rattle.net_sim.specs.FlightValues.{flight_value};
+ghost use Rattle.net_sim.specs.KeyCounts.{count_of};
+ghost use Rattle.net_sim.specs.Tallies.{AreTallied};
 ghost use Rattle.std.proofs.Props.{props};
 
 use crate::kept_packet::KeptPacket;
+use crate::key_counts::{KeyCounts, KnownEids};
 use crate::payload::room_for_payload;
 use mctp_transport::{Eid, Key, PacketView};
+use net_plan::Node;
 use std::alloc::{AllocError, Global};
 
 /// A packet on its way.
@@ -23,7 +30,9 @@ pub struct Flight {
 }
 
 impl Flight {
+    ghost use Rattle.mctp_transport.specs.Frames.{key_of};
     ghost use Rattle.mctp_transport.specs.Packets.{frame_of};
+    ghost use Rattle.net_runs.specs.States.{destination};
     ghost use Rattle.net_sim.specs.Flights.{flight_value, gone_on};
     ghost use Rattle.net_sim.specs.Payloads.{IsRoomFor};
 
@@ -55,11 +64,25 @@ impl Flight {
         })
     }
 
+    /// The key of its packet.
+    fn key(&self) -> Key
+        ensures { key_value result ≡ key_of (flight_value self.now).packet }
+    {
+        self.packet.view().key()
+    }
+
+    /// The endpoint ID to which it goes.
+    fn destination(&self) -> Eid
+        ensures { result.value ≡ destination (flight_value self.now) }
+    {
+        self.packet.header.destination
+    }
+
     /// Whether its packet is of the key and goes to the endpoint ID.
     fn is_to(&self, key: Key, eid: Eid) -> bool
         ensures { IsTrue result ↔ IsTo (key_value key) eid.value (flight_value self.now) }
     {
-        self.packet.header.destination == eid && is_same_key(self.packet.view().key(), key)
+        self.destination() == eid && is_same_key(self.key(), key)
     }
 
     /// Moves it one hop further, to this node. Its packet stays where it is.
@@ -107,6 +130,8 @@ impl Slot {
 /// The flights of a network. Each has a number of its own, and number 0 is never given; a flight is found by halving.
 /// One that ends leaves an empty slot. The empty slots are swept out when room is made and they are half of all or more,
 /// so that the memory follows the flights that have not ended, and a sweep passes two slots at most for each empty one.
+/// How many flights there are of each key and destination is counted, so that no search is needed to tell whether there is
+/// one.
 #[derive(Debug, Drop)]
 pub struct Flights {
     /// In the order of their numbers.
@@ -115,24 +140,30 @@ pub struct Flights {
     empty: usize,
     /// The number that is given next.
     next: usize,
+    /// How many flights there are of each key and destination.
+    counts: KeyCounts,
     ghost begun: { 0 < next },
     ghost ascending: { AllPairs (λ slot later. slot.number < later.number) slots.items } by { Prim.hlevel props },
     ghost given: { All (λ slot. slot.number < next) slots.items } by { Prim.hlevel props },
     ghost counted: { empty ≡ count_by (λ slot. is_none slot.flight) slots.items },
+    ghost tallied: { AreTallied counts slots.items },
 }
 
 impl Flights {
     ghost use Rattle.net_runs.specs.Events.{most_flights};
     ghost use Rattle.net_sim.specs.Flights.{flight_value, slots_of, flight_at, gone_on, room_of};
 
-    /// No flights, and none made.
-    pub fn new(alloc: Global) -> Result<Self, AllocError>
+    /// No flights, and none made, in a network of these nodes.
+    pub fn new(alloc: Global, nodes: &[Node]) -> Result<Self, AllocError>
         ensures { IfOk result (λ flights. slots_of flights ≡ None ∷ []) }
     {
+        let sources = KnownEids::of_nodes(alloc, nodes)?;
+        let destinations = KnownEids::of_nodes(alloc, nodes)?;
         Ok(Flights {
             slots: Vec::new(alloc),
             empty: 0,
             next: 1,
+            counts: KeyCounts::none(alloc, sources, destinations)?,
         })
     }
 
@@ -174,11 +205,15 @@ impl Flights {
         }
     }
 
-    /// Whether no packet of the key is on its way to the endpoint ID. It looks at the slots that are kept.
+    /// Whether no packet of the key is on its way to the endpoint ID. Where no node holds it, or the key's source, the slots
+    /// that are kept are searched.
     pub fn none_is_to(&self, key: Key, eid: Eid) -> bool
         ensures { IsTrue result ↔ All (IsNotTo (key_value key) eid.value) (slots_of self.now) }
     {
-        self.slots.iter().all(|slot| slot.is_not_to(key, eid))
+        match self.counts.count(key, eid) {
+            Some(count) => count == 0,
+            None => self.slots.iter().all(|slot| slot.is_not_to(key, eid)),
+        }
     }
 
     /// Makes room for so many numbers more.
@@ -213,6 +248,7 @@ impl Flights {
         ensures room { room_of self.new + 1 ≡ room_of self.old }
     {
         self.empty += usize::from(flight.is_none());
+        enter(&mut self.counts, &flight);
         self.slots.push_reserved(Slot {
             number: self.next as u32,
             flight,
@@ -229,7 +265,9 @@ impl Flights {
     {
         let index = self.index_of(number)?;
         self.empty += 1;
-        self.slots[index].flight.take()
+        let flight = self.slots[index].flight.take();
+        leave(&mut self.counts, &flight);
+        flight
     }
 
     /// Moves the flight of this number one hop further, to a node.
@@ -242,6 +280,27 @@ impl Flights {
         if let Some(index) = self.index_of(number) {
             self.slots[index].go_on(node);
         }
+    }
+}
+
+/// Counts a flight, where there is one.
+fn enter(counts: &mut KeyCounts, flight: &Option<Flight>)
+    requires { IfSome flight.now (λ f. IfSome (count_of counts.old (key_of (flight_value f).packet) (destination (flight_value f))) (λ n. n < 2 ^ 63)) }
+    ensures { (k : KeyValue) (d : ℕ) → k.tag < 8 → count_of counts.new k d ≡
+        option_map (λ n. n + (if goes_to k d (option_map flight_value flight.now) then 1 else 0)) (count_of counts.old k d) }
+{
+    if let Some(flight) = flight {
+        counts.enter(flight.key(), flight.destination());
+    }
+}
+
+/// Counts a flight no more, where there is one.
+fn leave(counts: &mut KeyCounts, flight: &Option<Flight>)
+    ensures { (k : KeyValue) (d : ℕ) → k.tag < 8 → count_of counts.new k d ≡
+        option_map (λ n. n - (if goes_to k d (option_map flight_value flight.now) then 1 else 0)) (count_of counts.old k d) }
+{
+    if let Some(flight) = flight {
+        counts.leave(flight.key(), flight.destination());
     }
 }
 

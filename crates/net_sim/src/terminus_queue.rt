@@ -1,5 +1,5 @@
 //! The termini of nodes, and the messages that wait at them.
-ghost use Rattle.std.specs.Prelude.{◌≡◌, ◌≢◌, ◌↔◌, ◌<◌, ◌≤◌, [], length, vec_capacity, option_map, All, IsTrue, OnOk, OnErr, IfSome, IfNone, Some};
+ghost use Rattle.std.specs.Prelude.{◌≡◌, ◌≢◌, ◌↔◌, ◌<◌, ◌≤◌, [], length, vec_capacity, option_map, All, IsTrue, OnOk, OnErr, IfOk, IfSome, IfNone, Some};
 ghost use Rattle.mctp_transport.specs.Packets.{key_value};
 ghost use Rattle.net_runs.specs.Termini.{with_waiting};
 ghost use Rattle.std.specs.VecDeque.{deque_len, deque_capacity};
@@ -7,26 +7,19 @@ ghost use Rattle.net_sim.specs.TerminusQueues.{queue_state, with_message, HasRoo
 ghost use Rattle.net_sim.specs.Settling.{NoneWaits};
 ghost use Rattle.pdr_repository.specs.Answers.{Answers, answer_of};
 
-use crate::flights::is_same_key;
 use crate::refusal::Refusal;
+use crate::waiting::{Waiting, WaitingMessages};
 use arrayvec::ArrayVec;
-use mctp_transport::{Key, MAX_MESSAGE};
+use mctp_transport::Key;
+use net_plan::Node;
 use pdr_repository::{MAX_ANSWER, Terminus};
 use std::alloc::{AllocError, Global};
-use std::collections::VecDeque;
-
-/// A message that waits for an answer, and the key of its packets.
-#[derive(Debug, Drop)]
-pub struct Waiting {
-    pub key: Key,
-    pub bytes: Vec<u8>,
-}
 
 /// The terminus of a node, and the messages that wait there, oldest first.
 #[derive(Drop)]
 pub struct TerminusQueue<T> {
     terminus: T,
-    waiting: VecDeque<Waiting>,
+    waiting: WaitingMessages,
 }
 
 /// What was asked: the key of the message, and whether it has an answer.
@@ -37,25 +30,25 @@ pub struct Asked {
 }
 
 impl<T: Terminus> TerminusQueue<T> {
-    /// A terminus at which nothing waits.
-    pub fn new(alloc: Global, terminus: T) -> TerminusQueue<T>
-        ensures terminus { result.terminus ≡ terminus }
-        ensures waiting { result.waiting.items ≡ [] }
+    /// A terminus at which nothing waits, in a network of these nodes.
+    pub fn new(alloc: Global, nodes: &[Node], terminus: T) -> Result<TerminusQueue<T>, AllocError>
+        ensures terminus { IfOk result (λ queue. queue.terminus ≡ terminus) }
+        ensures waiting { IfOk result (λ queue. queue.waiting.messages.items ≡ []) }
     {
-        TerminusQueue {
+        Ok(TerminusQueue {
             terminus,
-            waiting: VecDeque::new(alloc),
-        }
+            waiting: WaitingMessages::none(alloc, nodes)?,
+        })
     }
 
     /// Takes the oldest message off, if there is one, and asks the terminus.
     fn answer_oldest(&mut self, out: &mut ArrayVec<u8, MAX_ANSWER>) -> Option<Asked>
-        ensures none { IfNone result (self.old.waiting.items ≡ []) }
+        ensures none { IfNone result (self.old.waiting.messages.items ≡ []) }
         ensures asked { IfSome result (λ asked. AnswersOldest (Some (queue_state T.tid T.records self.old))
             (key_value asked.key) (answer_of asked.answered out.new.items)
             (Some (queue_state T.tid T.records self.new))) }
     {
-        let oldest = self.waiting.pop_front()?;
+        let oldest = self.waiting.take_oldest()?;
         let answered = self.terminus.answer(&oldest.bytes, out);
         Some(Asked {
             key: oldest.key,
@@ -65,34 +58,31 @@ impl<T: Terminus> TerminusQueue<T> {
 
     /// Whether no message of the key waits.
     fn none_waits(&self, key: Key) -> bool
-        ensures { IsTrue result ↔ All (λ message. key_value message.key ≢ key_value key) self.now.waiting.items }
+        ensures { IsTrue result ↔ All (λ message. key_value message.key ≢ key_value key) self.now.waiting.messages.items }
     {
-        self.waiting
-            .iter()
-            .all(|message| is_of_another_key(message, key))
+        self.waiting.has_none(key)
     }
 
     /// Makes room for a message more.
     pub fn reserve(&mut self) -> Result<(), AllocError>
         ensures state { queue_state T.tid T.records self.new
             ≡ queue_state T.tid T.records self.old }
-        ensures room { OnOk result (deque_len self.new.waiting < deque_capacity self.new.waiting) }
-        ensures full { OnErr result (¬ (deque_len self.old.waiting < deque_capacity self.old.waiting)) }
+        ensures room { OnOk result (deque_len self.new.waiting.messages < deque_capacity self.new.waiting.messages) }
+        ensures full { OnErr result (¬ (deque_len self.old.waiting.messages < deque_capacity self.old.waiting.messages)) }
     {
-        self.waiting.reserve(1)
+        self.waiting.reserve()
     }
 
     /// Lets a message wait, which is copied into the room.
     pub fn wait(&mut self, key: Key, bytes: &[u8], mut room: Vec<u8>)
-        requires room { deque_len self.old.waiting < deque_capacity self.old.waiting }
+        requires room { deque_len self.old.waiting.messages < deque_capacity self.old.waiting.messages }
         requires empty { room.items ≡ [] }
         ensures { length bytes.now ≤ vec_capacity room → queue_state T.tid T.records self.new
             ≡ with_waiting (queue_state T.tid T.records self.old) (record { key = key_value key; bytes = bytes.now }) }
     {
         let _ = room.extend_from_slice(bytes);
         room.shrink_to_fit();
-        self.waiting
-            .push_back_reserved(Waiting { key, bytes: room });
+        self.waiting.push(Waiting { key, bytes: room });
     }
 }
 
@@ -124,13 +114,6 @@ pub fn answer_at<T: Terminus>(
         (option_map (queue_state T.tid T.records) queue.new)) }
 {
     queue.as_mut()?.answer_oldest(out)
-}
-
-/// Whether a message is of another key.
-fn is_of_another_key(message: &Waiting, key: Key) -> bool
-    ensures { IsTrue result ↔ (key_value message.now.key ≢ key_value key) }
-{
-    !is_same_key(message.key, key)
 }
 
 /// Whether no message of the key waits there.

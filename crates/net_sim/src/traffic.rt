@@ -68,7 +68,7 @@ impl<'a, T: Terminus> Traffic<'a, T> {
             → StandsFor (traffic_value T.tid T.records network) (at_start (tables_of accepted.entry).plan (certificate_of accepted.entry))) }
     {
         let router = Router::new(alloc, accepted)?;
-        let flights = Flights::new(alloc)?;
+        let flights = Flights::new(alloc, router.plan().nodes.as_slice())?;
         let assemblers = idle_assemblers(alloc, router.plan().nodes.len())?;
         let queues = deal(alloc, router.plan(), termini)?;
         Ok(Traffic {

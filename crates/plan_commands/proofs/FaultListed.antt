@@ -1,12 +1,14 @@
 -- What is told of all faults, and of the first.
-use Rattle.std.proofs.Common.{◌≡◌, ◌≢◌, ℕ, List, [], Some, Result, Ok, Err, refl, subst, arith, inl, inr}
-use Rattle.std.specs.Prelude.{IfOk, Contains}
+use Rattle.std.proofs.Common.{◌≡◌, ◌≢◌, ℕ, List, [], Some, Result, Ok, Err, Bor, None, refl, ap, subst, arith, inl, inr}
+use Rattle.std.specs.Prelude.{IfOk, Contains, option_map}
 use Rattle.std.specs.Cow.{cow_str_bytes}
 use Rattle.net_plan.specs.declared.plan.Plan.{Plan}
 use Rattle.net_plan.specs.declared.certificate.Certificate.{Certificate}
 use Rattle.net_check.specs.declared.check_error.CheckError.{CheckError}
 use Rattle.net_check.specs.declared.check_error.CheckError.TheVariants as check_error
 use Rattle.net_check.specs.Errors.{NamesFirstFault}
+use Rattle.net_rules.specs.Certificates.{NamesObstacle, RulesOutCertificates}
+use Rattle.net_rules.specs.declared.certify_error.CertifyError.{CertifyError}
 use Rattle.net_rules.specs.declared.fault.Fault.{Fault}
 use Rattle.net_rules.specs.declared.fault_run.FaultRun.{FaultRun}
 use Rattle.net_rules.specs.FaultLists.{AreFaults}
@@ -18,6 +20,10 @@ use Rattle.plan_commands.specs.declared.refused.Refused.{Refused}
 use Rattle.plan_commands.specs.declared.status.Status.TheVariants as status
 use Rattle.plan_commands.specs.Answers.{IsErrorText, IsFaultText}
 use Rattle.plan_commands.specs.Certified.{IsFaultAnswer}
+use Rattle.plan_commands.specs.FaultListing.{IsObstacleListed}
+use Rattle.fault_texts.specs.FaultListLines.{IsObstacleList}
+use Rattle.plan_texts.specs.Lines.{as_line, obstacle_text}
+use Rattle.plan_commands.proofs.Explained.{not_memory}
 
 -- where there is a fault there is a run
 pub some_runs : (plan : Plan) (cert : Certificate) (fault : Fault) (runs : List FaultRun) → IsFirstFault plan cert (site_of fault) → AreFaults plan (Some cert) runs → runs ≢ []
@@ -34,18 +40,33 @@ first_told plan cert (check_error.Fault fault) (Ok a) first (is, told) = (is, (f
 first_told plan cert check_error.OutOfMemory (Ok a) first (is, told) = absurd told
 first_told plan cert error (Err why) first told = tt
 
-other_answer : (asked : Question) (plan : Plan) (cert : Certificate) (text : List ℕ) → asked ≢ question.Faults → IsFaultText plan cert text → IsFaultAnswer asked plan cert text
-other_answer question.Faults plan cert text other told = absurd (other refl)
-other_answer question.Check plan cert text other told = told
-other_answer question.Assign plan cert text other told = told
-other_answer question.Reach plan cert text other told = told
-other_answer (question.Draw rows) plan cert text other told = told
-other_answer (question.Walk node part) plan cert text other told = told
-other_answer (question.Trace from to) plan cert text other told = told
+other_answer : (asked : Question) (text : List ℕ) (plan : Plan) (cert : Certificate) (lines : List ℕ) → ((name : Bor (List ℕ)) → asked ≢ question.Faults name)
+    → IsFaultText plan cert lines → IsFaultAnswer asked text plan cert lines
+other_answer (question.Faults name) text plan cert lines other told = absurd (other name refl)
+other_answer question.Check text plan cert lines other told = told
+other_answer question.Assign text plan cert lines other told = told
+other_answer question.Reach text plan cert lines other told = told
+other_answer question.Matrix text plan cert lines other told = told
+other_answer (question.Draw rows) text plan cert lines other told = told
+other_answer (question.Walk node part) text plan cert lines other told = told
+other_answer (question.Trace from to) text plan cert lines other told = told
 
 -- to other questions than for all faults the first is told
-pub others_told : (asked : Question) (plan : Plan) (cert : Certificate) (result : Result Answer Refused) → asked ≢ question.Faults
+pub others_told : (asked : Question) (text : List ℕ) (plan : Plan) (cert : Certificate) (result : Result Answer Refused) → ((name : Bor (List ℕ)) → asked ≢ question.Faults name)
     → IfOk result (λ (a : Answer). (a.status ≡ status.Fault) × IsFaultText plan cert (cow_str_bytes a.text))
-    → IfOk result (λ (a : Answer). (a.status ≡ status.Fault) × IsFaultAnswer asked plan cert (cow_str_bytes a.text))
-others_told asked plan cert (Ok a) other (is, told) = (is, other_answer asked plan cert (cow_str_bytes a.text) other told)
-others_told asked plan cert (Err why) other told = tt
+    → IfOk result (λ (a : Answer). (a.status ≡ status.Fault) × IsFaultAnswer asked text plan cert (cow_str_bytes a.text))
+others_told asked text plan cert (Ok a) other (is, told) = (is, other_answer asked text plan cert (cow_str_bytes a.text) other told)
+others_told asked text plan cert (Err why) other told = tt
+
+-- what rules certificates out is listed
+pub obstacle_listed : (name text : List ℕ) (plan : Plan) (obstacle : CertifyError) (lines : List ℕ) → AreFaults plan None [] → NamesObstacle plan obstacle → RulesOutCertificates plan obstacle
+    → IsObstacleList plan name text obstacle lines → IsObstacleListed name text plan lines
+obstacle_listed name text plan obstacle lines sound names none told =
+    let written : obstacle_text plan obstacle ≡ Some (as_line told.0) = ap (option_map as_line) told.2 in
+    record {
+      sound = sound;
+      obstacle = obstacle;
+      line = as_line told.0;
+      ruled_out = record { first = names; none = none (not_memory plan obstacle (as_line told.0) written); written = written };
+      written = told;
+    }

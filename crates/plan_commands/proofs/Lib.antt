@@ -16,4 +16,6 @@ pub mod Linted
 pub mod FaultListed
 pub mod Drawn
 pub mod UnreadTexts
+pub mod GivenTexts
 pub mod Explained
+pub mod Required

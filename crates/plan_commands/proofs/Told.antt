@@ -113,13 +113,14 @@ module _ (asked : Question) (plan : Plan) (cert : Certificate) where
   unfound_so checked why same accepted (inr (is, much)) =
       subst (IsUnansweredOn asked plan cert) (sym is) (accepted, subst (λ (c : Plan × Certificate). IsTooMuch asked c.0 c.1) same much)
 
-  -- what is told of faults
-  pub fault_so : IsNamedIn asked plan → (result : Result Answer Refused)
-      → IfOk result (λ (a : Answer). (a.status ≡ status.Fault) × IsFaultAnswer asked plan cert (cow_str_bytes a.text))
-      → IfOk result (λ (a : Answer). AnswersOn asked plan cert a.status (cow_str_bytes a.text))
-  fault_so named (Ok a) (is, told) = let A : Status → Type 0 = λ s. AnswersOn asked plan cert s (cow_str_bytes a.text) in subst A (sym is) (named, told)
-  fault_so named (Err why) told = tt
-
   pub fault_untold : (result : Result Answer Refused) → IfErr result (λ why. why ≡ refused.NoMemory) → IfErr result (IsUnansweredOn asked plan cert)
   fault_untold (Ok a) lacks = tt
   fault_untold (Err why) lacks = subst (IsUnansweredOn asked plan cert) (sym lacks) tt
+
+-- what is told of faults
+pub fault_so : (asked : Question) (text : List ℕ) (plan : Plan) (cert : Certificate) → IsNamedIn asked plan → (result : Result Answer Refused)
+    → IfOk result (λ (a : Answer). (a.status ≡ status.Fault) × IsFaultAnswer asked text plan cert (cow_str_bytes a.text))
+    → IfOk result (λ (a : Answer). AnswersOn asked text plan cert a.status (cow_str_bytes a.text))
+fault_so asked text plan cert named (Ok a) (is, told) =
+    let A : Status → Type 0 = λ s. AnswersOn asked text plan cert s (cow_str_bytes a.text) in subst A (sym is) (named, told)
+fault_so asked text plan cert named (Err why) told = tt

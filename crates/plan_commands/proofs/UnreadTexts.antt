@@ -15,6 +15,7 @@ use Rattle.json.specs.Strict.{HasUniqueKeys}
 use Rattle.plan_commands.specs.declared.commands.inputs.Unread.{Unread}
 use Rattle.plan_commands.specs.declared.commands.inputs.Unread.TheVariants.{NoMemory, Failed, TooLong, Text}
 use Rattle.plan_commands.specs.declared.refused.Input.{Input}
+use Rattle.plan_commands.specs.declared.refused.Input.TheVariants as input
 use Rattle.plan_commands.specs.Answers.{Stream, Fails, GaveNothing}
 use Rattle.plan_commands.specs.UnreadTexts.{IsUnreadAs, IsUnreadBy, StandsForNothing, IsTextOfUnread, failed_line, long_line}
 use Rattle.reading_texts.specs.ReadingLines.{unread_line}
@@ -98,15 +99,21 @@ module _ {A : Type 0} (said : Data → Result A ValueFault) (R : Data → A → 
       record { cause = cause_of.OverLimit; lines = words; given = inl more; told = inl (more, same); written = written }
   long_told bytes u words (Err e) is same written = tt
 
+  -- the text that a source gave is refused, and this is a cause
+  nothing_of : (source : Stream) (b : List ℕ) (cause : PlanError) → Consumes source.before.bytes source.after.bytes b → IsAtEnd source.after.bytes → length b ≤ 16777216
+      → IsRefused said R b cause → cause ≢ cause_of.OutOfMemory → GaveNothing (λ old new e. GaveNone said R old new e) source cause
+  nothing_of source b cause took end few refused known =
+      let unread : Result (List ℕ) PlanError = Err cause in
+      let none : GaveNone said R source.before.bytes source.after.bytes cause = answer_given said R source.before.bytes source.after.bytes b b unread took end few refl refused in
+      text_given source b cause none refused known
+
   of_text : (source : Stream) (cause : PlanError) (lines told b : List ℕ) → Consumes source.before.bytes source.after.bytes b → IsAtEnd source.after.bytes → length b ≤ 16777216
       → IsRefused said R b cause → cause ≢ cause_of.OutOfMemory → IsTold b lines → told ≡ unread_line (role_of role) cause ++ lines → told_of source told
   of_text source cause lines told b took end few refused known reading written =
-      let unread : Result (List ℕ) PlanError = Err cause in
-      let none : GaveNone said R source.before.bytes source.after.bytes cause = answer_given said R source.before.bytes source.after.bytes b b unread took end few refl refused in
       record {
         cause = cause;
         lines = lines;
-        given = text_given source b cause none refused known;
+        given = nothing_of source b cause took end few refused known;
         told = inr (b, took, end, few, reading);
         written = written;
       }
@@ -119,3 +126,10 @@ module _ {A : Type 0} (said : Data → Result A ValueFault) (R : Data → A → 
       let known = given.4 in
       of_text source cause lines (bytes t) given.0 given.1 given.2 given.3 known.1 known.2 (subst (λ (x : List ℕ). IsTold x lines) (same ∙ known.0) reading) written
   text_told bytes u text cause read lines (Err e) is same reading written = tt
+
+-- the text that a source gave is refused, and this is a cause
+pub nothing_given : {A : Type 0} (said : Data → Result A ValueFault) (R : Data → A → Type 0) (source : Stream) (b : List ℕ) (cause : PlanError)
+    → Consumes source.before.bytes source.after.bytes b → IsAtEnd source.after.bytes → length b ≤ 16777216
+    → IsRefused said R b cause → cause ≢ cause_of.OutOfMemory → GaveNothing (λ old new e. GaveNone said R old new e) source cause
+nothing_given said R source b cause took end few refused known =
+    nothing_of said R input.Plan (λ given lines. Unit {0}) source b cause took end few refused known

@@ -65,6 +65,11 @@ abbrev pub GavePlan : Stream → Plan → Type 0
 GavePlan stream plan =
     Gave 16777216 stream.before.bytes stream.after.bytes (λ text. StandsFor IsPlanOf text (plan_value plan))
 
+-- the source gave this text, which is that of the plan
+abbrev pub GavePlanText : Stream → List ℕ → Plan → Type 0
+GavePlanText stream text plan = Gave 16777216 stream.before.bytes stream.after.bytes
+    (λ bytes. (bytes ≡ text) × StandsFor IsPlanOf bytes (plan_value plan))
+
 -- the source gave the text of no plan
 abbrev pub IsWithoutPlan : Stream → Type 0
 IsWithoutPlan stream = (plan : Plan) → ¬ GavePlan stream plan
@@ -85,6 +90,12 @@ GaveNothing GaveNone stream e = GaveNone stream.before.bytes stream.after.bytes 
 -- one source gave the plan, the other the certificate
 pub record AreGiven (plans certificates : Stream) (plan : Plan) (certificate : Certificate) : Type 0 where
   pub plan_text : GavePlan plans plan
+  pub certificate_text : GaveCertificate plan certificates certificate
+
+-- the same, where the text of the plan is this one
+pub record AreTextsGiven (plans certificates : Stream) (text : List ℕ) (plan : Plan)
+    (certificate : Certificate) : Type 0 where
+  pub plan_text : GavePlanText plans text plan
   pub certificate_text : GaveCertificate plan certificates certificate
 
 -- the text is the line of the first fault of the plan and the certificate

@@ -10,32 +10,33 @@ use Rattle.plan_commands.specs.declared.status.Status.{Status}
 use Rattle.plan_commands.specs.declared.status.Status.TheVariants as status
 use Rattle.plan_commands.specs.Certifying.{IsRuledOutBy}
 use Rattle.plan_commands.specs.Statuses.{yes_line}
-use Rattle.plan_texts.specs.FaultListLines.{faults_text, counted_line}
+use Rattle.fault_texts.specs.FaultListLines.{IsFaultsText, IsObstacleList}
 
--- The text is the lines of all faults of the plan, or of it and the certificate, and how many they are. There is one at
--- least.
-pub record IsFaultList (plan : Plan) (cert : Option Certificate) (text : List ℕ) : Type 0 where
+-- The lines are those of all faults of the plan, or of it and the certificate, with their places in the text of this
+-- name, and how many they are. There is one at least.
+pub record IsFaultList (name text : List ℕ) (plan : Plan) (cert : Option Certificate) (lines : List ℕ) : Type 0 where
   pub runs : List FaultRun
   pub all : AreFaults plan cert runs
   pub some : runs ≢ []
-  pub written : text ≡ faults_text plan runs
+  pub written : IsFaultsText plan name text runs lines
 
 -- the same of a plan and a certificate
-abbrev pub IsFaultListOf : Plan → Certificate → List ℕ → Type 0
-IsFaultListOf plan cert text = IsFaultList plan (Some cert) text
+abbrev pub IsFaultListOf : List ℕ → List ℕ → Plan → Certificate → List ℕ → Type 0
+IsFaultListOf name text plan cert lines = IsFaultList name text plan (Some cert) lines
 
--- The plan itself has no fault and still no certificate. The text is the line of what rules them out, and that it is
--- one.
-pub record IsObstacleListed (plan : Plan) (text : List ℕ) : Type 0 where
+-- The plan itself has no fault and still no certificate. The lines are that of what rules them out, with its place, and
+-- that it is one.
+pub record IsObstacleListed (name text : List ℕ) (plan : Plan) (lines : List ℕ) : Type 0 where
   pub sound : AreFaults plan None []
   pub obstacle : CertifyError
   pub line : List ℕ
   pub ruled_out : IsRuledOutBy plan obstacle line
-  pub written : text ≡ counted_line line
+  pub written : IsObstacleList plan name text obstacle lines
 
 -- a run that says so of the plan alone ends so: the plan has a certificate, or there is something to list
-abbrev pub IsListed : Plan → Status → List ℕ → Type 0
-IsListed plan status.Yes text = ((cert : Certificate) × Accepts plan cert) × (text ≡ yes_line)
-IsListed plan status.Fault text = IsFaultList plan None text ⊎ IsObstacleListed plan text
-IsListed plan status.Unreadable text = ⊥
-IsListed plan status.NoMemory text = ⊥
+abbrev pub IsListed : List ℕ → List ℕ → Plan → Status → List ℕ → Type 0
+IsListed name text plan status.Yes lines = ((cert : Certificate) × Accepts plan cert) × (lines ≡ yes_line)
+IsListed name text plan status.Fault lines =
+    IsFaultList name text plan None lines ⊎ IsObstacleListed name text plan lines
+IsListed name text plan status.Unreadable lines = ⊥
+IsListed name text plan status.NoMemory lines = ⊥

@@ -17,6 +17,7 @@ pub mod UnreadTexts
 pub mod Explaining
 pub mod Drawing
 pub mod Planned
+pub mod Requiring
 pub mod Certified
 pub mod Simulating
 pub mod Expecting

@@ -5,19 +5,20 @@ use Rattle.plan_commands.specs.declared.commands.planned.PlanQuestion.{PlanQuest
 use Rattle.plan_commands.specs.declared.commands.planned.PlanQuestion.TheVariants as question
 use Rattle.plan_commands.specs.declared.status.Status.{Status}
 use Rattle.plan_commands.specs.declared.status.Status.TheVariants as status
-use Rattle.plan_commands.specs.Answers.{Stream, GavePlan}
+use Rattle.plan_commands.specs.Answers.{Stream, GavePlanText}
 use Rattle.plan_commands.specs.Certifying.{Certifies}
 use Rattle.plan_commands.specs.Drawing.{IsPlanDrawing}
 use Rattle.plan_commands.specs.FaultListing.{IsListed}
 use Rattle.plan_commands.specs.Linting.{IsLinted}
 
--- the text answers the question about the plan, in a run that ends so
-abbrev pub IsSaidOf : PlanQuestion → Plan → Status → List ℕ → Type 0
-IsSaidOf question.Certify plan ended text = Certifies plan ended text
-IsSaidOf (question.Draw rows) plan ended text = (ended ≡ status.Yes) × IsPlanDrawing rows plan text
-IsSaidOf question.Faults plan ended text = IsListed plan ended text
-IsSaidOf question.Lint plan ended text = IsLinted plan ended text
+-- the lines answer the question about the plan, which stands in this text, in a run that ends so
+abbrev pub IsSaidOf : PlanQuestion → List ℕ → Plan → Status → List ℕ → Type 0
+IsSaidOf question.Certify text plan ended lines = Certifies plan ended lines
+IsSaidOf (question.Draw rows) text plan ended lines = (ended ≡ status.Yes) × IsPlanDrawing rows plan lines
+IsSaidOf (question.Faults name) text plan ended lines = IsListed name.now text plan ended lines
+IsSaidOf question.Lint text plan ended lines = IsLinted plan ended lines
 
--- so it does of the plan that was given
+-- so they do of the plan that was given
 abbrev pub SaysSo : PlanQuestion → Stream → Status → List ℕ → Type 0
-SaysSo asked plans ended text = (plan : Plan) × GavePlan plans plan × IsSaidOf asked plan ended text
+SaysSo asked plans ended lines =
+    (text : List ℕ) × (plan : Plan) × GavePlanText plans text plan × IsSaidOf asked text plan ended lines

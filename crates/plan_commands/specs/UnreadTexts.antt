@@ -20,8 +20,10 @@ use Rattle.plan_commands.specs.declared.commands.inputs.Unread.{Unread}
 use Rattle.plan_commands.specs.declared.commands.inputs.Unread.TheVariants.{NoMemory, Failed, TooLong, Text}
 use Rattle.plan_commands.specs.declared.refused.Input.{Input}
 use Rattle.plan_commands.specs.declared.refused.Input.TheVariants as input
+use Rattle.plan_commands.specs.declared.refused.Refused.{Refused}
+use Rattle.plan_commands.specs.declared.refused.Refused.TheVariants as refused
 use Rattle.plan_commands.specs.Answers.{Stream, Fails, GaveNothing}
-use Rattle.plan_commands.specs.Statuses.{role_of}
+use Rattle.plan_commands.specs.Statuses.{refused_at, role_of}
 use Rattle.reading_texts.specs.ReadingLines.{unread_line}
 use Rattle.reading_texts.specs.TroubleLines.{IsPlanTextTold, IsCertificateTextTold}
 
@@ -76,6 +78,13 @@ abbrev pub unread_of : TextFault → Unread
 unread_of text_fault.TooLong = TooLong
 unread_of text_fault.Device = Failed
 unread_of text_fault.OutOfMemory = NoMemory
+
+-- why there is no answer, where an input gave nothing
+abbrev pub refused_for : Input → Unread → Refused
+refused_for role NoMemory = refused.NoMemory
+refused_for role Failed = refused_at role error_of.Device
+refused_for role TooLong = refused_at role error_of.OverLimit
+refused_for role (Text text cause) = refused_at role cause
 
 -- what is known of bytes that are refused
 abbrev pub IsUnreadAs : {A : Type 0} → (Data → Result A ValueFault) → (Data → A → Type 0) → List ℕ → Unread → Type 0

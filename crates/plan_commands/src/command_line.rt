@@ -22,13 +22,19 @@ pub enum Subcommand<'a> {
     },
     /// A question about the plan in a file.
     Planned {
-        question: PlanQuestion,
+        question: PlanQuestion<'a>,
         plan: &'a str,
     },
     /// What does `certify` say of the plan in a file, or `check` with the certificate in another, and why?
     Explain {
         plan: &'a str,
         certificate: Option<&'a str>,
+    },
+    /// Do the nodes of the plan in one file, certified by another, reach whom a text wants them to reach?
+    Require {
+        plan: &'a str,
+        certificate: &'a str,
+        wanted: &'a str,
     },
     /// What comes of the events in a file?
     Sim {
@@ -102,7 +108,7 @@ fn worded(list: &[String]) -> Option<Subcommand<'_>> {
 }
 
 /// The name of each command, the names of its arguments, and those of the arguments that may be left out.
-const COMMANDS: [(&str, &[&str], &[&str]); 19] = [
+const COMMANDS: [(&str, &[&str], &[&str]); 21] = [
     ("check", &["plan", "certificate"], &[]),
     ("certify", &["plan"], &[]),
     ("assign", &["plan", "certificate"], &[]),
@@ -112,6 +118,8 @@ const COMMANDS: [(&str, &[&str], &[&str]); 19] = [
     ("simmove", &["old", "new", "certificate", "events"], &[]),
     ("walk", &["plan", "certificate", "node", "count"], &[]),
     ("reach", &["plan", "certificate"], &[]),
+    ("matrix", &["plan", "certificate"], &[]),
+    ("require", &["plan", "certificate", "wanted"], &[]),
     ("trace", &["plan", "certificate", "from", "to"], &[]),
     ("draw", &["plan"], &["certificate"]),
     ("explain", &["plan"], &["certificate"]),
@@ -193,10 +201,12 @@ fn chosen<'a>(matches: &ArgMatches<'a>) -> Option<Subcommand<'a>> {
         "simmove" => playing_moves(arguments),
         "walk" => walking(arguments),
         "reach" => certified(arguments, Question::Reach),
+        "matrix" => certified(arguments, Question::Matrix),
+        "require" => requiring(arguments),
         "trace" => tracing(arguments),
         "draw" => drawing(arguments),
         "explain" => explaining(arguments),
-        "faults" => with_or_without(arguments, Question::Faults, PlanQuestion::Faults),
+        "faults" => listing(arguments),
         "lint" => planned(arguments, PlanQuestion::Lint),
         "show" => showing(arguments),
         "code" => known(text_of(arguments.get_str("code")?)),
@@ -215,10 +225,18 @@ fn certified<'a>(arguments: &ArgMatches<'a>, question: Question<'a>) -> Option<S
     })
 }
 
-fn planned<'a>(arguments: &ArgMatches<'a>, question: PlanQuestion) -> Option<Subcommand<'a>> {
+fn planned<'a>(arguments: &ArgMatches<'a>, question: PlanQuestion<'a>) -> Option<Subcommand<'a>> {
     Some(Subcommand::Planned {
         question,
         plan: arguments.get_str("plan")?,
+    })
+}
+
+fn requiring<'a>(arguments: &ArgMatches<'a>) -> Option<Subcommand<'a>> {
+    Some(Subcommand::Require {
+        plan: arguments.get_str("plan")?,
+        certificate: arguments.get_str("certificate")?,
+        wanted: arguments.get_str("wanted")?,
     })
 }
 
@@ -272,7 +290,7 @@ fn tracing<'a>(arguments: &ArgMatches<'a>) -> Option<Subcommand<'a>> {
 fn with_or_without<'a>(
     arguments: &ArgMatches<'a>,
     question: Question<'a>,
-    alone: PlanQuestion,
+    alone: PlanQuestion<'a>,
 ) -> Option<Subcommand<'a>> {
     match arguments.get_str("certificate") {
         Some(_) => certified(arguments, question),
@@ -296,6 +314,15 @@ fn drawn_rows(word: Option<&str>) -> Option<DrawnRows> {
         Some(ALL) => Some(DrawnRows::All),
         Some(word) => Some(DrawnRows::For(eid_of_word(word)?)),
     }
+}
+
+fn listing<'a>(arguments: &ArgMatches<'a>) -> Option<Subcommand<'a>> {
+    let name = arguments.get_str("plan")?;
+    with_or_without(
+        arguments,
+        Question::Faults { name },
+        PlanQuestion::Faults { name },
+    )
 }
 
 fn explaining<'a>(arguments: &ArgMatches<'a>) -> Option<Subcommand<'a>> {

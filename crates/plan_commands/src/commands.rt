@@ -18,6 +18,7 @@ pub mod naming;
 pub mod planned;
 pub mod reach;
 pub mod repositories;
+pub mod require;
 pub mod show;
 pub mod sim;
 pub mod trace;

@@ -3,3 +3,4 @@ pub mod Traced
 pub mod Chains
 pub mod Differing
 pub mod RowDrawn
+pub mod ObstacleLines

@@ -1,6 +1,6 @@
 -- The lines of what looks wrong in a plan.
 use Rattle.std.specs.Prelude.{ℕ, List, [], ◌++◌, codes}
-use Rattle.std.specs.Prelude.{Option, option_map, slice_get, unwrap_or}
+use Rattle.std.specs.Prelude.{Option, Some, option_map, slice_get, unwrap_or}
 use Rattle.std.specs.Fmt.{decimal}
 use Rattle.std.specs.List.{flat_map}
 use Rattle.net_tables.specs.Routing.{ports_of}
@@ -33,6 +33,10 @@ pair_finding code plan n word m = code ++ (codes " node " ++ (name_or_dash plan 
 abbrev pub item_finding : List ℕ → Plan → ℕ → List ℕ → ℕ → List ℕ
 item_finding code plan n word number = code ++ (codes " node " ++ (name_or_dash plan n
     ++ (codes " " ++ (word ++ (codes " " ++ (decimal number ++ codes "\n"))))))
+
+-- a code and a bus
+abbrev pub bus_finding : List ℕ → Plan → ℕ → List ℕ
+bus_finding code plan b = code ++ (codes " bus " ++ (bus_text plan (Some b) ++ codes "\n"))
 
 -- a code, a node, one of its ports, and the bus of the port
 abbrev pub port_finding : List ℕ → Plan → ℕ → ℕ → List ℕ
@@ -68,6 +72,13 @@ finding_line plan (finding.PoolEidNotLedOn n eid) = item_finding (codes "H09") p
 finding_line plan (finding.LonePort n p) = port_finding (codes "H10") plan n p
 finding_line plan (finding.EmptyReadableRange n j) = item_finding (codes "H11") plan n (codes "record") j
 finding_line plan (finding.Isolated n) = node_finding (codes "H12") plan n
+finding_line plan (finding.ForeignMedia b) = bus_finding (codes "H13") plan b
+finding_line plan (finding.ReservedBinding b) = bus_finding (codes "H14") plan b
+finding_line plan (finding.ReservedAddress n p) = port_finding (codes "H15") plan n p
+finding_line plan (finding.EmptyBus b) = bus_finding (codes "H16") plan b
+finding_line plan (finding.CrossedThresholds n j) = item_finding (codes "H17") plan n (codes "record") j
+finding_line plan (finding.UnknownTerminusHandle n j) = item_finding (codes "H18") plan n (codes "record") j
+finding_line plan (finding.UncontainedEntity n j) = item_finding (codes "H19") plan n (codes "record") j
 
 -- a line for each finding, in their order
 abbrev pub findings_text : Plan → List Finding → List ℕ

@@ -7,7 +7,6 @@ pub mod Explanations
 pub mod CertificateSubjects
 pub mod SummaryLines
 pub mod MoveLines
-pub mod FaultListLines
 pub mod FindingLines
 pub mod PairLines
 pub mod AssignmentLines

@@ -161,8 +161,8 @@ fn row_for(plan: &Plan, eid: Eid, node: usize) -> Entry
     Entry { node, index }
 }
 
-/// Its index.
-fn index_for(plan: &Plan, eid: Eid, node: usize) -> Option<usize>
+/// The index of the first of a node's rows that covers the endpoint ID, if one does.
+pub fn index_for(plan: &Plan, eid: Eid, node: usize) -> Option<usize>
     ensures { result ≡ position (covers_eid eid.value) (rows_of plan.now node) }
 {
     rows_at(plan, node)

@@ -1,6 +1,6 @@
 //! What the command `lint` prints.
 ghost use Rattle.std.specs.Prelude.{◌≡◌, IfOk, string_bytes};
-ghost use Rattle.plan_texts.specs.FindingLines.{bus_of_port, address_of_port, node_finding, pair_finding, item_finding, port_finding, port_on_bus, shared_address_line, address_finding, finding_line, findings_text};
+ghost use Rattle.plan_texts.specs.FindingLines.{bus_of_port, address_of_port, node_finding, bus_finding, pair_finding, item_finding, port_finding, port_on_bus, shared_address_line, address_finding, finding_line, findings_text};
 ghost use Rattle.plan_texts.specs.WayLines.{bus_text, address_text};
 
 use super::name_or_dash;
@@ -55,6 +55,19 @@ fn finding_line(alloc: Global, plan: &Plan, finding: &Finding) -> Result<String,
             item_finding(alloc, "H11", plan, node, "record", record)
         }
         Finding::Isolated { node } => node_finding(alloc, "H12", plan, node),
+        Finding::ForeignMedia { bus } => bus_finding(alloc, "H13", plan, bus),
+        Finding::ReservedBinding { bus } => bus_finding(alloc, "H14", plan, bus),
+        Finding::ReservedAddress { node, port } => port_finding(alloc, "H15", plan, node, port),
+        Finding::EmptyBus { bus } => bus_finding(alloc, "H16", plan, bus),
+        Finding::CrossedThresholds { node, record } => {
+            item_finding(alloc, "H17", plan, node, "record", record)
+        }
+        Finding::UnknownTerminusHandle { node, record } => {
+            item_finding(alloc, "H18", plan, node, "record", record)
+        }
+        Finding::UncontainedEntity { node, record } => {
+            item_finding(alloc, "H19", plan, node, "record", record)
+        }
     }
 }
 
@@ -63,6 +76,13 @@ fn node_finding(alloc: Global, code: &str, plan: &Plan, node: usize) -> Result<S
 {
     let name = name_or_dash(plan, node);
     format!(in alloc; "{code} node {name}\n")
+}
+
+fn bus_finding(alloc: Global, code: &str, plan: &Plan, bus: usize) -> Result<String, AllocError>
+    ensures { IfOk result (λ line. string_bytes line ≡ bus_finding code.now plan.now bus) }
+{
+    let name = bus_text(plan, Some(bus));
+    format!(in alloc; "{code} bus {name}\n")
 }
 
 /// The line of a node and another node; the word says what that one is.

@@ -2,7 +2,7 @@
 #![tactic(auto)]
 
 ghost use Rattle.std.specs.Prelude.{◌≡◌, Some, IfOk, string_bytes};
-ghost use Rattle.plan_texts.specs.Lines.{name_or_dash, bus_name_or_dash, names_text, fault_text, owner_loop_text, loop_text, chain_text, obstacle_text};
+ghost use Rattle.plan_texts.specs.Lines.{name_or_dash, bus_name_or_dash, names_text, as_line, fault_words, fault_text, owner_loop_words, loop_words, chain_words, obstacle_words, obstacle_text};
 
 mod assignments;
 mod causes;
@@ -11,7 +11,6 @@ mod differences;
 mod drawings;
 mod edits;
 mod explanations;
-mod fault_lists;
 mod findings;
 mod lookups;
 mod moves;
@@ -28,9 +27,9 @@ pub use assignments::assignment_lines;
 pub use certificates::certificate_fault_lines;
 pub use differences::first_difference;
 pub use drawings::{bundle_drawing, drawing, way_drawing};
-pub use explanations::{cause_lines, obstacle_lines};
-pub use fault_lists::{counted_line, fault_lines};
+pub use explanations::{cause_lines, index_for, obstacle_lines};
 pub use findings::lint_lines;
+pub use lookups::number_text;
 use mctp_transport::Eid;
 pub use moves::move_error_line;
 use net_plan::Plan;
@@ -57,14 +56,11 @@ pub const NO_CERTIFICATE: &str =
 pub fn fault_line(alloc: Global, plan: &Plan, fault: &Fault) -> Result<String, AllocError>
     ensures { IfOk result (λ line. string_bytes line ≡ fault_text plan.now fault.now) }
 {
-    let rule = fault.rule.code();
-    let name = name_or_dash(plan, fault.node);
-    let entry = OrDash(fault.entry);
-    let eid = OrDash(fault.eid.map(|eid| eid.value));
-    format!(in alloc; "fault {rule} node {name} entry {entry} eid {eid}\n")
+    as_line(alloc, &fault_words(alloc, plan, fault)?)
 }
 
 /// The line that says why a plan has no certificate. Out of memory is an error, and has no such line.
+#[tactic(auto, using(crate::proofs::ObstacleLines::line_of_words))]
 pub fn obstacle_line(
     alloc: Global,
     plan: &Plan,
@@ -72,42 +68,69 @@ pub fn obstacle_line(
 ) -> Result<String, AllocError>
     ensures { IfOk result (λ line. obstacle_text plan.now obstacle.now ≡ Some (string_bytes line)) }
 {
+    as_line(alloc, &obstacle_words(alloc, plan, obstacle)?)
+}
+
+fn as_line(alloc: Global, words: &str) -> Result<String, AllocError>
+    ensures { IfOk result (λ line. string_bytes line ≡ as_line words.now) }
+{
+    format!(in alloc; "{words}\n")
+}
+
+/// Why a plan has no certificate, as the line says it.
+pub fn obstacle_words(
+    alloc: Global,
+    plan: &Plan,
+    obstacle: &CertifyError,
+) -> Result<String, AllocError>
+    ensures { IfOk result (λ words. obstacle_words plan.now obstacle.now ≡ Some (string_bytes words)) }
+{
     match obstacle {
-        CertifyError::Fault(fault) => fault_line(alloc, plan, fault),
-        CertifyError::OwnerLoop(nodes) => owner_loop_line(alloc, plan, nodes),
-        CertifyError::Loop(eid, nodes) => loop_line(alloc, plan, *eid, nodes),
-        CertifyError::BadChain(node, fault) => chain_line(alloc, plan, *node, *fault),
+        CertifyError::Fault(fault) => fault_words(alloc, plan, fault),
+        CertifyError::OwnerLoop(nodes) => owner_loop_words(alloc, plan, nodes),
+        CertifyError::Loop(eid, nodes) => loop_words(alloc, plan, *eid, nodes),
+        CertifyError::BadChain(node, fault) => chain_words(alloc, plan, *node, *fault),
         CertifyError::OutOfMemory => Err(AllocError),
     }
 }
 
-fn owner_loop_line(alloc: Global, plan: &Plan, nodes: &[usize]) -> Result<String, AllocError>
-    ensures { IfOk result (λ line. string_bytes line ≡ owner_loop_text plan.now nodes.now) }
+fn fault_words(alloc: Global, plan: &Plan, fault: &Fault) -> Result<String, AllocError>
+    ensures { IfOk result (λ words. string_bytes words ≡ fault_words plan.now fault.now) }
 {
-    let names = names_after_spaces(alloc, plan, nodes)?;
-    format!(in alloc; "owner loop nodes{names}\n")
+    let rule = fault.rule.code();
+    let name = name_or_dash(plan, fault.node);
+    let entry = OrDash(fault.entry);
+    let eid = OrDash(fault.eid.map(|eid| eid.value));
+    format!(in alloc; "fault {rule} node {name} entry {entry} eid {eid}")
 }
 
-fn loop_line(alloc: Global, plan: &Plan, eid: Eid, nodes: &[usize]) -> Result<String, AllocError>
-    ensures { IfOk result (λ line. string_bytes line ≡ loop_text plan.now eid.value nodes.now) }
+fn owner_loop_words(alloc: Global, plan: &Plan, nodes: &[usize]) -> Result<String, AllocError>
+    ensures { IfOk result (λ words. string_bytes words ≡ owner_loop_words plan.now nodes.now) }
+{
+    let names = names_after_spaces(alloc, plan, nodes)?;
+    format!(in alloc; "owner loop nodes{names}")
+}
+
+fn loop_words(alloc: Global, plan: &Plan, eid: Eid, nodes: &[usize]) -> Result<String, AllocError>
+    ensures { IfOk result (λ words. string_bytes words ≡ loop_words plan.now eid.value nodes.now) }
 {
     let eid = eid.value;
     let names = names_after_spaces(alloc, plan, nodes)?;
-    format!(in alloc; "loop eid {eid} nodes{names}\n")
+    format!(in alloc; "loop eid {eid} nodes{names}")
 }
 
-fn chain_line(
+fn chain_words(
     alloc: Global,
     plan: &Plan,
     node: usize,
     fault: ChainFault,
 ) -> Result<String, AllocError>
-    ensures { IfOk result (λ line. string_bytes line ≡ chain_text plan.now node fault) }
+    ensures { IfOk result (λ words. string_bytes words ≡ chain_words plan.now node fault) }
 {
     let name = name_or_dash(plan, node);
     let word = fault.word();
     let entry = fault.entry();
-    format!(in alloc; "chain node {name} {word} entry {entry}\n")
+    format!(in alloc; "chain node {name} {word} entry {entry}")
 }
 
 /// The names of nodes, each after a space.
@@ -123,7 +146,7 @@ fn names_after_spaces(alloc: Global, plan: &Plan, nodes: &[usize]) -> Result<Str
 }
 
 /// The name of the node at an index, or a dash where there is none.
-fn name_or_dash(plan: &Plan, node: usize) -> &str
+pub fn name_or_dash(plan: &Plan, node: usize) -> &str
     ensures { result.now ≡ name_or_dash plan.now node }
 {
     plan.nodes

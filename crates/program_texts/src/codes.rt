@@ -246,6 +246,27 @@ fn of_h(code: &str) -> Option<&'static str> {
         "H12" => Some(
             "H12: a node has no rows, and no node has a row for its endpoint ID.\nCause: the node was put into the plan and never routed.\nHint: give the node rows, and those that it should hear from rows for it.\n",
         ),
+        "H13" => Some(
+            "H13: a bus has media of another binding than its own: media 1 to 6 are of binding 1 (SMBus and I2C),\n8 to 13 of 2 (PCIe), 16 to 18 of 3 (USB), 32 and 33 of 4 (KCS), 34 to 36 of 5 (serial). Of other\nnumbers nothing is said.\nCause: one of the two numbers is mistyped, or was written in hex.\nHint: write both as DSP0239 has them, in decimal digits.\n",
+        ),
+        "H14" => Some(
+            "H14: a bus has the binding 0, which is reserved.\nCause: the binding was left out.\nHint: write the physical transport binding identifier (DSP0239): 1 is SMBus and I2C.\n",
+        ),
+        "H15" => Some(
+            "H15: the address of a port is one byte, whose bits 7 to 1 are reserved on its bus: on SMBus and I2C\n(binding 1) 0x00 to 0x07 and 0x78 to 0x7F; on I3C (binding 6) 0x00 to 0x07, the broadcast address\n0x7E, and what differs from that in one bit.\nCause: the address was written in seven bits.\nHint: write twice the seven bits: 0x10 is 20.\n",
+        ),
+        "H16" => Some(
+            "H16: no node has a port on a bus.\nCause: the bus is left over, or ports stand on another.\nHint: drop the bus, or put the ports on it.\n",
+        ),
+        "H17" => Some(
+            "H17: a record reads as a numeric sensor, of whose thresholds a lower one is over a higher one. From\nthe lowest they are fatalLow, criticalLow, warningLow, warningHigh, criticalHigh and fatalHigh;\nthose count that supportedThresholds has, and of critical and fatal ones those that\nrangeFieldSupport has too. Real numbers are not compared.\nCause: two were swapped, or written for another range field format.\nHint: write them in ascending order, or clear the bits of those that the sensor doesn't have.\n",
+        ),
+        "H18" => Some(
+            "H18: a record reads as a numeric or state sensor, and no record of its terminus reads as a terminus\nlocator with its terminus handle.\nCause: the handle is mistyped, or its locator was left out.\nHint: write the handle of a locator, or give the repository a locator (type 1) with the handle.\n",
+        ),
+        "H19" => Some(
+            "H19: a record reads as a numeric or state sensor, the container ID of its entity is not 0 (the\nsystem), and no record of its terminus reads as an entity association that lists the entity among\nthose contained, by type, instance number and container ID.\nCause: the association was left out, or one of the three numbers is mistyped.\nHint: give the repository an association (type 15) that lists the entity, or the sensor an entity\nthat one lists.\n",
+        ),
         _ => None,
     }
 }

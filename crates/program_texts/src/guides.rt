@@ -11,6 +11,8 @@ expect PLAN CERT EVENTS LINES
 simmove OLD NEW CERT EVENTS  the same while nodes go over to new rows
 walk PLAN CERT NODE COUNT    the records that a walk over a node's terminus collects
 reach PLAN CERT              who reaches whom, and in how many hops
+matrix PLAN CERT             the same as a table that a person reads
+require PLAN CERT WANTED     whether the nodes reach whom a text wants them to reach
 trace PLAN CERT FROM TO      the way of a packet from a node to another, or to an endpoint ID
 draw PLAN [CERT] [--rows [EID]]
                              the planned network, or where its rows lead, as a drawing for Graphviz
@@ -46,6 +48,8 @@ pub fn guide_to(command: &str) -> Option<&'static str> {
         "simmove" => Some(OF_SIMMOVE),
         "walk" => Some(OF_WALK),
         "reach" => Some(OF_REACH),
+        "matrix" => Some(OF_MATRIX),
+        "require" => Some(OF_REQUIRE),
         "trace" => Some(OF_TRACE),
         "draw" => Some(OF_DRAW),
         "explain" => Some(OF_EXPLAIN),
@@ -187,6 +191,39 @@ Status 1: a fault of the plan or the certificate.
   pairs 12 reached 10 one-way 0
 "#;
 
+const OF_MATRIX: &str = r#"mctpplan matrix PLAN CERT
+
+Prints a table with a row and a column for each node, in the order of the plan and by number from 1:
+how many hops a packet of the row's node makes to the column's node, a dash where it doesn't arrive,
+and a dot for the node itself. Each row ends with its node's name.
+
+Status 0: the table.
+Status 1: a fault of the plan or the certificate.
+
+  $ mctpplan matrix examples/riser/plan.json examples/riser/certificate.json
+        1  2  3  4
+    1   .  1  2  2  host
+    2   1  .  1  1  riser
+    3   2  1  .  -  nic
+    4   2  1  -  .  ssd
+"#;
+
+const OF_REQUIRE: &str = r#"mctpplan require PLAN CERT WANTED
+
+Prints yes if packets reach whom they are to reach and nobody else that is named, or else each line
+of WANTED of which it isn't so. A line A B says that packets of node A are to reach node B, A -> *
+that they are to reach every node, and A -/> B that they must not reach B. A line that is empty or
+begins with # is a remark. Where WANTED can't be read, its line and column are told on standard
+output.
+
+Status 0: yes.
+Status 1: the lines that don't hold, or a fault of the plan or the certificate.
+Status 2: here also where WANTED can't be read, and where.
+
+  $ printf 'host -> *\nnic ssd\n' | mctpplan require examples/riser/plan.json examples/riser/certificate.json -
+  nic ssd
+"#;
+
 const OF_TRACE: &str = r#"mctpplan trace PLAN CERT FROM TO
 
 Prints the way of a packet that the node FROM sends, a line for each hop. TO is the name of a node,
@@ -226,11 +263,13 @@ Status 1: a fault of the plan or the certificate, where there is a certificate.
 
 const OF_EXPLAIN: &str = r#"mctpplan explain PLAN [CERT]
 
-Prints the line that certify prints of the plan, with CERT that of check, and then why: the cause of
-a fault in the plan's own names and numbers, who else is involved, and what is to hold; or the way
-round a loop, a line a hop. At most three edits follow that were tried, each with the JSON pointer,
-the node and the value: then: yes says that the plan has a certificate with just this changed, and
-another line behind then: what certify then prints.
+Prints the line that certify prints of the plan, with CERT that of check, and where in the plan's
+text that stands: the file, the line and the column, and the JSON pointer. Then it says why: the
+cause of a fault in the plan's own names and numbers, who else is involved, and what is to hold; or
+the way round a loop, a line a hop. At most three edits follow that were tried, each with the JSON
+pointer, the node and the value: then: yes says that the plan has a certificate with just this
+changed, and another line behind then: what certify then prints. Where there are more faults, the
+last line says how many, and by which words faults lists them.
 
 In place of a certificate stands yes, how many nodes, buses, rows and records there are, and between
 which two nodes the certificate allows most hops. Of a plan or a certificate that can't be read it
@@ -244,6 +283,7 @@ Status 2: here also why a text can't be read.
 
   $ mctpplan explain examples/explained/c08-peer.json
   fault C08 node baseboard entry - eid 10
+  examples/explained/c08-peer.json:38:53: /nodes/2/eid
   baseboard has endpoint ID 10.
   It is in the pool of switch: 10 to 31.
   Both are owned by bmc.
@@ -259,9 +299,10 @@ Status 2: here also why a text can't be read.
 const OF_FAULTS: &str = r#"mctpplan faults PLAN [CERT]
 
 Prints every fault of the plan, with CERT of the plan and the certificate, a line each, and how many
-lines there are, or yes. Faults at neighboring endpoint IDs of a row, a record or a node are one
-line. Where a plan has no fault itself and still no certificate, the line that certify prints of it
-is the only one.
+lines there are, or yes. Each line ends with the file, the line and the column of the value at fault
+in the plan's text. Faults at neighboring endpoint IDs of a row, a record or a node are one line.
+Where a plan has no fault itself and still no certificate, the line that certify prints of it is the
+only one.
 
 Status 0: yes.
 Status 1: the faults.

@@ -1,3 +1,4 @@
 pub mod ReadingLines
 pub mod Standing
+pub mod SyntaxCauses
 pub mod TroubleLines

@@ -45,6 +45,7 @@ use Rattle.net_pointers.specs.declared.texts.TextTrouble.{TextTrouble}
 use Rattle.net_pointers.specs.declared.texts.TextTrouble.TheVariants.{TooLong, NotJson, Plan, Certificate}
 use Rattle.reading_texts.specs.ReadingLines.{position_text, pointer_text, joined, number_noun, shape_words}
 use Rattle.reading_texts.specs.Standing.{IsShown, shown_key}
+use Rattle.reading_texts.specs.SyntaxCauses.{cause_line, encoding_line}
 
 -- ---- no JSON
 
@@ -66,13 +67,15 @@ wanted_words wanted.LessDepth = None
 
 -- the line of a text that is UTF-8 and no JSON, by what may stand there
 abbrev pub syntax_line : List ℕ → Option (List ℕ) → List ℕ
-syntax_line position (Some words) = position ++ (codes "there may stand " ++ (words ++ codes ", and nothing else.\n"))
-syntax_line position None = position ++ codes "lists and objects nest 128 deep there, and 127 is the most.\n"
+syntax_line position (Some words) = position ++ (codes "expected " ++ (words ++ codes ".\n"))
+syntax_line position None = position ++ codes "nested 128 deep; the limit is 127.\n"
 
--- where the text stops being JSON, and what may stand there
+-- where the text stops being JSON, what may stand there, and why nothing of that does, where the bytes there tell it
 abbrev pub json_line : List ℕ → JsonFault → List ℕ
-json_line text (NotUtf8 offset) = position_text text (Some offset) ++ codes "there the text is no UTF-8.\n"
-json_line text (Unreadable offset w) = syntax_line (position_text text (Some offset)) (wanted_words w)
+json_line text (NotUtf8 offset) =
+    position_text text (Some offset) ++ (codes "invalid UTF-8.\n" ++ encoding_line text offset)
+json_line text (Unreadable offset w) =
+    syntax_line (position_text text (Some offset)) (wanted_words w) ++ cause_line text offset
 
 -- ---- a value that is wrong in itself
 

@@ -21,6 +21,7 @@ mod positions;
 mod shapes;
 mod shown;
 mod syntax;
+mod syntax_causes;
 mod twice;
 mod values;
 
@@ -32,6 +33,7 @@ use net_pointers::{
     CertificateTrouble, PlanTrouble, TextTrouble, certificate_text_trouble, known_names, list_key,
     names_of_nodes, plan_text_trouble,
 };
+pub use positions::pointer_text;
 use std::alloc::{AllocError, Global};
 use syntax::json_line;
 use twice::{doubled_key_lines, doubled_name_lines, overlap_lines};

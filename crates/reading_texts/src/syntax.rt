@@ -4,10 +4,12 @@ ghost use Rattle.net_pointers.specs.TextTroubles.{IsFaultOfJson};
 ghost use Rattle.reading_texts.specs.TroubleLines.{json_line, syntax_line, wanted_words};
 
 use crate::positions::position_text;
+use crate::syntax_causes::{cause_line, encoding_line};
 use net_pointers::{JsonFault, Wanted};
 use std::alloc::{AllocError, Global};
 
-/// The line that tells where a text stops being JSON, and what may stand there.
+/// The line that tells where a text stops being JSON, and what may stand there; and a line that tells why, where the bytes
+/// there do.
 pub fn json_line(alloc: Global, text: &[u8], fault: JsonFault) -> Result<String, AllocError>
     requires { IsFaultOfJson text.now fault }
     ensures { IfOk result (λ line. string_bytes line ≡ json_line text.now fault) }
@@ -15,11 +17,14 @@ pub fn json_line(alloc: Global, text: &[u8], fault: JsonFault) -> Result<String,
     match fault {
         JsonFault::NotUtf8(offset) => {
             let position = position_text(alloc, text, Some(offset))?;
-            format!(in alloc; "{position}there the text is no UTF-8.\n")
+            let cause = encoding_line(text, offset);
+            format!(in alloc; "{position}invalid UTF-8.\n{cause}")
         }
         JsonFault::Unreadable(offset, wanted) => {
             let position = position_text(alloc, text, Some(offset))?;
-            syntax_line(alloc, &position, wanted_words(wanted))
+            let expected = syntax_line(alloc, &position, wanted_words(wanted))?;
+            let cause = cause_line(text, offset);
+            format!(in alloc; "{expected}{cause}")
         }
     }
 }
@@ -28,12 +33,8 @@ fn syntax_line(alloc: Global, position: &str, words: Option<&str>) -> Result<Str
     ensures { IfOk result (λ line. string_bytes line ≡ syntax_line position.now (option_map (λ w. w.now) words.entry)) }
 {
     match words {
-        Some(words) => format!(in alloc; "{position}there may stand {words}, and nothing else.\n"),
-        None => {
-            format!(in alloc;
-                "{position}lists and objects nest 128 deep there, and 127 is the most.\n"
-            )
-        }
+        Some(words) => format!(in alloc; "{position}expected {words}.\n"),
+        None => format!(in alloc; "{position}nested 128 deep; the limit is 127.\n"),
     }
 }
 

@@ -1,4 +1,4 @@
-//! Tests of the rules, of certificates that are made, of moves and of questions about plans.
+//! Tests of the rules, of certificates that are made, and of moves.
 #![tactic(auto)]
 
 #[cfg(test)]

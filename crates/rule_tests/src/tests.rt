@@ -1,14 +1,5 @@
-//! Tests over the public calls of `net_check` and `net_questions`.
-mod certifying;
-mod changes;
-mod codes;
-mod deliveries;
-mod moves;
-mod networks;
-mod owners_and_pools;
-mod questions;
-mod records;
+//! Tests over the public calls of `net_check`: of ranges that no text has, and of growths of memory that are refused.
+//! What the rules find the rows in `tests/` tell of the program, `rules.rows` and `checks.rows` first.
+mod faults;
+mod ranges;
 mod refused_checks;
-mod rules;
-mod stretches;
-mod superfluous;

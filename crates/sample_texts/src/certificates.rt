@@ -17,7 +17,7 @@ fn is_one_place(given: &NodePlaces, node: usize) -> bool {
 }
 
 /// Whether these are the ranks of a node, in ranges each of a first endpoint ID, a rank and a size.
-pub fn has_ranges(given: &NodeRanks, node: usize, wanted: &[(u8, u8, u8)]) -> bool {
+fn has_ranges(given: &NodeRanks, node: usize, wanted: &[(u8, u8, u8)]) -> bool {
     for (range, (first, rank, size)) in given.ranges.iter().zip(wanted) {
         if range.first.value != *first || range.rank != *rank || range.size != *size {
             return false;

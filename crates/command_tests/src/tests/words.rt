@@ -63,8 +63,8 @@ fn gives_the_command_or_usage(rt: HostRuntime) -> Result<(), Fail> {
         plan: "a",
         certificate: Some("b"),
     };
-    let listed = planned(PlanQuestion::Faults);
-    let listed_both = certified(Question::Faults);
+    let listed = planned(PlanQuestion::Faults { name: "a" });
+    let listed_both = certified(Question::Faults { name: "a" });
     let rows: [(&[&str], Result<Subcommand, Refused>); 77] = [
         (&["mctpplan", "explain", "a"], Ok(explained)),
         (&["mctpplan", "explain", "a", "b"], Ok(both)),
@@ -181,7 +181,7 @@ fn certified(question: Question) -> Subcommand {
 }
 
 /// The question about the plan in `a`.
-fn planned(question: PlanQuestion) -> Subcommand<'static> {
+fn planned(question: PlanQuestion) -> Subcommand {
     Subcommand::Planned {
         question,
         plan: "a",

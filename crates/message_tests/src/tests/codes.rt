@@ -1,5 +1,5 @@
 //! Refusals are printed as their codes and a sentence.
-use mctp_bridge::{Obstacle, TableFault};
+use mctp_bridge::TableFault;
 use mctp_control::{ControlError, ReadFault};
 use mctp_transport::{DropCause, PacketError};
 use pdr_record::RecordError;
@@ -249,16 +249,4 @@ fn first_wrong<'a>(
 fn refusals_are_told_by_code_and_sentence(rt: HostRuntime) -> Result<(), Fail> {
     assert_eq!(rt; first_wrong(rt.alloc(), &ROWS)?, None);
     Ok(())
-}
-
-#[test]
-fn obstacles(rt: HostRuntime) {
-    let rows = [
-        (Obstacle::Unassignable, "B10"),
-        (Obstacle::NoRow, "B11"),
-        (Obstacle::NoBridge, "B12"),
-    ];
-    for (obstacle, code) in rows {
-        assert_eq!(rt; obstacle.code(), code);
-    }
 }

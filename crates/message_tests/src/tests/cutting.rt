@@ -1,78 +1,102 @@
 //! Messages that are cut, as the bytes of their packets.
-ghost use Rattle.std.specs.Prelude.{◌<◌, ◌≤◌, length};
+use mctp_transport::{
+    BASELINE_UNIT, Eid, HEADER_LENGTH, Key, MAX_MESSAGE, MAX_UNIT, Packets, Seq, Tag,
+};
 
-use mctp_transport::{Eid, HEADER_LENGTH, Key, MAX_MESSAGE, MAX_UNIT, Packets, Seq, Tag};
-use std::process::Abort;
-use std::test::Fail;
-
-/// Tag 1 of source 8, which owns it.
-pub(crate) fn key() -> Key {
-    Key {
-        source: Eid::new(8),
-        tag: Tag::new(1),
-        owner: true,
-    }
-}
-
-/// The packets of a message to 9, from number 0 on.
-fn cut(message: &[u8]) -> Packets<'_>
-    requires some { 0 < length message.now }
-    requires most { length message.now ≤ MAX_MESSAGE }
-{
-    Packets::of(message, Eid::new(9), key(), Seq::new(0))
-}
-
-/// The flag byte of the next packet, written, and how many payload bytes come after it.
-pub(crate) fn next_written(packets: &mut Packets) -> Option<(u8, usize)> {
+/// The flag byte of the next packet to 9 from 8, written, and how many payload bytes come after it.
+fn next_written(packets: &mut Packets) -> Option<(u8, usize)> {
     let packet = packets.next()?;
     let mut out = [0; HEADER_LENGTH + MAX_UNIT];
     let len = packet.put(&mut out);
+    if &out[..3] != [0x01, 0x09, 0x08].as_slice() {
+        return None;
+    }
     Some((out[3], len - HEADER_LENGTH))
 }
 
-/// Wants packets of these flag bytes and payload lengths, and none after them.
-pub(crate) fn expect_packets(rt: &impl Abort, mut packets: Packets, wanted: &[(u8, usize)]) {
+/// Whether the packets have these flag bytes and payload lengths, and no more come.
+fn are_packets(mut packets: Packets, wanted: &[(u8, usize)]) -> bool {
     for row in wanted {
-        assert_eq!(rt; next_written(&mut packets), Some(*row));
+        if next_written(&mut packets) != Some(*row) {
+            return false;
+        }
     }
-    assert_eq!(rt; next_written(&mut packets), None);
+    next_written(&mut packets).is_none()
 }
 
-#[test]
-fn cuts_by_the_unit(rt: HostRuntime) {
-    expect_packets(&rt, cut(&[7; 130]), &[(0x89, 64), (0x19, 64), (0x69, 2)]);
-    expect_packets(&rt, cut(&[7; 64]), &[(0xC9, 64)]);
-    expect_packets(&rt, cut(&[7; 65]), &[(0x89, 64), (0x59, 1)]);
-}
+/// A unit, the length of a message, and the flag bytes and payload lengths of its packets.
+type Row = (usize, usize, &'static [(u8, usize)]);
 
-#[test]
-fn begins_at_number_0_again_after_3(rt: HostRuntime) {
-    let five = [(0x89, 64), (0x19, 64), (0x29, 64), (0x39, 64), (0x49, 64)];
-    expect_packets(&rt, cut(&[7; 320]), &five);
-    let six = [
-        (0x89, 64),
-        (0x19, 64),
-        (0x29, 64),
-        (0x39, 64),
-        (0x09, 64),
-        (0x59, 64),
-    ];
-    expect_packets(&rt, cut(&[7; 384]), &six);
-}
+const ROWS: [Row; 11] = [
+    (64, 1, &[(0xc9, 1)]),
+    (64, 64, &[(0xc9, 64)]),
+    (64, 65, &[(0x89, 64), (0x59, 1)]),
+    (64, 130, &[(0x89, 64), (0x19, 64), (0x69, 2)]),
+    // the packet after that of number 3 has the number 0
+    (
+        64,
+        384,
+        &[
+            (0x89, 64),
+            (0x19, 64),
+            (0x29, 64),
+            (0x39, 64),
+            (0x09, 64),
+            (0x59, 64),
+        ],
+    ),
+    (100, 250, &[(0x89, 100), (0x19, 100), (0x69, 50)]),
+    (128, 128, &[(0xc9, 128)]),
+    (128, 130, &[(0x89, 128), (0x59, 2)]),
+    (1024, 1, &[(0xc9, 1)]),
+    (1024, 1025, &[(0x89, 1024), (0x59, 1)]),
+    (
+        1024,
+        4096,
+        &[(0x89, 1024), (0x19, 1024), (0x29, 1024), (0x79, 1024)],
+    ),
+];
 
-#[test]
-fn writes_a_packet(rt: HostRuntime) -> Result<(), Fail> {
-    let message = [0x01, 0x80, 0x00, 0x02];
+/// Whether a message is cut so under the unit, and a copy of what is left after the first packet gives the others.
+fn is_cut_so(unit: usize, message: &[u8], wanted: &[(u8, usize)]) -> bool {
+    if unit < BASELINE_UNIT
+        || MAX_UNIT < unit
+        || message.is_empty()
+        || MAX_MESSAGE < message.len()
+    {
+        return false;
+    }
     let key = Key {
-        tag: Tag::new(3),
-        ..key()
+        source: Eid::new(8),
+        tag: Tag::new(1),
+        owner: true,
     };
-    let mut packets = Packets::of(&message, Eid::new(10), key, Seq::new(0));
-    let packet = packets.next().ok_or("no packet")?;
-    let mut out = [0xEE; HEADER_LENGTH + MAX_UNIT];
-    let len = packet.put(&mut out);
-    let want = [0x01, 0x0A, 0x08, 0xCB, 0x01, 0x80, 0x00, 0x02];
-    assert_eq!(rt; &out[..len], want.as_slice());
-    assert_eq!(rt; out[8], 0xEE);
-    Ok(())
+    let mut packets = Packets::within(unit, message, Eid::new(9), key, Seq::new(0));
+    let Some((first, others)) = wanted.split_first() else {
+        return false;
+    };
+    if next_written(&mut packets) != Some(*first) {
+        return false;
+    }
+    match packets.clone() {
+        Ok(copy) => are_packets(packets, others) && are_packets(copy, others),
+        Err(_) => false,
+    }
+}
+
+/// The unit and the length of the first message that is cut otherwise.
+fn first_other(rows: &[Row]) -> Option<(usize, usize)> {
+    let message = [7; MAX_MESSAGE];
+    for (unit, length, wanted) in rows {
+        match message.get(..*length) {
+            Some(bytes) if is_cut_so(*unit, bytes, *wanted) => {}
+            _ => return Some((*unit, *length)),
+        }
+    }
+    None
+}
+
+#[test]
+fn messages_are_cut_by_the_unit(rt: HostRuntime) {
+    assert_eq!(rt; first_other(&ROWS), None);
 }

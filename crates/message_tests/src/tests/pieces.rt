@@ -4,6 +4,7 @@ ghost use Rattle.mctp_bridge.specs.Pieces.{IsCovered};
 
 use mctp_bridge::{Hop, RangeTable, TableRow};
 use mctp_transport::Eid;
+use std::alloc::Global;
 use std::test::Fail;
 
 const HOST: Hop = Hop { port: 0, next: 0 };
@@ -12,12 +13,20 @@ const NIC: Hop = Hop { port: 1, next: 2 };
 
 const SSD: Hop = Hop { port: 2, next: 3 };
 
-fn row(first: u8, size: u8, hop: Hop) -> TableRow {
-    TableRow {
-        first: Eid::new(first),
-        size,
-        hop,
+/// The first endpoint ID of a row, how many it covers, and its hop.
+type Row = (u8, u8, Hop);
+
+/// The table of these rows.
+fn table_of(alloc: Global, rows: &[Row]) -> Result<RangeTable, Fail> {
+    let mut list = Vec::new(alloc);
+    for (first, size, hop) in rows {
+        list.push(TableRow {
+            first: Eid::new(*first),
+            size: *size,
+            hop: *hop,
+        })?;
     }
+    Ok(RangeTable::build(alloc, &list).ok().ok_or("no table")?)
 }
 
 /// Whether the interval is cut into pieces of these first and last endpoint IDs and hops, and no others.
@@ -50,61 +59,70 @@ fn first_uncovered(table: &RangeTable, first: Eid, last: Eid) -> Option<Eid>
     None
 }
 
-#[test]
-fn rows_and_gaps_are_pieces(rt: HostRuntime) -> Result<(), Fail> {
-    let rows = [row(17, 1, NIC), row(8, 1, HOST), row(18, 1, SSD)];
-    let table = RangeTable::build(rt.alloc(), &rows).ok().ok_or("no table")?;
-    let wanted = [
-        (8, 8, Some(HOST)),
-        (9, 16, None),
-        (17, 17, Some(NIC)),
-        (18, 18, Some(SSD)),
-        (19, 23, None),
-    ];
-    assert!(rt; is_cut_so(&table, 8, 23, &wanted));
-    Ok(())
+/// Rows, the first and the last endpoint ID of an interval, and its pieces.
+type Cut = (&'static [Row], u8, u8, &'static [(u8, u8, Option<Hop>)]);
+
+const APART: [Row; 3] = [(17, 1, NIC), (8, 1, HOST), (18, 1, SSD)];
+
+const SIDE_BY_SIDE: [Row; 2] = [(8, 9, HOST), (17, 40, HOST)];
+
+const WIDE: [Row; 2] = [(16, 8, NIC), (40, 8, SSD)];
+
+const CUTS: [Cut; 6] = [
+    (
+        &APART,
+        8,
+        23,
+        &[
+            (8, 8, Some(HOST)),
+            (9, 16, None),
+            (17, 17, Some(NIC)),
+            (18, 18, Some(SSD)),
+            (19, 23, None),
+        ],
+    ),
+    // rows with one hop stay two pieces
+    (
+        &SIDE_BY_SIDE,
+        0,
+        255,
+        &[
+            (0, 7, None),
+            (8, 16, Some(HOST)),
+            (17, 56, Some(HOST)),
+            (57, 255, None),
+        ],
+    ),
+    (&WIDE, 18, 20, &[(18, 20, Some(NIC))]),
+    (&WIDE, 24, 39, &[(24, 39, None)]),
+    (&WIDE, 255, 255, &[(255, 255, None)]),
+    (&[], 0, 255, &[(0, 255, None)]),
+];
+
+/// The first and the last endpoint ID of the first interval that is cut otherwise.
+fn first_other(alloc: Global, cuts: &[Cut]) -> Result<Option<(u8, u8)>, Fail> {
+    for (rows, first, last, wanted) in cuts {
+        let table = table_of(alloc, *rows)?;
+        if *last < *first || !is_cut_so(&table, *first, *last, *wanted) {
+            return Ok(Some((*first, *last)));
+        }
+    }
+    Ok(None)
 }
 
 #[test]
-fn every_number_is_in_a_piece(rt: HostRuntime) -> Result<(), Fail> {
-    let rows = [row(8, 9, HOST), row(17, 40, HOST)];
-    let table = RangeTable::build(rt.alloc(), &rows).ok().ok_or("no table")?;
-    let wanted = [
-        (0, 7, None),
-        (8, 16, Some(HOST)),
-        (17, 56, Some(HOST)),
-        (57, 255, None),
-    ];
-    assert!(rt; is_cut_so(&table, 0, 255, &wanted));
-    Ok(())
-}
-
-#[test]
-fn an_interval_inside_a_row_or_a_gap_is_one_piece(rt: HostRuntime) -> Result<(), Fail> {
-    let rows = [row(16, 8, NIC), row(40, 8, SSD)];
-    let table = RangeTable::build(rt.alloc(), &rows).ok().ok_or("no table")?;
-    assert!(rt; is_cut_so(&table, 18, 20, &[(18, 20, Some(NIC))]));
-    assert!(rt; is_cut_so(&table, 24, 39, &[(24, 39, None)]));
-    assert!(rt; is_cut_so(&table, 255, 255, &[(255, 255, None)]));
-    Ok(())
-}
-
-#[test]
-fn a_table_without_rows_is_one_gap(rt: HostRuntime) -> Result<(), Fail> {
-    let table = RangeTable::build(rt.alloc(), &[]).ok().ok_or("no table")?;
-    assert!(rt; is_cut_so(&table, 0, 255, &[(0, 255, None)]));
+fn intervals_are_cut_into_pieces(rt: HostRuntime) -> Result<(), Fail> {
+    assert_eq!(rt; first_other(rt.alloc(), &CUTS)?, None);
     Ok(())
 }
 
 #[test]
 fn a_loop_looks_at_every_number(rt: HostRuntime) -> Result<(), Fail> {
-    let rows = [row(8, 8, NIC), row(16, 8, SSD)];
-    let table = RangeTable::build(rt.alloc(), &rows).ok().ok_or("no table")?;
-    let rows = [(10, 23, None), (10, 40, Some(24)), (5, 40, Some(5))];
-    for (first, last, wanted) in rows {
+    let table = table_of(rt.alloc(), &[(8, 8, NIC), (16, 8, SSD)])?;
+    for (first, last, wanted) in [(10, 23, None), (10, 40, Some(24)), (5, 40, Some(5))] {
         assert!(rt; first <= last);
         let uncovered = first_uncovered(&table, Eid::new(first), Eid::new(last));
-        assert_eq!(rt; uncovered.map(|eid| eid.value), wanted);
+        assert_eq!(rt; uncovered.map(|eid| eid.value), wanted, "{first} {last}");
     }
     Ok(())
 }

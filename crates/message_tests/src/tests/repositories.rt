@@ -1,5 +1,4 @@
 //! Check bytes, lists of records, and termini that answer requests for them.
-use super::damaged::joined;
 use arrayvec::ArrayVec;
 use pdr_repository::{BlockTerminus, ListTerminus, Terminus, crc8, is_lawful_list};
 use pldm_message::Tid;
@@ -47,7 +46,7 @@ pub(crate) fn block_over(
 /// The one record.
 pub(crate) fn one_record(alloc: Global) -> Result<Vec<(u32, Vec<u8>)>, AllocError> {
     let mut records = Vec::new(alloc);
-    records.push((1, joined(alloc, &[&LOCATOR])?))?;
+    records.push((1, LOCATOR.to_vec(alloc)?))?;
     Ok(records)
 }
 
@@ -178,7 +177,10 @@ const PARTS: [(&[u8], &[u8]); 11] = [
 ];
 
 /// The first request that a terminus answers otherwise.
-fn first_wrong<'a, T: Terminus>(terminus: &mut T, rows: &[(&'a [u8], &[u8])]) -> Option<&'a [u8]> {
+fn first_wrong<'a>(
+    terminus: &mut Box<dyn Terminus>,
+    rows: &[(&'a [u8], &[u8])],
+) -> Option<&'a [u8]> {
     let mut out = ArrayVec::new();
     for (request, answer) in rows {
         let is_answered = terminus.answer(*request, &mut out);
@@ -189,85 +191,101 @@ fn first_wrong<'a, T: Terminus>(terminus: &mut T, rows: &[(&'a [u8], &[u8])]) ->
     None
 }
 
+/// The first request of either table that a terminus answers otherwise.
+fn first_wrong_of_all(mut terminus: Box<dyn Terminus>) -> Option<&'static [u8]> {
+    let wrong = first_wrong(&mut terminus, &BASE);
+    wrong.or(first_wrong(&mut terminus, &PARTS))
+}
+
+/// `answers.rows` tells the same of a block.
 #[test]
-fn either_kind_answers_the_base_commands(rt: HostRuntime) -> Result<(), Fail> {
+fn a_list_answers(rt: HostRuntime) -> Result<(), Fail> {
     let alloc = rt.alloc();
     let list = list_over(alloc, one_record(alloc)?)?.ok_or("lawful")?;
-    let mut terminus: Box<dyn Terminus> = Box::new(alloc, list)?;
-    assert_eq!(rt; first_wrong(&mut terminus, &BASE), None);
-    let block = block_over(alloc, one_record(alloc)?)?.ok_or("lawful")?;
-    let mut terminus: Box<dyn Terminus> = Box::new(alloc, block)?;
-    assert_eq!(rt; first_wrong(&mut terminus, &BASE), None);
+    assert_eq!(rt; first_wrong_of_all(Box::new(alloc, list)?), None);
     Ok(())
 }
 
-#[test]
-fn either_kind_gives_a_record_in_parts(rt: HostRuntime) -> Result<(), Fail> {
-    let alloc = rt.alloc();
-    let mut list = list_over(alloc, one_record(alloc)?)?.ok_or("lawful")?;
-    assert_eq!(rt; first_wrong(&mut list, &PARTS), None);
-    let mut block = block_over(alloc, one_record(alloc)?)?.ok_or("lawful")?;
-    assert_eq!(rt; first_wrong(&mut block, &PARTS), None);
-    Ok(())
-}
+/// A handle, an offset, a count, and the part of the one record.
+type Part = (u32, usize, usize, Option<&'static [u8]>);
 
-#[test]
-fn a_block_lends_parts_of_one_record(rt: HostRuntime) -> Result<(), Fail> {
-    let alloc = rt.alloc();
-    let block = block_over(alloc, one_record(alloc)?)?.ok_or("lawful")?;
-    let rows: [(u32, usize, usize, Option<&[u8]>); 8] = [
-        (1, 16, 16, Some(&[0x01, 0x01, 0x0a])),
-        (1, 0, 19, Some(&LOCATOR)),
-        (1, 18, usize::MAX, Some(&[0x0a])),
-        (1, 18, 0, Some(&[])),
-        (1, 19, 1, None),
-        (1, usize::MAX, 1, None),
-        (9, 0, 1, None),
-        (0, 0, 1, None),
-    ];
-    for (handle, offset, count, wanted) in rows {
-        assert!(rt;
-            block.part(handle, offset, count) == wanted,
-            "{handle}, {offset}, {count}"
-        );
+const LENT: [Part; 8] = [
+    (1, 16, 16, Some(&[0x01, 0x01, 0x0a])),
+    (1, 0, 19, Some(&LOCATOR)),
+    (1, 18, usize::MAX, Some(&[0x0a])),
+    (1, 18, 0, Some(&[])),
+    (1, 19, 1, None),
+    (1, usize::MAX, 1, None),
+    (9, 0, 1, None),
+    (0, 0, 1, None),
+];
+
+/// The first part that the block lends otherwise.
+fn first_other_part(block: &BlockTerminus, rows: &[Part]) -> Option<Part> {
+    for row in rows {
+        if block.part(row.0, row.1, row.2) != row.3 {
+            return Some(*row);
+        }
     }
-    Ok(())
+    None
 }
 
 #[test]
-fn a_block_lends_parts_of_several_records(rt: HostRuntime) -> Result<(), Fail> {
+fn a_block_lends_parts(rt: HostRuntime) -> Result<(), Fail> {
     let alloc = rt.alloc();
-    let rows = [(7, 19), (3, 128), (5, 65)];
-    let block = block_over(alloc, records_of(alloc, &rows)?)?.ok_or("lawful")?;
-    for (handle, length) in rows {
-        let bytes = record_of(alloc, handle, length)?;
-        let handle = u32::from(handle);
-        assert_eq!(rt; block.part(handle, 0, 4079), Some(bytes.as_slice()));
-        assert!(rt; block.part(handle, bytes.len(), 1).is_none());
+    let block = block_over(alloc, one_record(alloc)?)?.ok_or("lawful")?;
+    assert_eq!(rt; first_other_part(&block, &LENT), None);
+    Ok(())
+}
+
+/// Handles in a list and in the records' bytes.
+type Handles = &'static [(u32, u8)];
+
+const LISTS: [(Handles, bool); 6] = [
+    (&[], false),
+    (&[(7, 7)], true),
+    (&[(7, 7), (8, 8)], true),
+    (&[(7, 7), (8, 9)], false),
+    (&[(7, 7), (7, 7)], false),
+    (&[(0, 0)], false),
+];
+
+/// The handles of the first list that is lawful where it should not be, or the other way round.
+fn first_other_list(
+    alloc: Global,
+    lists: &[(Handles, bool)],
+) -> Result<Option<Handles>, AllocError> {
+    for (handles, wanted) in lists {
+        let mut records = Vec::new(alloc);
+        for (handle, spelled) in *handles {
+            records.push((*handle, record_of(alloc, *spelled, 19)?))?;
+        }
+        if is_lawful_list(&records) != *wanted {
+            return Ok(Some(*handles));
+        }
     }
-    assert!(rt; block.part(4, 0, 1).is_none());
-    Ok(())
+    Ok(None)
 }
 
 #[test]
-fn refuses_lists_that_are_not_lawful(rt: HostRuntime) -> Result<(), Fail> {
-    let alloc = rt.alloc();
-    let mut records = Vec::new(alloc);
-    assert!(rt; !is_lawful_list(&records));
-    records.push((7, record_of(alloc, 7, 19)?))?;
-    assert!(rt; is_lawful_list(&records));
-    records.push((8, record_of(alloc, 9, 19)?))?;
-    assert!(rt; !is_lawful_list(&records));
-    let _ = records.pop();
-    records.push((7, record_of(alloc, 7, 30)?))?;
-    assert!(rt; !is_lawful_list(&records));
+fn lawful_lists_have_new_handles(rt: HostRuntime) -> Result<(), Fail> {
+    assert_eq!(rt; first_other_list(rt.alloc(), &LISTS)?, None);
     Ok(())
 }
 
-#[test]
-fn check_bytes(rt: HostRuntime) {
-    let rows: [(&[u8], u8); 3] = [(b"123456789", 0xf4), (b"", 0), (&LOCATOR, 0xa6)];
+const CHECKED: [(&[u8], u8); 3] = [(b"123456789", 0xf4), (b"", 0), (&LOCATOR, 0xa6)];
+
+/// The first bytes that have another check byte.
+fn first_other_check<'a>(rows: &[(&'a [u8], u8)]) -> Option<&'a [u8]> {
     for (bytes, wanted) in rows {
-        assert_eq!(rt; crc8(bytes), wanted);
+        if crc8(*bytes) != *wanted {
+            return Some(*bytes);
+        }
     }
+    None
+}
+
+#[test]
+fn bytes_have_their_check_byte(rt: HostRuntime) {
+    assert_eq!(rt; first_other_check(&CHECKED), None);
 }

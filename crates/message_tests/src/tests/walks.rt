@@ -1,12 +1,11 @@
 //! Walks over the records of termini, and over answers made by hand.
 ghost use Rattle.std.specs.Prelude.{◌<◌, ◌≤◌, ◌+◌, ◌^◌};
 
-use super::repositories::{block_over, list_over, record_of, records_of};
+use super::repositories::{list_over, record_of, records_of};
 use arrayvec::ArrayVec;
 use pdr_repository::{Step, Terminus, WalkFault, Walker};
 use pldm_message::{InstanceId, InstanceIds};
 use std::alloc::{AllocError, Global};
-use std::process::Abort;
 use std::test::Fail;
 
 /// Walks to the end or the first fault, and says how many requests it took.
@@ -46,174 +45,257 @@ fn is_over(walker: &mut Walker) -> bool {
         && walker.take(&[]) == Err(WalkFault::NotAsked)
 }
 
-/// Wants a walk in parts of at most `count` bytes, with room for exactly the records of these handles and lengths, to
-/// collect them with so many requests.
-fn expect_walk(
-    rt: &impl Abort,
+/// Whether a walk in parts of at most `count` bytes, with room for exactly the records of these handles and lengths,
+/// collects them with so many requests.
+fn is_walked(
     alloc: Global,
     terminus: &mut Box<dyn Terminus>,
     count: u16,
     rows: &[(u8, u32)],
     requests: usize,
-) -> Result<(), AllocError>
+) -> Result<bool, AllocError>
     requires { (8 ≤ count) × (count ≤ 4079) }
 {
     let bytes = rows
         .iter()
         .fold(0usize, |sum, row| sum.saturating_add(row.1 as usize));
     let mut walker = Walker::new(alloc, count, rows.len(), bytes.min(100_000))?;
-    assert_eq!(rt; walk(&mut walker, terminus), Ok(requests));
-    assert!(rt; has_collected(alloc, &walker, rows)?);
-    assert!(rt; walker.taken() == requests && is_over(&mut walker));
-    Ok(())
+    Ok(
+        walk(&mut walker, terminus) == Ok(requests)
+            && has_collected(alloc, &walker, rows)?
+            && walker.taken() == requests
+            && is_over(&mut walker),
+    )
 }
 
-/// Wants a walk within these limits to end with G09, and to keep the two records before.
-fn expect_too_much(
-    rt: &impl Abort,
+/// Whether a walk within these limits ends with G09, and keeps the two records before.
+fn is_too_much(
     alloc: Global,
     terminus: &mut Box<dyn Terminus>,
     count: u16,
     max_records: usize,
     max_bytes: usize,
-) -> Result<(), AllocError>
+) -> Result<bool, AllocError>
     requires count { (8 ≤ count) × (count ≤ 4079) }
     requires max_bytes { max_bytes + 1 < 2 ^ 64 }
 {
     let mut walker = Walker::new(alloc, count, max_records, max_bytes)?;
-    assert_eq!(rt; walk(&mut walker, terminus), Err(WalkFault::TooMuch));
-    assert_eq!(rt; walker.records().len(), 2);
-    Ok(())
+    Ok(walk(&mut walker, terminus) == Err(WalkFault::TooMuch) && walker.records().len() == 2)
 }
 
 /// Three records whose handles do not ascend.
 const THREE: [(u8, u32); 3] = [(7, 19), (3, 128), (5, 65)];
-
-/// Wants walks over the three records to collect them, and not to pass their limits.
-fn expect_three(
-    rt: &impl Abort,
-    alloc: Global,
-    terminus: &mut Box<dyn Terminus>,
-) -> Result<(), AllocError> {
-    expect_walk(rt, alloc, terminus, 64, &THREE, 5)?;
-    expect_too_much(rt, alloc, terminus, 64, 2, 212)?;
-    expect_too_much(rt, alloc, terminus, 8, 3, 211)
-}
 
 #[test]
 fn walks_collect_the_records_of_a_list(rt: HostRuntime) -> Result<(), Fail> {
     let alloc = rt.alloc();
     let list = list_over(alloc, records_of(alloc, &THREE)?)?.ok_or("lawful")?;
     let mut terminus: Box<dyn Terminus> = Box::new(alloc, list)?;
-    expect_three(&rt, alloc, &mut terminus)?;
+    assert!(rt;
+        is_walked(alloc, &mut terminus, 64, &THREE, 5)?,
+        "within both limits"
+    );
+    assert!(rt;
+        is_too_much(alloc, &mut terminus, 64, 2, 212)?,
+        "a record too many"
+    );
+    assert!(rt;
+        is_too_much(alloc, &mut terminus, 8, 3, 211)?,
+        "a byte too many"
+    );
     Ok(())
 }
 
-#[test]
-fn walks_collect_the_records_of_a_block(rt: HostRuntime) -> Result<(), Fail> {
-    let alloc = rt.alloc();
-    let block = block_over(alloc, records_of(alloc, &THREE)?)?.ok_or("lawful")?;
-    let mut terminus: Box<dyn Terminus> = Box::new(alloc, block)?;
-    expect_three(&rt, alloc, &mut terminus)?;
-    Ok(())
-}
+/// Answers under instance ID 0 that give whole records of 10 bytes, by their handle and the next one.
+const ONE_ENDS: [u8; 26] = [
+    0x01, 0x00, 0x02, 0x51, 0, 0, 0, 0, 0, 0, 0, 0, 0, 5, 10, 0, 1, 0, 0, 0, 1, 200, 0, 0, 0, 0,
+];
 
-/// A record one byte longer than a page, and the longest that there is.
-const LONG: [(u8, u32); 2] = [(1, 4097), (2, 65545)];
+const ONE_TO_ONE: [u8; 26] = [
+    0x01, 0x00, 0x02, 0x51, 0, 1, 0, 0, 0, 0, 0, 0, 0, 5, 10, 0, 1, 0, 0, 0, 1, 200, 0, 0, 0, 0,
+];
 
-#[test]
-fn walks_collect_long_records(rt: HostRuntime) -> Result<(), Fail> {
-    let alloc = rt.alloc();
-    let block = block_over(alloc, records_of(alloc, &LONG)?)?.ok_or("lawful")?;
-    let mut terminus: Box<dyn Terminus> = Box::new(alloc, block)?;
-    expect_walk(&rt, alloc, &mut terminus, 4079, &LONG, 19)?;
-    Ok(())
-}
+const ONE_TO_TWO: [u8; 26] = [
+    0x01, 0x00, 0x02, 0x51, 0, 2, 0, 0, 0, 0, 0, 0, 0, 5, 10, 0, 1, 0, 0, 0, 1, 200, 0, 0, 0, 0,
+];
 
-/// An answer under instance ID 0 that gives a whole record of 10 bytes.
-const fn whole(handle: u8, next: u8) -> [u8; 26] {
-    [
-        0x01, 0x00, 0x02, 0x51, 0x00, next, 0, 0, 0, 0, 0, 0, 0, 0x05, 10, 0, handle, 0, 0, 0, 1,
-        200, 0, 0, 0, 0,
-    ]
-}
+const TWO_TO_ONE: [u8; 26] = [
+    0x01, 0x00, 0x02, 0x51, 0, 1, 0, 0, 0, 0, 0, 0, 0, 5, 10, 0, 2, 0, 0, 0, 1, 200, 0, 0, 0, 0,
+];
 
-/// Hands the walker answers under instance ID 0, each after a request, and wants these results.
-fn expect_steps(rt: &impl Abort, walker: &mut Walker, rows: &[(&[u8], Result<Step, WalkFault>)]) {
-    for (answer, wanted) in rows {
+const TWO_ENDS: [u8; 26] = [
+    0x01, 0x00, 0x02, 0x51, 0, 0, 0, 0, 0, 0, 0, 0, 0, 5, 10, 0, 2, 0, 0, 0, 1, 200, 0, 0, 0, 0,
+];
+
+const ZERO_ENDS: [u8; 26] = [
+    0x01, 0x00, 0x02, 0x51, 0, 0, 0, 0, 0, 0, 0, 0, 0, 5, 10, 0, 0, 0, 0, 0, 1, 200, 0, 0, 0, 0,
+];
+
+/// What is wrong with these is the instance ID, the transfer flag, or the length.
+const OTHER_ID: [u8; 26] = [
+    0x01, 0x1f, 0x02, 0x51, 0, 0, 0, 0, 0, 0, 0, 0, 0, 5, 10, 0, 1, 0, 0, 0, 1, 200, 0, 0, 0, 0,
+];
+
+const OTHER_REQUEST: [u8; 26] = [
+    0x01, 0x9f, 0x02, 0x51, 0, 0, 0, 0, 0, 0, 0, 0, 0, 5, 10, 0, 1, 0, 0, 0, 1, 200, 0, 0, 0, 0,
+];
+
+const MIDDLE: [u8; 26] = [
+    0x01, 0x00, 0x02, 0x51, 0, 0, 0, 0, 0, 0, 0, 0, 0, 1, 10, 0, 1, 0, 0, 0, 1, 200, 0, 0, 0, 0,
+];
+
+const ENDLESS: [u8; 26] = [
+    0x01, 0x00, 0x02, 0x51, 0, 0, 0, 0, 0, 0, 0, 0, 0, 0, 10, 0, 1, 0, 0, 0, 1, 200, 0, 0, 0, 0,
+];
+
+const LONGER: [u8; 26] = [
+    0x01, 0x00, 0x02, 0x51, 0, 0, 0, 0, 0, 0, 0, 0, 0, 5, 10, 0, 1, 0, 0, 0, 1, 200, 0, 0, 1, 0,
+];
+
+/// Eight bytes of a record, where more are announced.
+const BEGUN: [u8; 24] = [
+    0x01, 0x00, 0x02, 0x51, 0x00, 0, 0, 0, 0, 8, 0, 0, 0, 0x00, 8, 0, 1, 0, 0, 0, 1, 1, 0, 0,
+];
+
+/// One byte more of it, and so on.
+const ONE_MORE: [u8; 17] = [
+    0x01, 0x00, 0x02, 0x51, 0x00, 0, 0, 0, 0, 8, 0, 0, 0, 0x01, 1, 0, 7,
+];
+
+/// The last two bytes of it with the right check byte, with another, and three bytes.
+const ENDS: [u8; 19] = [
+    0x01, 0x00, 0x02, 0x51, 0x00, 0, 0, 0, 0, 0, 0, 0, 0, 0x04, 2, 0, 0, 0, 0x23,
+];
+
+const ENDS_WRONG: [u8; 19] = [
+    0x01, 0x00, 0x02, 0x51, 0x00, 0, 0, 0, 0, 0, 0, 0, 0, 0x04, 2, 0, 0, 0, 0x22,
+];
+
+const ENDS_LONG: [u8; 20] = [
+    0x01, 0x00, 0x02, 0x51, 0x00, 0, 0, 0, 0, 0, 0, 0, 0, 0x04, 3, 0, 0, 0, 0, 0x23,
+];
+
+/// Seven bytes, where a first part has eight, and none.
+const SEVEN: [u8; 23] = [
+    0x01, 0x00, 0x02, 0x51, 0x00, 7, 0, 0, 0, 7, 0, 0, 0, 0x00, 7, 0, 1, 0, 0, 0, 1, 1, 0,
+];
+
+const EMPTY: [u8; 16] = [
+    0x01, 0x00, 0x02, 0x51, 0x00, 0, 0, 0, 0, 0, 0, 0, 0, 0x05, 0, 0,
+];
+
+/// The most records, answers that come each after a request, and what the walker says of the last. It refuses none before.
+type Told = (usize, &'static [&'static [u8]], Result<Step, WalkFault>);
+
+const TOLD: [Told; 24] = [
+    (9, &[&ONE_ENDS], Ok(Step::Done)),
+    (9, &[&ONE_TO_TWO], Ok(Step::Record)),
+    (9, &[&ONE_TO_TWO, &TWO_ENDS], Ok(Step::Done)),
+    (9, &[&BEGUN], Ok(Step::More)),
+    (9, &[&BEGUN, &ENDS], Ok(Step::Done)),
+    (9, &[&BEGUN, &ENDS_WRONG], Err(WalkFault::WrongCrc)),
+    (9, &[&BEGUN, &ENDS_LONG], Err(WalkFault::WrongSize)),
+    (9, &[&BEGUN, &ONE_ENDS], Err(WalkFault::WrongFlag)),
+    (9, &[&[0x01, 0x00, 0x02]], Err(WalkFault::Unreadable)),
+    (
+        9,
+        &[&[0x01, 0x80, 0x02, 0x51, 0x00]],
+        Err(WalkFault::Unreadable),
+    ),
+    (9, &[&OTHER_ID], Err(WalkFault::NotAsked)),
+    // of two causes the first is told
+    (9, &[&OTHER_REQUEST], Err(WalkFault::NotAsked)),
+    (9, &[&[0x01, 0x1f, 0x02, 0x50]], Err(WalkFault::NotAsked)),
+    (
+        9,
+        &[&[0x01, 0x00, 0x02, 0x51, 0x83]],
+        Err(WalkFault::RecordChanged),
+    ),
+    (
+        9,
+        &[&[0x01, 0x00, 0x02, 0x51, 0x82]],
+        Err(WalkFault::OtherCode),
+    ),
+    (9, &[&MIDDLE], Err(WalkFault::WrongFlag)),
+    (9, &[&ENDLESS], Err(WalkFault::WrongFlag)),
+    (9, &[&SEVEN], Err(WalkFault::WrongSize)),
+    (9, &[&EMPTY], Err(WalkFault::WrongSize)),
+    (9, &[&LONGER], Err(WalkFault::WrongSize)),
+    (0, &[&ZERO_ENDS], Err(WalkFault::WrongHandle)),
+    (0, &[&ONE_ENDS], Err(WalkFault::TooMuch)),
+    (
+        9,
+        &[&ONE_TO_TWO, &TWO_TO_ONE, &ONE_TO_TWO],
+        Err(WalkFault::DoubledHandle),
+    ),
+    (
+        1,
+        &[&ONE_TO_ONE, &ONE_TO_TWO],
+        Err(WalkFault::DoubledHandle),
+    ),
+];
+
+/// What a walker over parts of 64 bytes and over 640 bytes of records says of the last of these answers.
+fn told_of(
+    alloc: Global,
+    max_records: usize,
+    answers: &[&[u8]],
+) -> Result<Option<Result<Step, WalkFault>>, AllocError> {
+    let mut walker = Walker::new(alloc, 64, max_records, 640)?;
+    let mut told = None;
+    for answer in answers {
+        if matches!(told, Some(Err(_))) {
+            return Ok(None);
+        }
         let _ = walker.next_request(InstanceId::new(0));
-        assert_eq!(rt; walker.take(answer), *wanted);
+        told = Some(walker.take(*answer));
     }
+    Ok(told)
+}
+
+/// The place of the first row of which a walker says something else.
+fn first_other(alloc: Global, rows: &[Told]) -> Result<Option<usize>, AllocError> {
+    for (place, (max_records, answers, wanted)) in rows.iter().enumerate() {
+        if told_of(alloc, *max_records, *answers)? != Some(*wanted) {
+            return Ok(Some(place));
+        }
+    }
+    Ok(None)
 }
 
 #[test]
-fn a_circle_of_records_ends(rt: HostRuntime) -> Result<(), Fail> {
-    let mut walker = Walker::new(rt.alloc(), 64, 9, 640)?;
-    let rows: [(&[u8], Result<Step, WalkFault>); 4] = [
-        (&whole(1, 2), Ok(Step::Record)),
-        (&whole(2, 1), Ok(Step::Record)),
-        (&whole(1, 2), Err(WalkFault::DoubledHandle)),
-        (&whole(1, 2), Err(WalkFault::FailedBefore)),
-    ];
-    expect_steps(&rt, &mut walker, &rows);
-    assert_eq!(rt; walker.records().len(), 2);
+fn answers_are_taken_or_refused_by_their_first_cause(rt: HostRuntime) -> Result<(), Fail> {
+    assert_eq!(rt; first_other(rt.alloc(), &TOLD)?, None);
     Ok(())
 }
 
-#[test]
-fn answers_that_do_not_fit_are_refused_by_code(rt: HostRuntime) -> Result<(), Fail> {
-    let id = InstanceId::new(0);
-    let seven: &[u8] = &[
-        0x01, 0x00, 0x02, 0x51, 0x00, 7, 0, 0, 0, 7, 0, 0, 0, 0x00, 7, 0, 1, 0, 0, 0, 1, 1, 0,
-    ];
-    let empty: &[u8] = &[
-        0x01, 0x00, 0x02, 0x51, 0x00, 0, 0, 0, 0, 0, 0, 0, 0, 0x05, 0, 0,
-    ];
-    let mut middle = whole(1, 0);
-    middle[13] = 0x01;
-    let mut endless = whole(1, 0);
-    endless[13] = 0x00;
-    let mut longer = whole(1, 0);
-    longer[24] = 1;
-    let mut other = whole(1, 0);
-    other[1] = 0x1f;
-    let rows: [(usize, &[u8], &str); 12] = [
-        (9, &[0x01, 0x00, 0x02], "G02"),
-        (9, &[0x01, 0x80, 0x02, 0x51, 0x00], "G02"),
-        (9, &other, "G03"),
-        (9, &[0x01, 0x00, 0x02, 0x51, 0x83], "G10"),
-        (9, &[0x01, 0x00, 0x02, 0x51, 0x82], "G01"),
-        (9, &middle, "G04"),
-        (9, &endless, "G04"),
-        (9, seven, "G06"),
-        (9, empty, "G06"),
-        (9, &longer, "G06"),
-        (0, &whole(0, 0), "G07"),
-        (0, &whole(1, 0), "G09"),
-    ];
-    for (max_records, answer, code) in rows {
-        let mut walker = Walker::new(rt.alloc(), 64, max_records, 640)?;
-        let _ = walker.next_request(id);
-        let fault = walker.take(answer).err();
-        assert_eq!(rt; fault.and_then(|fault| fault.code()), Some(code));
+/// What the walker says where this answer comes so many times, each after a request: the last thing.
+fn told_at_last(walker: &mut Walker, answer: &[u8], times: u32) -> Option<Result<Step, WalkFault>> {
+    let mut told = None;
+    for _ in 0..times {
+        let _ = walker.next_request(InstanceId::new(0));
+        told = Some(walker.take(answer));
     }
-    Ok(())
+    told
 }
 
+/// 8 bytes and 56 times one are 64.
 #[test]
 fn a_peer_that_sends_one_byte_for_ever_is_left(rt: HostRuntime) -> Result<(), Fail> {
     let mut walker = Walker::new(rt.alloc(), 8, 4, 64)?;
-    let first: &[u8] = &[
-        0x01, 0x00, 0x02, 0x51, 0x00, 0, 0, 0, 0, 8, 0, 0, 0, 0x00, 8, 0, 1, 0, 0, 0, 1, 1, 0, 0,
-    ];
-    let more: &[u8] = &[
-        0x01, 0x00, 0x02, 0x51, 0x00, 0, 0, 0, 0, 8, 0, 0, 0, 0x01, 1, 0, 7,
-    ];
-    expect_steps(&rt, &mut walker, &[(first, Ok(Step::More))]);
-    expect_steps(&rt, &mut walker, &[(more, Ok(Step::More)); 56]);
-    expect_steps(&rt, &mut walker, &[(more, Err(WalkFault::TooMuch))]);
-    assert_eq!(rt; walker.taken(), 58);
-    expect_steps(&rt, &mut walker, &[(more, Err(WalkFault::FailedBefore))]);
+    let told = (
+        told_at_last(&mut walker, &BEGUN, 1),
+        told_at_last(&mut walker, &ONE_MORE, 56),
+        told_at_last(&mut walker, &ONE_MORE, 1),
+        told_at_last(&mut walker, &ONE_MORE, 1),
+    );
+    let wanted = (
+        Some(Ok(Step::More)),
+        Some(Ok(Step::More)),
+        Some(Err(WalkFault::TooMuch)),
+        Some(Err(WalkFault::FailedBefore)),
+    );
+    assert_eq!(rt; told, wanted);
     assert_eq!(rt; walker.taken(), 58);
     Ok(())
 }

@@ -127,7 +127,7 @@ fn has_empty_range(listed: &PlannedRecord) -> bool
 }
 
 /// The numeric sensor whose record the bytes are, if they are one's.
-fn numeric_sensor(bytes: &[u8]) -> Option<NumericSensor<'_>>
+pub fn numeric_sensor(bytes: &[u8]) -> Option<NumericSensor<'_>>
     ensures found { IfSome result (λ sensor. IsNumericSensor bytes.now (numeric_value sensor)) }
     ensures layout { IfSome result (λ sensor. IsNumeric (numeric_value sensor)) }
     ensures all { (s : NumericValue) → IsNumericSensor bytes.now s → IsSomeAnd result (λ sensor. numeric_value sensor ≡ s) }
@@ -152,7 +152,7 @@ fn has_numeric_type(bytes: &[u8]) -> bool
 }
 
 /// Whether one value of the data size is over another.
-fn is_over(size: SensorDataSize, value: &[u8], other: &[u8]) -> bool
+pub fn is_over(size: SensorDataSize, value: &[u8], other: &[u8]) -> bool
     requires value { length value.now ≡ width_of (size_code size) }
     requires other { length other.now ≡ width_of (size_code size) }
     ensures { IsTrue result ↔ IsOver (size_code size) value.now other.now }

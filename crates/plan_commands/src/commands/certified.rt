@@ -13,7 +13,7 @@ use crate::commands::answer::{Answer, YES, tell};
 use crate::commands::assign::requests_text;
 use crate::commands::draw::{DrawnRows, certified_drawing};
 use crate::commands::faults::fault_answer;
-use crate::commands::inputs::read_inputs;
+use crate::commands::inputs::{PlanText, read_texts};
 use crate::commands::listing::faults_of_both;
 use crate::commands::reach::pairs_text;
 use crate::commands::trace::{named_ends, way_between};
@@ -23,6 +23,7 @@ use crate::status::Status;
 use net_check::{CheckError, Checked, check};
 use net_json::{Sink, Source};
 use net_plan::{Certificate, Plan};
+use net_reached::matrix_text;
 use std::alloc::Global;
 use std::borrow::CowStr;
 
@@ -31,12 +32,14 @@ use std::borrow::CowStr;
 pub enum Question<'a> {
     /// Does the certificate fit the plan?
     Check,
-    /// What are all faults of both?
-    Faults,
+    /// What are all faults of both? The name is that of the plan's file, which stands before each place.
+    Faults { name: &'a str },
     /// Which requests give the nodes their endpoint IDs and pools?
     Assign,
     /// Who reaches whom, and by how many hops?
     Reach,
+    /// The same as a table.
+    Matrix,
     /// What does the network look like, with the certificate's levels and ranks?
     Draw { rows: DrawnRows },
     /// Which records does a walk over a node's terminus collect, by parts of so many bytes?
@@ -92,26 +95,26 @@ fn answer_certified<P: Source, C: Source>(
         IfErr result (IsUnansweredFor question.now plans certificates) }
     ensures in_order { IsWithoutPlan (stream P.account plan.old plan.new) → certificate.new ≡ certificate.old }
 {
-    let (plan, certificate) = read_inputs(alloc, plan, certificate)?;
-    answer_of_both(alloc, question, &plan, &certificate)
+    let (given, certificate) = read_texts(alloc, plan, certificate)?;
+    answer_of_both(alloc, question, &given, &certificate)
 }
 
 /// The answer on a plan and a certificate.
 fn answer_of_both(
     alloc: Global,
     question: &Question,
-    plan: &Plan,
+    given: &PlanText,
     certificate: &Certificate,
 ) -> Result<Answer, Refused>
-    ensures answers { IfOk result (λ answer. AnswersOn question.now plan.now certificate.now answer.status (cow_str_bytes answer.text)) }
-    ensures unanswered { IfErr result (IsUnansweredOn question.now plan.now certificate.now) }
+    ensures answers { IfOk result (λ answer. AnswersOn question.now given.now.text.items given.now.plan certificate.now answer.status (cow_str_bytes answer.text)) }
+    ensures unanswered { IfErr result (IsUnansweredOn question.now given.now.plan certificate.now) }
 {
-    if !is_named_in(question, plan) {
+    if !is_named_in(question, &given.plan) {
         return Err(Refused::UnknownNode);
     }
-    match check(alloc, plan, certificate) {
+    match check(alloc, &given.plan, certificate) {
         Ok(checked) => Ok(Answer::said(text_of_checked(alloc, question, &checked)?)),
-        Err(error) => answer_of_fault(alloc, question, plan, certificate, &error),
+        Err(error) => answer_of_fault(alloc, question, given, certificate, &error),
     }
 }
 
@@ -119,17 +122,17 @@ fn answer_of_both(
 fn answer_of_fault(
     alloc: Global,
     question: &Question,
-    plan: &Plan,
+    given: &PlanText,
     certificate: &Certificate,
     error: &CheckError,
 ) -> Result<Answer, Refused>
-    requires { NamesFirstFault plan.now certificate.now error.now }
-    ensures answers { IfOk result (λ answer. (answer.status ≡ Fault) × IsFaultAnswer question.now plan.now certificate.now (cow_str_bytes answer.text)) }
+    requires { NamesFirstFault given.now.plan certificate.now error.now }
+    ensures answers { IfOk result (λ answer. (answer.status ≡ Fault) × IsFaultAnswer question.now given.now.text.items given.now.plan certificate.now (cow_str_bytes answer.text)) }
     ensures refused { IfErr result (λ why. why ≡ refused.NoMemory) }
 {
     match *question {
-        Question::Faults => faults_of_both(alloc, plan, certificate, error),
-        _ => fault_answer(alloc, plan, error),
+        Question::Faults { name } => faults_of_both(alloc, name, given, certificate, error),
+        _ => fault_answer(alloc, &given.plan, error),
     }
 }
 
@@ -139,8 +142,8 @@ fn is_named_in(question: &Question, plan: &Plan) -> bool
     ensures no { result ≡ false → ¬ IsNamedIn question.now plan.now }
 {
     match *question {
-        Question::Check | Question::Faults | Question::Assign => true,
-        Question::Reach | Question::Draw { .. } => true,
+        Question::Check | Question::Faults { .. } | Question::Assign => true,
+        Question::Reach | Question::Matrix | Question::Draw { .. } => true,
         Question::Walk { node, .. } => named_terminus(plan, node).is_some(),
         Question::Trace { from, to } => named_ends(plan, from, to).is_some(),
     }
@@ -157,10 +160,11 @@ fn text_of_checked(
     ensures early { IfErr result (λ why. (why ≡ refused.NoMemory) ⊎ ((why ≡ refused.TooMuch) × IsTooMuch question.now checked.now.0 checked.now.1)) }
 {
     match *question {
-        Question::Check | Question::Faults => Ok(CowStr::Borrowed(YES)),
+        Question::Check | Question::Faults { .. } => Ok(CowStr::Borrowed(YES)),
         Question::Assign => Ok(CowStr::Owned(requests_text(alloc, checked)?)),
         Question::Reach => Ok(CowStr::Owned(pairs_text(alloc, checked)?)),
-        Question::Draw { rows } => { Ok(CowStr::Owned(certified_drawing(alloc, checked, rows)?)) }
+        Question::Matrix => Ok(CowStr::Owned(matrix_text(alloc, checked)?)),
+        Question::Draw { rows } => Ok(CowStr::Owned(certified_drawing(alloc, checked, rows)?)),
         Question::Walk { node, part } => {
             Ok(CowStr::Owned(records_text(alloc, checked, node, part)?))
         }

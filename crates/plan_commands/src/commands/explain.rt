@@ -1,12 +1,12 @@
 //! The command `explain`: what `certify` answers of a plan, and why.
-ghost use Rattle.std.specs.Prelude.{◌≡◌, ◌≢◌, ◌⊎◌, IfOk, IfErr, string_bytes};
+ghost use Rattle.std.specs.Prelude.{◌≡◌, ◌≢◌, ◌⊎◌, IfOk, IfErr, option_map, string_bytes};
 ghost use Rattle.std.specs.Cow.{cow_str_bytes};
 ghost use Rattle.net_rules.specs.Certificates.{NamesObstacle, RulesOutCertificates};
 ghost use Rattle.net_json.specs.Stream.{HasRoom};
 ghost use Rattle.plan_commands.specs.declared.status.Status.TheVariants.{Yes, Fault, Unreadable, NoMemory};
 ghost use Rattle.plan_commands.specs.declared.refused.Refused.TheVariants as refused;
 ghost use Rattle.plan_commands.specs.Answers.{stream, BreaksOff};
-ghost use Rattle.plan_commands.specs.Explaining.{AreEditsTold, IsObstacleText, IsToldWithEdits, IsSummedUp, IsExplained, ExplainsSo};
+ghost use Rattle.plan_commands.specs.Explaining.{AreEditsTold, AreMoreTold, IsObstacleText, IsToldWithEdits, IsSummedUp, IsExplained, ExplainsSo, others_of};
 ghost use Rattle.plan_commands.specs.Told.{Gives, IsSomeAnswer, Ends};
 ghost use Rattle.plan_commands.specs.UnreadTexts.{IsTextOf};
 
@@ -17,7 +17,8 @@ use crate::commands::answer::{Answer, YES, tell};
 use crate::commands::inputs::{PlanText, plan_or_text};
 use crate::refused::Refused;
 use crate::status::Status;
-use net_check::{CertifyError, certify};
+use fault_texts::{more_line, obstacle_place};
+use net_check::{CertifyError, certify, faults};
 use net_explained::{most_hops, tried_edits};
 use net_json::{Sink, Source};
 use net_plan::{Certificate, Plan};
@@ -26,9 +27,10 @@ use std::alloc::{AllocError, Global};
 use unread::unread_plan;
 
 /// Says on `output` what `certify` says of a plan, `yes` in place of the certificate, and explains it. Where the plan can't
-/// be read, it says so there too, and where the text's first fault is.
+/// be read, it says so there too, and where the text's first fault is. The name is that of the plan's file.
 pub fn run_explain<P: Source, O: Sink, E: Sink>(
     alloc: Global,
+    name: &str,
     plan: &mut P,
     output: &mut O,
     errors: &mut E,
@@ -37,40 +39,40 @@ pub fn run_explain<P: Source, O: Sink, E: Sink>(
     requires output { HasRoom (O.account output.old) }
     requires errors { HasRoom (E.account errors.old) }
     ensures explains { let plans = stream P.account plan.old plan.new in
-        Ends (ExplainsSo plans) (λ why. why ≡ refused.NoMemory) result
+        Ends (ExplainsSo name.now plans) (λ why. why ≡ refused.NoMemory) result
         (stream O.account output.old output.new) (stream E.account errors.old errors.new) }
     ensures silent { (result ≡ Yes) ⊎ (result ≡ Fault) → errors.new ≡ errors.old }
     ensures quiet { result ≢ NoMemory → (O.account output.new).failures ≡ (O.account output.old).failures → errors.new ≡ errors.old }
     ensures unwritten { let plans = stream P.account plan.old plan.new in
         let outputs = stream O.account output.old output.new in
-        result ≡ Unreadable → Gives (ExplainsSo plans) Unreadable outputs ⊎ BreaksOff (IsSomeAnswer (ExplainsSo plans)) outputs }
+        result ≡ Unreadable → Gives (ExplainsSo name.now plans) Unreadable outputs ⊎ BreaksOff (IsSomeAnswer (ExplainsSo name.now plans)) outputs }
     ensures no_memory { result ≡ NoMemory → output.new ≡ output.old }
 {
-    let answered = answer_explain(alloc, plan);
+    let answered = answer_explain(alloc, name, plan);
     tell(alloc, answered, output, errors)
 }
 
-fn answer_explain<P: Source>(alloc: Global, plan: &mut P) -> Result<Answer, Refused>
+fn answer_explain<P: Source>(alloc: Global, name: &str, plan: &mut P) -> Result<Answer, Refused>
     requires { HasRoom (P.account plan.old) }
     ensures answers { let plans = stream P.account plan.old plan.new in
-        IfOk result (λ answer. ExplainsSo plans answer.status (cow_str_bytes answer.text)) }
+        IfOk result (λ answer. ExplainsSo name.now plans answer.status (cow_str_bytes answer.text)) }
     ensures refused { IfErr result (λ why. why ≡ refused.NoMemory) }
 {
     match plan_or_text(alloc, plan) {
-        Ok(given) => explained_plan(alloc, &given),
+        Ok(given) => explained_plan(alloc, name, &given),
         Err(unread) => unread_plan(alloc, &unread),
     }
 }
 
 /// The answer on a plan.
-fn explained_plan(alloc: Global, given: &PlanText) -> Result<Answer, Refused>
+fn explained_plan(alloc: Global, name: &str, given: &PlanText) -> Result<Answer, Refused>
     requires { IsTextOf given.now.text.items given.now.plan }
-    ensures answers { IfOk result (λ answer. IsExplained given.now.plan answer.status (cow_str_bytes answer.text)) }
+    ensures answers { IfOk result (λ answer. IsExplained name.now given.now.text.items given.now.plan answer.status (cow_str_bytes answer.text)) }
     ensures refused { IfErr result (λ why. why ≡ refused.NoMemory) }
 {
     match certify(alloc, &given.plan) {
         Ok(certificate) => Ok(Answer::found(sound_text(alloc, &given.plan, &certificate)?)),
-        Err(obstacle) => Ok(Answer::fault(obstacle_text(alloc, given, &obstacle)?)),
+        Err(obstacle) => Ok(Answer::fault(obstacle_text(alloc, name, given, &obstacle)?)),
     }
 }
 
@@ -83,20 +85,52 @@ fn sound_text(alloc: Global, plan: &Plan, certificate: &Certificate) -> Result<S
     Ok(text)
 }
 
-/// Says what rules certificates of a plan out, explains it, and proposes edits.
+/// Says what rules certificates of a plan out and where, explains it, proposes edits, and says how many more faults there
+/// are.
 fn obstacle_text(
     alloc: Global,
+    name: &str,
     given: &PlanText,
     obstacle: &CertifyError,
 ) -> Result<String, AllocError>
     requires names { NamesObstacle given.now.plan obstacle.now }
     requires none { RulesOutCertificates given.now.plan obstacle.now }
     requires text { IsTextOf given.now.text.items given.now.plan }
-    ensures { IfOk result (λ text. IsObstacleText given.now.plan (string_bytes text)) }
+    ensures { IfOk result (λ text. IsObstacleText name.now given.now.text.items given.now.plan (string_bytes text)) }
 {
-    let mut text = obstacle_line(alloc, &given.plan, obstacle)?;
-    text.push_str(&explained_text(alloc, given, obstacle)?)?;
-    Ok(text)
+    let line = obstacle_line(alloc, &given.plan, obstacle)?;
+    let place = obstacle_place(alloc, name, given.text.as_slice(), &given.plan, obstacle)?;
+    let told = explained_text(alloc, given, obstacle)?;
+    let more = more_faults(alloc, name, &given.plan, None, obstacle)?;
+    format!(in alloc; "{line}{place}{told}{more}")
+}
+
+/// Says how many more faults a plan has than the one that is told, or a plan and a certificate, and by which words they are
+/// listed.
+pub fn more_faults(
+    alloc: Global,
+    words: &str,
+    plan: &Plan,
+    certificate: Option<&Certificate>,
+    obstacle: &CertifyError,
+) -> Result<String, AllocError>
+    ensures { IfOk result (λ line. AreMoreTold plan.now (option_map (λ c. c.now) certificate.entry) obstacle.now words.now (string_bytes line)) }
+{
+    let runs = faults(alloc, plan, certificate)?;
+    more_line(alloc, words, others_of(obstacle, runs.len()))
+}
+
+/// How many of so many lines of faults are there beside what is told.
+fn others_of(obstacle: &CertifyError, count: usize) -> usize
+    ensures { result ≡ others_of obstacle.now count }
+{
+    match obstacle {
+        CertifyError::Fault(_) => count.saturating_sub(1),
+        CertifyError::OwnerLoop(_)
+        | CertifyError::Loop(_, _)
+        | CertifyError::BadChain(_, _)
+        | CertifyError::OutOfMemory => count,
+    }
 }
 
 /// Explains what rules certificates of a plan out, and proposes edits.

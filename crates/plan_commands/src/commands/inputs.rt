@@ -1,13 +1,13 @@
 //! The files that commands read.
 ghost use Rattle.std.specs.Prelude.{◌≡◌, IfOk, IfErr, string_bytes};
 ghost use Rattle.net_json.specs.Stream.{HasRoom};
-ghost use Rattle.plan_commands.specs.Answers.{stream, IsWithoutPlan, GavePlan, GaveCertificate, IsPlanUnread, IsCertificateUnread, AreGiven, AreUnread};
+ghost use Rattle.plan_commands.specs.Answers.{stream, IsWithoutPlan, GavePlan, GavePlanText, GaveCertificate, IsPlanUnread, IsCertificateUnread, AreGiven, AreTextsGiven, AreUnread};
 ghost use Rattle.net_json.specs.CertificateText.{IsCertificateOf};
 ghost use Rattle.net_plan.specs.CertificateValues.{certificate_value};
 ghost use Rattle.net_json.specs.PlanText.{IsPlanOf};
 ghost use Rattle.net_plan.specs.PlanValues.{plan_value};
 ghost use Rattle.net_json.specs.Texts.{StandsFor};
-ghost use Rattle.plan_commands.specs.UnreadTexts.{IsNoPlanIn, IsNoPlanBy, IsNoCertificateIn, IsNoCertificateBy, IsTextOf, StandsForNothing, unread_of};
+ghost use Rattle.plan_commands.specs.UnreadTexts.{IsNoPlanIn, IsNoPlanBy, IsNoCertificateIn, IsNoCertificateBy, IsTextOf, StandsForNothing, refused_for, unread_of};
 ghost use Rattle.plan_commands.specs.Moving.{IsMoveGiven, IsMoveUnread};
 ghost use Rattle.plan_commands.specs.Expecting.{GaveLines, AreLinesUnread};
 ghost use Rattle.plan_commands.specs.Simulating.{GaveEvents, AreEventsUnread};
@@ -58,7 +58,7 @@ pub struct PlanText {
 pub fn plan_or_text<P: Source>(alloc: Global, plan: &mut P) -> Result<PlanText, Unread>
     requires { HasRoom (P.account plan.old) }
     ensures given { let plans = stream P.account plan.old plan.new in
-        IfOk result (λ read. GavePlan plans read.plan) }
+        IfOk result (λ read. GavePlanText plans read.text.items read.plan) }
     ensures same { IfOk result (λ read. IsTextOf read.text.items read.plan) }
     ensures unread { let plans = stream P.account plan.old plan.new in
         IfErr result (IsNoPlanBy plans) }
@@ -67,6 +67,33 @@ pub fn plan_or_text<P: Source>(alloc: Global, plan: &mut P) -> Result<PlanText, 
     match read_within(alloc, plan, TEXT_LIMIT) {
         Ok(text) => plan_in(alloc, text),
         Err(fault) => Err(without_text(fault)),
+    }
+}
+
+/// The plan that a source gives, with its text.
+pub fn given_plan_text<P: Source>(alloc: Global, plan: &mut P) -> Result<PlanText, Refused>
+    requires { HasRoom (P.account plan.old) }
+    ensures given { let plans = stream P.account plan.old plan.new in
+        IfOk result (λ read. GavePlanText plans read.text.items read.plan) }
+    ensures same { IfOk result (λ read. IsTextOf read.text.items read.plan) }
+    ensures unread { let plans = stream P.account plan.old plan.new in
+        IfErr result (λ refused. IsPlanUnread refused plans) }
+{
+    match plan_or_text(alloc, plan) {
+        Ok(given) => Ok(given),
+        Err(unread) => Err(refused_for(Input::Plan, &unread)),
+    }
+}
+
+/// Why there is no answer, where an input gave nothing.
+fn refused_for(input: Input, unread: &Unread) -> Refused
+    ensures { result ≡ refused_for input unread.now }
+{
+    match unread {
+        Unread::NoMemory => Refused::NoMemory,
+        Unread::Failed => Refused::at_input(input, PlanError::Device),
+        Unread::TooLong => Refused::at_input(input, PlanError::OverLimit),
+        Unread::Text { cause, .. } => Refused::at_input(input, *cause),
     }
 }
 
@@ -199,6 +226,29 @@ pub fn read_inputs<P: Source, C: Source>(
     let plan = given_plan(alloc, plan)?;
     let certificate = given_certificate(alloc, &plan, certificate)?;
     Ok((plan, certificate))
+}
+
+/// The same, with the text of the plan.
+pub fn read_texts<P: Source, C: Source>(
+    alloc: Global,
+    plan: &mut P,
+    certificate: &mut C,
+) -> Result<(PlanText, Certificate), Refused>
+    requires plan { HasRoom (P.account plan.old) }
+    requires certificate { HasRoom (C.account certificate.old) }
+    ensures given { let plans = stream P.account plan.old plan.new in
+        let certificates = stream C.account certificate.old certificate.new in
+        IfOk result (λ read. AreTextsGiven plans certificates read.0.text.items read.0.plan read.1) }
+    ensures same { IfOk result (λ read. IsTextOf read.0.text.items read.0.plan) }
+    ensures unread { let plans = stream P.account plan.old plan.new in
+        let certificates = stream C.account certificate.old certificate.new in
+        IfErr result (λ refused. AreUnread refused plans certificates) }
+    ensures in_order { let plans = stream P.account plan.old plan.new in
+        IsWithoutPlan plans → certificate.new ≡ certificate.old }
+{
+    let given = given_plan_text(alloc, plan)?;
+    let certificate = given_certificate(alloc, &given.plan, certificate)?;
+    Ok((given, certificate))
 }
 
 /// The plans of a move and their certificate. Each is read only where those before it could be read; the certificate is

@@ -1,5 +1,5 @@
 //! The command `faults`: every fault of a plan, or of a plan and its certificate.
-ghost use Rattle.std.specs.Prelude.{◌≡◌, [], IfOk, IfErr, None};
+ghost use Rattle.std.specs.Prelude.{◌≡◌, [], IfOk, IfErr, None, string_bytes};
 ghost use Rattle.std.specs.Cow.{cow_str_bytes};
 ghost use Rattle.net_check.specs.Errors.{NamesFirstFault};
 ghost use Rattle.net_rules.specs.FaultLists.{AreFaults};
@@ -7,33 +7,36 @@ ghost use Rattle.plan_commands.specs.declared.status.Status.TheVariants.{Fault};
 ghost use Rattle.plan_commands.specs.FaultListing.{IsFaultListOf, IsListed};
 
 use crate::commands::answer::Answer;
+use crate::commands::inputs::PlanText;
 use crate::refused::Refused;
+use fault_texts::{fault_lines, obstacle_list};
 use net_check::{CheckError, certify, faults};
-use net_plan::{Certificate, Plan};
-use plan_texts::{counted_line, fault_lines, obstacle_line};
+use net_plan::Certificate;
 use std::alloc::{AllocError, Global};
 
-/// Every fault of a plan, or what else rules certificates of it out.
-pub fn faults_of_plan(alloc: Global, plan: &Plan) -> Result<Answer, AllocError>
-    ensures { IfOk result (λ answer. IsListed plan.now answer.status (cow_str_bytes answer.text)) }
+/// Every fault of a plan, or what else rules certificates of it out. The name is that of the plan's file.
+pub fn faults_of_plan(alloc: Global, name: &str, given: &PlanText) -> Result<Answer, AllocError>
+    ensures { IfOk result (λ answer. IsListed name.now given.now.text.items given.now.plan answer.status (cow_str_bytes answer.text)) }
 {
-    let runs = faults(alloc, plan, None)?;
+    let runs = faults(alloc, &given.plan, None)?;
     if runs.is_empty() {
-        return obstacle_of_plan(alloc, plan);
+        return obstacle_of_plan(alloc, name, given);
     }
-    Ok(Answer::fault(fault_lines(alloc, plan, &runs)?))
+    let lines = fault_lines(alloc, name, given.text.as_slice(), &given.plan, &runs)?;
+    Ok(Answer::fault(lines))
 }
 
 /// What rules certificates of a plan out that has no fault itself, or that nothing does.
-fn obstacle_of_plan(alloc: Global, plan: &Plan) -> Result<Answer, AllocError>
-    requires { AreFaults plan.now None [] }
-    ensures { IfOk result (λ answer. IsListed plan.now answer.status (cow_str_bytes answer.text)) }
+fn obstacle_of_plan(alloc: Global, name: &str, given: &PlanText) -> Result<Answer, AllocError>
+    requires { AreFaults given.now.plan None [] }
+    ensures { IfOk result (λ answer. IsListed name.now given.now.text.items given.now.plan answer.status (cow_str_bytes answer.text)) }
 {
-    match certify(alloc, plan) {
+    match certify(alloc, &given.plan) {
         Ok(_certificate) => Ok(Answer::yes()),
         Err(obstacle) => {
-            let line = obstacle_line(alloc, plan, &obstacle)?;
-            Ok(Answer::fault(counted_line(alloc, &line)?))
+            let text = given.text.as_slice();
+            let lines = obstacle_list(alloc, name, text, &given.plan, &obstacle)?;
+            Ok(Answer::fault(lines))
         }
     }
 }
@@ -41,18 +44,20 @@ fn obstacle_of_plan(alloc: Global, plan: &Plan) -> Result<Answer, AllocError>
 /// Every fault of a plan and a certificate that are not accepted.
 pub fn faults_of_both(
     alloc: Global,
-    plan: &Plan,
+    name: &str,
+    given: &PlanText,
     certificate: &Certificate,
     error: &CheckError,
 ) -> Result<Answer, Refused>
-    requires { NamesFirstFault plan.now certificate.now error.now }
-    ensures answers { IfOk result (λ answer. (answer.status ≡ Fault) × IsFaultListOf plan.now certificate.now (cow_str_bytes answer.text)) }
+    requires { NamesFirstFault given.now.plan certificate.now error.now }
+    ensures answers { IfOk result (λ answer. (answer.status ≡ Fault) × IsFaultListOf name.now given.now.text.items given.now.plan certificate.now (cow_str_bytes answer.text)) }
     ensures refused { IfErr result (λ why. why ≡ Refused.NoMemory) }
 {
     match error {
         CheckError::Fault(_) => {
-            let runs = faults(alloc, plan, Some(certificate))?;
-            Ok(Answer::fault(fault_lines(alloc, plan, &runs)?))
+            let runs = faults(alloc, &given.plan, Some(certificate))?;
+            let lines = fault_lines(alloc, name, given.text.as_slice(), &given.plan, &runs)?;
+            Ok(Answer::fault(lines))
         }
         CheckError::OutOfMemory => Err(Refused::NoMemory),
     }

@@ -10,24 +10,24 @@ ghost use Rattle.plan_commands.specs.Planned.{IsSaidOf, SaysSo};
 use crate::commands::answer::{Answer, tell};
 use crate::commands::certify::certificate_of_plan;
 use crate::commands::draw::{DrawnRows, drawing_of_plan};
-use crate::commands::inputs::given_plan;
+use crate::commands::inputs::{PlanText, given_plan_text};
 use crate::commands::lint::findings_of_plan;
 use crate::commands::listing::faults_of_plan;
 use crate::refused::Refused;
 use crate::status::Status;
 use net_json::{Sink, Source};
-use net_plan::Plan;
 use std::alloc::{AllocError, Global};
 
 /// A question about a plan: the command of the name asks it.
 #[derive(Clone, Copy, Debug, PartialEq, Eq)]
-pub enum PlanQuestion {
+pub enum PlanQuestion<'a> {
     /// What is its certificate, or why has it none?
     Certify,
     /// What does the network look like? A loop that rules certificates out, of rows or of owners, is red.
     Draw { rows: DrawnRows },
-    /// What are all its faults, or what else rules certificates out?
-    Faults,
+    /// What are all its faults, or what else rules certificates out? The name is that of the plan's file, which stands
+    /// before each place.
+    Faults { name: &'a str },
     /// What in it is lawful and still looks wrong?
     Lint,
 }
@@ -35,7 +35,7 @@ pub enum PlanQuestion {
 /// Answers a question about a plan on `output`. Where the plan can't be read, says so on `errors`.
 pub fn run_planned<P: Source, O: Sink, E: Sink>(
     alloc: Global,
-    question: PlanQuestion,
+    question: &PlanQuestion,
     plan: &mut P,
     output: &mut O,
     errors: &mut E,
@@ -44,12 +44,12 @@ pub fn run_planned<P: Source, O: Sink, E: Sink>(
     requires output { HasRoom (O.account output.old) }
     requires errors { HasRoom (E.account errors.old) }
     ensures tells { let plans = stream P.account plan.old plan.new in
-        Ends (SaysSo question plans) (λ why. IsPlanUnread why plans) result
+        Ends (SaysSo question.now plans) (λ why. IsPlanUnread why plans) result
         (stream O.account output.old output.new) (stream E.account errors.old errors.new) }
     ensures silent { (result ≡ Yes) ⊎ (result ≡ Fault) → errors.new ≡ errors.old }
     ensures unwritten { let plans = stream P.account plan.old plan.new in
         result ≡ Unreadable → (output.new ≡ output.old)
-        ⊎ BreaksOff (IsSomeAnswer (SaysSo question plans)) (stream O.account output.old output.new) }
+        ⊎ BreaksOff (IsSomeAnswer (SaysSo question.now plans)) (stream O.account output.old output.new) }
     ensures no_memory { result ≡ NoMemory → output.new ≡ output.old }
 {
     let answered = answer_planned(alloc, question, plan);
@@ -58,27 +58,31 @@ pub fn run_planned<P: Source, O: Sink, E: Sink>(
 
 fn answer_planned<P: Source>(
     alloc: Global,
-    question: PlanQuestion,
+    question: &PlanQuestion,
     plan: &mut P,
 ) -> Result<Answer, Refused>
     requires { HasRoom (P.account plan.old) }
     ensures answers { let plans = stream P.account plan.old plan.new in
-        IfOk result (λ answer. SaysSo question plans answer.status (cow_str_bytes answer.text)) }
+        IfOk result (λ answer. SaysSo question.now plans answer.status (cow_str_bytes answer.text)) }
     ensures unread { let plans = stream P.account plan.old plan.new in
         IfErr result (λ why. IsPlanUnread why plans) }
 {
-    let plan = given_plan(alloc, plan)?;
-    Ok(answer_of_plan(alloc, question, &plan)?)
+    let given = given_plan_text(alloc, plan)?;
+    Ok(answer_of_plan(alloc, question, &given)?)
 }
 
 /// The answer on a plan.
-fn answer_of_plan(alloc: Global, question: PlanQuestion, plan: &Plan) -> Result<Answer, AllocError>
-    ensures { IfOk result (λ answer. IsSaidOf question plan.now answer.status (cow_str_bytes answer.text)) }
+fn answer_of_plan(
+    alloc: Global,
+    question: &PlanQuestion,
+    given: &PlanText,
+) -> Result<Answer, AllocError>
+    ensures { IfOk result (λ answer. IsSaidOf question.now given.now.text.items given.now.plan answer.status (cow_str_bytes answer.text)) }
 {
-    match question {
-        PlanQuestion::Certify => certificate_of_plan(alloc, plan),
-        PlanQuestion::Draw { rows } => drawing_of_plan(alloc, plan, rows),
-        PlanQuestion::Faults => faults_of_plan(alloc, plan),
-        PlanQuestion::Lint => findings_of_plan(alloc, plan),
+    match *question {
+        PlanQuestion::Certify => certificate_of_plan(alloc, &given.plan),
+        PlanQuestion::Draw { rows } => drawing_of_plan(alloc, &given.plan, rows),
+        PlanQuestion::Faults { name } => faults_of_plan(alloc, name, given),
+        PlanQuestion::Lint => findings_of_plan(alloc, &given.plan),
     }
 }

@@ -1,6 +1,6 @@
 //! Calls of which any growth of memory may be refused: each answers as it does with ample memory, or that it ran out.
 //! `tools/try growths` refuses the growths one after another.
-use super::networks::{FaultAt, found, is_at};
+use super::faults::{FaultAt, found, is_at};
 use mctp_transport::Eid;
 use net_check::{CertifyError, MoveError, MoveFault, MoveRule, Rule, certify, check_move};
 use net_json::{certificate_of_text, plan_of_text};

@@ -1,40 +1,9 @@
-//! Certificates from texts, and texts of certificates.
+//! Certificates that are written as they were read.
 use net_json::{certificate_of_text, plan_of_text, read_back, text_of_certificate};
 use net_plan::Plan;
-use sample_texts::certificates::is_the_riser_certificate;
-use sample_texts::{edited, riser};
+use sample_texts::riser;
 use std::alloc::Global;
 use std::test::Fail;
-
-#[test]
-fn reads_the_riser_certificate(rt: HostRuntime) -> Result<(), Fail> {
-    let plan = plan_of_text(rt.alloc(), riser::PLAN.as_bytes())?;
-    let certificate = certificate_of_text(rt.alloc(), &plan, riser::CERTIFICATE.as_bytes())?;
-    assert!(rt; is_the_riser_certificate(&certificate));
-    Ok(())
-}
-
-/// The riser network's plan in which ssd is called nic, too.
-fn plan_of_two_nics(alloc: Global) -> Result<Plan, Fail> {
-    let text = edited(
-        alloc,
-        riser::PLAN,
-        &[
-            (r#""name":"ssd""#, r#""name":"nic""#),
-            (r#""next":"ssd""#, r#""next":"nic""#),
-        ],
-    )?;
-    Ok(plan_of_text(alloc, text.as_str().as_bytes())?)
-}
-
-#[test]
-fn means_the_first_node_of_a_name(rt: HostRuntime) -> Result<(), Fail> {
-    let plan = plan_of_two_nics(rt.alloc())?;
-    let text = r#"{"format":1,"levels":[],"places":[],"ranks":[{"node":"nic","ranges":[]}]}"#;
-    let certificate = certificate_of_text(rt.alloc(), &plan, text.as_bytes())?;
-    assert!(rt; certificate.ranks.len() == 1 && certificate.ranks[0].node == 2);
-    Ok(())
-}
 
 /// Entries stand as they were given, those without ranges or places too.
 const KEPT: [&str; 3] = [

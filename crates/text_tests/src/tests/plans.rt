@@ -1,9 +1,6 @@
-//! Plans from texts.
+//! The riser network's plan.
 use mctp_transport::Eid;
-use net_json::plan_of_text;
 use net_plan::{Kind, Node, Plan, Pool, Row};
-use sample_texts::{edited, riser};
-use std::test::Fail;
 
 fn row(first: u8, size: u8, port: u8, next: usize) -> Row {
     Row {
@@ -68,27 +65,4 @@ pub(super) fn is_the_riser_network(plan: &Plan) -> bool {
         && plan.nodes[0].owner.is_none()
         && is_the_riser(&plan.nodes[1])
         && is_the_nic(&plan.nodes[2])
-}
-
-#[test]
-fn reads_the_riser_network(rt: HostRuntime) -> Result<(), Fail> {
-    let plan = plan_of_text(rt.alloc(), riser::PLAN.as_bytes())?;
-    assert!(rt; is_the_riser_network(&plan));
-    Ok(())
-}
-
-#[test]
-fn means_the_first_node_of_a_name(rt: HostRuntime) -> Result<(), Fail> {
-    let text = edited(
-        rt.alloc(),
-        riser::PLAN,
-        &[
-            (r#""name":"ssd""#, r#""name":"nic""#),
-            (r#""next":"ssd""#, r#""next":"nic""#),
-        ],
-    )?;
-    let plan = plan_of_text(rt.alloc(), text.as_str().as_bytes())?;
-    let rows = [row(8, 1, 0, 0), row(17, 1, 1, 2), row(18, 1, 1, 2)];
-    assert!(rt; plan.nodes.len() == 4 && plan.nodes[1].rows.as_slice() == rows.as_slice());
-    Ok(())
 }

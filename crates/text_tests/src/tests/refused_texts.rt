@@ -2,7 +2,10 @@
 //! `tools/try growths` refuses the growths one after another.
 use super::events::are_the_riser_events;
 use super::plans::is_the_riser_network;
-use net_json::{Counted, PlanError, certificate_of_text, plan_of_text, read_certificate, read_events, read_plan, write_certificate};
+use net_json::{
+    Counted, PlanError, certificate_of_text, plan_of_text, read_certificate, read_events,
+    read_plan, write_certificate,
+};
 use net_plan::{Certificate, Plan};
 use sample_texts::certificates::is_the_riser_certificate;
 use sample_texts::edited;

@@ -1,7 +1,10 @@
 //! Reading and writing piece by piece, and failures in mid-stream.
 use super::events::are_the_riser_events;
 use super::plans::is_the_riser_network;
-use net_json::{Counted, Failed, PlanError, Sink, certificate_of_text, plan_of_text, read_certificate, read_events, read_plan, write_certificate, write_whole};
+use net_json::{
+    Counted, PlanError, certificate_of_text, plan_of_text, read_certificate, read_events,
+    read_plan, write_certificate,
+};
 use net_plan::{Certificate, Plan};
 use sample_texts::certificates::is_the_riser_certificate;
 use sample_texts::riser;
@@ -159,30 +162,6 @@ fn failing_at(alloc: Global, fails_at: usize) -> Narrow {
 /// Whether a beginning of a text was kept, as many bytes as there were calls before the one that fails.
 fn is_begun(kept: &[u8], text: &[u8], fails_at: usize) -> bool {
     text.starts_with(kept) && kept.len() == fails_at.saturating_sub(1)
-}
-
-/// Whether `hello` is written up to the call that fails.
-fn is_hello_begun(alloc: Global, fails_at: usize) -> bool {
-    let mut sink = Counted::new(failing_at(alloc, fails_at));
-    let written = write_whole(&mut sink, b"hello");
-    written == Err(Failed) && is_begun(sink.inner().kept.as_slice(), b"hello", fails_at)
-}
-
-#[test]
-fn writes_a_beginning_of_a_text(rt: HostRuntime) {
-    for fails_at in 1..6 {
-        assert!(rt; is_hello_begun(rt.alloc(), fails_at), "at {fails_at}");
-    }
-}
-
-#[test]
-fn writes_whole_texts(rt: HostRuntime) -> Result<(), Fail> {
-    let mut sink = Counted::new(failing_at(rt.alloc(), 0));
-    let written = write_whole(&mut sink, b"hello");
-    let is_whole = sink.inner().kept.as_slice() == b"hello".as_slice();
-    let empty = sink.push(b"");
-    assert!(rt; written == Ok(()) && is_whole && empty == Ok(0));
-    Ok(())
 }
 
 /// Whether a certificate's text is written as it is, or where a call fails, as a beginning of it.

@@ -4,4 +4,4 @@ use Rattle.net_questions.proofs.Ascending.{Below}
 use Rattle.net_questions.proofs.linting.add_at_item.Given as goal
 
 abbrev pub invariant-loop-other : goal.invariant-loop-other
-invariant-loop-other l = Adds (Below l.plan (order_of l.code ∷ l.node ∷ l.item ∷ []) l.other) l.initial.findings.items l.findings.items
+invariant-loop-other l = Adds (Below l.plan (order_of l.code ∷ l.site ∷ l.item ∷ []) l.other) l.initial.findings.items l.findings.items

@@ -7,7 +7,7 @@ loop-node-init g c = none_dealt _ c.deref-node-items.result.now _ _ c.new-queues
 
 pub loop-node-preserved : goal.loop-node-preserved
 loop-node-preserved g c =
-    one_dealt _ c.deref-node-items.result.now _ _ c.deal_to.result c.loop-node.node-index c.node-item.result _ _ _ c.loop-node-test.true c.node-item.is c.in_ok-push.ensures.items c.deal_to.ensures c.loop-node.invariant
+    one_dealt _ c.deref-node-items.result.now _ _ c.in_ok-deal_to.field-0 c.loop-node.node-index c.node-item.result _ _ _ c.loop-node-test.true c.node-item.is c.in_ok-push.ensures.items c.in_ok-deal_to.ensures c.loop-node.invariant
 
 pub returns : goal.returns
 returns g c =

@@ -1,6 +1,8 @@
 use Rattle.std.proofs.Common.{List, refl, sym, ◌∙◌, ◌+◌, ap, subst, arith}
 use Rattle.net_sim.specs.declared.flights.Slot.{Slot}
 use Rattle.net_sim.proofs.Keeping.{Ascend, AreGiven, HasEmpty, meant, one_if_none, meant_length, push_ascend, push_given, push_counted, push_means}
+use Rattle.net_sim.specs.Tallies.{AreTallied}
+use Rattle.net_sim.proofs.Tallying.{push_tallied, count_fits}
 use Rattle.net_sim.proofs.flights.Flights.push.Goals as goal
 
 pub overflow_cast-self : goal.overflow_cast-self
@@ -8,6 +10,11 @@ overflow_cast-self c = let now = c.args.self.now in omega (arith, c.requires.few
 
 pub overflow_add-self-2 : goal.overflow_add-self-2
 overflow_add-self-2 c = let now = c.args.self.now in omega (arith, c.requires.few, meant_length now.slots.items now.next)
+
+pub enter-requires : goal.enter-requires
+enter-requires c =
+    let now = c.args.self.now in
+    count_fits now.counts now.slots.items now.tallied (omega (arith, now.slots.small)) c.args.flight
 
 pub invariant_of-self : goal.invariant_of-self
 invariant_of-self c =
@@ -21,6 +28,7 @@ invariant_of-self c =
       ascending = subst Ascend (sym items) (push_ascend slots now.next now.ascending now.given new refl);
       given = subst (λ (ss : List Slot). AreGiven ss (now.next + 1)) (sym items) (push_given slots now.next now.ascending now.given new refl);
       counted = subst (λ (ss : List Slot). HasEmpty ss (now.empty + c.from.result)) (sym items) (omega (arith, now.counted, one, push_counted slots now.next now.ascending now.given new refl));
+      tallied = subst (AreTallied c.enter.new.counts) (sym items) (push_tallied now.counts c.enter.new.counts slots now.tallied new c.enter.ensures);
     }
 
 pub returns-clause-slots : goal.returns-clause-slots

@@ -2,6 +2,8 @@ use Rattle.std.proofs.Common.{List, rules, of_calls, sym, ◌∙◌, ap, subst, 
 use Rattle.std.proofs.lemmas.List.Elements.{filter_from_retain}
 use Rattle.net_sim.specs.declared.flights.Slot.{Slot}
 use Rattle.net_sim.proofs.Keeping.{Ascend, AreGiven, HasEmpty, meant, sweep_ascend, sweep_given, sweep_counted, sweep_means}
+use Rattle.net_sim.specs.Tallies.{AreTallied}
+use Rattle.net_sim.proofs.Tallying.{sweep_tallied}
 use Rattle.net_sim.proofs.flights.Flights.sweep.Goals as goal
 
 pub invariant_of-self : goal.invariant_of-self
@@ -14,6 +16,7 @@ invariant_of-self c =
       ascending = subst Ascend (sym items) (sweep_ascend slots now.next now.ascending now.given);
       given = subst (λ (ss : List Slot). AreGiven ss now.next) (sym items) (sweep_given slots now.next now.ascending now.given);
       counted = subst (λ (ss : List Slot). HasEmpty ss 0) (sym items) (sweep_counted slots);
+      tallied = subst (AreTallied now.counts) (sym items) (sweep_tallied now.counts slots now.tallied);
     }
 
 pub returns-clause-same : goal.returns-clause-same

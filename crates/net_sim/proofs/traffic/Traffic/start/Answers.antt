@@ -8,8 +8,8 @@ use Rattle.net_sim.proofs.traffic.Traffic.start.Goals as goal
 
 pub invariant_of-result : goal.invariant_of-result
 invariant_of-result g c = record {
-  queued = queues_long _ c.in_ok-queues.queues.items c.plan-2.result.now.nodes.items _ c.in_ok-queues.ensures ∙ ap (λ (p : Plan). length p.nodes.items) c.plan-2.ensures.plan;
-  assembled = c.in_ok-assemblers.ensures.many ∙ (c.len.ensures ∙ (c.plan.result.now.nodes.ok.0 ∙ ap (λ (p : Plan). length p.nodes.items) c.plan.ensures.plan));
+  queued = queues_long _ c.in_ok-queues.queues.items c.plan-3.result.now.nodes.items _ c.in_ok-queues.ensures ∙ ap (λ (p : Plan). length p.nodes.items) c.plan-3.ensures.plan;
+  assembled = c.in_ok-assemblers.ensures.many ∙ (c.len.ensures ∙ (c.plan-2.result.now.nodes.ok.0 ∙ ap (λ (p : Plan). length p.nodes.items) c.plan-2.ensures.plan));
   sized = λ n a is. (let h = all_at IsIdleAssembler c.in_ok-assemblers.assemblers.items c.in_ok-assemblers.ensures.idle n a is in (h.0, h.1));
   placed = λ number f is. absurd (no_flight_there _ number f c.in_ok-flights.ensures is);
 }
@@ -17,7 +17,7 @@ invariant_of-result g c = record {
 pub returns-clause-at_rest : goal.returns-clause-at_rest
 returns-clause-at_rest g c =
     let plan = (tables_of c.args.accepted).plan in
-    let same : c.plan-2.result.now ≡ plan = c.plan-2.ensures.plan ∙ ap (λ (t : Tables). t.plan) c.in_ok-router.ensures.tables in
+    let same : c.plan-3.result.now ≡ plan = c.plan-3.ensures.plan ∙ ap (λ (t : Tables). t.plan) c.in_ok-router.ensures.tables in
     stands_at_rest plan _ _ c.in_ok-flights.ensures
     (λ n a is. (all_at IsIdleAssembler c.in_ok-assemblers.assemblers.items c.in_ok-assemblers.ensures.idle n a is).2)
     (c.in_ok-queues.ensures ∙ dealt_same _ _ _ _ _ (ap (λ (p : Plan). p.nodes.items) same) refl)

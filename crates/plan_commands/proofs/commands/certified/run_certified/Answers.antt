@@ -19,4 +19,4 @@ returns-clause-unwritten g c =
     let output = stream g.O.Sink.account c.args.output.now c.tell.new.output in
     let errors = stream g.E.Sink.account c.args.errors.now c.tell.new.errors in
     breaks_in_answer (AnswersSo c.args.question.now plans certificates) c.tell.result output errors _ answered.result answered.ensures.answers
-    c.tell.ensures.told c.tell.ensures.untouched (λ text h. h.3)
+    c.tell.ensures.told c.tell.ensures.untouched (λ lines h. h.4)

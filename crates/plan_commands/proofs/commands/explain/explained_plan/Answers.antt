@@ -9,5 +9,5 @@ returns-in_ok-sound_text-in-Ok-clause-answers c =
     let plan = c.args.given.now.plan in
     let text = c.in_ok-sound_text-in-Ok in
     let sound : IsSoundText plan (string_bytes text.field-0) = record { certificate = c.in-Ok.certificate; accepted = c.in-Ok.ensures.accepted; exact = c.in-Ok.ensures.exact; written = text.ensures } in
-    let S : Status → Type 0 = λ s. IsExplained plan s (cow_str_bytes c.found.result.text) in
+    let S : Status → Type 0 = λ s. IsExplained c.args.name.now c.args.given.now.text.items plan s (cow_str_bytes c.found.result.text) in
     subst S (sym c.found.ensures.status) (subst (IsSoundText plan) (sym c.found.ensures.text) sound)

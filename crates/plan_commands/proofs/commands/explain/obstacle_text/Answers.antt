@@ -1,21 +1,21 @@
-use Rattle.std.proofs.Common.{string_bytes}
-use Rattle.plan_commands.proofs.Explained.{not_memory}
+use Rattle.std.proofs.Common.{◌≡◌, ◌∙◌, List, ℕ, string_bytes, sym, subst, rules}
+use Rattle.std.specs.Prelude.{IfOk}
+use Rattle.plan_commands.specs.Certifying.{IsRuledOutBy}
+use Rattle.fault_texts.specs.Places.{IsPlaceTold, obstacle_pointer}
+use Rattle.plan_commands.proofs.Explained.{not_memory, obstacle_written}
 use Rattle.plan_commands.proofs.commands.explain.obstacle_text.Goals as goal
 
 pub returns : goal.returns
 returns c =
-    let line = c.in_ok-text in
-    let told = c.in_ok-explained_text in
-    let written = string_bytes line.text in
-    record {
-      obstacle = c.args.obstacle.now;
-      line = written;
-      lines = c.deref.result.now;
-      ruled_out = record {
-        first = c.requires.names;
-        none = c.requires.none (not_memory c.args.given.now.plan c.args.obstacle.now written line.ensures);
-        written = line.ensures;
-      };
-      told = rw (← c.deref.ensures) at told.ensures;
-      written = c.in_ok-push_str.ensures.bytes;
-    }
+    let plan = c.args.given.now.plan in
+    let obstacle = c.args.obstacle.now in
+    let name = c.args.name.now in
+    let line = string_bytes c.in_ok-line.line in
+    let out : IsRuledOutBy plan obstacle line = record {
+      first = c.requires.names;
+      none = c.requires.none (not_memory plan obstacle line c.in_ok-line.ensures);
+      written = c.in_ok-line.ensures;
+    } in
+    let placed = subst (λ (t : List ℕ). IsPlaceTold name t (obstacle_pointer plan obstacle) (string_bytes c.in_ok-place.place)) c.as_slice.ensures.value c.in_ok-place.ensures in
+    obstacle_written string_bytes name c.args.given.now.text.items plan obstacle line (string_bytes c.in_ok-place.place) (string_bytes c.in_ok-told.told) (string_bytes c.in_ok-more.more)
+    c.format.result out placed c.in_ok-told.ensures c.in_ok-more.ensures c.format.ensures.ok

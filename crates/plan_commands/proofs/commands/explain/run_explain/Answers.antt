@@ -10,14 +10,14 @@ pub returns-clause-explains : goal.returns-clause-explains
 returns-clause-explains g c =
     let answered = c.answer_explain-answered in
     let plans = stream g.P.Source.account c.args.plan.now answered.new.plan in
-    ends_so (ExplainsSo plans) c.tell.result _ _ (λ why. why ≡ refused.NoMemory) answered.result answered.ensures.answers answered.ensures.refused
+    ends_so (ExplainsSo c.args.name.now plans) c.tell.result _ _ (λ why. why ≡ refused.NoMemory) answered.result answered.ensures.answers answered.ensures.refused
     c.tell.ensures.told c.tell.ensures.refuses
 
 pub returns-clause-unwritten : goal.returns-clause-unwritten
 returns-clause-unwritten g c =
     let answered = c.answer_explain-answered in
     let plans = stream g.P.Source.account c.args.plan.now answered.new.plan in
-    breaks_or_gives (ExplainsSo plans) c.tell.result _ _ answered.result answered.ensures.answers answered.ensures.refused c.tell.ensures.told c.tell.ensures.refuses
+    breaks_or_gives (ExplainsSo c.args.name.now plans) c.tell.result _ _ answered.result answered.ensures.answers answered.ensures.refused c.tell.ensures.told c.tell.ensures.refuses
 
 pub returns-clause-quiet : goal.returns-clause-quiet
 returns-clause-quiet g c =

@@ -11,7 +11,7 @@ returns-clause-explains g c =
     let answered = c.answer_explain_certified-answered in
     let plans = stream g.P.Source.account c.args.plan.now answered.new.plan in
     let certificates = stream g.C.Source.account c.args.certificate.now answered.new.certificate in
-    ends_so (ExplainsWithSo plans certificates) c.tell.result _ _ (λ why. why ≡ refused.NoMemory) answered.result answered.ensures.answers answered.ensures.refused
+    ends_so (ExplainsWithSo c.args.name.now c.args.certified_by.now plans certificates) c.tell.result _ _ (λ why. why ≡ refused.NoMemory) answered.result answered.ensures.answers answered.ensures.refused
     c.tell.ensures.told c.tell.ensures.refuses
 
 pub returns-clause-unwritten : goal.returns-clause-unwritten
@@ -19,7 +19,7 @@ returns-clause-unwritten g c =
     let answered = c.answer_explain_certified-answered in
     let plans = stream g.P.Source.account c.args.plan.now answered.new.plan in
     let certificates = stream g.C.Source.account c.args.certificate.now answered.new.certificate in
-    breaks_or_gives (ExplainsWithSo plans certificates) c.tell.result _ _ answered.result answered.ensures.answers answered.ensures.refused c.tell.ensures.told c.tell.ensures.refuses
+    breaks_or_gives (ExplainsWithSo c.args.name.now c.args.certified_by.now plans certificates) c.tell.result _ _ answered.result answered.ensures.answers answered.ensures.refused c.tell.ensures.told c.tell.ensures.refuses
 
 pub returns-clause-quiet : goal.returns-clause-quiet
 returns-clause-quiet g c =

@@ -1,0 +1,213 @@
+"""Inputs that are made to take long, each at any of four sizes.
+
+`ROWS` has what each is, a function that makes its files and words at a size, and the smallest of the sizes: the others are
+two, four and eight times as large. tools/try crawls tries each, and bench/measure_adversarial.py measures each.
+"""
+
+import json
+import random
+
+import plans
+
+FACTORS = (1, 2, 4, 8)
+MOST_NAME = 32
+# From 8 to 17 under tag 3, from 17 to 8 under tag 3 as an answer, and from 8 to 17 under tag 2: a GetTID request's bytes.
+ASKING, ANSWERING, OTHER = "011108cb01800002", "010811c301800002", "011108ca01800002"
+RISER = "examples/riser"
+
+
+def text(value):
+    return json.dumps(value, separators=(",", ":"))
+
+
+def plan_of(buses, nodes):
+    return text({"format": 1, "buses": buses, "nodes": nodes})
+
+
+def certificate_of(levels=(), places=(), ranks=()):
+    return text({"format": 1, "levels": list(levels), "places": list(places), "ranks": list(ranks)})
+
+
+def riser(events):
+    """The words that play events on the riser network."""
+    listed = text({"format": 3, "events": events})
+    return {"events.json": listed}, ["sim", f"{RISER}/plan.json", f"{RISER}/certificate.json", "events.json"]
+
+
+def explained(names):
+    """The words that explain a certificate with a level for each name."""
+    levels = [{"node": name, "level": 1} for name in names]
+    return {"certificate.json": certificate_of(levels)}, ["explain", f"{RISER}/plan.json", "certificate.json"]
+
+
+def different_names(size):
+    return explained([f"{number * 7919 % 10_000_019:08d}" for number in range(size)])
+
+
+def names_in_order(size):
+    return explained([f"{number:08d}" for number in range(size)])
+
+
+def names_that_begin_alike(size):
+    return explained(["a" * (MOST_NAME - 8) + f"{number:08d}" for number in range(size)])
+
+
+def different_keys(size):
+    keys = {f"k{number:07d}": 0 for number in range(size)}
+    return {"plan.json": text({"format": 1, **keys})}, ["explain", "plan.json"]
+
+
+def deep_lists(size):
+    return {"plan.json": '{"x":[' + ",".join(["[" * 120 + "]" * 120] * size) + "]}"}, ["explain", "plan.json"]
+
+
+def records_with(handles):
+    """The words that certify a plan of one terminus whose records have these handles, each leading to the next."""
+    nexts = handles[1:] + [0]
+    records = [
+        {"handle": handle, "next": after, "bytes": (handle.to_bytes(4, "little") + bytes([1, 200, 0, 0, 0, 0])).hex()}
+        for handle, after in zip(handles, nexts)
+    ]
+    node = plans.node_at(0, "endpoint", [plans.port_on("b", 0)], [], {"tid": 1, "records": records})
+    return {"plan.json": plan_of([plans.bus_named("b")], [node])}, ["certify", "plan.json"]
+
+
+def handles_up(size):
+    return records_with([number + 1 for number in range(size)])
+
+
+def handles_down(size):
+    return records_with([size - number for number in range(size)])
+
+
+def handles_to_and_fro(size):
+    return records_with([1 + (number // 2 if number % 2 else size - 1 - number // 2) for number in range(size)])
+
+
+def handles_far_apart(size):
+    return records_with([1 + number * 2_654_435_761 % (2**32 - 2) for number in range(size)])
+
+
+def full_plan(size, rows_of=list):
+    """The words that certify bridges on one bus, each with a row for nearly each endpoint ID."""
+    buses, nodes = plans.bus(size)
+    for node in nodes:
+        node["rows"] = rows_of(node["rows"])
+    return {"plan.json": plan_of(buses, nodes)}, ["certify", "plan.json"]
+
+
+def rows_backwards(size):
+    return full_plan(size, lambda rows: rows[::-1])
+
+
+def rows_in_no_order(size):
+    chosen = random.Random(size)
+    return full_plan(size, lambda rows: chosen.sample(rows, len(rows)))
+
+
+def buses_with_ports(size):
+    """64 buses, and nodes of 32 ports each."""
+    ports = [[plans.port_on(f"b{(place + port) % 64}", place) for port in range(32)] for place in range(size)]
+    nodes = [plans.node_at(place, "bridge", ports[place], []) for place in range(size)]
+    return {"plan.json": plan_of([plans.bus_named(f"b{it}") for it in range(64)], nodes)}, ["certify", "plan.json"]
+
+
+def broken_ranks(size):
+    """A certificate whose ranks are ranges of one endpoint ID each, for the node of a plan of one, over and over."""
+    ranges = [{"first": 8 + it, "size": 1, "rank": it % 200 + 1} for it in range(240)]
+    return {
+        "plan.json": plan_of([plans.bus_named("b")], [plans.node_at(0, "endpoint", [plans.port_on("b", 0)], [])]),
+        "certificate.json": certificate_of(ranks=[{"node": f"m{it}", "ranges": ranges} for it in range(size)]),
+    }, ["explain", "plan.json", "certificate.json"]
+
+
+def put(at, packet):
+    return {"do": "put", "node": at, "bytes": packet}
+
+
+def move(flight, keep=False):
+    return {"do": "move", "flight": flight, "keep": keep}
+
+
+WALK, ASK = {"do": "walk", "node": "host", "eid": 17, "tag": 3, "count": 64}, {"do": "ask", "walker": 1}
+
+
+def asks_among_flights(size):
+    """An answer of the walker's is on its way, so that each ask has to wait, while the flights of another key grow."""
+    return riser([WALK, put("nic", ANSWERING)] + [put("host", OTHER), ASK] * (size // 2))
+
+
+def asks_among_messages(size):
+    """The same while the messages of another key that wait at the terminus grow."""
+    events = [WALK, put("nic", ANSWERING)]
+    for flight in range(2, 2 + size // 5):
+        events += [put("host", OTHER), move(flight), move(flight), move(flight), ASK]
+    return riser(events)
+
+
+def copies(size):
+    return riser([put("host", OTHER)] + [move(1, keep=True)] * size)
+
+
+def losses(size):
+    return riser([put("host", OTHER)] * (size // 2) + [{"do": "lose", "flight": 1 + it} for it in range(size // 2)])
+
+
+def losses_backwards(size):
+    half = size // 2
+    return riser([put("host", OTHER)] * half + [{"do": "lose", "flight": half - it} for it in range(half)])
+
+
+def answers(size):
+    """Requests that all wait before the first is answered."""
+    events, count = [], size // 5
+    for flight in range(1, 1 + count):
+        events += [put("host", OTHER), move(flight), move(flight), move(flight)]
+    return riser(events + [{"do": "answer", "node": "nic"}] * count)
+
+
+def told(size):
+    return riser([WALK] + [{"do": "collected", "walker": 1}] * size)
+
+
+def walkers(size):
+    """Walkers at 64 nodes, each with a terminus, one for each node, endpoint ID and tag."""
+    terminus = {"tid": 1, "records": [{"handle": 1, "next": 0, "bytes": "0100000001c800000000"}]}
+    nodes = [plans.node_at(place, "endpoint", [plans.port_on("b", place)], [], terminus) for place in range(64)]
+    places = [{"node": node["name"], "places": [0]} for node in nodes]
+    events = [
+        {"do": "walk", "node": f"n{it // 512}", "eid": 8 + it // 8 % 64, "tag": it % 8, "count": 64} for it in range(size)
+    ]
+    return {
+        "plan.json": plan_of([plans.bus_named("b")], nodes),
+        "certificate.json": certificate_of(places=places),
+        "events.json": text({"format": 3, "events": events}),
+    }, ["sim", "plan.json", "certificate.json", "events.json"]
+
+
+ROWS = [
+    ("different names in a certificate", different_names, 2_500),
+    ("names in order in a certificate", names_in_order, 2_500),
+    ("names that begin alike in a certificate", names_that_begin_alike, 2_500),
+    ("different keys in a plan", different_keys, 2_500),
+    ("lists 120 deep", deep_lists, 250),
+    ("handles that ascend", handles_up, 512),
+    ("handles that descend", handles_down, 512),
+    ("handles that go to and fro", handles_to_and_fro, 512),
+    ("handles that are far apart", handles_far_apart, 512),
+    ("rows in the order of endpoint IDs", full_plan, 8),
+    ("rows in the other order", rows_backwards, 8),
+    ("rows in no order", rows_in_no_order, 8),
+    ("64 buses, nodes of 32 ports", buses_with_ports, 8),
+    ("ranks in ranges of one endpoint ID", broken_ranks, 32),
+    ("asks while packets are on their way", asks_among_flights, 2_000),
+    ("asks while messages wait", asks_among_messages, 2_000),
+    ("copies of a packet", copies, 2_000),
+    ("packets that are lost, oldest first", losses, 2_000),
+    ("packets that are lost, newest first", losses_backwards, 2_000),
+    ("answers to requests that all wait", answers, 2_000),
+    ("a walker that is told over and over", told, 2_000),
+    ("walkers that begin", walkers, 512),
+]
+# Those that take longer than their length asks for, as bench/README.md says.
+SLOW = {"walkers that begin"}

@@ -1,0 +1,8 @@
+//! The lines of `faults`, and where in the text of a plan a fault stands.
+#![tactic(auto)]
+
+mod fault_lists;
+mod places;
+
+pub use fault_lists::{fault_lines, more_line, obstacle_list};
+pub use places::obstacle_place;

@@ -1,0 +1,79 @@
+-- What records of sensors refer to.
+use Rattle.std.proofs.Common.{◌≡◌, ℕ, zero, suc, List, [], ◌∷◌, Option, Some, None, IfSome, Bool, IsTrue, sym, ◌∙◌, ap, subst, arith}
+use Rattle.std.specs.Prelude.{◌↔◌, ◌≢◌, option_map, IsSomeAnd, Contains}
+use Rattle.std.proofs.lemmas.Option.{same_Some}
+use Rattle.pdr_record.specs.declared.sensor.Sensor.{Sensor}
+use Rattle.pdr_record.specs.Layouts.{SensorValue, EntityValue, TerminusValue, AssociationValue}
+use Rattle.pdr_record.specs.Records.{BodyValue}
+use Rattle.pdr_record.specs.Values.{sensor_value}
+use Rattle.net_questions.proofs.Exists.{of_only}
+use Rattle.net_questions.specs.Sensors.{HasBody, IsSensor, sensor_of}
+
+pub sensor_found : (bytes : List ℕ) (v : BodyValue) (r : Option Sensor) → HasBody bytes v → option_map sensor_value r ≡ sensor_of v
+    → IfSome r (λ s. IsSensor bytes (sensor_value s))
+sensor_found bytes v None has is = tt
+sensor_found bytes v (Some s) has is = (v, has, sym is)
+
+pub sensor_alone : (bytes : List ℕ) (v : BodyValue) (r : Option Sensor) → ((b : BodyValue) → HasBody bytes b → v ≡ b) → option_map sensor_value r ≡ sensor_of v
+    → (s : SensorValue) → IsSensor bytes s → IsSomeAnd r (λ found. sensor_value found ≡ s)
+sensor_alone bytes v None only is s (b, has, at) =
+    let same : v ≡ b = only b has in
+    let none : None ≡ Some s = is ∙ (ap sensor_of same ∙ at) in
+    absurd (cc none)
+sensor_alone bytes v (Some found) only is s (b, has, at) =
+    let same : v ≡ b = only b has in
+    same_Some (sensor_value found) s (is ∙ (ap sensor_of same ∙ at))
+
+-- of a body that is the only one of some bytes
+pub of_body : {A : Type 0} (bytes : List ℕ) (v : BodyValue) (f : A → BodyValue) (P : A → Type 0) (r : Bool) → HasBody bytes v
+    → ((b : BodyValue) → HasBody bytes b → v ≡ b) → IsTrue r ↔ ((a : A) × (v ≡ f a) × P a) → IsTrue r ↔ ((a : A) × HasBody bytes (f a) × P a)
+of_body bytes v f P r has only told = (
+  λ h. (let (a, is, p) = told.0 h in (a, subst (λ b. HasBody bytes b) is has, p)),
+  λ (a, at, p). told.1 (a, only (f a) at, p),
+)
+
+terminus_in : BodyValue → Option TerminusValue
+terminus_in (BodyValue.Terminus t) = Some t
+terminus_in (BodyValue.Numeric n) = None
+terminus_in (BodyValue.State s) = None
+terminus_in (BodyValue.Association a) = None
+terminus_in (BodyValue.Other number bytes) = None
+
+association_in : BodyValue → Option AssociationValue
+association_in (BodyValue.Terminus t) = None
+association_in (BodyValue.Numeric n) = None
+association_in (BodyValue.State s) = None
+association_in (BodyValue.Association a) = Some a
+association_in (BodyValue.Other number bytes) = None
+
+pub of_terminus : (v : BodyValue) (t : TerminusValue) (P : TerminusValue → Type 0) (r : Bool) → v ≡ BodyValue.Terminus t → IsTrue r ↔ P t
+    → IsTrue r ↔ ((a : TerminusValue) × (v ≡ BodyValue.Terminus a) × P a)
+unfolding terminus_in
+of_terminus v t P r is told = of_only (λ a. v ≡ BodyValue.Terminus a) t P r is (λ a at. same_Some t a (ap terminus_in (sym is ∙ at))) told
+
+pub of_association : (v : BodyValue) (t : AssociationValue) (P : AssociationValue → Type 0) (r : Bool) → v ≡ BodyValue.Association t → IsTrue r ↔ P t
+    → IsTrue r ↔ ((a : AssociationValue) × (v ≡ BodyValue.Association a) × P a)
+unfolding association_in
+of_association v t P r is told = of_only (λ a. v ≡ BodyValue.Association a) t P r is (λ a at. same_Some t a (ap association_in (sym is ∙ at))) told
+
+-- ---- searches in what is left of a list
+
+pub here : (x e : EntityValue) (xs : List EntityValue) → x ≡ e → Contains (x ∷ xs) e
+here x e xs same = (0, omega arith, same)
+
+pub later : (x e : EntityValue) (xs : List EntityValue) → x ≢ e → Contains (x ∷ xs) e ↔ Contains xs e
+later x e xs apart = (λ at. down at, λ (k, less, is). (suc k, omega (arith, less), is))
+  where
+    down : Contains (x ∷ xs) e → Contains xs e
+    down (zero, less, is) = absurd (apart is)
+    down (suc k, less, is) = (k, omega (arith, less), is)
+
+pub nowhere : (e : EntityValue) → ¬ Contains [] e
+nowhere e (k, less, is) = omega (arith, less)
+
+pub search_on : (ps xs ys : List EntityValue) (x e : EntityValue) → Contains ps e ↔ Contains xs e → xs ≡ x ∷ ys → x ≢ e → Contains ps e ↔ Contains ys e
+search_on ps xs ys x e before is apart =
+    let (down, up) = later x e ys apart in (
+      λ at. down (subst (λ zs. Contains zs e) is (before.0 at)),
+      λ at. before.1 (subst (λ zs. Contains zs e) (sym is) (up at)),
+    )

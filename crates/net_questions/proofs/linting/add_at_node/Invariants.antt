@@ -1,7 +1,0 @@
-use Rattle.std.proofs.Common.{[], ◌∷◌}
-use Rattle.net_questions.specs.Findings.{Adds, order_of}
-use Rattle.net_questions.proofs.Ascending.{Below}
-use Rattle.net_questions.proofs.linting.add_at_node.Given as goal
-
-abbrev pub invariant-loop-item : goal.invariant-loop-item
-invariant-loop-item l = Adds (Below l.plan (order_of l.code ∷ l.node ∷ []) l.item) l.initial.findings.items l.findings.items

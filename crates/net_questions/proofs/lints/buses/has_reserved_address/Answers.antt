@@ -1,0 +1,15 @@
+use Rattle.std.proofs.Common.{List, ℕ, subst, ◌↔◌, IsTrue}
+use Rattle.std.specs.Prelude.{slice_get}
+use Rattle.net_questions.specs.Buses.{IsReservedAddress}
+use Rattle.net_questions.proofs.Exists.{of_some, of_none}
+use Rattle.net_questions.proofs.lints.buses.has_reserved_address.Goals as goal
+
+pub returns-in-Some : goal.returns-in-Some
+returns-in-Some c =
+    let told = subst (λ (a : List ℕ). IsTrue c.is_reserved_address.result ↔ IsReservedAddress c.in-Some.bus.now.binding a) c.deref.ensures.value c.is_reserved_address.ensures in
+    of_some (slice_get c.args.plan.now.buses.items c.args.port.now.bus) c.in-Some.bus.now (λ b. IsReservedAddress b.binding c.args.port.now.address.items)
+    c.is_reserved_address.result c.in-Some.ensures told
+
+pub returns-in-None : goal.returns-in-None
+returns-in-None c =
+    of_none (slice_get c.args.plan.now.buses.items c.args.port.now.bus) (λ b. IsReservedAddress b.binding c.args.port.now.address.items) c.in-None.ensures

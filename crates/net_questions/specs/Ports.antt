@@ -1,0 +1,9 @@
+-- The ports of a plan's nodes.
+use Rattle.std.specs.Prelude.{◌≡◌, ℕ, Some, slice_get}
+use Rattle.net_plan.specs.declared.plan.Plan.{Plan}
+use Rattle.net_plan.specs.declared.nodes.Port.{Port}
+use Rattle.net_tables.specs.Routing.{ports_of}
+
+-- this is n's port p
+abbrev pub IsPort : Plan → ℕ → ℕ → Port → Type 0
+IsPort plan n p port = slice_get (ports_of plan n) p ≡ Some port

@@ -1,0 +1,3 @@
+pub mod Missed
+pub mod Arriving
+pub mod Saying

@@ -1,0 +1,4 @@
+pub mod Lines
+pub mod Wishes
+pub mod Reading
+pub mod Matrices

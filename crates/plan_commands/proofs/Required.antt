@@ -1,0 +1,69 @@
+-- What the end of `require` tells of an answer.
+use Rattle.std.proofs.Common.{◌≡◌, ◌⊎◌, ℕ, List, length, ◌≤◌, Result, Ok, Err, inl, inr, sym, subst}
+use Rattle.std.specs.Prelude.{IfOk, IfErr, OnErr}
+use Rattle.std.specs.Cow.{cow_str_bytes}
+use Rattle.std.specs.Io.KnownBytes.{Consumes, IsAtEnd}
+use Rattle.net_plan.specs.declared.certificate.Certificate.{Certificate}
+use Rattle.net_plan.specs.declared.plan.Plan.{Plan}
+use Rattle.net_rules.specs.Rules.{Accepts}
+use Rattle.plan_commands.specs.declared.commands.answer.Answer.{Answer}
+use Rattle.plan_commands.specs.declared.refused.Refused.{Refused}
+use Rattle.plan_commands.specs.declared.refused.Refused.TheVariants as refused
+use Rattle.plan_commands.specs.declared.status.Status.{Status}
+use Rattle.plan_commands.specs.declared.status.Status.TheVariants as status
+use Rattle.plan_commands.specs.Answers.{Stream, AreGiven, AreUnread, IsFaultText, BreaksOff}
+use Rattle.plan_commands.specs.Requiring.{IsRequiredOn, RequiresOn, IsWithoutWanted, RequiresOf, RequiresSo}
+use Rattle.plan_commands.specs.Told.{IsTold, IsSomeAnswer, Gives}
+
+-- ---- standard output
+
+-- an answer may tell why an input can't be read, and there may be none
+pub same_gives_or_breaks : (Answers : Status → List ℕ → Type 0) (ended : Status) (output errors : Stream) (Same : Type 0) (answered : Result Answer Refused)
+    → IfOk answered (λ (a : Answer). Answers a.status (cow_str_bytes a.text)) → IfOk answered (λ (a : Answer). IsTold a.status (cow_str_bytes a.text) ended output errors)
+    → OnErr answered Same → ended ≡ status.Unreadable → Same ⊎ (Gives Answers status.Unreadable output ⊎ BreaksOff (IsSomeAnswer Answers) output)
+same_gives_or_breaks Answers ended output errors Same (Ok a) answers (inl (is, written)) same unreadable =
+    let A : Status → Type 0 = λ s. Answers s (cow_str_bytes a.text) in
+    inr (inl (cow_str_bytes a.text, subst A unreadable (subst A (sym is) answers), written))
+same_gives_or_breaks Answers ended output errors Same (Ok a) answers (inr (is, fails, part, line)) same unreadable =
+    inr (inr (record { text = cow_str_bytes a.text; answer = (a.status, answers); fails = fails; beginning = part }))
+same_gives_or_breaks Answers ended output errors Same (Err why) answers told same unreadable = inl same
+
+-- ---- of what was given
+
+module _ (plan : Plan) (cert : Certificate) where
+  pub given_so : (plans certificates wanted : Stream) (result : Result Answer Refused) → AreGiven plans certificates plan cert
+      → IfOk result (λ (a : Answer). RequiresOf plan cert wanted a.status (cow_str_bytes a.text))
+      → IfOk result (λ (a : Answer). RequiresSo plans certificates wanted a.status (cow_str_bytes a.text))
+  given_so plans certificates wanted (Ok a) given answers = (plan, cert, given, answers)
+  given_so plans certificates wanted (Err why) given answers = tt
+
+  pub text_so : (wanted : Stream) (bytes : List ℕ) (result : Result Answer Refused) → Consumes wanted.before.bytes wanted.after.bytes bytes → IsAtEnd wanted.after.bytes
+      → length bytes ≤ 16777216 → IfOk result (λ (a : Answer). RequiresOn plan cert bytes a.status (cow_str_bytes a.text))
+      → IfOk result (λ (a : Answer). RequiresOf plan cert wanted a.status (cow_str_bytes a.text))
+  text_so wanted bytes (Ok a) read end within answers = inl (bytes, read, end, within, answers)
+  text_so wanted bytes (Err why) read end within answers = tt
+
+  pub no_text_so : (wanted : Stream) (line : List ℕ) (result : Result Answer Refused) → IsWithoutWanted wanted line
+      → IfOk result (λ (a : Answer). (a.status ≡ status.Unreadable) × (cow_str_bytes a.text ≡ line))
+      → IfOk result (λ (a : Answer). RequiresOf plan cert wanted a.status (cow_str_bytes a.text))
+  no_text_so wanted line (Ok a) without (is, told) = inr (is, subst (λ t. IsWithoutWanted wanted t) (sym told) without)
+  no_text_so wanted line (Err why) without told = tt
+
+  pub checked_so : (checked : Plan × Certificate) (wanted : List ℕ) (result : Result Answer Refused) → checked ≡ (plan, cert) → Accepts plan cert
+      → IfOk result (λ (a : Answer). IsRequiredOn checked.0 wanted a.status (cow_str_bytes a.text))
+      → IfOk result (λ (a : Answer). RequiresOn plan cert wanted a.status (cow_str_bytes a.text))
+  checked_so checked wanted (Ok a) same accepted answers =
+      inl (accepted, subst (λ (c : Plan × Certificate). IsRequiredOn c.0 wanted a.status (cow_str_bytes a.text)) same answers)
+  checked_so checked wanted (Err why) same accepted answers = tt
+
+  pub fault_so : (wanted : List ℕ) (result : Result Answer Refused)
+      → IfOk result (λ (a : Answer). (a.status ≡ status.Fault) × IsFaultText plan cert (cow_str_bytes a.text))
+      → IfOk result (λ (a : Answer). RequiresOn plan cert wanted a.status (cow_str_bytes a.text))
+  fault_so wanted (Ok a) told = inr told
+  fault_so wanted (Err why) told = tt
+
+-- want of memory is why nothing more is said
+pub memory_so : (plans certificates : Stream) (result : Result Answer Refused) → IfErr result (λ why. why ≡ refused.NoMemory)
+    → IfErr result (λ why. AreUnread why plans certificates)
+memory_so plans certificates (Ok a) is = tt
+memory_so plans certificates (Err why) is = subst (λ w. AreUnread w plans certificates) (sym is) tt

@@ -1,0 +1,79 @@
+-- What the end of `require` says of the plan, the certificate and the text that it read, and of what it wrote.
+use Rattle.std.specs.Prelude.{◌≡◌, ◌≢◌, ◌⊎◌, ℕ, Bool, true, false, List, [], ◌++◌, codes, All}
+use Rattle.std.specs.Fmt.{decimal}
+use Rattle.std.specs.Str.{IsUtf8}
+use Rattle.net_plan.specs.declared.plan.Plan.{Plan}
+use Rattle.net_plan.specs.declared.certificate.Certificate.{Certificate}
+use Rattle.net_json.specs.Stream.{TakesMoreThan}
+use Rattle.net_json.specs.Texts.{Gave}
+use Rattle.net_reached.specs.declared.reading.BadLine.{BadLine}
+use Rattle.net_reached.specs.declared.reading.WishError.TheVariants.{Unread}
+use Rattle.net_reached.specs.declared.wish.Wish.{Wish}
+use Rattle.net_reached.specs.Lines.{wish_lines}
+use Rattle.net_reached.specs.Reading.{AreWishesOf, IsWhyUnread}
+use Rattle.net_reached.specs.Wishes.{IsMet, AreUnmet}
+use Rattle.net_rules.specs.Rules.{Accepts}
+use Rattle.plan_commands.specs.declared.status.Status.{Status}
+use Rattle.plan_commands.specs.declared.status.Status.TheVariants as status
+use Rattle.plan_commands.specs.Answers.{Stream, Fails, AreGiven, IsFaultText}
+use Rattle.plan_commands.specs.Statuses.{yes_line}
+
+-- ---- wishes that were read
+
+-- the answer on wishes: it is `yes`, and the plan meets each of them, or it has the lines of those that it doesn't
+-- meet, of which there are some
+abbrev pub AnswersWishes : Plan → List Wish → Status → List ℕ → Type 0
+AnswersWishes plan wishes status.Yes text = All (IsMet plan) wishes × (text ≡ yes_line)
+AnswersWishes plan wishes status.Fault text =
+    (unmet : List Wish) × AreUnmet plan wishes unmet × (unmet ≢ []) × (text ≡ wish_lines plan unmet)
+AnswersWishes plan wishes status.Unreadable text = ⊥
+AnswersWishes plan wishes status.NoMemory text = ⊥
+
+-- ---- a text that can't be read
+
+abbrev pub unread_wanted : List ℕ → List ℕ
+unread_wanted code = codes "unreadable wanted: " ++ (code ++ codes "\n")
+
+-- a name that no node has, or another thing that no line has
+abbrev pub code_of_line : Bool → List ℕ
+code_of_line true = codes "J06"
+code_of_line false = codes "J05"
+
+abbrev pub unread_line_text : BadLine → List ℕ
+unread_line_text bad = unread_wanted (code_of_line bad.is_name)
+    ++ (codes "line " ++ (decimal bad.line ++ (codes ", column " ++ (decimal bad.column ++ codes "\n"))))
+
+-- the bytes are no text, or the lines tell the first line of the text that says no wish
+abbrev pub IsUnreadWanted : Plan → List ℕ → List ℕ → Type 0
+IsUnreadWanted plan wanted text = (¬ IsUtf8 wanted × (text ≡ unread_wanted (codes "J01")))
+    ⊎ ((bad : BadLine) × IsWhyUnread plan wanted (Unread bad) × (text ≡ unread_line_text bad))
+
+-- ---- the answer
+
+-- the answer on an accepted plan and the text of what is wanted: on its wishes, or why it has none
+abbrev pub IsRequiredOn : Plan → List ℕ → Status → List ℕ → Type 0
+IsRequiredOn plan wanted ended text =
+    ((wishes : List Wish) × AreWishesOf plan wanted wishes × AnswersWishes plan wishes ended text)
+    ⊎ ((ended ≡ status.Unreadable) × IsUnreadWanted plan wanted text)
+
+-- the same of a plan and a certificate, whose first fault is told where they are not accepted
+abbrev pub RequiresOn : Plan → Certificate → List ℕ → Status → List ℕ → Type 0
+RequiresOn plan certificate wanted ended text = (Accepts plan certificate × IsRequiredOn plan wanted ended text)
+    ⊎ ((ended ≡ status.Fault) × IsFaultText plan certificate text)
+
+-- the source of what is wanted gave no text to its end: too many bytes, or it failed
+abbrev pub IsWithoutWanted : Stream → List ℕ → Type 0
+IsWithoutWanted wanted text =
+    (TakesMoreThan 16777216 wanted.before.bytes wanted.after.bytes × (text ≡ unread_wanted (codes "J08")))
+    ⊎ (Fails wanted × (text ≡ unread_wanted (codes "file")))
+
+-- the same of a plan, a certificate and the text that a source gave, or why it gave none
+abbrev pub RequiresOf : Plan → Certificate → Stream → Status → List ℕ → Type 0
+RequiresOf plan certificate wanted ended text =
+    Gave 16777216 wanted.before.bytes wanted.after.bytes (λ bytes. RequiresOn plan certificate bytes ended text)
+    ⊎ ((ended ≡ status.Unreadable) × IsWithoutWanted wanted text)
+
+-- the same of the plan and the certificate that were given
+abbrev pub RequiresSo : Stream → Stream → Stream → Status → List ℕ → Type 0
+RequiresSo plans certificates wanted ended text = (plan : Plan) × (certificate : Certificate)
+    × AreGiven plans certificates plan certificate × RequiresOf plan certificate wanted ended text
