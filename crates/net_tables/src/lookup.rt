@@ -9,7 +9,10 @@ ghost use Rattle.net_tables.specs.Repositories.{terminus_of, records_of, places_
 
 use crate::eid_run::EidRun;
 use mctp_transport::Eid;
-use net_plan::{Certificate, Kind, Plan, PlannedRecord, PlannedTerminus, Pool, Port, RankRange, RecordPlace, Row};
+use net_plan::{
+    Certificate, Kind, Plan, PlannedRecord, PlannedTerminus, Pool, Port, RankRange, RecordPlace,
+    Row,
+};
 
 /// Whether there is such a node, and it is a bridge.
 pub fn is_bridge(plan: &Plan, node: usize) -> bool

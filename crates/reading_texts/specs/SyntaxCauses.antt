@@ -47,7 +47,7 @@ byte_line rest b next last =
     else (if b == 39 then codes "A text stands in double quotes.\n"
     else (if (b == 93 || b == 125) && is_byte 44 last then codes "A comma stands only between two items.\n"
     else (if b == 34 && has_control rest
-        then codes "A control character in a text is written with a backslash, as \\t.\n"
+    then codes "A control character in a text is written with a backslash, as \\t.\n"
     else []))))))
 
 -- the line of the cause at an offset, where there is one
@@ -56,7 +56,7 @@ cause_line text offset =
     if offset == length text then end_line (last_filled (take offset text))
     else (if is_mark text offset then codes "A byte order mark stands there.\n"
     else byte_line (drop (offset + 1) text) (get_or text offset 0) (get_or text (offset + 1) 0)
-        (last_filled (take offset text)))
+    (last_filled (take offset text)))
 
 -- the line of a text that is no UTF-8 from an offset on: whether it begins as UTF-16 does
 abbrev pub encoding_line : List ℕ → ℕ → List ℕ
