@@ -6,7 +6,7 @@ ghost use Rattle.std.specs.Prelude.{◌≡◌};
 use net_json::Counted;
 use plan_commands::{
     FileAtPath, PlanQuestion, Question, Refused, ShownKind, Status, Subcommand, WordQuestion,
-    hint_nodes, hint_words, parse_command, refuse, run_certified, run_explain,
+    hint_nodes, hint_words, parse_command, refuse, run_certified, run_certify_move, run_explain,
     run_explain_certified, run_known, run_move, run_planned, run_require, run_show, run_worded,
     simulate, simulate_move,
 };
@@ -70,6 +70,7 @@ fn run_command<'a>(rt: &'a HostRuntime, command: Subcommand<'a>) -> Status {
             after,
             certificate,
         } => check_move(rt, before, after, certificate),
+        Subcommand::CertifyMove { before, after } => certify_move(rt, before, after),
         Subcommand::SimMove {
             before,
             after,
@@ -180,6 +181,21 @@ fn check_move<'a>(
         &mut before,
         &mut after,
         &mut certificate,
+        &mut output,
+        &mut errors,
+    )
+}
+
+/// Makes the certificate of a move from one plan to another.
+fn certify_move<'a>(rt: &'a HostRuntime, before: &'a str, after: &'a str) -> Status {
+    let mut before = file(rt, before);
+    let mut after = file(rt, after);
+    let mut output = Counted::new(rt.stdout());
+    let mut errors = Counted::new(rt.stderr());
+    run_certify_move(
+        rt.alloc(),
+        &mut before,
+        &mut after,
         &mut output,
         &mut errors,
     )

@@ -1,7 +1,7 @@
 -- Exact ranks fall with each move, and none do round a loop.
 use Rattle.std.proofs.Common.{◌≡◌, ℕ, List, Some, None, refl, arith}
 use Rattle.std.specs.Prelude.{slice_get}
-use Rattle.net_rules.specs.declared.rule.Rule.TheVariants.{C04, C05}
+use Rattle.net_rules.specs.declared.rule.Rule.TheVariants.{C04, C05, C10}
 use Rattle.net_plan.specs.declared.plan.Plan.{Plan}
 use Rattle.net_plan.specs.declared.nodes.Row.{Row}
 use Rattle.net_plan.specs.declared.certificate.Certificate.{Certificate}
@@ -10,10 +10,11 @@ use Rattle.net_tables.specs.Ranks.{rank, Falls}
 use Rattle.net_rules.specs.PlanFaults.{PlanMeetsAll}
 use Rattle.net_tables.specs.Rows.{RowsAreApart, RowsAreInRange}
 use Rattle.net_rules.specs.RoutingLoops.{IsFirstRoutingLoop}
-use Rattle.net_rules.specs.Certificates.{AreExactRanks, HasNoCertificate}
+use Rattle.net_rules.specs.Rules.{RuleHolds}
+use Rattle.net_rules.specs.Certificates.{AreExactRanks}
+use Rattle.net_rules.proofs.Ends.{falls_by_rule}
 use Rattle.net_rules.proofs.Circling.{one_less, no_circle_down}
 use Rattle.net_rules.proofs.EidMoves.{moves_only, ends_from_rank}
-use Rattle.net_rules.proofs.Ends.{move_falls}
 
 pub rows_apart : (plan : Plan) → PlanMeetsAll plan → RowsAreApart plan
 rows_apart plan met n r = met C05 n (Some r) None
@@ -32,6 +33,6 @@ exact_falls plan cert apart exact n r e row is covers = λ away.
     omega (arith, one_less (MovesTo plan e) (moves_only plan e apart) n row.next (rank cert n e) (rank cert row.next e) move here there)
 
 -- ranks that fall leave no circle
-pub looped_has_none : (plan : Plan) (e : ℕ) (nodes : List ℕ) → IsFirstRoutingLoop plan e nodes → HasNoCertificate plan
-looped_has_none plan e nodes loop cert accepted =
-    no_circle_down (MovesTo plan e) (λ n. rank cert n e) (λ n m move. move_falls plan cert e n m accepted move) loop.picked.0 loop.picked.1.0
+pub loop_breaks_ranks : (plan : Plan) (e : ℕ) (nodes : List ℕ) → IsFirstRoutingLoop plan e nodes → (cert : Certificate) → ¬ RuleHolds plan cert C10
+loop_breaks_ranks plan e nodes loop cert holds =
+    no_circle_down (MovesTo plan e) (λ n. rank cert n e) (λ n m move. falls_by_rule plan cert holds e n m move) loop.picked.0 loop.picked.1.0

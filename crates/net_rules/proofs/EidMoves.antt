@@ -76,10 +76,10 @@ unmoved_circle plan e ranges outside n circle = unmoved plan e n ranges outside 
 pub nowhere : (plan : Plan) (e n : ℕ) → ((m : ℕ) → ¬ NamesFor (rows_of plan n) e m) → WayEnds plan e n
 nowhere plan e n none = inr (λ (m, routes). none m routes)
 
-table_to : (plan : Plan) (e : ℕ) (table : List (Option ℕ)) → AreNexts plan e (length plan.nodes.items) table → (n m : ℕ) → MovesBy table n m → MovesTo plan e n m
+pub table_to : (plan : Plan) (e : ℕ) (table : List (Option ℕ)) → AreNexts plan e (length plan.nodes.items) table → (n m : ℕ) → MovesBy table n m → MovesTo plan e n m
 table_to plan e table nexts n m move = option_and_then_some (λ next. next) (slice_get table n) m move (λ x is same. nexts.1 n (Some m) (is ∙ ap Some same))
 
-table_from : (plan : Plan) (e : ℕ) (table : List (Option ℕ)) → RowsAreApart plan → AreNexts plan e (length plan.nodes.items) table → (n m : ℕ) → MovesTo plan e n m → MovesBy table n m
+pub table_from : (plan : Plan) (e : ℕ) (table : List (Option ℕ)) → RowsAreApart plan → AreNexts plan e (length plan.nodes.items) table → (n m : ℕ) → MovesTo plan e n m → MovesBy table n m
 table_from plan e table apart nexts n m move =
     let lt : n < length table = omega (arith, nexts.0, moves_within plan e n m move) in
     there plan e table apart nexts n m move (get_or table n None) (slice_get-get_or table n None lt)

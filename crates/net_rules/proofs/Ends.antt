@@ -6,17 +6,20 @@ use Rattle.net_plan.specs.declared.plan.Plan.{Plan}
 use Rattle.net_plan.specs.declared.certificate.Certificate.{Certificate}
 use Rattle.net_tables.specs.Routing.{MovesTo, rows_of, eid_of}
 use Rattle.net_tables.specs.Ranks.{rank, Falls}
-use Rattle.net_rules.specs.Rules.{Accepts}
+use Rattle.net_rules.specs.Rules.{RuleHolds, Accepts}
 use Rattle.net_rules.specs.Moves.{Leads}
 use Rattle.net_rules.specs.Promises.{WayEnds, EndsWithinRank}
 use Rattle.net_tables.proofs.RowSearches.{is_or_not, one_or_none}
 
 -- along a row the rank falls
-pub move_falls : (plan : Plan) (cert : Certificate) (e n m : ℕ) → Accepts plan cert → MovesTo plan e n m → rank cert m e < rank cert n e
+pub falls_by_rule : (plan : Plan) (cert : Certificate) → RuleHolds plan cert C10 → (e n m : ℕ) → MovesTo plan e n m → rank cert m e < rank cert n e
 unfolding Falls
-move_falls plan cert e n m accepted (away, (r, row, at, covers, next)) =
-    let falls = (accepted C10 n (Some r) (Some e)).1 row at covers away in
+falls_by_rule plan cert holds e n m (away, (r, row, at, covers, next)) =
+    let falls = (holds n (Some r) (Some e)).1 row at covers away in
     let P : ℕ → Type 0 = λ k. rank cert k e < rank cert n e in subst P next falls
+
+pub move_falls : (plan : Plan) (cert : Certificate) (e n m : ℕ) → Accepts plan cert → MovesTo plan e n m → rank cert m e < rank cert n e
+move_falls plan cert e n m accepted move = falls_by_rule plan cert (accepted C10) e n m move
 
 within : (plan : Plan) (cert : Certificate) → Accepts plan cert → (e n moves m : ℕ) → Leads (MovesTo plan e) n moves m → moves + rank cert m e ≤ rank cert n e
 within plan cert accepted e n zero m same = let P : ℕ → Type 0 = λ k. zero + rank cert k e ≤ rank cert n e in subst P same (omega arith)

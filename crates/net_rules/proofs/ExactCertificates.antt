@@ -18,22 +18,24 @@ use Rattle.net_plan.specs.NodeValues.{node_value, node_names}
 use Rattle.net_plan.specs.PlanValues.{plan_value}
 use Rattle.net_plan.specs.ShortText.{HasFewPlaces}
 use Rattle.net_plan.specs.WellFormed.{IsWellFormed}
-use Rattle.net_tables.specs.Routing.{Holds, HasRow}
+use Rattle.net_plan.specs.declared.nodes.Row.{Row}
+use Rattle.net_tables.specs.Routing.{Holds, HasRow, Covers, rows_of}
 use Rattle.net_rules.specs.Names.{HaveOneName, HasNewName}
 use Rattle.net_tables.specs.Ownership.{owner_of, IsOwnedBy, given_level, level}
 use Rattle.net_rules.specs.Owners.{IsBelowItsOwner}
 use Rattle.net_rules.specs.OwnerLoops.{IsLevel}
-use Rattle.net_tables.specs.Ranks.{rank}
+use Rattle.net_tables.specs.Ranks.{rank, Falls}
 use Rattle.net_tables.specs.Repositories.{terminus_of, records_of, places_given}
 use Rattle.net_tables.specs.TwoPlans.{one_plan}
 use Rattle.net_rules.specs.Superfluous.{NeedsItsLevel, NeedsItsPlaces, NeedsWhatItIsGiven, NeedsItsRank}
 use Rattle.net_rules.specs.Rules.{CertificateDemands, Accepts}
 use Rattle.net_rules.specs.PlanFaults.{PlanMeetsAll}
 use Rattle.net_rules.specs.RoutingLoops.{IsRank}
-use Rattle.net_rules.specs.Certificates.{AreExactLevels, AreExactPlaces, AreExactRanks, IsExact, IsOnlyExact, IsMadeBefore}
+use Rattle.net_rules.specs.Certificates.{AreExactLevels, AreExactPlaces, AreExactRanks, IsExact, IsExactBy, IsOnlyExact, IsOnlyExactBy, IsMadeBefore}
 use Rattle.net_rules.proofs.Circling.{ends_once}
 use Rattle.net_tables.proofs.Elements.{element}
 use Rattle.net_rules.proofs.CertificateLaws.{rows_apart, exact_falls}
+use Rattle.net_rules.proofs.EidMoves.{rank_only}
 use Rattle.net_rules.proofs.RuleOrder.{all_below}
 use Rattle.net_rules.proofs.OneCertificate.{one_ranks}
 use Rattle.net_rules.proofs.OneOrder.{found_there, one_levels, one_places}
@@ -57,10 +59,10 @@ levels_read plan cert exact n = by (owner_of plan n) refl
         rw none (subst P low here))
     by (Some owner) owned = rw owned (exact.levels n)
 
-below_owner : (plan : Plan) (cert : Certificate) → AreExactLevels plan cert.levels.items → (n : ℕ) → IsBelowItsOwner plan cert n
+pub below_owner : (plan : Plan) (cert : Certificate) → AreExactLevels plan cert.levels.items → (n : ℕ) → IsBelowItsOwner plan cert n
 below_owner plan cert exact n = exact_levels_fall plan cert (levels_read plan cert exact) n
 
-needs_given : (plan : Plan) (cert : Certificate) → AreExactLevels plan cert.levels.items → AreExactPlaces plan cert.places.items → (n : ℕ) → NeedsWhatItIsGiven plan cert n
+pub needs_given : (plan : Plan) (cert : Certificate) → AreExactLevels plan cert.levels.items → AreExactPlaces plan cert.places.items → (n : ℕ) → NeedsWhatItIsGiven plan cert n
 unfolding NeedsWhatItIsGiven NeedsItsLevel NeedsItsPlaces
 needs_given plan cert levels places n within =
     (λ none. unowned_level plan n (given_level cert n) none (levels.levels n), let long = (places.places n).0 in omega arith)
@@ -73,34 +75,40 @@ needs_rank plan cert exact n e within low some = by (rank cert n e) refl (exact.
     by zero none is = absurd (some none)
     by (suc k) is (m, (p, move, rest), ends) = (move.0, (p, move.1))
 
-demands_met : (plan : Plan) (cert : Certificate) → PlanMeetsAll plan → IsExact plan cert → (rule : Rule) (n : ℕ) (entry eid : Option ℕ) → CertificateDemands plan cert rule n entry eid
-demands_met plan cert met exact C01 n entry eid = tt
-demands_met plan cert met exact C02 n entry eid = tt
-demands_met plan cert met exact C03 n entry eid = tt
-demands_met plan cert met exact C04 n entry eid = tt
-demands_met plan cert met exact C05 n entry eid = tt
-demands_met plan cert met exact C06 n entry eid = tt
-demands_met plan cert met exact C07 n None None = below_owner plan cert exact.levels n
-demands_met plan cert met exact C07 n None (Some e) = tt
-demands_met plan cert met exact C07 n (Some i) eid = tt
-demands_met plan cert met exact C08 n entry eid = tt
-demands_met plan cert met exact C09 n entry eid = tt
-demands_met plan cert met exact C10 n None eid = tt
-demands_met plan cert met exact C10 n (Some r) None = tt
-demands_met plan cert met exact C10 n (Some r) (Some e) = λ row is covers. exact_falls plan cert (rows_apart plan met) exact.ranks n r e row is covers
-demands_met plan cert met exact C11 n entry eid = tt
-demands_met plan cert met exact C12 n entry eid = tt
-demands_met plan cert met exact C13 n entry eid = tt
-demands_met plan cert met exact C14 n None eid = tt
-demands_met plan cert met exact C14 n (Some j) None = λ r is. (exact.places.places n).1 j r is
-demands_met plan cert met exact C14 n (Some j) (Some e) = tt
-demands_met plan cert met exact C15 n entry eid = tt
-demands_met plan cert met exact C16 n None None = needs_given plan cert exact.levels exact.places n
-demands_met plan cert met exact C16 n None (Some e) = needs_rank plan cert exact.ranks n e
-demands_met plan cert met exact C16 n (Some i) eid = tt
+-- what the rules demand of the certificate
+pub demands_met : (plan : Plan) (cert : Certificate) → AreExactLevels plan cert.levels.items → AreExactPlaces plan cert.places.items
+    → ((n r e : ℕ) (row : Row) → slice_get (rows_of plan n) r ≡ Some row → Covers row e → Falls plan cert n row e)
+    → (rule : Rule) → (rule ≡ C16 → (n e : ℕ) → NeedsItsRank (one_plan plan) cert n e) → (n : ℕ) (entry eid : Option ℕ) → CertificateDemands plan cert rule n entry eid
+demands_met plan cert levels places falls C01 needs n entry eid = tt
+demands_met plan cert levels places falls C02 needs n entry eid = tt
+demands_met plan cert levels places falls C03 needs n entry eid = tt
+demands_met plan cert levels places falls C04 needs n entry eid = tt
+demands_met plan cert levels places falls C05 needs n entry eid = tt
+demands_met plan cert levels places falls C06 needs n entry eid = tt
+demands_met plan cert levels places falls C07 needs n None None = below_owner plan cert levels n
+demands_met plan cert levels places falls C07 needs n None (Some e) = tt
+demands_met plan cert levels places falls C07 needs n (Some i) eid = tt
+demands_met plan cert levels places falls C08 needs n entry eid = tt
+demands_met plan cert levels places falls C09 needs n entry eid = tt
+demands_met plan cert levels places falls C10 needs n None eid = tt
+demands_met plan cert levels places falls C10 needs n (Some r) None = tt
+demands_met plan cert levels places falls C10 needs n (Some r) (Some e) = λ row is covers. falls n r e row is covers
+demands_met plan cert levels places falls C11 needs n entry eid = tt
+demands_met plan cert levels places falls C12 needs n entry eid = tt
+demands_met plan cert levels places falls C13 needs n entry eid = tt
+demands_met plan cert levels places falls C14 needs n None eid = tt
+demands_met plan cert levels places falls C14 needs n (Some j) None = λ r is. (places.places n).1 j r is
+demands_met plan cert levels places falls C14 needs n (Some j) (Some e) = tt
+demands_met plan cert levels places falls C15 needs n entry eid = tt
+demands_met plan cert levels places falls C16 needs n None None = needs_given plan cert levels places n
+demands_met plan cert levels places falls C16 needs n None (Some e) = needs refl n e
+demands_met plan cert levels places falls C16 needs n (Some i) eid = tt
 
 pub exact_accepted : (plan : Plan) (cert : Certificate) → PlanMeetsAll plan → IsExact plan cert → Accepts plan cert
-exact_accepted plan cert met exact rule n entry eid = (met rule n entry eid, demands_met plan cert met exact rule n entry eid)
+exact_accepted plan cert met exact rule n entry eid = (
+  met rule n entry eid,
+  demands_met plan cert exact.levels exact.places (exact_falls plan cert (rows_apart plan met) exact.ranks) rule (λ _. needs_rank plan cert exact.ranks) n entry eid,
+)
 
 -- ---- it is well formed
 
@@ -142,8 +150,8 @@ unfolding HasNewName HaveOneName
 names_apart plan met = pairs_seen name_of_node plan.nodes.items (λ a b. a ≢ b) (λ i j x y less here there same.
     met C01 j None None i less (name_of_node x, ap (option_map name_of_node) here, ap (option_map name_of_node) there ∙ ap Some (sym same)))
 
-pub exact_well_formed : (plan : Plan) (cert : Certificate) → PlanMeetsAll plan → IsExact plan cert → IsWellFormed (plan_value plan) (certificate_value cert)
-exact_well_formed plan cert met exact = record {
+pub exact_well_formed : (plan : Plan) (IsRankOf : ℕ → ℕ → ℕ → Type 0) (cert : Certificate) → PlanMeetsAll plan → IsExactBy plan IsRankOf cert → IsWellFormed (plan_value plan) (certificate_value cert)
+exact_well_formed plan IsRankOf cert met exact = record {
   names = (let P : List (List ℕ) → Type 0 = AllPairs (λ a b. a ≢ b) in subst P (sym (names_are plan.nodes.items)) (names_apart plan met));
   known = (let count = length (map node_value plan.nodes.items) in
       let many : count ≡ length plan.nodes.items = length-map plan.nodes.items node_value in
@@ -176,21 +184,24 @@ given_numbers : Option NodePlaces → List ℕ
 given_numbers given = unwrap_or (option_map place_numbers given) []
 
 -- a node is given a place for each of its records
-pub exact_few : (plan : Plan) (cert : Certificate) → IsExact plan cert → HasFewPlaces (certificate_value cert)
+pub exact_few : (plan : Plan) (IsRankOf : ℕ → ℕ → ℕ → Type 0) (cert : Certificate) → IsExactBy plan IsRankOf cert → HasFewPlaces (certificate_value cert)
 unfolding given_numbers place_numbers
-exact_few plan cert exact = all_seen places_value cert.places.items (λ p. length p.places ≤ 4096) (λ i one is.
+exact_few plan IsRankOf cert exact = all_seen places_value cert.places.items (λ p. length p.places ≤ 4096) (λ i one is.
     let given : places_given cert.places.items one.node ≡ place_numbers one = ap given_numbers (found_there (λ (x : NodePlaces). x.node) cert.places.items exact.places.ascend i one is) in
     let long = (exact.places.places one.node).0 in
     omega (arith, ap length given, long, few_records plan one.node))
 
 -- ---- it is the only one
 
-pub exact_only : (plan : Plan) (cert : Certificate) → PlanMeetsAll plan → IsExact plan cert → IsOnlyExact plan cert
-exact_only plan cert met exact other exact' =
+pub exact_only_by : (plan : Plan) (IsRankOf : ℕ → ℕ → ℕ → Type 0) (only : (n e k l : ℕ) → IsRankOf n e k → IsRankOf n e l → k ≡ l) (cert : Certificate) → PlanMeetsAll plan → IsExactBy plan IsRankOf cert → IsOnlyExactBy plan IsRankOf cert
+exact_only_by plan IsRankOf only cert met exact other exact' =
     let levels = one_levels plan cert other exact.levels exact'.levels in
     let places = one_places plan met cert other exact.places exact'.places in
-    let ranks = one_ranks plan met cert other exact.ranks exact'.ranks in
+    let ranks = one_ranks IsRankOf (length plan.nodes.items) only cert other exact.ranks exact'.ranks in
     λ i. record { levels = levels i; places = places i; ranks = ranks i }
+
+pub exact_only : (plan : Plan) (cert : Certificate) → PlanMeetsAll plan → IsExact plan cert → IsOnlyExact plan cert
+exact_only plan cert met exact = exact_only_by plan (IsRank plan) (λ n e k l. rank_only plan n e k l (rows_apart plan met)) cert met exact
 
 -- ---- it is made part by part
 

@@ -30,6 +30,8 @@ mod ChainPlaces
 pub mod EidMoves
 mod EidRuns
 mod AlikeLaws
+mod WayLaws
+mod LoopLaws
 mod RankRunLaws
 mod Filters
 mod RankLaws
@@ -38,5 +40,8 @@ mod OneCertificate
 mod OneOrder
 mod Listed
 mod ExactCertificates
-mod Obstacles
+pub mod Obstacles
+pub mod MoveRankLaws
+pub mod SameHolders
+pub mod MoveCertificates
 mod RowsInForce

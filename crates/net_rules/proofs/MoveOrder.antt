@@ -16,7 +16,10 @@ use Rattle.net_rules.specs.HeldEids.{IsLedOn}
 use Rattle.net_rules.specs.Superfluous.{NeedsWhatItIsGiven, NeedsItsRank}
 use Rattle.net_tables.specs.TwoPlans.{Tables, moving}
 use Rattle.net_rules.specs.MoveRules.{Requirement, SameFrame, SameNode, Before, After, WayOnBefore, WayOnAfter, Given, HaveSameFrame, IsSameNode, but_rows, DemandsBefore, DemandsAfter, MoveDemands, AcceptsMove}
-use Rattle.net_rules.specs.MoveFaults.{MoveFaultSite, order_of_requirement, order_of_its_rule, MoveComesBefore, IsMoveMet, IsFirstMoveFault, required_before, required_after, required_of_both, move_site, IsFirstFaultOf}
+use Rattle.net_rules.specs.MoveFaults.{MoveFaultSite, order_of_requirement, order_of_its_rule, MoveComesBefore, IsMoveMet, IsFirstMoveFault, required_before, required_after, required_of_both, move_site, IsFirstFaultOf, NamesFirstMoveFault}
+use Rattle.net_rules.specs.declared.move_error.MoveError.{MoveError}
+use Rattle.net_rules.specs.declared.move_error.MoveError.TheVariants.{Differ, Old, New, Both, OutOfMemory}
+use Rattle.net_rules.specs.MoveObstacles.{DifferInRows, NamesDifference}
 use Rattle.net_rules.specs.MoveSearch.{IsFirstUnlike, NodeComesBefore, IsFirstByRules, IsFirstByNode}
 use Rattle.net_rules.proofs.Spots.{node_fails}
 use Rattle.net_rules.proofs.Beyond.{at_node}
@@ -63,7 +66,7 @@ all_below Given = omega arith
 asked_there : (r : Requirement) (k : ℕ) → order_of_requirement r ≡ k → asked_at k (rule_in r) ≡ r
 asked_there r k there = ap (λ s. asked_at s (rule_in r)) (sym there) ∙ asked_again r
 
-nothing_before : (m a b : ℕ) → ¬ LessByFirstDifference (m ∷ a ∷ b ∷ []) (0 ∷ 0 ∷ 0 ∷ [])
+pub nothing_before : (m a b : ℕ) → ¬ LessByFirstDifference (m ∷ a ∷ b ∷ []) (0 ∷ 0 ∷ 0 ∷ [])
 nothing_before m a b before = elim before [
   | inl less ↦ omega arith
   | inr (_, rest) ↦ elim rest [ inl less ↦ omega arith | inr (_, last) ↦ elim last [ inl less ↦ omega arith | inr (_, none) ↦ none ] ]
@@ -229,3 +232,22 @@ module _ (before after : Plan) (cert : Certificate) where
 
   pub all_hold : MeetsBelow 6 → IsFirstByNode M03 (NeedsWhatIsGiven (moving before after) cert) None → AcceptsMove before after cert
   all_hold below holds r n entry eid = more 6 below (λ rule m entry' eid'. holds m entry' eid') r (all_below r) n entry eid
+
+-- what is said of a difference
+pub frame_differs : (before after : Plan) → ¬ HaveSameFrame before after → NamesDifference before after (Differ None)
+frame_differs before after not = not
+
+pub node_differs : (before after : Plan) (n : ℕ) → HaveSameFrame before after → IsFirstUnlike before after (Some n) → NamesDifference before after (Differ (Some n))
+node_differs before after n same first = (same, first.0, first.1)
+
+pub difference_first : (before after : Plan) (cert : Certificate) (e : MoveError) → NamesDifference before after e → NamesFirstMoveFault before after cert e
+difference_first before after cert (Differ None) differs = frame_breaks before after cert differs
+difference_first before after cert (Differ (Some n)) differs = node_breaks before after cert n (frame_holds before after cert differs.0) (differs.1, differs.2)
+difference_first before after cert (Old fault) differs = absurd differs
+difference_first before after cert (New fault) differs = absurd differs
+difference_first before after cert (Both fault) differs = absurd differs
+difference_first before after cert OutOfMemory differs = absurd differs
+
+-- plans that differ in rows alone meet what is asked first
+pub frames_hold : (before after : Plan) (cert : Certificate) → DifferInRows before after → MeetsBelow before after cert 2
+frames_hold before after cert frames = nodes_hold before after cert (frame_holds before after cert frames.0) frames.1

@@ -1,12 +1,12 @@
 -- What is made of a certificate on the way, and what rules certificates out.
-use Rattle.std.proofs.Common.{◌≡◌, ◌≢◌, ℕ, ◌+◌, ◌<◌, Some, None, refl, sym, ◌∙◌, ap, subst, arith, inl, inr, Result, Ok, Err}
+use Rattle.std.proofs.Common.{◌≡◌, ◌≢◌, ℕ, ◌+◌, ◌<◌, Option, Some, None, refl, sym, ◌∙◌, ap, subst, arith, inl, inr, Result, Ok, Err}
 use Rattle.std.specs.Prelude.{IfErr}
 use Rattle.std.proofs.lemmas.Bool.{cases_lt}
 use Rattle.net_rules.specs.declared.certify_error.CertifyError.{CertifyError}
 use Rattle.net_rules.specs.declared.certify_error.CertifyError.TheVariants as error
 use Rattle.net_rules.specs.declared.fault.Fault.{Fault}
 use Rattle.net_rules.specs.declared.rule.Rule.{Rule}
-use Rattle.net_rules.specs.declared.rule.Rule.TheVariants.{C04, C05, C07, C10, C12, C14}
+use Rattle.net_rules.specs.declared.rule.Rule.TheVariants.{C01, C02, C03, C04, C05, C06, C07, C08, C09, C10, C11, C12, C13, C14, C15, C16}
 use Rattle.net_plan.specs.declared.plan.Plan.{Plan}
 use Rattle.net_plan.specs.declared.certificate.Certificate.{Certificate}
 use Rattle.net_tables.specs.Routing.{MovesTo}
@@ -14,6 +14,8 @@ use Rattle.net_tables.specs.Ownership.{IsOwnedBy}
 use Rattle.net_tables.specs.Repositories.{records_of, places_given, places_of, HasRecords}
 use Rattle.net_rules.specs.RecordChains.{HaveNewHandles}
 use Rattle.net_rules.specs.Faults.{FaultSite, site_of, order_of, ComesBefore}
+use Rattle.net_rules.specs.Rules.{PlanDemands, Demands}
+use Rattle.net_rules.specs.MoveRules.{DemandsBefore}
 use Rattle.net_rules.specs.PlanFaults.{PlanMeets, IsMetByPlan, IsFirstOfPlanRule}
 use Rattle.net_tables.specs.Rows.{RowsAreApart, RowsAreInRange}
 use Rattle.net_rules.specs.Certificates.{AreExactLevels, AreExactPlaces, AreExactRanks, IsMadeBefore, CanBeMetBefore, NamesOwnerLoop, NamesRoutingLoop, NamesBadChain, NamesObstacle, RulesOutCertificates}
@@ -22,7 +24,7 @@ use Rattle.net_rules.proofs.Circling.{circle_never_ends}
 use Rattle.net_rules.proofs.EidMoves.{moves_only, ends_from_rank}
 use Rattle.net_rules.proofs.LevelLaws.{one_owner, first_loop_breaks_levels}
 use Rattle.net_rules.proofs.ChainLaws.{bad_chain_breaks_places}
-use Rattle.net_rules.proofs.CertificateLaws.{looped_has_none}
+use Rattle.net_rules.proofs.CertificateLaws.{loop_breaks_ranks}
 
 -- ---- what is made on the way
 
@@ -134,14 +136,54 @@ bad_chain_named plan made (error.OwnerLoop nodes) is named = absurd named
 bad_chain_named plan made (error.Loop eid nodes) is named = absurd named
 bad_chain_named plan made (error.BadChain node fault) is named = (made_can plan (order_of C14) made is, named.0, named.1)
 
--- what is named leaves no certificate
+-- what is demanded of a plan before a move is all but the last rule
+pub before_of : (plan : Plan) (cert : Certificate) (rule : Rule) (n : ℕ) (entry eid : Option ℕ) → (rule ≢ C16 → Demands plan cert rule n entry eid) → DemandsBefore plan cert rule n entry eid
+before_of plan cert C01 n entry eid met = met (λ same. let clash : C01 ≡ C16 = same in cc)
+before_of plan cert C02 n entry eid met = met (λ same. let clash : C02 ≡ C16 = same in cc)
+before_of plan cert C03 n entry eid met = met (λ same. let clash : C03 ≡ C16 = same in cc)
+before_of plan cert C04 n entry eid met = met (λ same. let clash : C04 ≡ C16 = same in cc)
+before_of plan cert C05 n entry eid met = met (λ same. let clash : C05 ≡ C16 = same in cc)
+before_of plan cert C06 n entry eid met = met (λ same. let clash : C06 ≡ C16 = same in cc)
+before_of plan cert C07 n entry eid met = met (λ same. let clash : C07 ≡ C16 = same in cc)
+before_of plan cert C08 n entry eid met = met (λ same. let clash : C08 ≡ C16 = same in cc)
+before_of plan cert C09 n entry eid met = met (λ same. let clash : C09 ≡ C16 = same in cc)
+before_of plan cert C10 n entry eid met = met (λ same. let clash : C10 ≡ C16 = same in cc)
+before_of plan cert C11 n entry eid met = met (λ same. let clash : C11 ≡ C16 = same in cc)
+before_of plan cert C12 n entry eid met = met (λ same. let clash : C12 ≡ C16 = same in cc)
+before_of plan cert C13 n entry eid met = met (λ same. let clash : C13 ≡ C16 = same in cc)
+before_of plan cert C14 n entry eid met = met (λ same. let clash : C14 ≡ C16 = same in cc)
+before_of plan cert C15 n entry eid met = met (λ same. let clash : C15 ≡ C16 = same in cc)
+before_of plan cert C16 n entry eid met = tt
+
+plan_part : (plan : Plan) (cert : Certificate) (rule : Rule) (n : ℕ) (entry eid : Option ℕ) → DemandsBefore plan cert rule n entry eid → PlanDemands plan rule n entry eid
+plan_part plan cert C01 n entry eid met = met.0
+plan_part plan cert C02 n entry eid met = met.0
+plan_part plan cert C03 n entry eid met = met.0
+plan_part plan cert C04 n entry eid met = met.0
+plan_part plan cert C05 n entry eid met = met.0
+plan_part plan cert C06 n entry eid met = met.0
+plan_part plan cert C07 n entry eid met = met.0
+plan_part plan cert C08 n entry eid met = met.0
+plan_part plan cert C09 n entry eid met = met.0
+plan_part plan cert C10 n entry eid met = met.0
+plan_part plan cert C11 n entry eid met = met.0
+plan_part plan cert C12 n entry eid met = met.0
+plan_part plan cert C13 n entry eid met = met.0
+plan_part plan cert C14 n entry eid met = met.0
+plan_part plan cert C15 n entry eid met = met.0
+plan_part plan cert C16 n entry eid met = tt
+
+-- what is named leaves no certificate, even of a move from the plan
+pub ruled_out_before : (plan : Plan) (e : CertifyError) → e ≢ error.OutOfMemory → NamesObstacle plan e → (cert : Certificate) → ((rule : Rule) (n : ℕ) (entry eid : Option ℕ) → DemandsBefore plan cert rule n entry eid) → ⊥
+ruled_out_before plan error.OutOfMemory some named cert met = some refl
+ruled_out_before plan (error.Fault fault) some named cert met = (let p = site_of fault in named.1.broken (plan_part plan cert p.rule p.node p.entry p.eid (met p.rule p.node p.entry p.eid)))
+ruled_out_before plan (error.OwnerLoop nodes) some named cert met = first_loop_breaks_levels plan nodes.items named.2 cert (λ n. (met C07 n None None).1)
+ruled_out_before plan (error.Loop eid nodes) some named cert met = loop_breaks_ranks plan eid.value nodes.items named.1 cert (λ n entry eid. met C10 n entry eid)
+ruled_out_before plan (error.BadChain node fault) some named cert met =
+    bad_chain_breaks_places (records_of plan node) fault (λ j r is. (met C12 node (Some j) None).0 r is) named.1 (places_of cert node) (λ j r is. (met C14 node (Some j) None).1 r is)
+
 pub ruled_out : (plan : Plan) (e : CertifyError) → NamesObstacle plan e → RulesOutCertificates plan e
-ruled_out plan error.OutOfMemory named = λ some. absurd (some refl)
-ruled_out plan (error.Fault fault) named = λ some cert accepted. (let p = site_of fault in named.1.broken ((accepted p.rule p.node p.entry p.eid).0))
-ruled_out plan (error.OwnerLoop nodes) named = λ some cert accepted. first_loop_breaks_levels plan nodes.items named.2 cert (λ n. (accepted C07 n None None).1)
-ruled_out plan (error.Loop eid nodes) named = λ some. looped_has_none plan eid.value nodes.items named.1
-ruled_out plan (error.BadChain node fault) named = λ some cert accepted.
-    bad_chain_breaks_places (records_of plan node) fault (λ j r is. (accepted C12 node (Some j) None).0 r is) named.1 (places_of cert node) (λ j r is. (accepted C14 node (Some j) None).1 r is)
+ruled_out plan e named = λ some cert accepted. ruled_out_before plan e some named cert (λ rule n entry eid. before_of plan cert rule n entry eid (λ differ. accepted rule n entry eid))
 
 -- what follows of an error
 pub if_err : {A E : Type 0} (result : Result A E) (P Q : E → Type 0) → ((e : E) → P e → Q e) → IfErr result P → IfErr result Q

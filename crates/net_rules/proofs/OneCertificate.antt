@@ -1,19 +1,15 @@
--- The exact ranks of a plan are those of one certificate.
+-- Ranks of which each node and EID has one at most are those of one certificate.
 use Rattle.std.proofs.Common.{◌≡◌, ℕ, zero, suc, ◌+◌, ◌-◌, ◌<◌, List, [], ◌∷◌, map, Some, refl, sym, ◌∙◌, ap, subst, arith, inl, inr}
 use Rattle.std.specs.Prelude.{slice_get, ◌==◌}
 use Rattle.std.proofs.lemmas.Bool.{cases_lt, cases_order, eqb-true}
 use Rattle.std.proofs.lemmas.Option.{same_Some, none-some}
-use Rattle.net_plan.specs.declared.plan.Plan.{Plan}
 use Rattle.net_plan.specs.declared.certificate.RankRange.{RankRange}
 use Rattle.net_plan.specs.declared.certificate.NodeRanks.{NodeRanks}
 use Rattle.net_plan.specs.declared.certificate.Certificate.{Certificate}
 use Rattle.net_plan.specs.CertificateValues.{RangeValue, range_value, NodeRanksValue, node_ranks_value}
 use Rattle.net_tables.specs.Ranks.{rank}
-use Rattle.net_rules.specs.PlanFaults.{PlanMeetsAll}
 use Rattle.net_rules.specs.RankRuns.{AreLongestRuns}
-use Rattle.net_rules.specs.Certificates.{AreExactRanks}
-use Rattle.net_rules.proofs.CertificateLaws.{rows_apart}
-use Rattle.net_rules.proofs.EidMoves.{rank_only}
+use Rattle.net_rules.specs.Certificates.{AreRanksOf}
 use Rattle.net_tables.proofs.Elements.{element}
 use Rattle.net_rules.proofs.Filters.{find_cases}
 use Rattle.net_rules.proofs.RankRunLaws.{runs_same}
@@ -107,12 +103,12 @@ given_to cert n e = elim (find_cases (λ (one : NodeRanks). one.node == n) cert.
 seen_ranks : (a b : NodeRanks) → a.node ≡ b.node → map range_value a.ranges.items ≡ map range_value b.ranges.items → node_ranks_value a ≡ node_ranks_value b
 seen_ranks a b node ranges = cc
 
-module _ (plan : Plan) (met : PlanMeetsAll plan) where
-  node_in : (cert other : Certificate) → AreExactRanks plan cert.ranks.items → AreExactRanks plan other.ranks.items → (i : ℕ) (one : NodeRanks) → slice_get cert.ranks.items i ≡ Some one
+module _ (IsRankOf : ℕ → ℕ → ℕ → Type 0) (count : ℕ) (only : (n e k l : ℕ) → IsRankOf n e k → IsRankOf n e l → k ≡ l) where
+  node_in : (cert other : Certificate) → AreRanksOf IsRankOf count cert.ranks.items → AreRanksOf IsRankOf count other.ranks.items → (i : ℕ) (one : NodeRanks) → slice_get cert.ranks.items i ≡ Some one
       → (j : ℕ) × (two : NodeRanks) × (slice_get other.ranks.items j ≡ Some two) × (node_ranks_value one ≡ node_ranks_value two)
   node_in cert other exact exact' i one is =
       let n = one.node in
-      let ranks_are : (e : ℕ) → rank cert n e ≡ rank other n e = λ e. rank_only plan n e (rank cert n e) (rank other n e) (rows_apart plan met) (exact.ranks n e) (exact'.ranks n e) in
+      let ranks_are : (e : ℕ) → rank cert n e ≡ rank other n e = λ e. only n e (rank cert n e) (rank other n e) (exact.ranks n e) (exact'.ranks n e) in
       let runs = exact.longest i one is in
       let range = element one.ranges.items 0 (exact.some i one is) in
       let e = range.0.first.value in
@@ -123,6 +119,6 @@ module _ (plan : Plan) (met : PlanMeetsAll plan) where
       let runs' = subst P found.3 (exact'.longest found.0 two found.2) in
       (found.0, two, found.2, seen_ranks one two (sym found.3) (one_runs (rank other n) one.ranges.items two.ranges.items (runs_same (rank cert n) (rank other n) one.ranges.items ranks_are runs) runs'))
 
-  pub one_ranks : (cert other : Certificate) → AreExactRanks plan cert.ranks.items → AreExactRanks plan other.ranks.items → map node_ranks_value other.ranks.items ≡ map node_ranks_value cert.ranks.items
+  pub one_ranks : (cert other : Certificate) → AreRanksOf IsRankOf count cert.ranks.items → AreRanksOf IsRankOf count other.ranks.items → map node_ranks_value other.ranks.items ≡ map node_ranks_value cert.ranks.items
   one_ranks cert other exact exact' =
       one_list node_ranks_value (λ one. one.node) (λ x y same. ap (λ (v : NodeRanksValue). v.node) same) other.ranks.items cert.ranks.items exact'.ascend exact.ascend (node_in other cert exact' exact) (node_in cert other exact exact')

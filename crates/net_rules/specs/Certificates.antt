@@ -24,16 +24,20 @@ use Rattle.net_rules.specs.Circles.{HasNoCircle}
 use Rattle.net_rules.specs.RoutingLoops.{IsRank, IsFirstRoutingLoop}
 use Rattle.net_rules.specs.RankRuns.{AreLongestRuns, below}
 
--- For each node and EID the number of moves along rows, as the longest runs of neighboring EIDs of equal rank above 0,
--- the nodes in plan order, and those with nothing to give left out.
-pub record AreExactRanks (plan : Plan) (given : List NodeRanks) : Type 0 where
-  pub ranks : (n e : ℕ) → IsRank plan n e (rank_given given n e)
+-- For each node and EID the rank that it is to have, as the longest runs of neighboring EIDs of equal rank above 0,
+-- so many nodes in their order, and those with nothing to give left out.
+pub record AreRanksOf (IsRankOf : ℕ → ℕ → ℕ → Type 0) (count : ℕ) (given : List NodeRanks) : Type 0 where
+  pub ranks : (n e : ℕ) → IsRankOf n e (rank_given given n e)
   pub longest : (i : ℕ) (one : NodeRanks) → slice_get given i ≡ Some one
       → AreLongestRuns (rank_given given one.node) one.ranges.items
   pub some : (i : ℕ) (one : NodeRanks) → slice_get given i ≡ Some one → 0 < length one.ranges.items
-  pub within : (i : ℕ) (one : NodeRanks) → slice_get given i ≡ Some one → one.node < length plan.nodes.items
+  pub within : (i : ℕ) (one : NodeRanks) → slice_get given i ≡ Some one → one.node < count
   pub ascend : (i j : ℕ) (one other : NodeRanks) → i < j → slice_get given i ≡ Some one → slice_get given j ≡ Some other
       → one.node < other.node
+
+-- the ranks are the numbers of moves along rows
+abbrev pub AreExactRanks : Plan → List NodeRanks → Type 0
+AreExactRanks plan given = AreRanksOf (IsRank plan) (length plan.nodes.items) given
 
 -- For each node the number of owners above it, the nodes in plan order, and those without an owner left out.
 pub record AreExactLevels (plan : Plan) (given : List NodeLevel) : Type 0 where
@@ -56,16 +60,23 @@ pub record AreExactPlaces (plan : Plan) (given : List NodePlaces) : Type 0 where
   pub ascend : (i j : ℕ) (one other : NodePlaces) → i < j → slice_get given i ≡ Some one
       → slice_get given j ≡ Some other → one.node < other.node
 
--- The certificate gives each level, each place and each rank as the plan has them, and nothing else.
-pub record IsExact (plan : Plan) (cert : Certificate) : Type 0 where
+-- The certificate gives each level and each place as the plan has them, each rank that is to be, and nothing else.
+pub record IsExactBy (plan : Plan) (IsRankOf : ℕ → ℕ → ℕ → Type 0) (cert : Certificate) : Type 0 where
   pub levels : AreExactLevels plan cert.levels.items
   pub places : AreExactPlaces plan cert.places.items
-  pub ranks : AreExactRanks plan cert.ranks.items
+  pub ranks : AreRanksOf IsRankOf (length plan.nodes.items) cert.ranks.items
 
--- every exact certificate of the plan is the same: it gives the same levels, the same places and, range by range, the
--- same ranks
+-- every such certificate is the same: it gives the same levels, the same places and, range by range, the same ranks
+abbrev pub IsOnlyExactBy : Plan → (ℕ → ℕ → ℕ → Type 0) → Certificate → Type 0
+IsOnlyExactBy plan IsRankOf cert =
+    (other : Certificate) → IsExactBy plan IsRankOf other → certificate_value other ≡ certificate_value cert
+
+-- the certificate gives each level, each place and each rank as the plan has them, and nothing else
+abbrev pub IsExact : Plan → Certificate → Type 0
+IsExact plan cert = IsExactBy plan (IsRank plan) cert
+
 abbrev pub IsOnlyExact : Plan → Certificate → Type 0
-IsOnlyExact plan cert = (other : Certificate) → IsExact plan other → certificate_value other ≡ certificate_value cert
+IsOnlyExact plan cert = IsOnlyExactBy plan (IsRank plan) cert
 
 -- no certificate of the plan is accepted
 abbrev pub HasNoCertificate : Plan → Type 0
@@ -147,11 +158,15 @@ RulesOutCertificates plan e = e ≢ error.OutOfMemory → HasNoCertificate plan
 abbrev pub has_ranges : NodeRanks → Bool
 has_ranges one = nat_lt 0 (length one.ranges.items)
 
--- What was found once the EIDs below e are done: no circle, and each node's longest runs, in plan order.
-pub record AreRoutedBelow (plan : Plan) (e : ℕ) (given : List NodeRanks) : Type 0 where
-  pub long : length given ≡ length plan.nodes.items
+-- What was found of so many nodes once the EIDs below e are done: each node's longest runs, in their order.
+pub record AreRankedBelow (IsRankOf : ℕ → ℕ → ℕ → Type 0) (count e : ℕ) (given : List NodeRanks) : Type 0 where
+  pub long : length given ≡ count
   pub node : (n : ℕ) (one : NodeRanks) → slice_get given n ≡ Some one → one.node ≡ n
-  pub circles : (d : ℕ) → d < e → HasNoCircle (MovesTo plan d)
-  pub ranked : (n d : ℕ) → n < length plan.nodes.items → d < e → (k : ℕ) × IsRank plan n d k
+  pub ranked : (n d : ℕ) → n < count → d < e → (k : ℕ) × IsRankOf n d k
   pub runs : (n : ℕ) (one : NodeRanks) (ranks : ℕ → ℕ) → slice_get given n ≡ Some one
-      → ((d : ℕ) → d < e → IsRank plan n d (ranks d)) → AreLongestRuns (below e ranks) one.ranges.items
+      → ((d : ℕ) → d < e → IsRankOf n d (ranks d)) → AreLongestRuns (below e ranks) one.ranges.items
+
+-- and no circle
+pub record AreRoutedBelow (plan : Plan) (e : ℕ) (given : List NodeRanks) : Type 0 where
+  pub circles : (d : ℕ) → d < e → HasNoCircle (MovesTo plan d)
+  pub ranked : AreRankedBelow (IsRank plan) (length plan.nodes.items) e given

@@ -27,4 +27,8 @@ pub mod RecordChains
 pub mod MovingAlike
 pub mod RankRuns
 pub mod Certificates
+pub mod MixedLoops
+pub mod LongestWays
+pub mod MoveRanks
+pub mod MoveObstacles
 pub mod PlanTables

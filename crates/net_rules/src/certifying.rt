@@ -12,10 +12,13 @@ ghost use Rattle.net_rules.specs.Certificates.{IsExact, IsOnlyExact, IsMadeBefor
 
 pub mod chains;
 mod exact_levels;
+pub mod exact_move_ranks;
 mod exact_places;
 mod exact_ranks;
 mod handle_index;
 mod levels;
+mod longest_ways;
+mod mixed_loops;
 mod next_nodes;
 mod rank_ranges;
 mod stretches;

@@ -7,6 +7,7 @@ ghost use Rattle.net_rules.specs.Superfluous.{NeedsWhatItIsGiven, NeedsItsRank};
 ghost use Rattle.net_rules.specs.MoveRules.{AcceptsMove};
 ghost use Rattle.net_rules.specs.MoveFaults.{NamesFirstMoveFault};
 ghost use Rattle.net_rules.specs.MoveSearch.{IsFirstByNode};
+ghost use Rattle.net_rules.specs.MoveObstacles.{DifferInRows, NamesDifference};
 
 use crate::asked::Asked;
 use crate::fault::Fault;
@@ -31,12 +32,7 @@ pub fn meet_rules_of_move(
     ensures accepted { OnOk result (AcceptsMove before.now after.now certificate.now) }
     ensures first_fault { IfErr result (λ error. NamesFirstMoveFault before.now after.now certificate.now error) }
 {
-    if !have_same_frame(before, after) {
-        return Err(MoveError::Differ(None));
-    }
-    if let Some(node) = first_unlike_node(before, after) {
-        return Err(MoveError::Differ(Some(node)));
-    }
+    meet_frames(before, after)?;
     let holders = Holders::of(alloc, before)?;
     let new_holders = Holders::of(alloc, after)?;
     if let Some(fault) = first_of_asked(alloc, before, &holders, certificate, Asked::Before)? {
@@ -61,8 +57,22 @@ pub fn meet_rules_of_move(
     Ok(())
 }
 
+/// Whether the plans differ in rows alone (M01).
+pub fn meet_frames(before: &Plan, after: &Plan) -> Result<(), MoveError>
+    ensures met { OnOk result (DifferInRows before.now after.now) }
+    ensures difference { IfErr result (NamesDifference before.now after.now) }
+{
+    if !have_same_frame(before, after) {
+        return Err(MoveError::Differ(None));
+    }
+    match first_unlike_node(before, after) {
+        Some(node) => Err(MoveError::Differ(Some(node))),
+        None => Ok(()),
+    }
+}
+
 /// The fault of a rule of one plan, as a fault of the move.
-fn fault_of_plan(fault: Fault) -> MoveFault
+pub fn fault_of_plan(fault: Fault) -> MoveFault
     ensures { result ≡ record { rule = MoveRule.OfPlan fault.rule; node = fault.node; entry = fault.entry; eid = fault.eid } }
 {
     MoveFault {

@@ -9,6 +9,7 @@ pub mod Simulated
 pub mod Naming
 pub mod Moved
 pub mod MovePlayed
+pub mod MoveCertified
 pub mod Playing
 pub mod Ends
 pub mod Linted

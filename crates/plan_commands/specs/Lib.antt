@@ -21,4 +21,5 @@ pub mod Requiring
 pub mod Certified
 pub mod Simulating
 pub mod Moving
+pub mod MoveCertifying
 pub mod MoveSimulating

@@ -47,6 +47,11 @@ pub enum Subcommand<'a> {
         after: &'a str,
         certificate: &'a str,
     },
+    /// What is the certificate of such a move, or why has it none?
+    CertifyMove {
+        before: &'a str,
+        after: &'a str,
+    },
     /// What comes of the events in a file while nodes go over from the rows of one plan to those of another?
     SimMove {
         before: &'a str,
@@ -99,12 +104,13 @@ fn worded(list: &[String]) -> Option<Subcommand<'_>> {
 }
 
 /// The name of each command, the names of its arguments, and those of the arguments that may be left out.
-const COMMANDS: [(&str, &[&str], &[&str]); 20] = [
+const COMMANDS: [(&str, &[&str], &[&str]); 21] = [
     ("check", &["plan", "certificate"], &[]),
     ("certify", &["plan"], &[]),
     ("assign", &["plan", "certificate"], &[]),
     ("sim", &["plan", "certificate", "events"], &[]),
     ("move", &["old", "new", "certificate"], &[]),
+    ("certifymove", &["old", "new"], &[]),
     ("simmove", &["old", "new", "certificate", "events"], &[]),
     ("walk", &["plan", "certificate", "node", "count"], &[]),
     ("reach", &["plan", "certificate"], &[]),
@@ -166,6 +172,7 @@ fn chosen<'a>(matches: &ArgMatches<'a>) -> Option<Subcommand<'a>> {
         "assign" => certified(arguments, Question::Assign),
         "sim" => playing(arguments),
         "move" => moving(arguments),
+        "certifymove" => certifying_move(arguments),
         "simmove" => playing_moves(arguments),
         "walk" => walking(arguments),
         "reach" => certified(arguments, Question::Reach),
@@ -221,6 +228,13 @@ fn moving<'a>(arguments: &ArgMatches<'a>) -> Option<Subcommand<'a>> {
         before: arguments.get_str("old")?,
         after: arguments.get_str("new")?,
         certificate: arguments.get_str("certificate")?,
+    })
+}
+
+fn certifying_move<'a>(arguments: &ArgMatches<'a>) -> Option<Subcommand<'a>> {
+    Some(Subcommand::CertifyMove {
+        before: arguments.get_str("old")?,
+        after: arguments.get_str("new")?,
     })
 }
 

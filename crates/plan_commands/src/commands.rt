@@ -4,6 +4,7 @@ pub mod answer;
 pub mod assign;
 pub mod certified;
 pub mod certify;
+pub mod certify_move;
 pub mod draw;
 pub mod explain;
 pub mod faults;

@@ -11,6 +11,7 @@ mod status;
 pub use command_line::{Subcommand, parse_command};
 pub use commands::answer::refuse;
 pub use commands::certified::{Question, run_certified};
+pub use commands::certify_move::run_certify_move;
 pub use commands::explain::certified::run_explain_certified;
 pub use commands::explain::run_explain;
 pub use commands::known::run_known;

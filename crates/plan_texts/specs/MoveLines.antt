@@ -1,12 +1,21 @@
--- The lines of what is wrong with a move.
-use Rattle.std.specs.Prelude.{ℕ, List, ◌++◌, Option, Some, None, codes}
+-- The lines of what is wrong with a move, and of what rules its certificates out.
+use Rattle.std.specs.Prelude.{ℕ, ◌-◌, List, ◌++◌, Option, Some, None, codes, length, replicate}
+use Rattle.std.specs.Fmt.{decimal}
+use Rattle.std.specs.List.{flat_map}
+use Rattle.net_rules.specs.declared.certify_error.CertifyError.{CertifyError}
+use Rattle.net_rules.specs.declared.certify_error.CertifyError.TheVariants as alone
+use Rattle.net_rules.specs.declared.mixed_loop.Side.{Side}
+use Rattle.net_rules.specs.declared.mixed_loop.Side.TheVariants as side
+use Rattle.net_rules.specs.declared.move_obstacle.MoveObstacle.{MoveObstacle}
+use Rattle.net_rules.specs.declared.move_obstacle.MoveObstacle.TheVariants as obstacle
+use Rattle.net_rules.specs.declared.move_fault.MoveRule.TheVariants.{OfPlan}
 use Rattle.net_rules.specs.declared.move_error.MoveError.{MoveError}
 use Rattle.net_rules.specs.declared.move_error.MoveError.TheVariants as error
 use Rattle.net_rules.specs.declared.move_fault.MoveFault.{MoveFault}
 use Rattle.net_tables.specs.Routing.{eid_number}
 use Rattle.net_rules.specs.MoveFaults.{code_of_move}
 use Rattle.net_plan.specs.declared.plan.Plan.{Plan}
-use Rattle.plan_texts.specs.Lines.{name_or_dash, number_or_dash}
+use Rattle.plan_texts.specs.Lines.{name_or_dash, number_or_dash, names_text, owner_loop_text, chain_text}
 
 -- whose rule is broken: the code, the node's name, the entry and the endpoint ID
 abbrev pub move_fault_text : Plan → List ℕ → MoveFault → List ℕ
@@ -32,3 +41,38 @@ move_error_text plan (error.Old fault) = Some (move_fault_text plan (codes "old 
 move_error_text plan (error.New fault) = Some (move_fault_text plan (codes "new ") fault)
 move_error_text plan (error.Both fault) = Some (move_fault_text plan (codes "") fault)
 move_error_text plan error.OutOfMemory = None
+
+-- the word of a plan: of the one before, of the one after
+abbrev pub side_word : Side → List ℕ
+side_word side.Old = codes "old"
+side_word side.New = codes "new"
+
+-- the words of plans, in their order, each after a space
+abbrev pub sides_text : List Side → List ℕ
+sides_text sides = flat_map (λ side. codes " " ++ side_word side) sides
+
+-- an endpoint ID that can go round, the nodes of its loop, and the plan of the row from each to the next
+abbrev pub mixed_loop_text : Plan → ℕ → List ℕ → List Side → List ℕ
+mixed_loop_text plan eid nodes sides = codes "loop eid " ++ (decimal eid ++ (codes " nodes" ++ (names_text plan nodes
+    ++ (codes " by" ++ (sides_text sides ++ codes "\n")))))
+
+-- the same where all rows are of the plan before
+abbrev pub old_loop_text : Plan → ℕ → List ℕ → List ℕ
+old_loop_text plan eid nodes = mixed_loop_text plan eid nodes (replicate (length nodes - 1) side.Old)
+
+-- why the plan before has no certificate by itself; want of memory has no text
+abbrev pub old_obstacle_text : Plan → CertifyError → Option (List ℕ)
+old_obstacle_text plan (alone.Fault fault) = Some (move_fault_text plan (codes "old ")
+    (record { rule = OfPlan fault.rule; node = fault.node; entry = fault.entry; eid = fault.eid }))
+old_obstacle_text plan (alone.OwnerLoop nodes) = Some (owner_loop_text plan nodes.items)
+old_obstacle_text plan (alone.Loop eid nodes) = Some (old_loop_text plan eid.value nodes.items)
+old_obstacle_text plan (alone.BadChain node fault) = Some (chain_text plan node fault)
+old_obstacle_text plan alone.OutOfMemory = None
+
+-- what rules certificates of the move out, where nodes have their names in the plan; want of memory does not
+abbrev pub move_obstacle_text : Plan → MoveObstacle → Option (List ℕ)
+move_obstacle_text plan (obstacle.Old e) = old_obstacle_text plan e
+move_obstacle_text plan (obstacle.Fault e) = move_error_text plan e
+move_obstacle_text plan (obstacle.Loop loop) =
+    Some (mixed_loop_text plan loop.eid.value loop.nodes.items loop.sides.items)
+move_obstacle_text plan obstacle.OutOfMemory = None

@@ -1,10 +1,11 @@
-//! The lines that tell why two plans and a certificate are not accepted as a move.
+//! The lines that tell why two plans and a certificate are not accepted as a move, and why a move has no certificate.
 ghost use Rattle.std.specs.Prelude.{◌≡◌, Some, IfOk, string_bytes};
-ghost use Rattle.plan_texts.specs.MoveLines.{name_of_some, difference_text, move_fault_text, move_error_text};
+ghost use Rattle.plan_texts.specs.MoveLines.{name_of_some, difference_text, move_fault_text, move_error_text, move_obstacle_text, old_obstacle_text, old_loop_text, mixed_loop_text, sides_text, side_word};
 
-use super::{OrDash, name_or_dash};
+use super::{OrDash, chain_line, name_or_dash, names_after_spaces, owner_loop_line};
+use mctp_transport::Eid;
 use net_plan::Plan;
-use net_rules::{MoveError, MoveFault};
+use net_rules::{CertifyError, MoveError, MoveFault, MoveObstacle, Side, fault_of_plan};
 use std::alloc::{AllocError, Global};
 
 /// The line that says why a move from one plan to another is not accepted, with the nodes' names in the plan before.
@@ -22,6 +23,95 @@ pub fn move_error_line(
         MoveError::New(fault) => move_fault_line(alloc, before, "new ", fault),
         MoveError::Both(fault) => move_fault_line(alloc, before, "", fault),
         MoveError::OutOfMemory => Err(AllocError),
+    }
+}
+
+/// The line that says why a move from one plan to another has no certificate, with the nodes' names in the plan before.
+/// Out of memory is an error, and has no such line.
+pub fn move_obstacle_line(
+    alloc: Global,
+    before: &Plan,
+    obstacle: &MoveObstacle,
+) -> Result<String, AllocError>
+    ensures { IfOk result (λ line. move_obstacle_text before.now obstacle.now ≡ Some (string_bytes line)) }
+{
+    match obstacle {
+        MoveObstacle::Old(error) => old_obstacle_line(alloc, before, error),
+        MoveObstacle::Fault(error) => move_error_line(alloc, before, error),
+        MoveObstacle::Loop(found) => {
+            mixed_loop_line(alloc, before, found.eid, &found.nodes, &found.sides)
+        }
+        MoveObstacle::OutOfMemory => Err(AllocError),
+    }
+}
+
+/// The line that says why the plan before has no certificate by itself.
+fn old_obstacle_line(
+    alloc: Global,
+    before: &Plan,
+    error: &CertifyError,
+) -> Result<String, AllocError>
+    ensures { IfOk result (λ line. old_obstacle_text before.now error.now ≡ Some (string_bytes line)) }
+{
+    match error {
+        CertifyError::Fault(fault) => {
+            move_fault_line(alloc, before, "old ", &fault_of_plan(*fault))
+        }
+        CertifyError::OwnerLoop(nodes) => owner_loop_line(alloc, before, nodes),
+        CertifyError::Loop(eid, nodes) => old_loop_line(alloc, before, *eid, nodes),
+        CertifyError::BadChain(node, fault) => chain_line(alloc, before, *node, *fault),
+        CertifyError::OutOfMemory => Err(AllocError),
+    }
+}
+
+/// The line of a loop along rows of the plan before alone.
+fn old_loop_line(
+    alloc: Global,
+    before: &Plan,
+    eid: Eid,
+    nodes: &[usize],
+) -> Result<String, AllocError>
+    ensures { IfOk result (λ line. string_bytes line ≡ old_loop_text before.now eid.value nodes.now) }
+{
+    let sides = vec![in alloc; Side::Old; nodes.len().saturating_sub(1)]?;
+    mixed_loop_line(alloc, before, eid, nodes, &sides)
+}
+
+/// The line of a loop along rows of both plans: its nodes, and the plan of each row.
+fn mixed_loop_line(
+    alloc: Global,
+    before: &Plan,
+    eid: Eid,
+    nodes: &[usize],
+    sides: &[Side],
+) -> Result<String, AllocError>
+    ensures { IfOk result (λ line. string_bytes line ≡ mixed_loop_text before.now eid.value nodes.now sides.now) }
+{
+    let eid = eid.value;
+    let names = names_after_spaces(alloc, before, nodes)?;
+    let words = sides_after_spaces(alloc, sides)?;
+    format!(in alloc; "loop eid {eid} nodes{names} by{words}\n")
+}
+
+/// The word of each plan, after a space.
+fn sides_after_spaces(alloc: Global, sides: &[Side]) -> Result<String, AllocError>
+    ensures { IfOk result (λ words. string_bytes words ≡ sides_text sides.now) }
+{
+    let mut words = String::new(alloc);
+    for &side in sides {
+        words.push_str(" ")?;
+        words.push_str(side_word(side))?;
+    }
+    Ok(words)
+}
+
+/// The word of a plan.
+fn side_word(side: Side) -> &'static str
+    ensures { result.now ≡ side_word side }
+{
+    match side {
+        Side::Old => "old",
+        Side::New => "new",
     }
 }
 

@@ -4,6 +4,7 @@
 pub const GUIDE: &str = r#"check PLAN CERT              whether the certificate fits the plan
 certify PLAN                 the certificate of the plan, or why it has none
 move OLD NEW CERT            whether nodes may go over from the old plan's rows to the new one's
+certifymove OLD NEW          the certificate of a move from the old plan's rows to the new one's
 assign PLAN CERT             the requests that give the nodes their endpoint IDs and pools
 sim PLAN CERT EVENTS         what comes of events in the planned network
 simmove OLD NEW CERT EVENTS  the same while nodes go over to new rows
@@ -39,6 +40,7 @@ pub fn guide_to(command: &str) -> Option<&'static str> {
         "check" => Some(OF_CHECK),
         "certify" => Some(OF_CERTIFY),
         "move" => Some(OF_MOVE),
+        "certifymove" => Some(OF_CERTIFYMOVE),
         "assign" => Some(OF_ASSIGN),
         "sim" => Some(OF_SIM),
         "simmove" => Some(OF_SIMMOVE),
@@ -96,6 +98,20 @@ Status 1: a fault.
 
   $ mctpplan move examples/move/by-left.json examples/move/by-right.json examples/move/certificate-1.json
   yes
+"#;
+
+const OF_CERTIFYMOVE: &str = r#"mctpplan certifymove OLD NEW
+
+Prints the certificate of the move in one line, which move accepts, or why there is none. Its ranks
+are the lengths of the longest ways along rows of either plan. What rules certificates out is told
+in the order in which move asks: a fault whatever the certificate, what certify says of the old
+plan, or a loop along rows of both plans, with the plan of each row behind by.
+
+Status 0: the certificate.
+Status 1: why there is none.
+
+  $ mctpplan certifymove examples/move/to-left.json examples/move/to-right.json
+  loop eid 17 nodes left right left by new old
 "#;
 
 const OF_ASSIGN: &str = r#"mctpplan assign PLAN CERT

@@ -36,7 +36,7 @@ pub fn exact_ranks(alloc: Global, plan: &Plan) -> Result<Vec<NodeRanks>, Certify
 }
 
 /// Leaves out the nodes that have no ranges.
-fn keep_ranked(given: &mut Vec<NodeRanks>)
+pub fn keep_ranked(given: &mut Vec<NodeRanks>)
     ensures { given.new.items ≡ filter has_ranges given.old.items }
 {
     given.retain(|one| one.ranges.len() > 0);

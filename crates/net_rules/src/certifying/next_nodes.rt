@@ -29,7 +29,7 @@ pub fn walk_for(
 }
 
 /// Where what is for the endpoint ID goes on to from each node.
-fn next_nodes(
+pub fn next_nodes(
     alloc: Global,
     plan: &Plan,
     tables: &[RangeTable],

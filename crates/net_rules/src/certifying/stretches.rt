@@ -96,7 +96,7 @@ fn routed_until(table: &RangeTable, first: Eid) -> Eid
 }
 
 /// The lesser of two endpoint IDs.
-fn lesser(one: Eid, other: Eid) -> Eid
+pub fn lesser(one: Eid, other: Eid) -> Eid
     ensures { result.value ≡ min one.value other.value }
 {
     Eid::new(one.value.min(other.value))

@@ -9,6 +9,7 @@ ghost use Rattle.net_plan.specs.PlanValues.{plan_value};
 ghost use Rattle.net_json.specs.Texts.{StandsFor};
 ghost use Rattle.plan_commands.specs.UnreadTexts.{IsNoPlanIn, IsNoPlanBy, IsNoCertificateIn, IsNoCertificateBy, IsTextOf, StandsForNothing, refused_for, unread_of};
 ghost use Rattle.plan_commands.specs.Moving.{IsMoveGiven, IsMoveUnread};
+ghost use Rattle.plan_commands.specs.MoveCertifying.{ArePlansUnread};
 ghost use Rattle.plan_commands.specs.Simulating.{GaveEvents, AreEventsUnread};
 
 use crate::refused::{Input, Refused};
@@ -231,6 +232,29 @@ pub fn read_texts<P: Source, C: Source>(
     let given = given_plan_text(alloc, plan)?;
     let certificate = given_certificate(alloc, &given.plan, certificate)?;
     Ok((given, certificate))
+}
+
+/// Two plans. The second is read only where the first could be read.
+#[tactic(auto, using(crate::proofs::MoveCertified::first_unread))]
+pub fn read_plans<P: Source, Q: Source>(
+    alloc: Global,
+    before: &mut P,
+    after: &mut Q,
+) -> Result<(Plan, Plan), Refused>
+    requires before { HasRoom (P.account before.old) }
+    requires after { HasRoom (Q.account after.old) }
+    ensures given { let befores = stream P.account before.old before.new in
+        let afters = stream Q.account after.old after.new in
+        IfOk result (λ read. GavePlan befores read.0 × GavePlan afters read.1) }
+    ensures unread { let befores = stream P.account before.old before.new in
+        let afters = stream Q.account after.old after.new in
+        IfErr result (λ refused. ArePlansUnread refused befores afters) }
+    ensures in_order { let befores = stream P.account before.old before.new in
+        IsWithoutPlan befores → after.new ≡ after.old }
+{
+    let first = given_plan(alloc, before)?;
+    let second = given_plan(alloc, after)?;
+    Ok((first, second))
 }
 
 /// The plans of a move and their certificate. Each is read only where those before it could be read; the certificate is

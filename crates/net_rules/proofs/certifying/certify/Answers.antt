@@ -1,5 +1,6 @@
 use Rattle.std.proofs.Common.{◌≡◌, ℕ, ◌+◌, subst, arith, rules}
 use Rattle.net_rules.specs.Certificates.{IsMadeBefore, NamesObstacle, RulesOutCertificates}
+use Rattle.net_rules.specs.RoutingLoops.{IsRank}
 use Rattle.net_rules.proofs.RuleOrder.{order_at}
 use Rattle.net_rules.proofs.Obstacles.{ruled_out, if_err}
 use Rattle.net_rules.proofs.ExactCertificates.{made_exact, made_meets, exact_well_formed}
@@ -12,7 +13,7 @@ returns-clause-well_formed c =
     let at : c.loop-rule.rule-index ≡ 16 = omega arith in
     let P : ℕ → Type 0 = λ k. IsMadeBefore plan k made in
     let is = subst P at c.loop-rule.invariant in
-    exact_well_formed plan made (made_meets plan made is) (made_exact plan made is)
+    exact_well_formed plan (IsRank plan) made (made_meets plan made is) (made_exact plan made is)
 
 pub loop-rule-preserved : goal.loop-rule-preserved
 loop-rule-preserved c =

@@ -25,7 +25,7 @@ ended c =
 pub loop-first-init : goal.loop-first-init
 loop-first-init c =
     let none : AreNone (length c.args.plan.now.nodes.items) c.in_ok-given.given.items = (c.in_ok-given.ensures.0 ∙ (c.len.ensures ∙ c.args.plan.now.nodes.ok.0), c.in_ok-given.ensures.1) in
-    record { within = omega arith; routed = routed_start c.args.plan.now c.in_ok-given.given.items c.requires.apart c.requires.in_range none }
+    record { within = omega arith; routed = routed_start c.args.plan.now c.requires.apart c.requires.in_range c.in_ok-given.given.items none }
 
 pub add_ranks-requires-clause-small : goal.add_ranks-requires-clause-small
 add_ranks-requires-clause-small c =
@@ -57,7 +57,7 @@ loop-first-preserved c =
     let Q : List NodeRanks → Type 0 = λ old. AreGrown first last moves old new in
     let grown : AreGrown first last moves given new = subst Q c.deref_mut.ensures.value (subst P c.deref-in-Ended.ensures.value c.in_ok-add_ranks-in-Ended.ensures) in
     let before = routed_before ((goal.at.loop-first-preserved c).After-stretch_from-stretch) in
-    let more = routed_step plan first last given new moves c.requires.apart stretch.ordered c.stretch_from-stretch.ensures.alike before walked.0 walked.1 grown in
+    let more = routed_step plan c.requires.apart c.requires.in_range first last given new moves stretch.ordered c.stretch_from-stretch.ensures.alike before walked.0 walked.1 grown in
     let R : List NodeRanks → Type 0 = AreRoutedBelow plan (last + 1) in
     record {
       within = omega (arith, stretch.within);

@@ -1,0 +1,66 @@
+-- What `certifymove` prints of two plans.
+use Rattle.std.specs.Prelude.{◌≡◌, ◌⊎◌, ◌≤◌, ℕ, List, length, Some}
+use Rattle.net_plan.specs.declared.plan.Plan.{Plan}
+use Rattle.net_plan.specs.declared.certificate.Certificate.{Certificate}
+use Rattle.net_json.specs.declared.error.PlanError.{PlanError}
+use Rattle.net_json.specs.CertificateJson.{certificate_text}
+use Rattle.net_json.specs.CertificateText.{IsCertificateOf}
+use Rattle.net_plan.specs.CertificateValues.{certificate_value}
+use Rattle.net_plan.specs.PlanValues.{node_names, plan_value}
+use Rattle.net_json.specs.Texts.{StandsFor}
+use Rattle.net_json.specs.Unread.{GaveNoPlan}
+use Rattle.net_plan.specs.WellFormed.{IsWellFormed}
+use Rattle.net_rules.specs.declared.move_obstacle.MoveObstacle.{MoveObstacle}
+use Rattle.net_rules.specs.MoveObstacles.{IsExactForMove, NamesMoveObstacle, HasNoMoveCertificate}
+use Rattle.net_rules.specs.MoveRules.{AcceptsMove}
+use Rattle.plan_commands.specs.declared.refused.Input.{Input}
+use Rattle.plan_commands.specs.declared.refused.Input.TheVariants as input
+use Rattle.plan_commands.specs.declared.refused.Refused.{Refused}
+use Rattle.plan_commands.specs.declared.status.Status.{Status}
+use Rattle.plan_commands.specs.declared.status.Status.TheVariants as status
+use Rattle.plan_commands.specs.Answers.{Stream, GavePlan, GaveNothing}
+use Rattle.plan_commands.specs.Statuses.{HasCause}
+use Rattle.plan_texts.specs.MoveLines.{move_obstacle_text}
+
+-- Every rule of a move holds of the plans and the certificate; the certificate gives each level and place as the plan
+-- before has them and each rank as the rows of both have it; and the text is the certificate's, read for the plan
+-- before it stands for the certificate, and it has at most 2,097,152 bytes.
+pub record IsMoveCertifiedBy (before after : Plan) (certificate : Certificate) (text : List ℕ) : Type 0 where
+  pub accepted : AcceptsMove before after certificate
+  pub exact : IsExactForMove before after certificate
+  pub well_formed : IsWellFormed (plan_value before) (certificate_value certificate)
+  pub written : text ≡ certificate_text (node_names (plan_value before).nodes) (certificate_value certificate)
+  pub reads_back : StandsFor (IsCertificateOf (plan_value before)) text (certificate_value certificate)
+  pub short : length text ≤ 2097152
+
+-- The text tells what comes first, in the order in which moves are checked, of what rules certificates of the move out,
+-- and there is none.
+pub record IsMoveRuledOutBy (before after : Plan) (obstacle : MoveObstacle) (text : List ℕ) : Type 0 where
+  pub first : NamesMoveObstacle before after obstacle
+  pub none : HasNoMoveCertificate before after
+  pub written : move_obstacle_text before obstacle ≡ Some text
+
+-- the text answers for the move, in a run that ends so: it is that of a certificate of it, or the line of what rules
+-- certificates of it out
+abbrev pub CertifiesMove : Plan → Plan → Status → List ℕ → Type 0
+CertifiesMove before after status.Yes text =
+    (certificate : Certificate) × IsMoveCertifiedBy before after certificate text
+CertifiesMove before after status.Fault text = (obstacle : MoveObstacle) × IsMoveRuledOutBy before after obstacle text
+CertifiesMove before after status.Unreadable text = ⊥
+CertifiesMove before after status.NoMemory text = ⊥
+
+-- so it does of the plans that were given
+abbrev pub CertifiesMoveSo : Stream → Stream → Status → List ℕ → Type 0
+CertifiesMoveSo befores afters ended text = (before : Plan) × (after : Plan)
+    × GavePlan befores before × GavePlan afters after × CertifiesMove before after ended text
+
+-- why one of two plans can't be read; the second is read only where the first was given
+abbrev pub IsUnreadOfPlans : Input → PlanError → Stream → Stream → Type 0
+IsUnreadOfPlans input.Plan cause befores afters = GaveNothing GaveNoPlan befores cause
+    ⊎ ((before : Plan) × GavePlan befores before × GaveNothing GaveNoPlan afters cause)
+IsUnreadOfPlans input.Certificate cause befores afters = ⊥
+IsUnreadOfPlans input.Events cause befores afters = ⊥
+
+-- why the plans were not read
+abbrev pub ArePlansUnread : Refused → Stream → Stream → Type 0
+ArePlansUnread why befores afters = HasCause (λ unread cause. IsUnreadOfPlans unread cause befores afters) ⊥ ⊥ ⊥ why

@@ -1,0 +1,135 @@
+"""Moves between random small plans: certifymove beside all states of switches, and the ranks beside all ways.
+
+Of five bridges on one bus and an endpoint each goes by its old rows or by its new ones. What is for an endpoint ID can
+go round where some choice of switched nodes has a circle. certifymove has to print a certificate exactly where none has
+and no row leads what is held to a node without a row, with the lengths of the longest ways as ranks, and move has to
+accept it; or else the first loop, or the row. A word is the number of pairs (400 where none is given).
+"""
+import itertools
+import json
+import random
+
+from runner import each
+
+BRIDGES = "abcde"
+NAMES = [*BRIDGES, "x"]
+EIDS = [8, 9, 10, 11, 12, 13]
+PAIRS = 400
+
+
+def plan(tables):
+    """The plan whose node i sends what is for each endpoint ID e where tables[i][e] says."""
+    nodes = []
+    for at, (name, eid) in enumerate(zip(NAMES, EIDS)):
+        rows = [{"first": e, "size": 1, "port": 0, "next": NAMES[to]} for e, to in sorted(tables[at].items())]
+        nodes.append(dict(name=name, kind="endpoint" if name == "x" else "bridge", eid=eid, owner=None, pool=None,
+                          ports=[{"bus": "b", "address": f"{16 + at:02x}"}], rows=rows, terminus=None))
+    return json.dumps({"format": 1, "buses": [{"name": "b", "binding": 1, "media": 4}], "nodes": nodes})
+
+
+def tables_by(chance):
+    """Rows for two endpoint IDs, those of the bridge c and of the endpoint; half of them lead straight to the holder."""
+    return [{e: to for e, holder in ((10, 2), (13, 5)) if at not in (holder, 5) and chance.random() < 0.95
+             for to in [holder if chance.random() < 0.55 else chance.choice([it for it in range(5) if it != at])]}
+            for at in range(6)]
+
+
+def circles(moves):
+    """Whether the moves, one from each node at most, go round from some node."""
+    return any(any(at == start for at in itertools.islice(steps(moves, start), 6)) for start in moves)
+
+
+def steps(moves, start):
+    at = start
+    while at in moves:
+        at = moves[at]
+        yield at
+
+
+def moves_of(tables, e):
+    return {at: table[e] for at, table in enumerate(tables) if e in table and EIDS[at] != e}
+
+
+def can_circle(old, new, e):
+    """Whether what is for e goes round in some state of switches."""
+    olds, news = moves_of(old, e), moves_of(new, e)
+    return any(circles({at: side[at] for at, side in enumerate(state) if at in side})
+               for state in itertools.product((olds, news), repeat=6))
+
+
+def first_loop(old, new, e):
+    """The first of the shortest loops from the first node on one, by the order of the tables of its moves."""
+    olds, news = moves_of(old, e), moves_of(new, e)
+    for start, length in itertools.product(range(6), range(1, 7)):
+        for sides in itertools.product(("old", "new"), repeat=length):
+            nodes = [start]
+            for side in sides:
+                to = (olds if side == "old" else news).get(nodes[-1])
+                if to is None:
+                    break
+                nodes.append(to)
+            if len(nodes) == length + 1 and nodes[-1] == start:
+                return f"loop eid {e} nodes {' '.join(NAMES[it] for it in nodes)} by {' '.join(sides)}"
+    raise ValueError("no loop")
+
+
+def longest(old, new, e, at):
+    """The number of moves of the longest way from a node."""
+    nexts = {side[at] for side in (moves_of(old, e), moves_of(new, e)) if at in side}
+    return max((1 + longest(old, new, e, to) for to in nexts), default=0)
+
+
+def stuck(whose, old, new, both):
+    """The first row of one plan that sends what another node holds to a node without a row for it."""
+    for at, table in enumerate(whose):
+        for entry, (e, to) in enumerate(sorted(table.items())):
+            rows = [e in side[to] for side in ((old, new) if both else (whose,))]
+            if EIDS[at] != e and EIDS[to] != e and not all(rows):
+                return f"node {NAMES[at]} entry {entry} eid {e}"
+    return None
+
+
+def wanted(old, new):
+    """The line that certifymove is to print, or the ranks of the certificate."""
+    for e in (10, 13):
+        if can_circle(old, old, e):
+            return first_loop(old, [{}] * 6, e)
+    fault = stuck(old, old, new, False)
+    if fault:
+        return f"fault old C11 {fault}"
+    for e in (10, 13):
+        if can_circle(old, new, e):
+            return first_loop(old, new, e)
+    for side, code, whose, both in (("new", "C11", new, False), ("old", "M02", old, True), ("new", "M02", new, True)):
+        fault = stuck(whose, old, new, both)
+        if fault:
+            return f"fault {side} {code} {fault}"
+    return {(NAMES[at], e): longest(old, new, e, at) for at in range(6) for e in (10, 13) if longest(old, new, e, at)}
+
+
+def ranks_of(line):
+    return {(it["node"], e): part["rank"] for it in json.loads(line)["ranks"] for part in it["ranges"]
+            for e in range(part["first"], part["first"] + part["size"])}
+
+
+def try_pair(trial, seed):
+    chance = random.Random(seed)
+    old, new = tables_by(chance), tables_by(chance)
+    if chance.random() < 0.5:
+        # (few nodes switch, so that more pairs have a certificate)
+        new = [table if chance.random() < 0.3 else was for table, was in zip(new, old)]
+    files = trial.file("old", plan(old)), trial.file("new", plan(new))
+    status, output, error = trial.run(["certifymove", *files])
+    line, want = output.decode().rstrip("\n"), wanted(old, new)
+    if isinstance(want, str):
+        trial.note(status == 1 and line == want and not error, f"pair {seed}: {line}, and not {want}")
+        return
+    is_right = status == 0 and not error and ranks_of(line) == want
+    if is_right:
+        is_right = trial.run(["move", *files, trial.file("certificate", output)])[1] == b"yes\n"
+    trial.note(is_right, f"pair {seed}: {line}, and not ranks {want}")
+
+
+def try_all(trial):
+    trial.program
+    each(lambda seed: try_pair(trial, seed), range(int(trial.words[0]) if trial.words else PAIRS))
