@@ -2,8 +2,8 @@
 # Source it, or put it into /usr/share/bash-completion/completions/mctpplan.
 
 # tools/made writes these commands
-_mctpplan_commands='check certify move certifymove assign sim simmove walk reach matrix require trace draw explain
-faults lint show describe record code schema guide version'
+_mctpplan_commands='check certify move certifymove assign sim expect simmove walk reach matrix require trace draw
+explain faults lint show describe record code schema guide version'
 
 # tools/made writes these codes
 _mctpplan_codes='A01 A02 A03 A04 A05 B01 B02 B03 B10 B11 B12 C01 C02 C03 C04 C05 C06 C07 C08 C09 C10 C11 C12 C13 C14
@@ -42,6 +42,7 @@ _mctpplan() {
         check | assign | walk | reach | matrix | require | trace | draw | explain | faults) files=2 ;;
         move | sim) files=3 ;;
         simmove) files=4 ;;
+        expect) files=3 ;;
         code)
             if [ "$place" -eq 2 ]; then
                 mapfile -t COMPREPLY < <(compgen -W "$_mctpplan_codes" -- "${current^^}")
@@ -73,7 +74,12 @@ _mctpplan() {
             return
             ;;
     esac
-    if [ "$((place - 1))" -le "$files" ]; then
+    if [[ $command == draw && $current == -* ]]; then
+        mapfile -t COMPREPLY < <(compgen -W '--rows' -- "$current")
+    elif [[ $command == expect && $place -eq 5 ]]; then
+        compopt -o filenames 2>/dev/null
+        mapfile -t COMPREPLY < <(compgen -f -- "$current")
+    elif [ "$((place - 1))" -le "$files" ]; then
         compopt -o filenames 2>/dev/null
         mapfile -t COMPREPLY < <(compgen -d -- "$current"; compgen -f -X '!*.json' -- "$current")
     elif [[ $command == require && $place -eq 4 ]]; then

@@ -6,7 +6,7 @@ ghost use Rattle.std.specs.Prelude.{◌≡◌};
 use net_json::Counted;
 use plan_commands::{
     FileAtPath, PlanQuestion, Question, Refused, ShownKind, Status, Subcommand, WordQuestion,
-    hint_nodes, hint_words, parse_command, refuse, run_certified, run_certify_move, run_explain,
+    hint_nodes, hint_words, parse_command, refuse, run_certified, run_certify_move, run_expect, run_explain,
     run_explain_certified, run_known, run_move, run_planned, run_require, run_show, run_worded,
     simulate, simulate_move,
 };
@@ -65,6 +65,12 @@ fn run_command<'a>(rt: &'a HostRuntime, command: Subcommand<'a>) -> Status {
             certificate,
             events,
         } => play(rt, plan, certificate, events),
+        Subcommand::Expect {
+            plan,
+            certificate,
+            events,
+            lines,
+        } => expect(rt, [plan, certificate, events, lines]),
         Subcommand::Move {
             before,
             after,
@@ -159,6 +165,25 @@ fn play<'a>(rt: &'a HostRuntime, plan: &'a str, certificate: &'a str, events: &'
         &mut plan,
         &mut certificate,
         &mut events,
+        &mut output,
+        &mut errors,
+    )
+}
+
+/// Compares what `sim` prints with lines. The files are the plan, the certificate, the events and the lines.
+fn expect<'a>(rt: &'a HostRuntime, [plan, certificate, events, lines]: [&'a str; 4]) -> Status {
+    let mut plan = file(rt, plan);
+    let mut certificate = file(rt, certificate);
+    let mut events = file(rt, events);
+    let mut lines = file(rt, lines);
+    let mut output = Counted::new(rt.stdout());
+    let mut errors = Counted::new(rt.stderr());
+    run_expect(
+        rt.alloc(),
+        &mut plan,
+        &mut certificate,
+        &mut events,
+        &mut lines,
         &mut output,
         &mut errors,
     )

@@ -47,7 +47,7 @@ other_answer question.Check text plan cert lines other told = told
 other_answer question.Assign text plan cert lines other told = told
 other_answer question.Reach text plan cert lines other told = told
 other_answer question.Matrix text plan cert lines other told = told
-other_answer question.Draw text plan cert lines other told = told
+other_answer (question.Draw rows) text plan cert lines other told = told
 other_answer (question.Walk node part) text plan cert lines other told = told
 other_answer (question.Trace from to) text plan cert lines other told = told
 

@@ -6,6 +6,7 @@ pub mod Told
 pub mod Repositories
 pub mod Waiting
 pub mod Simulated
+pub mod Expected
 pub mod Naming
 pub mod Moved
 pub mod MovePlayed

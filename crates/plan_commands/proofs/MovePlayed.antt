@@ -22,6 +22,7 @@ inputs_unread why befores afters certificates happenings h =
     also input.Plan cause h = h
     also input.Certificate cause h = h
     also input.Events cause h = absurd h
+    also input.Lines cause h = absurd h
 
 -- the events were not read
 pub move_events_unread : (before after : Plan) (certificate : Certificate) (why : Refused) (befores afters certificates happenings : Stream)
@@ -35,3 +36,4 @@ move_events_unread before after certificate why befores afters certificates happ
     also input.Plan cause h = absurd h
     also input.Certificate cause h = absurd h
     also input.Events cause h = (before, after, certificate, given, h)
+    also input.Lines cause h = absurd h

@@ -18,6 +18,7 @@ before_unread why befores afters certificates h =
     also input.Plan cause h = inl h
     also input.Certificate cause h = absurd h
     also input.Events cause h = h
+    also input.Lines cause h = absurd h
 
 -- the plan after was not read
 pub after_unread : (before : Plan) (why : Refused) (befores afters certificates : Stream) → GavePlan befores before → IsPlanUnread why afters
@@ -29,6 +30,7 @@ after_unread before why befores afters certificates gave h =
     also input.Plan cause h = inr (before, gave, h)
     also input.Certificate cause h = absurd h
     also input.Events cause h = h
+    also input.Lines cause h = absurd h
 
 -- the certificate was not read
 pub move_certificate_unread : (before after : Plan) (why : Refused) (befores afters certificates : Stream) → GavePlan befores before → GavePlan afters after
@@ -40,3 +42,4 @@ move_certificate_unread before after why befores afters certificates first secon
     also input.Plan cause h = absurd h
     also input.Certificate cause h = (before, after, first, second, h)
     also input.Events cause h = absurd h
+    also input.Lines cause h = absurd h

@@ -60,7 +60,7 @@ module _ (plan : Plan) (outcomes : List Outcome) (index : ℕ) (outcome : Outcom
   many = length-take-le index (map outcome_value outcomes) (omega (arith, length-map outcomes outcome_value, within))
 
   -- the lines of so many outcomes, and that of the next
-  all_lines : (line : List ℕ) → line ≡ outcome_line plan (index + 1) (outcome_value outcome)
+  pub all_lines : (line : List ℕ) → line ≡ outcome_line plan (index + 1) (outcome_value outcome)
       → outcome_lines plan (take index (map outcome_value outcomes)) ++ line ≡ outcome_lines plan (take (index + 1) (map outcome_value outcomes))
   all_lines line told =
       let before_it = take index (map outcome_value outcomes) in
@@ -295,3 +295,4 @@ events_unread plan cert why plans certificates happenings given h =
     also input.Plan cause h = absurd h
     also input.Certificate cause h = absurd h
     also input.Events cause h = (plan, cert, given, h)
+    also input.Lines cause h = absurd h

@@ -48,6 +48,7 @@ certificate_unread p why plans certificates given h =
     also input.Plan cause h = absurd h
     also input.Certificate cause h = (p, given, h)
     also input.Events cause h = absurd h
+    also input.Lines cause h = absurd h
 
 -- an output that failed after a beginning of one text failed after a beginning of any answer that the text is
 pub breaks_off_also : (P Q : List ℕ → Type 0) (output : Stream) → ((text : List ℕ) → P text → Q text) → BreaksOff P output → BreaksOff Q output

@@ -113,6 +113,7 @@ abbrev pub IsUnreadPlan : Input → PlanError → Stream → Type 0
 IsUnreadPlan input.Plan cause plans = GaveNothing GaveNoPlan plans cause
 IsUnreadPlan input.Certificate cause plans = ⊥
 IsUnreadPlan input.Events cause plans = ⊥
+IsUnreadPlan input.Lines cause plans = ⊥
 
 -- why the plan was not read
 abbrev pub IsPlanUnread : Refused → Stream → Type 0
@@ -124,6 +125,7 @@ IsUnreadCertificate plan input.Plan cause certificates = ⊥
 IsUnreadCertificate plan input.Certificate cause certificates =
     GaveNothing (GaveNoCertificate (plan_value plan)) certificates cause
 IsUnreadCertificate plan input.Events cause certificates = ⊥
+IsUnreadCertificate plan input.Lines cause certificates = ⊥
 
 -- why the certificate of the plan was not read
 abbrev pub IsCertificateUnread : Refused → Plan → Stream → Type 0
@@ -136,6 +138,7 @@ IsUnread input.Plan cause plans certificates = GaveNothing GaveNoPlan plans caus
 IsUnread input.Certificate cause plans certificates = (plan : Plan) × GavePlan plans plan
     × GaveNothing (GaveNoCertificate (plan_value plan)) certificates cause
 IsUnread input.Events cause plans certificates = ⊥
+IsUnread input.Lines cause plans certificates = ⊥
 
 -- why the inputs were not read
 abbrev pub AreUnread : Refused → Stream → Stream → Type 0

@@ -25,7 +25,7 @@ IsAnswer (question.Faults name) plan certificate text = text ≡ yes_line
 IsAnswer question.Assign plan certificate text = IsAssignmentText plan certificate text
 IsAnswer question.Reach plan certificate text = IsReachText plan certificate text
 IsAnswer question.Matrix plan certificate text = IsMatrix plan text
-IsAnswer question.Draw plan certificate text = IsCertifiedDrawing plan certificate text
+IsAnswer (question.Draw rows) plan certificate text = IsCertifiedDrawing rows plan certificate text
 IsAnswer (question.Walk node part) plan certificate text = IsWalkText node.now part.bytes plan certificate text
 IsAnswer (question.Trace from to) plan certificate text = IsTraceText from.now to.now plan certificate text
 
@@ -36,7 +36,7 @@ IsNamedIn (question.Faults name) plan = ⊤
 IsNamedIn question.Assign plan = ⊤
 IsNamedIn question.Reach plan = ⊤
 IsNamedIn question.Matrix plan = ⊤
-IsNamedIn question.Draw plan = ⊤
+IsNamedIn (question.Draw rows) plan = ⊤
 IsNamedIn (question.Walk node part) plan = HasTerminusNamed plan node.now
 IsNamedIn (question.Trace from to) plan = NameTheEnds from.now to.now plan
 
@@ -47,7 +47,7 @@ IsTooMuch (question.Faults name) plan certificate = ⊥
 IsTooMuch question.Assign plan certificate = ⊥
 IsTooMuch question.Reach plan certificate = ⊥
 IsTooMuch question.Matrix plan certificate = ⊥
-IsTooMuch question.Draw plan certificate = ⊥
+IsTooMuch (question.Draw rows) plan certificate = ⊥
 IsTooMuch (question.Walk node part) plan certificate = HasTooManyBytes node.now plan certificate
 IsTooMuch (question.Trace from to) plan certificate = ⊥
 
@@ -59,7 +59,7 @@ IsFaultAnswer question.Check text plan certificate lines = IsFaultText plan cert
 IsFaultAnswer question.Assign text plan certificate lines = IsFaultText plan certificate lines
 IsFaultAnswer question.Reach text plan certificate lines = IsFaultText plan certificate lines
 IsFaultAnswer question.Matrix text plan certificate lines = IsFaultText plan certificate lines
-IsFaultAnswer question.Draw text plan certificate lines = IsFaultText plan certificate lines
+IsFaultAnswer (question.Draw rows) text plan certificate lines = IsFaultText plan certificate lines
 IsFaultAnswer (question.Walk node part) text plan certificate lines = IsFaultText plan certificate lines
 IsFaultAnswer (question.Trace from to) text plan certificate lines = IsFaultText plan certificate lines
 

@@ -20,6 +20,7 @@ pub mod Planned
 pub mod Requiring
 pub mod Certified
 pub mod Simulating
+pub mod Expecting
 pub mod Moving
 pub mod MoveCertifying
 pub mod MoveSimulating

@@ -71,6 +71,7 @@ IsUnreadInPlay input.Events cause befores afters certificates happenings =
     (before : Plan) × (after : Plan) × (certificate : Certificate)
     × IsMoveGiven befores afters certificates before after certificate
     × GaveNothing (GaveNoEvents (plan_value before)) happenings cause
+IsUnreadInPlay input.Lines cause befores afters certificates happenings = ⊥
 
 -- why the inputs were not read
 abbrev pub IsPlayUnread : Refused → Stream → Stream → Stream → Stream → Type 0

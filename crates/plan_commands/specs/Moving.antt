@@ -56,6 +56,7 @@ IsUnreadInMove input.Certificate cause befores afters certificates =
     (before : Plan) × (after : Plan) × GavePlan befores before × GavePlan afters after
     × GaveNothing (GaveNoCertificate (plan_value before)) certificates cause
 IsUnreadInMove input.Events cause befores afters certificates = ⊥
+IsUnreadInMove input.Lines cause befores afters certificates = ⊥
 
 -- why the inputs were not read
 abbrev pub IsMoveUnread : Refused → Stream → Stream → Stream → Type 0

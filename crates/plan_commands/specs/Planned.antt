@@ -14,7 +14,7 @@ use Rattle.plan_commands.specs.Linting.{IsLinted}
 -- the lines answer the question about the plan, which stands in this text, in a run that ends so
 abbrev pub IsSaidOf : PlanQuestion → List ℕ → Plan → Status → List ℕ → Type 0
 IsSaidOf question.Certify text plan ended lines = Certifies plan ended lines
-IsSaidOf question.Draw text plan ended lines = (ended ≡ status.Yes) × IsPlanDrawing plan lines
+IsSaidOf (question.Draw rows) text plan ended lines = (ended ≡ status.Yes) × IsPlanDrawing rows plan lines
 IsSaidOf (question.Faults name) text plan ended lines = IsListed name.now text plan ended lines
 IsSaidOf question.Lint text plan ended lines = IsLinted plan ended lines
 

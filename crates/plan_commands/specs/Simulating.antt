@@ -127,6 +127,7 @@ abbrev pub AreUnreadEvents : Plan → Input → PlanError → Stream → Type 0
 AreUnreadEvents plan input.Plan cause happenings = ⊥
 AreUnreadEvents plan input.Certificate cause happenings = ⊥
 AreUnreadEvents plan input.Events cause happenings = GaveNothing (GaveNoEvents (plan_value plan)) happenings cause
+AreUnreadEvents plan input.Lines cause happenings = ⊥
 
 -- why the events at the nodes of the plan were not read
 abbrev pub AreEventsUnread : Refused → Plan → Stream → Type 0
@@ -140,6 +141,7 @@ IsUnreadAmong input.Certificate cause plans certificates happenings =
     IsUnread input.Certificate cause plans certificates
 IsUnreadAmong input.Events cause plans certificates happenings = (plan : Plan) × (certificate : Certificate)
     × AreGiven plans certificates plan certificate × GaveNothing (GaveNoEvents (plan_value plan)) happenings cause
+IsUnreadAmong input.Lines cause plans certificates happenings = ⊥
 
 -- why the inputs were not read
 abbrev pub AreUnreadAmong : Refused → Stream → Stream → Stream → Type 0

@@ -1,7 +1,9 @@
 //! The program's command line.
 use crate::commands::certified::Question;
+use crate::commands::draw::DrawnRows;
 use crate::commands::planned::PlanQuestion;
 use crate::commands::show::ShownKind;
+use crate::commands::trace::eid_of_word;
 use crate::commands::walk::PartSize;
 use crate::commands::worded::WordQuestion;
 use crate::refused::Refused;
@@ -39,6 +41,13 @@ pub enum Subcommand<'a> {
         plan: &'a str,
         certificate: &'a str,
         events: &'a str,
+    },
+    /// Does `sim` print the lines of a file?
+    Expect {
+        plan: &'a str,
+        certificate: &'a str,
+        events: &'a str,
+        lines: &'a str,
     },
     /// May the nodes of the plan in one file go over, in any order, to the rows of the plan in another, by one
     /// certificate?
@@ -109,6 +118,7 @@ const COMMANDS: [(&str, &[&str], &[&str]); 21] = [
     ("certify", &["plan"], &[]),
     ("assign", &["plan", "certificate"], &[]),
     ("sim", &["plan", "certificate", "events"], &[]),
+    ("expect", &["plan", "certificate", "events", "lines"], &[]),
     ("move", &["old", "new", "certificate"], &[]),
     ("certifymove", &["old", "new"], &[]),
     ("simmove", &["old", "new", "certificate", "events"], &[]),
@@ -127,6 +137,12 @@ const COMMANDS: [(&str, &[&str], &[&str]); 21] = [
     ("guide", &[], &["command"]),
     ("version", &[], &[]),
 ];
+
+/// What stands for an option that has no value.
+const ALL: &str = "all";
+
+/// The options of commands, and what each means where no value follows it, if it may stand alone.
+const OPTIONS: [(&str, &str, Option<&str>); 1] = [("draw", "rows", Some(ALL))];
 
 /// The names of all commands.
 pub fn command_names(alloc: Global) -> Result<Vec<&'static str>, AllocError> {
@@ -147,7 +163,8 @@ fn grammar<'a>(alloc: Global) -> Result<clap::Command<'a>, AllocError> {
     Ok(grammar)
 }
 
-/// A command with its arguments in this order: first those that are required, then those that may be left out.
+/// A command with its arguments in this order: first those that are required, then those that may be left out. Options may
+/// stand anywhere.
 fn with_arguments<'a>(
     alloc: Global,
     name: &'a str,
@@ -161,7 +178,21 @@ fn with_arguments<'a>(
     for id in optional {
         command = command.arg(Arg::new(alloc, *id).action(ArgAction::Set))?;
     }
+    for (of, id, alone) in OPTIONS {
+        if of == name {
+            command = command.arg(option(alloc, id, alone))?;
+        }
+    }
     Ok(command)
+}
+
+/// An option, and what it means where no value follows it.
+fn option<'a>(alloc: Global, id: &'a str, alone: Option<&'a str>) -> Arg<'a> {
+    let option = Arg::new(alloc, id).long(id).action(ArgAction::Set);
+    match alone {
+        Some(value) => option.num_args(0..=1).default_missing_value(value),
+        None => option,
+    }
 }
 
 fn chosen<'a>(matches: &ArgMatches<'a>) -> Option<Subcommand<'a>> {
@@ -171,6 +202,7 @@ fn chosen<'a>(matches: &ArgMatches<'a>) -> Option<Subcommand<'a>> {
         "certify" => planned(arguments, PlanQuestion::Certify),
         "assign" => certified(arguments, Question::Assign),
         "sim" => playing(arguments),
+        "expect" => expecting(arguments),
         "move" => moving(arguments),
         "certifymove" => certifying_move(arguments),
         "simmove" => playing_moves(arguments),
@@ -179,7 +211,7 @@ fn chosen<'a>(matches: &ArgMatches<'a>) -> Option<Subcommand<'a>> {
         "matrix" => certified(arguments, Question::Matrix),
         "require" => requiring(arguments),
         "trace" => tracing(arguments),
-        "draw" => with_or_without(arguments, Question::Draw, PlanQuestion::Draw),
+        "draw" => drawing(arguments),
         "explain" => explaining(arguments),
         "faults" => listing(arguments),
         "lint" => planned(arguments, PlanQuestion::Lint),
@@ -220,6 +252,15 @@ fn playing<'a>(arguments: &ArgMatches<'a>) -> Option<Subcommand<'a>> {
         plan: arguments.get_str("plan")?,
         certificate: arguments.get_str("certificate")?,
         events: arguments.get_str("events")?,
+    })
+}
+
+fn expecting<'a>(arguments: &ArgMatches<'a>) -> Option<Subcommand<'a>> {
+    Some(Subcommand::Expect {
+        plan: arguments.get_str("plan")?,
+        certificate: arguments.get_str("certificate")?,
+        events: arguments.get_str("events")?,
+        lines: arguments.get_str("lines")?,
     })
 }
 
@@ -268,6 +309,24 @@ fn with_or_without<'a>(
     match arguments.get_str("certificate") {
         Some(_) => certified(arguments, question),
         None => planned(arguments, alone),
+    }
+}
+
+fn drawing<'a>(arguments: &ArgMatches<'a>) -> Option<Subcommand<'a>> {
+    let rows = drawn_rows(arguments.get_str("rows"))?;
+    with_or_without(
+        arguments,
+        Question::Draw { rows },
+        PlanQuestion::Draw { rows },
+    )
+}
+
+/// Which rows are drawn, by what stands behind the option.
+fn drawn_rows(word: Option<&str>) -> Option<DrawnRows> {
+    match word {
+        None => Some(DrawnRows::Hidden),
+        Some(ALL) => Some(DrawnRows::All),
+        Some(word) => Some(DrawnRows::For(eid_of_word(word)?)),
     }
 }
 

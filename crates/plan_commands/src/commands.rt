@@ -6,6 +6,7 @@ pub mod certified;
 pub mod certify;
 pub mod certify_move;
 pub mod draw;
+pub mod expect;
 pub mod explain;
 pub mod faults;
 pub mod gathered;

@@ -17,6 +17,7 @@ pub enum Input {
     Plan,
     Certificate,
     Events,
+    Lines,
 }
 
 /// Why the program gives no answer on standard output.
@@ -130,6 +131,7 @@ impl Input {
             Input::Plan => "plan",
             Input::Certificate => "certificate",
             Input::Events => "events",
+            Input::Lines => "lines",
         }
     }
 }

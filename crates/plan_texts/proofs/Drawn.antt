@@ -7,12 +7,13 @@ use Rattle.std.proofs.lemmas.List.Concat.{flat_map-append}
 use Rattle.std.proofs.lemmas.List.Folds.{concat-append}
 use Rattle.std.proofs.lemmas.List.FromFn.{length-enumerate_from}
 use Rattle.std.proofs.lemmas.List.Sums.{sum_by-cons}
+use Rattle.mctp_transport.specs.declared.address.Eid.{Eid}
 use Rattle.net_plan.specs.declared.certificate.Certificate.{Certificate}
 use Rattle.net_plan.specs.declared.nodes.Bus.{Bus}
 use Rattle.net_plan.specs.declared.nodes.Node.{Node}
 use Rattle.net_plan.specs.declared.nodes.Port.{Port}
 use Rattle.net_plan.specs.declared.plan.Plan.{Plan}
-use Rattle.plan_texts.specs.DrawingLines.{first_line, last_line, bus_line, node_line, port_line, owner_lines, by_index, all_by_index, drawing_lines, port_count, owned_count, IsDrawing}
+use Rattle.plan_texts.specs.DrawingLines.{first_line, last_line, bus_line, node_line, port_line, owner_lines, by_index, all_by_index, round_lines, drawing_lines, port_count, owned_count, IsDrawing}
 
 -- ---- items by their indices
 
@@ -58,23 +59,26 @@ concat-flat_map f g same [] = refl
 concat-flat_map f g same (x ∷ xs) =
     concat-append (f x) (flat_map f xs) ∙ (ap (λ z. z ++ concat (flat_map f xs)) (same x) ∙ ap (λ z. g x ++ z) (concat-flat_map f g same xs))
 
--- five lists joined from the left are joined from the right
-joined : (a b c d e f : List ℕ) → ((((a ++ b) ++ c) ++ d) ++ e) ++ f ≡ a ++ (b ++ (c ++ (d ++ (e ++ f))))
-joined a b c d e f =
-    append_assoc (((a ++ b) ++ c) ++ d) e f
-    ∙ (append_assoc ((a ++ b) ++ c) d (e ++ f)
-    ∙ (append_assoc (a ++ b) c (d ++ (e ++ f))
-    ∙ append_assoc a b (c ++ (d ++ (e ++ f)))))
+-- lists joined from the left are joined from the right
+pub joined : (a b c d e f g : List ℕ) → (((((a ++ b) ++ c) ++ d) ++ e) ++ f) ++ g ≡ a ++ (b ++ (c ++ (d ++ (e ++ (f ++ g)))))
+joined a b c d e f g =
+    append_assoc ((((a ++ b) ++ c) ++ d) ++ e) f g
+    ∙ (append_assoc (((a ++ b) ++ c) ++ d) e (f ++ g)
+    ∙ (append_assoc ((a ++ b) ++ c) d (e ++ (f ++ g))
+    ∙ (append_assoc (a ++ b) c (d ++ (e ++ (f ++ g)))
+    ∙ append_assoc a b (c ++ (d ++ (e ++ (f ++ g)))))))
 
 -- the texts of the parts of a list of lines
-parts : (first last : List ℕ) (buses nodes ports arrows : List (List ℕ))
-    → concat (first ∷ (buses ++ (nodes ++ (ports ++ (arrows ++ last ∷ []))))) ≡ first ++ (concat buses ++ (concat nodes ++ (concat ports ++ (concat arrows ++ last))))
-parts first last buses nodes ports arrows =
-    let after_arrows = ap (λ z. concat arrows ++ z) (append-nil last) in
-    ap (λ z. first ++ z) (concat-append buses (nodes ++ (ports ++ (arrows ++ last ∷ [])))
-    ∙ ap (λ z. concat buses ++ z) (concat-append nodes (ports ++ (arrows ++ last ∷ []))
-    ∙ ap (λ z. concat nodes ++ z) (concat-append ports (arrows ++ last ∷ [])
-    ∙ ap (λ z. concat ports ++ z) (concat-append arrows (last ∷ []) ∙ after_arrows))))
+parts : (first last : List ℕ) (buses nodes ports arrows rounds : List (List ℕ))
+    → concat (first ∷ (buses ++ (nodes ++ (ports ++ (arrows ++ (rounds ++ last ∷ []))))))
+    ≡ first ++ (concat buses ++ (concat nodes ++ (concat ports ++ (concat arrows ++ (concat rounds ++ last)))))
+parts first last buses nodes ports arrows rounds =
+    let after_rounds = ap (λ z. concat rounds ++ z) (append-nil last) in
+    ap (λ z. first ++ z) (concat-append buses (nodes ++ (ports ++ (arrows ++ (rounds ++ last ∷ []))))
+    ∙ ap (λ z. concat buses ++ z) (concat-append nodes (ports ++ (arrows ++ (rounds ++ last ∷ [])))
+    ∙ ap (λ z. concat nodes ++ z) (concat-append ports (arrows ++ (rounds ++ last ∷ []))
+    ∙ ap (λ z. concat ports ++ z) (concat-append arrows (rounds ++ last ∷ [])
+    ∙ ap (λ z. concat arrows ++ z) (concat-append rounds (last ∷ []) ∙ after_rounds)))))
 
 -- ---- how many lines
 
@@ -95,19 +99,21 @@ length-owner_lines : (red : List ℕ) (n : ℕ) (owner : Option ℕ) → length 
 length-owner_lines red n (Some owner) = refl
 length-owner_lines red n None = refl
 
--- the lines of five parts
-length-parts : (first last : List ℕ) (buses nodes ports arrows : List (List ℕ))
-    → length (first ∷ (buses ++ (nodes ++ (ports ++ (arrows ++ last ∷ []))))) ≡ length buses + (length nodes + (length ports + length arrows)) + 2
-length-parts first last buses nodes ports arrows =
-    let a = length-append buses (nodes ++ (ports ++ (arrows ++ last ∷ []))) in
-    let b = length-append nodes (ports ++ (arrows ++ last ∷ [])) in
-    let c = length-append ports (arrows ++ last ∷ []) in
-    let d = length-append arrows (last ∷ []) in
-    omega (arith, a, b, c, d)
+-- the lines of all parts
+length-parts : (first last : List ℕ) (buses nodes ports arrows rounds : List (List ℕ))
+    → length (first ∷ (buses ++ (nodes ++ (ports ++ (arrows ++ (rounds ++ last ∷ []))))))
+    ≡ length buses + (length nodes + (length ports + (length arrows + length rounds))) + 2
+length-parts first last buses nodes ports arrows rounds =
+    let a = length-append buses (nodes ++ (ports ++ (arrows ++ (rounds ++ last ∷ [])))) in
+    let b = length-append nodes (ports ++ (arrows ++ (rounds ++ last ∷ []))) in
+    let c = length-append ports (arrows ++ (rounds ++ last ∷ [])) in
+    let d = length-append arrows (rounds ++ last ∷ []) in
+    let e = length-append rounds (last ∷ []) in
+    omega (arith, a, b, c, d, e)
 
 -- ---- drawings
 
-module _ (plan : Plan) (red red_owned : List ℕ) (cert : Option Certificate) where
+module _ (plan : Plan) (red red_owned : List ℕ) (round : Option Eid) (cert : Option Certificate) where
   abbrev bus_parts : List (List ℕ)
   bus_parts = by_index bus_line plan.buses.items
 
@@ -115,43 +121,46 @@ module _ (plan : Plan) (red red_owned : List ℕ) (cert : Option Certificate) wh
   node_parts = by_index (node_line red cert) plan.nodes.items
 
   abbrev port_parts : List (List ℕ)
-  port_parts = all_by_index (λ n (node : Node). by_index (port_line n) node.ports.items) plan.nodes.items
+  port_parts = all_by_index (λ n (node : Node). by_index (port_line plan node.owner n) node.ports.items) plan.nodes.items
 
   abbrev arrow_parts : List (List ℕ)
   arrow_parts = all_by_index (λ n (node : Node). owner_lines red_owned n node.owner) plan.nodes.items
 
   -- how many lines there are
-  counted : length (drawing_lines plan red red_owned cert) ≡ length plan.buses.items + (length plan.nodes.items + (port_count plan + owned_count plan)) + 2
+  counted : length (drawing_lines plan red red_owned round cert)
+      ≡ length plan.buses.items + (length plan.nodes.items + (port_count plan + (owned_count plan + length (round_lines red round)))) + 2
   counted =
-      let all = length-parts first_line last_line bus_parts node_parts port_parts arrow_parts in
+      let all = length-parts first_line last_line bus_parts node_parts port_parts arrow_parts (round_lines red round) in
       let buses = length-by_index bus_line plan.buses.items in
       let nodes = length-by_index (node_line red cert) plan.nodes.items in
-      let ports = length-said (λ n (node : Node). by_index (port_line n) node.ports.items) (λ node. length node.ports.items)
-      (λ n node. length-by_index (port_line n) node.ports.items) 0 plan.nodes.items in
+      let ports = length-said (λ n (node : Node). by_index (port_line plan node.owner n) node.ports.items) (λ node. length node.ports.items)
+      (λ n node. length-by_index (port_line plan node.owner n) node.ports.items) 0 plan.nodes.items in
       let arrows = length-said (λ n (node : Node). owner_lines red_owned n node.owner) (λ node. cond (is_some node.owner) 1 0)
       (λ n node. length-owner_lines red_owned n node.owner) 0 plan.nodes.items in
       omega (arith, all, buses, nodes, ports, arrows)
 
   -- the parts, one after the other, are the drawing
-  pub drawn : (text buses nodes ports arrows : List ℕ) → buses ≡ all_by_index bus_line plan.buses.items → nodes ≡ all_by_index (node_line red cert) plan.nodes.items
-      → ports ≡ all_by_index (λ n (node : Node). all_by_index (port_line n) node.ports.items) plan.nodes.items
+  pub drawn : (text buses nodes ports arrows rounds : List ℕ) → buses ≡ all_by_index bus_line plan.buses.items → nodes ≡ all_by_index (node_line red cert) plan.nodes.items
+      → ports ≡ all_by_index (λ n (node : Node). all_by_index (port_line plan node.owner n) node.ports.items) plan.nodes.items
       → arrows ≡ all_by_index (λ n (node : Node). concat (owner_lines red_owned n node.owner)) plan.nodes.items
-      → text ≡ ((((first_line ++ buses) ++ nodes) ++ ports) ++ arrows) ++ last_line → IsDrawing plan red red_owned cert text
-  drawn text buses nodes ports arrows has_buses has_nodes has_ports has_arrows is =
+      → rounds ≡ concat (round_lines red round)
+      → text ≡ (((((first_line ++ buses) ++ nodes) ++ ports) ++ arrows) ++ rounds) ++ last_line → IsDrawing plan red red_owned round cert text
+  drawn text buses nodes ports arrows rounds has_buses has_nodes has_ports has_arrows has_rounds is =
       let b = concat-map (λ (placed : ℕ × Bus). bus_line placed.0 placed.1) (enumerate_from 0 plan.buses.items) in
       let n = concat-map (λ (placed : ℕ × Node). node_line red cert placed.0 placed.1) (enumerate_from 0 plan.nodes.items) in
-      let p = concat-flat_map (λ (placed : ℕ × Node). by_index (port_line placed.0) placed.1.ports.items)
-      (λ (placed : ℕ × Node). all_by_index (port_line placed.0) placed.1.ports.items)
-      (λ placed. concat-map (λ (port : ℕ × Port). port_line placed.0 port.0 port.1) (enumerate_from 0 placed.1.ports.items))
+      let p = concat-flat_map (λ (placed : ℕ × Node). by_index (port_line plan placed.1.owner placed.0) placed.1.ports.items)
+      (λ (placed : ℕ × Node). all_by_index (port_line plan placed.1.owner placed.0) placed.1.ports.items)
+      (λ placed. concat-map (λ (port : ℕ × Port). port_line plan placed.1.owner placed.0 port.0 port.1) (enumerate_from 0 placed.1.ports.items))
       (enumerate_from 0 plan.nodes.items) in
       let a = concat-flat_map (λ (placed : ℕ × Node). owner_lines red_owned placed.0 placed.1.owner)
       (λ (placed : ℕ × Node). concat (owner_lines red_owned placed.0 placed.1.owner)) (λ placed. refl) (enumerate_from 0 plan.nodes.items) in
       record {
-        written = is ∙ (joined first_line buses nodes ports arrows last_line
-            ∙ (ap (λ z. first_line ++ (z ++ (nodes ++ (ports ++ (arrows ++ last_line))))) (has_buses ∙ sym b)
-            ∙ (ap (λ z. first_line ++ (concat bus_parts ++ (z ++ (ports ++ (arrows ++ last_line))))) (has_nodes ∙ sym n)
-            ∙ (ap (λ z. first_line ++ (concat bus_parts ++ (concat node_parts ++ (z ++ (arrows ++ last_line))))) (has_ports ∙ sym p)
-            ∙ (ap (λ z. first_line ++ (concat bus_parts ++ (concat node_parts ++ (concat port_parts ++ (z ++ last_line))))) (has_arrows ∙ sym a)
-            ∙ sym (parts first_line last_line bus_parts node_parts port_parts arrow_parts))))));
+        written = is ∙ (joined first_line buses nodes ports arrows rounds last_line
+            ∙ (ap (λ z. first_line ++ (z ++ (nodes ++ (ports ++ (arrows ++ (rounds ++ last_line)))))) (has_buses ∙ sym b)
+            ∙ (ap (λ z. first_line ++ (concat bus_parts ++ (z ++ (ports ++ (arrows ++ (rounds ++ last_line)))))) (has_nodes ∙ sym n)
+            ∙ (ap (λ z. first_line ++ (concat bus_parts ++ (concat node_parts ++ (z ++ (arrows ++ (rounds ++ last_line)))))) (has_ports ∙ sym p)
+            ∙ (ap (λ z. first_line ++ (concat bus_parts ++ (concat node_parts ++ (concat port_parts ++ (z ++ (rounds ++ last_line)))))) (has_arrows ∙ sym a)
+            ∙ (ap (λ z. first_line ++ (concat bus_parts ++ (concat node_parts ++ (concat port_parts ++ (concat arrow_parts ++ (z ++ last_line)))))) has_rounds
+            ∙ sym (parts first_line last_line bus_parts node_parts port_parts arrow_parts (round_lines red round))))))));
         counted = counted;
       }

@@ -1,4 +1,6 @@
 pub mod Drawn
 pub mod Traced
 pub mod Chains
+pub mod Differing
+pub mod RowDrawn
 pub mod ObstacleLines

@@ -1,10 +1,12 @@
 -- The lines of drawings of plans, in Graphviz' DOT language.
-use Rattle.std.specs.Prelude.{◌≡◌, ℕ, ◌+◌, ◌==◌, ◌||◌, List, [], ◌∷◌, ◌++◌, length, map, if◌then◌else◌}
+use Rattle.std.specs.Prelude.{◌≡◌, ℕ, ◌+◌, ◌==◌, ◌||◌, List, [], ◌∷◌, ◌++◌, length, map, if◌then◌else◌, Bool, false}
 use Rattle.std.specs.Prelude.{Option, Some, None, is_some, count_by, codes, chars, encode_utf8_all, string_bytes}
 use Rattle.std.specs.Fmt.{decimal}
 use Rattle.std.specs.List.{concat, enumerate_from, flat_map, list_any, sum_by}
+use Rattle.mctp_transport.specs.declared.address.Eid.{Eid}
 use Rattle.net_tables.specs.Ownership.{given_level}
 use Rattle.net_tables.specs.Ranks.{ranges_of}
+use Rattle.net_tables.specs.Routing.{ports_of}
 use Rattle.net_plan.specs.declared.certificate.Certificate.{Certificate}
 use Rattle.net_plan.specs.declared.certificate.RankRange.{RankRange}
 use Rattle.net_plan.specs.declared.nodes.Bus.{Bus}
@@ -35,7 +37,16 @@ kind_word kind.Endpoint = codes "endpoint"
 
 abbrev pub kind_shape : Kind → List ℕ
 kind_shape kind.Bridge = codes "octagon"
-kind_shape kind.Endpoint = codes "ellipse"
+kind_shape kind.Endpoint = codes "box, style=rounded"
+
+-- how many outlines a node has, by its terminus
+abbrev pub outline_count : Option PlannedTerminus → ℕ
+outline_count (Some terminus) = 2
+outline_count None = 1
+
+-- a node's shape by its kind, with a double outline where it has a terminus
+abbrev pub shape_text : Node → List ℕ
+shape_text node = kind_shape node.kind ++ (codes ", peripheries=" ++ decimal (outline_count node.terminus))
 
 -- a pool in a line of its own within a label, where there is one
 abbrev pub pool_text : Option Pool → List ℕ
@@ -69,7 +80,8 @@ tooltip_text (Some cert) n = certified_text cert n
 tooltip_text None n = []
 
 abbrev pub first_line : List ℕ
-first_line = codes "digraph plan { rankdir=LR;\n"
+first_line =
+    codes "digraph plan { rankdir=LR; nodesep=0.08; node [fontsize=10, height=0.2, margin=0.04]; edge [fontsize=9];\n"
 
 abbrev pub last_line : List ℕ
 last_line = codes "}\n"
@@ -86,23 +98,57 @@ shape_line n shape color label tooltip = codes "    node_" ++ (decimal n ++ (cod
 -- a node, of which those in the list are red
 abbrev pub node_line : List ℕ → Option Certificate → ℕ → Node → List ℕ
 node_line red cert n node =
-    shape_line n (kind_shape node.kind) (color_among red n) (label_text node) (tooltip_text cert n)
+    shape_line n (shape_text node) (color_among red n) (label_text node) (tooltip_text cert n)
 
--- n's port p
-abbrev pub port_line : ℕ → ℕ → Port → List ℕ
-port_line n p port = codes "    node_" ++ (decimal n ++ (codes " -> bus_" ++ (decimal port.bus
-    ++ (codes " [dir=none, label=\"" ++ (decimal p ++ (codes ": " ++ (address_text port.address.items
-    ++ codes "\"];\n")))))))
+-- what stands on the line of a port
+abbrev pub port_label : ℕ → Port → List ℕ
+port_label p port = codes " [dir=none, label=\"" ++ (decimal p ++ (codes ": " ++ (address_text port.address.items
+    ++ codes "\"];\n")))
+
+-- whether an owner has a port on the bus
+abbrev pub is_owner_on : Plan → Option ℕ → ℕ → Bool
+is_owner_on plan (Some owner) bus = list_any (λ port. port.bus == bus) (ports_of plan owner)
+is_owner_on plan None bus = false
+
+-- n's port p, with the bus before the node or behind it
+abbrev pub bus_before : ℕ → ℕ → Port → List ℕ
+bus_before n p port =
+    codes "    bus_" ++ (decimal port.bus ++ (codes " -> node_" ++ (decimal n ++ port_label p port)))
+
+abbrev pub bus_behind : ℕ → ℕ → Port → List ℕ
+bus_behind n p port =
+    codes "    node_" ++ (decimal n ++ (codes " -> bus_" ++ (decimal port.bus ++ port_label p port)))
+
+-- Port p of n, which has this owner. The bus stands before the node where the owner has a port on it, and else behind.
+abbrev pub port_line : Plan → Option ℕ → ℕ → ℕ → Port → List ℕ
+port_line plan owner n p port =
+    if is_owner_on plan owner port.bus then bus_before n p port else bus_behind n p port
 
 -- the arrow from its owner to an owned node, of which those to nodes in the list are red
 abbrev pub owner_line : List ℕ → ℕ → ℕ → List ℕ
 owner_line red n owner = codes "    node_" ++ (decimal owner ++ (codes " -> node_" ++ (decimal n
-    ++ (codes " [style=dashed, color=" ++ (color_among red n ++ codes "];\n")))))
+    ++ (codes " [style=dashed, weight=0, arrowsize=0.6, color=" ++ (color_among red n ++ codes "];\n")))))
 
 -- such an arrow, where the node has an owner
 abbrev pub owner_lines : List ℕ → ℕ → Option ℕ → List (List ℕ)
 owner_lines red n (Some owner) = owner_line red n owner ∷ []
 owner_lines red n None = []
+
+-- the arrow of packets for e that go round, from n to m
+abbrev pub red_arrow : ℕ → ℕ → ℕ → List ℕ
+red_arrow e n m = codes "    node_" ++ (decimal n ++ (codes " -> node_" ++ (decimal m
+    ++ (codes " [color=red, penwidth=3, label=\"eid " ++ (decimal e ++ codes "\"];\n")))))
+
+-- such an arrow from each of the nodes to the one behind it
+abbrev pub arrows_along : ℕ → List ℕ → List (List ℕ)
+arrows_along e [] = []
+arrows_along e (n ∷ []) = []
+arrows_along e (n ∷ m ∷ nodes) = red_arrow e n m ∷ arrows_along e (m ∷ nodes)
+
+-- these arrows, where packets for an endpoint ID go round
+abbrev pub round_lines : List ℕ → Option Eid → List (List ℕ)
+round_lines nodes (Some eid) = arrows_along eid.value nodes
+round_lines nodes None = []
 
 -- what is said of each item of a list by its index
 abbrev pub by_index : {A B : Type 0} → (ℕ → A → B) → List A → List B
@@ -113,13 +159,14 @@ abbrev pub all_by_index : {A B : Type 0} → (ℕ → A → List B) → List A �
 all_by_index say items = flat_map (λ placed. say placed.0 placed.1) (enumerate_from 0 items)
 
 -- The lines of a drawing: one for each bus, one for each node, one for each port of each node, and one for each node
--- that has an owner, in the order of the plan, between the first one and the last. Nodes of the one list are red, and
--- arrows to nodes of the other.
-abbrev pub drawing_lines : Plan → (red red_owned : List ℕ) → Option Certificate → List (List ℕ)
-drawing_lines plan red red_owned cert = first_line ∷ (by_index bus_line plan.buses.items
+-- that has an owner, in the order of the plan, and then the arrows of what goes round, between the first one and the
+-- last. Nodes of the one list are red, and arrows to nodes of the other.
+abbrev pub drawing_lines : Plan → (red red_owned : List ℕ) → Option Eid → Option Certificate → List (List ℕ)
+drawing_lines plan red red_owned round cert = first_line ∷ (by_index bus_line plan.buses.items
     ++ (by_index (node_line red cert) plan.nodes.items
-    ++ (all_by_index (λ n node. by_index (port_line n) node.ports.items) plan.nodes.items
-    ++ (all_by_index (λ n node. owner_lines red_owned n node.owner) plan.nodes.items ++ last_line ∷ []))))
+    ++ (all_by_index (λ n node. by_index (port_line plan node.owner n) node.ports.items) plan.nodes.items
+    ++ (all_by_index (λ n node. owner_lines red_owned n node.owner) plan.nodes.items
+    ++ (round_lines red round ++ last_line ∷ [])))))
 
 -- how many ports the nodes of a plan have, and how many of them have an owner
 abbrev pub port_count : Plan → ℕ
@@ -128,8 +175,11 @@ port_count plan = sum_by (λ node. length node.ports.items) plan.nodes.items
 abbrev pub owned_count : Plan → ℕ
 owned_count plan = count_by (λ node. is_some node.owner) plan.nodes.items
 
--- The text is the lines of the drawing, and there is one for each bus, node, port and owned node, and two more.
-pub record IsDrawing (plan : Plan) (red red_owned : List ℕ) (cert : Option Certificate) (text : List ℕ) : Type 0 where
-  pub written : text ≡ concat (drawing_lines plan red red_owned cert)
-  pub counted : length (drawing_lines plan red red_owned cert)
-      ≡ length plan.buses.items + (length plan.nodes.items + (port_count plan + owned_count plan)) + 2
+-- The text is the lines of the drawing. There is one for each bus, node, port and owned node, one for each arrow of
+-- what goes round, and two more.
+pub record IsDrawing (plan : Plan) (red red_owned : List ℕ) (round : Option Eid) (cert : Option Certificate)
+    (text : List ℕ) : Type 0 where
+  pub written : text ≡ concat (drawing_lines plan red red_owned round cert)
+  pub counted : length (drawing_lines plan red red_owned round cert)
+      ≡ length plan.buses.items + (length plan.nodes.items + (port_count plan
+      + (owned_count plan + length (round_lines red round)))) + 2

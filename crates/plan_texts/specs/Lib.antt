@@ -12,6 +12,8 @@ pub mod PairLines
 pub mod AssignmentLines
 pub mod OutcomeLines
 pub mod DrawingLines
+pub mod RowDrawings
 pub mod WalkLines
 pub mod Shown
 pub mod EditLines
+pub mod DifferenceLines

@@ -3,35 +3,44 @@ ghost use Rattle.std.specs.Prelude.{◌≡◌, ◌==◌, ◌∷◌, [], List, �
 ghost use Rattle.std.specs.List.{concat, flat_map, list_any};
 ghost use Rattle.net_tables.specs.Ownership.{given_level};
 ghost use Rattle.net_tables.specs.Ranks.{ranges_of};
-ghost use Rattle.plan_texts.specs.DrawingLines.{escaped_char, escaped, color_among, kind_word, kind_shape, pool_text, terminus_text, label_text, range_text, certified_text, tooltip_text, first_line, last_line, bus_line, shape_line, node_line, port_line, owner_line, owner_lines, all_by_index, IsDrawing};
+ghost use Rattle.plan_texts.specs.DrawingLines.{escaped_char, escaped, color_among, kind_word, kind_shape, pool_text, terminus_text, label_text, range_text, certified_text, tooltip_text, first_line, last_line, bus_line, shape_line, shape_text, outline_count, node_line, is_owner_on, bus_before, bus_behind, port_line, owner_line, owner_lines, red_arrow, arrows_along, round_lines, all_by_index, IsDrawing};
 ghost use Rattle.plan_texts.specs.WayLines.{address_text};
 
+mod rows;
+
 use super::ways::address_text;
+use mctp_transport::Eid;
 use net_plan::{Bus, Certificate, Kind, Name, Node, Plan, PlannedTerminus, Pool, Port, RankRange};
+use net_tables::lookup::is_on_bus;
+pub use rows::{bundle_drawing, way_drawing};
 use std::alloc::{AllocError, Global};
 
 /// The first line of a drawing.
-const FIRST_LINE: &str = "digraph plan { rankdir=LR;\n";
+const FIRST_LINE: &str =
+    "digraph plan { rankdir=LR; nodesep=0.08; node [fontsize=10, height=0.2, margin=0.04]; edge [fontsize=9];\n";
 
 /// The last line of a drawing.
 const LAST_LINE: &str = "}\n";
 
 /// The drawing of a plan: a line for each bus, each node, each port and each node that has an owner. Nodes among `red` are
-/// red, and the arrows to nodes among `red_owned`. Where there is a certificate, its levels and ranks are tooltips.
+/// red, and the arrows to nodes among `red_owned`. Where packets for an endpoint ID go `round` the nodes among `red`, the
+/// arrows of their way are there too. Where there is a certificate, its levels and ranks are tooltips.
 pub fn drawing(
     alloc: Global,
     plan: &Plan,
     red: &[usize],
     red_owned: &[usize],
+    round: Option<Eid>,
     certificate: Option<&Certificate>,
 ) -> Result<String, AllocError>
-    ensures { IfOk result (λ text. IsDrawing plan.now red.now red_owned.now (option_map (λ cert. cert.now) certificate.entry) (string_bytes text)) }
+    ensures { IfOk result (λ text. IsDrawing plan.now red.now red_owned.now round (option_map (λ cert. cert.now) certificate.entry) (string_bytes text)) }
 {
     let mut lines = FIRST_LINE.to_string(alloc)?;
     lines.push_str(&bus_lines(alloc, &plan.buses)?)?;
     lines.push_str(&node_lines(alloc, &plan.nodes, red, certificate)?)?;
-    lines.push_str(&port_lines(alloc, &plan.nodes)?)?;
+    lines.push_str(&port_lines(alloc, plan, &plan.nodes)?)?;
     lines.push_str(&arrow_lines(alloc, &plan.nodes, red_owned)?)?;
+    lines.push_str(&round_lines(alloc, red, round)?)?;
     lines.push_str(LAST_LINE)?;
     Ok(lines)
 }
@@ -86,7 +95,8 @@ fn node_line(
     let label = label_text(alloc, node)?;
     let tooltip = tooltip_text(alloc, certificate, index)?;
     let color = color_among(red, index);
-    shape_line(alloc, index, kind_shape(node.kind), color, &label, &tooltip)
+    let shape = shape_text(alloc, node)?;
+    shape_line(alloc, index, &shape, color, &label, &tooltip)
 }
 
 /// The line of a node by its shape, its color, its label and its tooltip.
@@ -103,6 +113,25 @@ fn shape_line(
     format!(in alloc;
         "    node_{index} [shape={shape}, color={color}, label=\"{label}\"{tooltip}];\n"
     )
+}
+
+/// A node's shape by its kind, with a double outline where it has a terminus.
+fn shape_text(alloc: Global, node: &Node) -> Result<String, AllocError>
+    ensures { IfOk result (λ text. string_bytes text ≡ shape_text node.now) }
+{
+    let shape = kind_shape(node.kind);
+    let outlines = outline_count(&node.terminus);
+    format!(in alloc; "{shape}, peripheries={outlines}")
+}
+
+/// How many outlines a node has.
+fn outline_count(terminus: &Option<PlannedTerminus>) -> u8
+    ensures { result ≡ outline_count terminus.now }
+{
+    match terminus {
+        Some(_) => 2,
+        None => 1,
+    }
 }
 
 /// A node's name, its kind and endpoint ID, its pool, and its terminus.
@@ -131,7 +160,7 @@ fn kind_shape(kind: Kind) -> &'static str
 {
     match kind {
         Kind::Bridge => "octagon",
-        Kind::Endpoint => "ellipse",
+        Kind::Endpoint => "box, style=rounded",
     }
 }
 
@@ -233,33 +262,75 @@ fn range_text(alloc: Global, range: &RankRange) -> Result<String, AllocError>
 // ---- ports
 
 /// The line of each port of each node.
-fn port_lines(alloc: Global, nodes: &[Node]) -> Result<String, AllocError>
-    ensures { IfOk result (λ lines. string_bytes lines ≡ all_by_index (λ n node. all_by_index (port_line n) node.ports.items) nodes.now) }
+fn port_lines(alloc: Global, plan: &Plan, nodes: &[Node]) -> Result<String, AllocError>
+    ensures { IfOk result (λ lines. string_bytes lines ≡ all_by_index (λ n node. all_by_index (port_line plan.now node.owner n) node.ports.items) nodes.now) }
 {
     let mut lines = String::new(alloc);
     for (index, node) in nodes.iter().enumerate() {
-        lines.push_str(&node_port_lines(alloc, index, &node.ports)?)?;
+        lines.push_str(&node_port_lines(alloc, plan, node.owner, index, &node.ports)?)?;
     }
     Ok(lines)
 }
 
 /// The line of each of a node's ports.
-fn node_port_lines(alloc: Global, node: usize, ports: &[Port]) -> Result<String, AllocError>
-    ensures { IfOk result (λ lines. string_bytes lines ≡ all_by_index (port_line node) ports.now) }
+fn node_port_lines(
+    alloc: Global,
+    plan: &Plan,
+    owner: Option<usize>,
+    node: usize,
+    ports: &[Port],
+) -> Result<String, AllocError>
+    ensures { IfOk result (λ lines. string_bytes lines ≡ all_by_index (port_line plan.now owner node) ports.now) }
 {
     let mut lines = String::new(alloc);
     for (index, port) in ports.iter().enumerate() {
-        lines.push_str(&port_line(alloc, node, index, port)?)?;
+        lines.push_str(&port_line(alloc, plan, owner, node, index, port)?)?;
     }
     Ok(lines)
 }
 
-fn port_line(alloc: Global, node: usize, index: usize, port: &Port) -> Result<String, AllocError>
-    ensures { IfOk result (λ line. string_bytes line ≡ port_line node index port.now) }
+/// The line of a port. A bus on which the node's owner has a port stands before the node, and any other behind it.
+fn port_line(
+    alloc: Global,
+    plan: &Plan,
+    owner: Option<usize>,
+    node: usize,
+    index: usize,
+    port: &Port,
+) -> Result<String, AllocError>
+    ensures { IfOk result (λ line. string_bytes line ≡ port_line plan.now owner node index port.now) }
+{
+    if is_owner_on(plan, owner, port.bus) {
+        bus_before(alloc, node, index, port)
+    } else {
+        bus_behind(alloc, node, index, port)
+    }
+}
+
+fn bus_before(alloc: Global, node: usize, index: usize, port: &Port) -> Result<String, AllocError>
+    ensures { IfOk result (λ line. string_bytes line ≡ bus_before node index port.now) }
+{
+    let bus = port.bus;
+    let address = port_address(alloc, port)?;
+    format!(in alloc; "    bus_{bus} -> node_{node} [dir=none, label=\"{index}: {address}\"];\n")
+}
+
+fn bus_behind(alloc: Global, node: usize, index: usize, port: &Port) -> Result<String, AllocError>
+    ensures { IfOk result (λ line. string_bytes line ≡ bus_behind node index port.now) }
 {
     let bus = port.bus;
     let address = port_address(alloc, port)?;
     format!(in alloc; "    node_{node} -> bus_{bus} [dir=none, label=\"{index}: {address}\"];\n")
+}
+
+/// Whether a node's owner has a port on the bus.
+fn is_owner_on(plan: &Plan, owner: Option<usize>, bus: usize) -> bool
+    ensures { result ≡ is_owner_on plan.now owner bus }
+{
+    match owner {
+        Some(owner) => is_on_bus(plan, owner, bus),
+        None => false,
+    }
 }
 
 /// A port's address in hex, or a dash where it is empty.
@@ -301,7 +372,42 @@ fn owner_line(alloc: Global, red: &[usize], node: usize, owner: usize) -> Result
     ensures { IfOk result (λ line. string_bytes line ≡ owner_line red.now node owner) }
 {
     let color = color_among(red, node);
-    format!(in alloc; "    node_{owner} -> node_{node} [style=dashed, color={color}];\n")
+    format!(in alloc;
+        "    node_{owner} -> node_{node} [style=dashed, weight=0, arrowsize=0.6, color={color}];\n"
+    )
+}
+
+// ---- what goes round
+
+/// The arrows from each of the nodes to the one behind it, where packets for an endpoint ID go round them.
+fn round_lines(alloc: Global, nodes: &[usize], round: Option<Eid>) -> Result<String, AllocError>
+    ensures { IfOk result (λ lines. string_bytes lines ≡ concat (round_lines nodes.now round)) }
+{
+    match round {
+        Some(eid) => arrows_along(alloc, nodes, eid),
+        None => Ok(String::new(alloc)),
+    }
+}
+
+/// The red arrows from each of the nodes to the one behind it.
+fn arrows_along(alloc: Global, nodes: &[usize], eid: Eid) -> Result<String, AllocError>
+    ensures { IfOk result (λ lines. string_bytes lines ≡ concat (arrows_along eid.value nodes.now)) }
+{
+    let mut lines = String::new(alloc);
+    for index in 1..nodes.len() {
+        lines.push_str(&red_arrow(alloc, nodes[index - 1], nodes[index], eid)?)?;
+    }
+    Ok(lines)
+}
+
+/// A red arrow, of packets for an endpoint ID that go round.
+fn red_arrow(alloc: Global, from: usize, to: usize, eid: Eid) -> Result<String, AllocError>
+    ensures { IfOk result (λ line. string_bytes line ≡ red_arrow eid.value from to) }
+{
+    let eid = eid.value;
+    format!(in alloc;
+        "    node_{from} -> node_{to} [color=red, penwidth=3, label=\"eid {eid}\"];\n"
+    )
 }
 
 // ---- parts of lines

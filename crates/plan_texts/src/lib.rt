@@ -7,6 +7,7 @@ ghost use Rattle.plan_texts.specs.Lines.{name_or_dash, bus_name_or_dash, names_t
 mod assignments;
 mod causes;
 mod certificates;
+mod differences;
 mod drawings;
 mod edits;
 mod explanations;
@@ -24,7 +25,8 @@ mod ways;
 
 pub use assignments::assignment_lines;
 pub use certificates::certificate_fault_lines;
-pub use drawings::drawing;
+pub use differences::first_difference;
+pub use drawings::{bundle_drawing, drawing, way_drawing};
 pub use explanations::{cause_lines, index_for, obstacle_lines};
 pub use findings::lint_lines;
 pub use lookups::number_text;

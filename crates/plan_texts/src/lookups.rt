@@ -98,7 +98,7 @@ pub fn from_to(alloc: Global, first: usize, last: usize) -> Result<String, Alloc
 }
 
 /// So many endpoint IDs from the first on.
-fn span_text(alloc: Global, first: u8, size: u8) -> Result<String, AllocError>
+pub fn span_text(alloc: Global, first: u8, size: u8) -> Result<String, AllocError>
     ensures { IfOk result (λ text. string_bytes text ≡ span_text first size) }
 {
     if size == 0 {

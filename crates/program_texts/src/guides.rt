@@ -7,13 +7,16 @@ move OLD NEW CERT            whether nodes may go over from the old plan's rows 
 certifymove OLD NEW          the certificate of a move from the old plan's rows to the new one's
 assign PLAN CERT             the requests that give the nodes their endpoint IDs and pools
 sim PLAN CERT EVENTS         what comes of events in the planned network
+expect PLAN CERT EVENTS LINES
+                             whether sim prints these lines, or the first one that differs
 simmove OLD NEW CERT EVENTS  the same while nodes go over to new rows
 walk PLAN CERT NODE COUNT    the records that a walk over a node's terminus collects
 reach PLAN CERT              who reaches whom, and in how many hops
 matrix PLAN CERT             the same as a table that a person reads
 require PLAN CERT WANTED     whether the nodes reach whom a text wants them to reach
 trace PLAN CERT FROM TO      the way of a packet from a node to another, or to an endpoint ID
-draw PLAN [CERT]             the planned network as a drawing for Graphviz
+draw PLAN [CERT] [--rows [EID]]
+                             the planned network, or where its rows lead, as a drawing for Graphviz
 explain PLAN [CERT]          what certify says of the plan, or check of both, and why
 faults PLAN [CERT]           every fault of the plan, or of both, and how many they are
 lint PLAN                    what is lawful in the plan and still looks wrong, or clean
@@ -43,6 +46,7 @@ pub fn guide_to(command: &str) -> Option<&'static str> {
         "certifymove" => Some(OF_CERTIFYMOVE),
         "assign" => Some(OF_ASSIGN),
         "sim" => Some(OF_SIM),
+        "expect" => Some(OF_EXPECT),
         "simmove" => Some(OF_SIMMOVE),
         "walk" => Some(OF_WALK),
         "reach" => Some(OF_REACH),
@@ -144,6 +148,24 @@ Status 1: a fault of the plan or the certificate.
   4 whole 1 at ssd bytes 01800002
 "#;
 
+const OF_EXPECT: &str = r#"mctpplan expect PLAN CERT EVENTS LINES
+
+Plays events as sim does and compares what it prints with LINES, a file of such lines. Prints yes,
+or the first line that differs: its number, what was expected and what came. Where the plan or the
+certificate has a fault, sim prints its line, and that line is compared.
+
+Status 0: yes.
+Status 1: the first line that differs.
+
+  $ mctpplan sim examples/riser/plan.json examples/riser/certificate.json examples/riser/events-to-ssd.json \
+      | sed 's/hops 2/hops 3/' > lines
+  $ mctpplan expect examples/riser/plan.json examples/riser/certificate.json \
+      examples/riser/events-to-ssd.json lines
+  line 3 differs
+  expected: 3 moved 1 to ssd hops 3
+  came: 3 moved 1 to ssd hops 2
+"#;
+
 const OF_SIMMOVE: &str = r#"mctpplan simmove OLD NEW CERT EVENTS
 
 Plays events in the network of the old plan, whose nodes go over to the rows of the new one by the
@@ -233,16 +255,26 @@ Status 1: a fault of the plan or the certificate.
   hops 2
 "#;
 
-const OF_DRAW: &str = r#"mctpplan draw PLAN [CERT]
+const OF_DRAW: &str = r#"mctpplan draw PLAN [CERT] [--rows [EID]]
 
-Prints the planned network in the language DOT of Graphviz: buses, nodes, ports and owners. The
-nodes of a loop that rules certificates out are red. With a certificate that fits the plan, levels
-and ranks are tooltips; where it does not fit, the first fault is printed.
+Prints the planned network in the language DOT of Graphviz: buses, nodes, ports and owners. Octagons
+are bridges, rounded boxes are endpoints, and a node with a terminus has a double outline. The nodes
+of a loop that rules certificates out are red, and so are the arrows along it, with the endpoint ID
+for which packets go round. With a certificate that fits the plan, levels and ranks are tooltips;
+where it does not fit, the first fault is printed.
+
+With --rows at the end arrows stand in place of buses and ports: from each node to each next node,
+with what the rows between them cover. With an endpoint ID behind it, 8 to 254, there is an arrow
+from each node that sends packets for it on, with how many hops they still make; or stops, or goes
+round. The arrows of a loop are red.
 
 Status 0: the drawing, also of a plan with faults.
 Status 1: a fault of the plan or the certificate, where there is a certificate.
 
   $ mctpplan draw examples/riser/plan.json > riser.dot
+  $ mctpplan draw examples/riser/plan.json --rows 18 | grep -e '->'
+      node_0 -> node_1 [label="2"];
+      node_1 -> node_3 [label="1"];
 "#;
 
 const OF_EXPLAIN: &str = r#"mctpplan explain PLAN [CERT]

@@ -1,7 +1,9 @@
 //! Which words are which command.
 
+use mctp_transport::Eid;
 use plan_commands::{
-    GUIDE, PartSize, PlanQuestion, Question, Refused, ShownKind, Subcommand, VERSION, parse_command,
+    DrawnRows, GUIDE, PartSize, PlanQuestion, Question, Refused, ShownKind, Subcommand, VERSION,
+    parse_command,
 };
 use std::process::Abort;
 use std::test::Fail;
@@ -35,8 +37,24 @@ fn gives_the_command_or_usage(rt: HostRuntime) -> Result<(), Fail> {
         certificate: "c",
         events: "d",
     };
-    let plain = planned(PlanQuestion::Draw);
-    let drawn = certified(Question::Draw);
+    let plain = planned(PlanQuestion::Draw {
+        rows: DrawnRows::Hidden,
+    });
+    let drawn = certified(Question::Draw {
+        rows: DrawnRows::Hidden,
+    });
+    let bundles = planned(PlanQuestion::Draw {
+        rows: DrawnRows::All,
+    });
+    let ways = certified(Question::Draw {
+        rows: DrawnRows::For(Eid::new(18)),
+    });
+    let expected = Subcommand::Expect {
+        plan: "a",
+        certificate: "b",
+        events: "c",
+        lines: "d",
+    };
     let explained = Subcommand::Explain {
         plan: "a",
         certificate: None,
@@ -47,7 +65,7 @@ fn gives_the_command_or_usage(rt: HostRuntime) -> Result<(), Fail> {
     };
     let listed = planned(PlanQuestion::Faults { name: "a" });
     let listed_both = certified(Question::Faults { name: "a" });
-    let rows: [(&[&str], Result<Subcommand, Refused>); 70] = [
+    let rows: [(&[&str], Result<Subcommand, Refused>); 77] = [
         (&["mctpplan", "explain", "a"], Ok(explained)),
         (&["mctpplan", "explain", "a", "b"], Ok(both)),
         (&["mctpplan", "explain"], Err(Refused::Usage)),
@@ -55,6 +73,16 @@ fn gives_the_command_or_usage(rt: HostRuntime) -> Result<(), Fail> {
         (&["mctpplan", "draw", "a"], Ok(plain)),
         (&["mctpplan", "draw", "a", "b"], Ok(drawn)),
         (&["mctpplan", "draw"], Err(Refused::Usage)),
+        (&["mctpplan", "draw", "a", "--rows"], Ok(bundles)),
+        (&["mctpplan", "draw", "a", "b", "--rows", "18"], Ok(ways)),
+        (
+            &["mctpplan", "draw", "a", "--rows", "7"],
+            Err(Refused::Usage),
+        ),
+        (&["mctpplan", "draw", "--rows", "a"], Err(Refused::Usage)),
+        (&["mctpplan", "expect", "a", "b", "c", "d"], Ok(expected)),
+        (&["mctpplan", "expect", "a", "b", "c"], Err(Refused::Usage)),
+        (&["mctpplan", "faults", "a", "--rows"], Err(Refused::Usage)),
         (&["mctpplan", "draw", "a", "b", "c"], Err(Refused::Usage)),
         (&["mctpplan", "faults", "a"], Ok(listed)),
         (&["mctpplan", "faults", "a", "b"], Ok(listed_both)),

@@ -11,7 +11,7 @@ ghost use Rattle.plan_commands.specs.Certified.{IsAnswer, IsFaultAnswer, IsNamed
 
 use crate::commands::answer::{Answer, YES, tell};
 use crate::commands::assign::requests_text;
-use crate::commands::draw::certified_drawing;
+use crate::commands::draw::{DrawnRows, certified_drawing};
 use crate::commands::faults::fault_answer;
 use crate::commands::inputs::{PlanText, read_texts};
 use crate::commands::listing::faults_of_both;
@@ -41,7 +41,7 @@ pub enum Question<'a> {
     /// The same as a table.
     Matrix,
     /// What does the network look like, with the certificate's levels and ranks?
-    Draw,
+    Draw { rows: DrawnRows },
     /// Which records does a walk over a node's terminus collect, by parts of so many bytes?
     Walk { node: &'a str, part: PartSize },
     /// Which way does a packet take from a node to another, or to an endpoint ID?
@@ -143,7 +143,7 @@ fn is_named_in(question: &Question, plan: &Plan) -> bool
 {
     match *question {
         Question::Check | Question::Faults { .. } | Question::Assign => true,
-        Question::Reach | Question::Matrix | Question::Draw => true,
+        Question::Reach | Question::Matrix | Question::Draw { .. } => true,
         Question::Walk { node, .. } => named_terminus(plan, node).is_some(),
         Question::Trace { from, to } => named_ends(plan, from, to).is_some(),
     }
@@ -164,7 +164,7 @@ fn text_of_checked(
         Question::Assign => Ok(CowStr::Owned(requests_text(alloc, checked)?)),
         Question::Reach => Ok(CowStr::Owned(pairs_text(alloc, checked)?)),
         Question::Matrix => Ok(CowStr::Owned(matrix_text(alloc, checked)?)),
-        Question::Draw => Ok(CowStr::Owned(certified_drawing(alloc, checked)?)),
+        Question::Draw { rows } => Ok(CowStr::Owned(certified_drawing(alloc, checked, rows)?)),
         Question::Walk { node, part } => {
             Ok(CowStr::Owned(records_text(alloc, checked, node, part)?))
         }

@@ -1,5 +1,5 @@
 //! The files that commands read.
-ghost use Rattle.std.specs.Prelude.{◌≡◌, IfOk, IfErr};
+ghost use Rattle.std.specs.Prelude.{◌≡◌, IfOk, IfErr, string_bytes};
 ghost use Rattle.net_json.specs.Stream.{HasRoom};
 ghost use Rattle.plan_commands.specs.Answers.{stream, IsWithoutPlan, GavePlan, GavePlanText, GaveCertificate, IsPlanUnread, IsCertificateUnread, AreGiven, AreTextsGiven, AreUnread};
 ghost use Rattle.net_json.specs.CertificateText.{IsCertificateOf};
@@ -10,6 +10,7 @@ ghost use Rattle.net_json.specs.Texts.{StandsFor};
 ghost use Rattle.plan_commands.specs.UnreadTexts.{IsNoPlanIn, IsNoPlanBy, IsNoCertificateIn, IsNoCertificateBy, IsTextOf, StandsForNothing, refused_for, unread_of};
 ghost use Rattle.plan_commands.specs.Moving.{IsMoveGiven, IsMoveUnread};
 ghost use Rattle.plan_commands.specs.MoveCertifying.{ArePlansUnread};
+ghost use Rattle.plan_commands.specs.Expecting.{GaveLines, AreLinesUnread};
 ghost use Rattle.plan_commands.specs.Simulating.{GaveEvents, AreEventsUnread};
 
 use crate::refused::{Input, Refused};
@@ -185,6 +186,23 @@ pub fn given_events<V: Source>(
     match read_events(alloc, plan, events) {
         Ok(events) => Ok(events),
         Err(error) => Err(Refused::at_input(Input::Events, error)),
+    }
+}
+
+/// The text of lines that a source gives.
+pub fn given_lines<L: Source>(alloc: Global, lines: &mut L) -> Result<String, Refused>
+    requires { HasRoom (L.account lines.old) }
+    ensures given { let expectations = stream L.account lines.old lines.new in
+        IfOk result (λ text. GaveLines expectations (string_bytes text)) }
+    ensures unread { let expectations = stream L.account lines.old lines.new in
+        IfErr result (λ refused. AreLinesUnread refused expectations) }
+{
+    match read_within(alloc, lines, TEXT_LIMIT) {
+        Ok(bytes) => match String::from_utf8(bytes) {
+            Ok(text) => Ok(text),
+            Err(_) => Err(Refused::at_input(Input::Lines, PlanError::NotJson)),
+        },
+        Err(fault) => Err(Refused::at_input(Input::Lines, PlanError::from(fault))),
     }
 }
 

@@ -9,7 +9,7 @@ ghost use Rattle.plan_commands.specs.Planned.{IsSaidOf, SaysSo};
 
 use crate::commands::answer::{Answer, tell};
 use crate::commands::certify::certificate_of_plan;
-use crate::commands::draw::drawing_of_plan;
+use crate::commands::draw::{DrawnRows, drawing_of_plan};
 use crate::commands::inputs::{PlanText, given_plan_text};
 use crate::commands::lint::findings_of_plan;
 use crate::commands::listing::faults_of_plan;
@@ -24,7 +24,7 @@ pub enum PlanQuestion<'a> {
     /// What is its certificate, or why has it none?
     Certify,
     /// What does the network look like? A loop that rules certificates out, of rows or of owners, is red.
-    Draw,
+    Draw { rows: DrawnRows },
     /// What are all its faults, or what else rules certificates out? The name is that of the plan's file, which stands
     /// before each place.
     Faults { name: &'a str },
@@ -81,7 +81,7 @@ fn answer_of_plan(
 {
     match *question {
         PlanQuestion::Certify => certificate_of_plan(alloc, &given.plan),
-        PlanQuestion::Draw => drawing_of_plan(alloc, &given.plan),
+        PlanQuestion::Draw { rows } => drawing_of_plan(alloc, &given.plan, rows),
         PlanQuestion::Faults { name } => faults_of_plan(alloc, name, given),
         PlanQuestion::Lint => findings_of_plan(alloc, &given.plan),
     }

@@ -6,7 +6,7 @@ ghost use Rattle.plan_commands.specs.Tracing.{IsWayText, IsTraceText, NameTheEnd
 mod ends;
 
 use crate::refused::Refused;
-pub use ends::named_ends;
+pub use ends::{eid_of_word, named_ends};
 use mctp_transport::Eid;
 use net_check::Checked;
 use net_questions::follow;

@@ -86,7 +86,7 @@ fn answer_files<P: Source, C: Source, V: Source, O: Sink>(
 }
 
 /// The plan, its certificate and the events. Each is read only where those before it could be read.
-fn read_files<P: Source, C: Source, V: Source>(
+pub fn read_files<P: Source, C: Source, V: Source>(
     alloc: Global,
     plan: &mut P,
     certificate: &mut C,

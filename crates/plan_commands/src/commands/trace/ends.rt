@@ -34,7 +34,7 @@ fn destination(plan: &Plan, word: &str) -> Option<Eid>
 }
 
 /// The endpoint ID whose number the word is in ASCII digits, if it can be assigned.
-fn eid_of_word(word: &str) -> Option<Eid>
+pub fn eid_of_word(word: &str) -> Option<Eid>
     ensures { MatchOption result ((e : ℕ) → ¬ IsEidWord word.now e) (λ eid. IsEidWord word.now eid.value) }
 {
     if !has_only_digits(word.as_bytes()) {

@@ -7,5 +7,5 @@ pub loop-index-preserved : goal.loop-index-preserved
 loop-index-preserved c =
     let item = c.index-ports-index in
     c.in_ok-push_str.ensures.bytes
-    ∙ one_more (port_line c.args.node) c.args.ports.now c.loop-index.index item.result (string_bytes c.loop-index.lines) c.deref.result.now
+    ∙ one_more (port_line c.args.plan.now c.args.owner c.args.node) c.args.ports.now c.loop-index.index item.result (string_bytes c.loop-index.lines) c.deref.result.now
     c.loop-index-test.true item.is c.loop-index.invariant (c.deref.ensures ∙ c.in_ok-port_line.ensures)

@@ -9,5 +9,5 @@ loop-index-preserved c =
     let item = c.index-nodes-index in
     let lines = rw c.deref.ensures.value at c.in_ok-node_port_lines.ensures in
     c.in_ok-push_str.ensures.bytes
-    ∙ one_more (λ n (node : Node). all_by_index (port_line n) node.ports.items) c.args.nodes.now c.loop-index.index item.result (string_bytes c.loop-index.lines)
+    ∙ one_more (λ n (node : Node). all_by_index (port_line c.args.plan.now node.owner n) node.ports.items) c.args.nodes.now c.loop-index.index item.result (string_bytes c.loop-index.lines)
     c.deref-in-loop-index.result.now c.loop-index-test.true item.is c.loop-index.invariant (c.deref-in-loop-index.ensures ∙ lines)
