@@ -15,7 +15,7 @@ use Rattle.net_rules.specs.declared.move_fault.MoveFault.{MoveFault}
 use Rattle.net_tables.specs.Routing.{eid_number}
 use Rattle.net_rules.specs.MoveFaults.{code_of_move}
 use Rattle.net_plan.specs.declared.plan.Plan.{Plan}
-use Rattle.plan_texts.specs.Lines.{name_or_dash, number_or_dash, names_text, owner_loop_text, chain_text}
+use Rattle.plan_texts.specs.Lines.{name_or_dash, number_or_dash, names_text, obstacle_text}
 
 -- whose rule is broken: the code, the node's name, the entry and the endpoint ID
 abbrev pub move_fault_text : Plan → List ℕ → MoveFault → List ℕ
@@ -64,9 +64,9 @@ old_loop_text plan eid nodes = mixed_loop_text plan eid nodes (replicate (length
 abbrev pub old_obstacle_text : Plan → CertifyError → Option (List ℕ)
 old_obstacle_text plan (alone.Fault fault) = Some (move_fault_text plan (codes "old ")
     (record { rule = OfPlan fault.rule; node = fault.node; entry = fault.entry; eid = fault.eid }))
-old_obstacle_text plan (alone.OwnerLoop nodes) = Some (owner_loop_text plan nodes.items)
+old_obstacle_text plan (alone.OwnerLoop nodes) = obstacle_text plan (alone.OwnerLoop nodes)
 old_obstacle_text plan (alone.Loop eid nodes) = Some (old_loop_text plan eid.value nodes.items)
-old_obstacle_text plan (alone.BadChain node fault) = Some (chain_text plan node fault)
+old_obstacle_text plan (alone.BadChain node fault) = obstacle_text plan (alone.BadChain node fault)
 old_obstacle_text plan alone.OutOfMemory = None
 
 -- what rules certificates of the move out, where nodes have their names in the plan; want of memory does not

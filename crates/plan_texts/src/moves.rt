@@ -2,7 +2,7 @@
 ghost use Rattle.std.specs.Prelude.{◌≡◌, Some, IfOk, string_bytes};
 ghost use Rattle.plan_texts.specs.MoveLines.{name_of_some, difference_text, move_fault_text, move_error_text, move_obstacle_text, old_obstacle_text, old_loop_text, mixed_loop_text, sides_text, side_word};
 
-use super::{OrDash, chain_line, name_or_dash, names_after_spaces, owner_loop_line};
+use super::{OrDash, name_or_dash, names_after_spaces, obstacle_line};
 use mctp_transport::Eid;
 use net_plan::Plan;
 use net_rules::{CertifyError, MoveError, MoveFault, MoveObstacle, Side, fault_of_plan};
@@ -57,9 +57,10 @@ fn old_obstacle_line(
         CertifyError::Fault(fault) => {
             move_fault_line(alloc, before, "old ", &fault_of_plan(*fault))
         }
-        CertifyError::OwnerLoop(nodes) => owner_loop_line(alloc, before, nodes),
         CertifyError::Loop(eid, nodes) => old_loop_line(alloc, before, *eid, nodes),
-        CertifyError::BadChain(node, fault) => chain_line(alloc, before, *node, *fault),
+        CertifyError::OwnerLoop(_) | CertifyError::BadChain(..) => {
+            obstacle_line(alloc, before, error)
+        }
         CertifyError::OutOfMemory => Err(AllocError),
     }
 }
