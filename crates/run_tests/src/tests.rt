@@ -3,8 +3,6 @@
 mod asking_again;
 mod assigning;
 mod beyond;
-mod codes;
-mod collecting;
 mod keys;
 mod lists;
 mod networks;
@@ -12,5 +10,4 @@ mod planned;
 mod playing;
 mod refused_runs;
 mod refused_walks;
-mod storage;
 mod termini;

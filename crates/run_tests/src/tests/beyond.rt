@@ -1,13 +1,12 @@
 //! Events that no text has: at nodes beyond the plan, and of walks that ask for fewer bytes than 8 or more than 4,079.
-use super::keys::key_of;
 use super::networks::{certificate_of, moving_network_of, network_of, plan_of};
 use super::refused_runs::by_right;
-use super::termini::{Storage, termini_of};
-use mctp_transport::{Eid, Tag};
+use super::termini::{planned_record, termini_of};
+use mctp_transport::{Eid, Key, Tag};
 use net_check::check_move;
 use net_plan::{Certificate, Event, Plan};
-use net_sim::{Effect, Network, Outcome};
-use sample_texts::riser::{CERTIFICATE, HOST, NIC, PLAN};
+use net_sim::{Effect, Network, Outcome, Refusal};
+use sample_texts::riser::{CERTIFICATE, HOST, PLAN};
 use sample_texts::two_ways::{RANKS_OF_TWO_WAYS, TWO_WAYS};
 use std::alloc::{AllocError, Global};
 use std::test::Fail;
@@ -37,7 +36,11 @@ fn walk_of(node: usize, eid: u8, count: u16) -> Event {
 /// Events that name a node.
 fn events_at(alloc: Global, node: usize) -> Result<Vec<Event>, AllocError> {
     let bytes = [1, 10, 8].to_vec(alloc)?;
-    let key = key_of(8, true);
+    let key = Key {
+        source: Eid::new(8),
+        tag: Tag::new(3),
+        owner: true,
+    };
     let mut events = Vec::new(alloc);
     events.push(Event::Put { node, bytes })?;
     events.push(Event::Expire { node, key })?;
@@ -65,7 +68,7 @@ fn refuses_beyond(alloc: Global, network: &mut Network) -> Result<bool, AllocErr
 
 /// Whether they are on the network of this plan.
 fn is_bounded(alloc: Global, plan: &Plan, certificate: &Certificate) -> Result<bool, Fail> {
-    let termini = termini_of(alloc, plan, &[(NIC, Storage::List)])?;
+    let termini = termini_of(alloc, planned_record(alloc)?)?;
     let mut network = network_of(alloc, plan, certificate, termini)?;
     Ok(refuses_beyond(alloc, &mut network)?)
 }
@@ -112,7 +115,7 @@ fn bounds_counts(network: &mut Network) -> Result<bool, AllocError> {
 
 /// Whether they are on the network of this plan.
 fn are_counts_bounded(alloc: Global, plan: &Plan, certificate: &Certificate) -> Result<bool, Fail> {
-    let termini = termini_of(alloc, plan, &[(NIC, Storage::List)])?;
+    let termini = termini_of(alloc, planned_record(alloc)?)?;
     let mut network = network_of(alloc, plan, certificate, termini)?;
     Ok(bounds_counts(&mut network)?)
 }
@@ -124,4 +127,10 @@ fn refuses_counts_beyond_those_of_any_unit(rt: HostRuntime) -> Result<(), Fail> 
     let certificate = certificate_of(rt.alloc(), &plan, CERTIFICATE)?;
     assert!(rt; are_counts_bounded(rt.alloc(), &plan, &certificate)?);
     Ok(())
+}
+
+/// No list of events uses up the numbers of flights.
+#[test]
+fn want_of_numbers_has_its_code(rt: HostRuntime) {
+    assert_eq!(rt; Refusal::NoNumbers.code(), "N06");
 }

@@ -40,7 +40,7 @@ const IN_ONE_PART: &str =
     r#"{"format":3,"events":[{"do":"walk","node":"host","eid":17,"tag":2,"count":32},{"do":"ask","walker":1},{"do":"move","flight":1,"keep":false},{"do":"move","flight":1,"keep":false},{"do":"move","flight":1,"keep":false},{"do":"answer","node":"nic"},{"do":"move","flight":2,"keep":false},{"do":"move","flight":2,"keep":false},{"do":"move","flight":2,"keep":false},{"do":"collected","walker":1},{"do":"ask","walker":1}]}"#;
 
 /// A walk in two parts. A copy of the first request stays at host, and the next one waits until it is lost.
-pub const AFTER_A_LOST_FLIGHT: &str =
+const AFTER_A_LOST_FLIGHT: &str =
     r#"{"format":3,"events":[{"do":"walk","node":"host","eid":17,"tag":2,"count":16},{"do":"ask","walker":1},{"do":"move","flight":1,"keep":true},{"do":"move","flight":2,"keep":false},{"do":"move","flight":2,"keep":false},{"do":"answer","node":"nic"},{"do":"move","flight":3,"keep":false},{"do":"move","flight":3,"keep":false},{"do":"move","flight":3,"keep":false},{"do":"ask","walker":1},{"do":"lose","flight":1},{"do":"ask","walker":1},{"do":"collected","walker":1},{"do":"move","flight":4,"keep":false},{"do":"move","flight":4,"keep":false},{"do":"move","flight":4,"keep":false},{"do":"answer","node":"nic"},{"do":"move","flight":5,"keep":false},{"do":"move","flight":5,"keep":false},{"do":"move","flight":5,"keep":false},{"do":"collected","walker":1}]}"#;
 
 /// The request is asked twice and answered twice. The second answer is taken, the first one comes late.
@@ -83,10 +83,6 @@ pub const WALKS: [&str; 9] = [
     AT_THE_TERMINUS,
     REFUSED,
 ];
-
-/// The terminus IDs of nic and ssd are set; both wait before ssd answers first. Then they are read.
-pub const SET_AND_READ_BOTH: &str =
-    r#"{"format":3,"events":[{"do":"put","node":"host","bytes":"011108cb0180000105"},{"do":"put","node":"host","bytes":"011208cb0180000106"},{"do":"move","flight":1,"keep":false},{"do":"move","flight":2,"keep":false},{"do":"move","flight":1,"keep":false},{"do":"move","flight":2,"keep":false},{"do":"move","flight":1,"keep":false},{"do":"move","flight":2,"keep":false},{"do":"answer","node":"ssd"},{"do":"answer","node":"nic"},{"do":"move","flight":3,"keep":false},{"do":"move","flight":4,"keep":false},{"do":"move","flight":3,"keep":false},{"do":"move","flight":4,"keep":false},{"do":"move","flight":3,"keep":false},{"do":"move","flight":4,"keep":false},{"do":"put","node":"host","bytes":"011108cb01800002"},{"do":"put","node":"host","bytes":"011208cb01800002"},{"do":"move","flight":5,"keep":false},{"do":"move","flight":6,"keep":false},{"do":"move","flight":5,"keep":false},{"do":"move","flight":6,"keep":false},{"do":"move","flight":5,"keep":false},{"do":"move","flight":6,"keep":false},{"do":"answer","node":"ssd"},{"do":"answer","node":"nic"},{"do":"move","flight":7,"keep":false},{"do":"move","flight":8,"keep":false},{"do":"move","flight":7,"keep":false},{"do":"move","flight":8,"keep":false},{"do":"move","flight":7,"keep":false},{"do":"move","flight":8,"keep":false}]}"#;
 
 /// Host switches while a request is on its way, and then sends another.
 pub const SWITCHED: &str =

@@ -6,8 +6,9 @@ ghost use Rattle.net_sim.specs.Dealing.{resting, planned_termini};
 ghost use Rattle.net_sim.specs.Outcomes.{event_value, outcome_value};
 ghost use Rattle.run_tests.specs.Planned.{IsRunFromStart, IsAlone};
 
-use super::keys::are_there_and_back;
+use super::keys::THERE_AND_BACK;
 use super::networks::{certificate_of, plan_of};
+use super::playing::told;
 use net_check::{Checked, check};
 use net_json::events_of_text;
 use net_plan::{Event, Plan, PlannedRecord, PlannedTerminus};
@@ -134,6 +135,10 @@ fn plays_from_the_start_over_a_planned_terminus(rt: HostRuntime) -> Result<(), F
     let plan = plan_of(rt.alloc(), PLAN)?;
     let events = events_of_text(rt.alloc(), &plan, EVENTS.as_bytes())?;
     let played = played_at_nic(rt.alloc(), &plan, &events)?;
-    assert!(rt; !played.stopped && are_there_and_back(&played.outcomes));
+    assert!(rt; !played.stopped);
+    assert_eq!(rt;
+        told(rt.alloc(), &played.outcomes)?.as_str(),
+        THERE_AND_BACK
+    );
     Ok(())
 }

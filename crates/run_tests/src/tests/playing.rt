@@ -1,7 +1,7 @@
 //! Networks that are played in several ways, and what comes of it as texts.
 use super::asking_again;
 use super::networks::network_of;
-use super::termini::{Storage, termini_of};
+use super::termini::{planned_record, termini_of};
 use net_plan::{Certificate, Event, Plan};
 use net_sim::{Network, Outcome};
 use std::alloc::{AllocError, Global};
@@ -42,19 +42,19 @@ fn run(network: &mut Network, events: &[Event]) -> Result<Vec<Outcome>, Fail> {
 }
 
 /// What outcomes hold, all of it.
-fn told(alloc: Global, outcomes: &[Outcome]) -> Result<String, AllocError> {
+pub fn told(alloc: Global, outcomes: &[Outcome]) -> Result<String, AllocError> {
     format!(in alloc; "{outcomes:?}")
 }
 
-/// What comes of events on the network of a plan, with termini at these places.
+/// What comes of events on the network of a plan, with the planned record at nic.
 pub fn told_on(
     alloc: Global,
     plan: &Plan,
     certificate: &Certificate,
-    places: &[(usize, Storage)],
-    (events, way): (&[Event], Way),
+    events: &[Event],
+    way: Way,
 ) -> Result<String, Fail> {
-    let termini = termini_of(alloc, plan, places)?;
+    let termini = termini_of(alloc, planned_record(alloc)?)?;
     let mut network = network_of(alloc, plan, certificate, termini)?;
     let outcomes = outcomes_of(alloc, &mut network, events, way)?;
     Ok(told(alloc, &outcomes)?)

@@ -1,21 +1,20 @@
 //! Networks in which any growth of memory may be refused. An event that is asked again then has the outcome that it has
 //! with ample memory. `tools/try growths` refuses the growths one after another.
-use super::keys::are_there_and_back;
+use super::keys::THERE_AND_BACK;
 use super::lists::{RUNS, SWITCHED};
 use super::networks::{certificate_of, moving_network_of, plan_of};
-use super::playing::{Way, outcomes_of, told_on};
-use super::termini::{Storage, TWENTY, termini_with};
+use super::playing::{Way, outcomes_of, told, told_on};
+use super::termini::{termini_of, twenty_records};
 use net_check::{Checked, CheckedMove, check, check_move};
 use net_json::events_of_text;
 use net_plan::{Certificate, Event, Plan};
-use net_sim::{Effect, Network, Outcome, planned_termini_count};
+use net_sim::{Network, planned_termini_count};
 use pdr_repository::Terminus;
 use sample_texts::edited;
 use sample_texts::marks::{Mark, set_mark};
-use sample_texts::riser::{CERTIFICATE, EVENTS, NIC, PLAN};
+use sample_texts::riser::{CERTIFICATE, EVENTS, PLAN};
 use sample_texts::two_ways::{RANKS_OF_TWO_WAYS, TWO_WAYS};
 use std::alloc::Global;
-use std::process::Abort;
 use std::test::Fail;
 
 /// Whether the same comes of the events of a text, played this way, as with ample memory.
@@ -27,33 +26,37 @@ fn is_same(
     way: Way,
 ) -> Result<bool, Fail> {
     let events = events_of_text(alloc, plan, text.as_bytes())?;
-    let places = [(NIC, Storage::List)];
-    let wanted = told_on(alloc, plan, certificate, &places, (&events, Way::Run))?;
-    let came = told_on(alloc, plan, certificate, &places, (&events, way))?;
-    Ok(came == wanted)
+    let wanted = told_on(alloc, plan, certificate, &events, Way::Run)?;
+    Ok(told_on(alloc, plan, certificate, &events, way)? == wanted)
 }
 
-/// Wants the same to come of these lists of events on the riser network, played this way, as with ample memory.
-pub fn expect_lists(rt: &(impl Abort + AllocGlobal), lists: &[&str], way: Way) -> Result<(), Fail> {
-    let plan = plan_of(rt.alloc(), PLAN)?;
-    let certificate = certificate_of(rt.alloc(), &plan, CERTIFICATE)?;
+/// The first of these lists of events on the riser network of which something else comes, played this way, than with
+/// ample memory.
+pub fn first_other(
+    alloc: Global,
+    lists: &[&'static str],
+    way: Way,
+) -> Result<Option<&'static str>, Fail> {
+    let plan = plan_of(alloc, PLAN)?;
+    let certificate = certificate_of(alloc, &plan, CERTIFICATE)?;
     for text in lists {
-        assert!(rt;
-            is_same(rt.alloc(), &plan, &certificate, text, way)?,
-            "{text}"
-        );
+        if !is_same(alloc, &plan, &certificate, *text, way)? {
+            return Ok(Some(*text));
+        }
     }
-    Ok(())
+    Ok(None)
 }
 
 #[test]
 fn refused_step(rt: HostRuntime) -> Result<(), Fail> {
-    expect_lists(&rt, &RUNS, Way::RefusedSteps)
+    assert_eq!(rt; first_other(rt.alloc(), &RUNS, Way::RefusedSteps)?, None);
+    Ok(())
 }
 
 #[test]
 fn refused_run(rt: HostRuntime) -> Result<(), Fail> {
-    expect_lists(&rt, &RUNS, Way::RefusedRun)
+    assert_eq!(rt; first_other(rt.alloc(), &RUNS, Way::RefusedRun)?, None);
+    Ok(())
 }
 
 /// The network of a checked plan; none where memory ran out.
@@ -81,7 +84,7 @@ fn over_20_records<'a>(
     certificate: &'a Certificate,
 ) -> Result<Option<Network<'a>>, Fail> {
     let checked = check(alloc, plan, certificate)?;
-    new(alloc, checked, termini_with(alloc, &TWENTY)?)
+    new(alloc, checked, termini_of(alloc, twenty_records(alloc)?)?)
 }
 
 /// Whether a request and its answer come on the network over 20 records, or memory ran out.
@@ -94,7 +97,7 @@ fn goes_and_comes(
     match over_20_records(alloc, plan, certificate)? {
         Some(mut network) => {
             let outcomes = outcomes_of(alloc, &mut network, events, Way::Run)?;
-            Ok(are_there_and_back(&outcomes))
+            Ok(told(alloc, &outcomes)?.as_str() == THERE_AND_BACK)
         }
         None => Ok(true),
     }
@@ -115,39 +118,17 @@ pub fn by_right(alloc: Global) -> Result<Plan, Fail> {
     plan_of(alloc, &text)
 }
 
-/// The node to which a flight has moved, if one has.
-fn moved_to(outcome: &Outcome) -> Option<usize> {
-    match outcome {
-        Outcome::Happened {
-            effect: Effect::Moved { node, .. },
-            handed: None,
-        } => Some(*node),
-        _ => None,
-    }
-}
-
-/// Where flights move: first by left to x, and once host has switched by right.
-const MOVES: [Option<usize>; 9] = [
-    None,
-    Some(1),
-    None,
-    Some(3),
-    None,
-    None,
-    Some(2),
-    None,
-    Some(3),
-];
-
-/// Whether flights move so.
-fn are_switched(outcomes: &[Outcome]) -> bool {
-    for (outcome, wanted) in outcomes.iter().zip(&MOVES) {
-        if moved_to(outcome) != *wanted {
-            return false;
-        }
-    }
-    outcomes.len() == MOVES.len()
-}
+/// The first request goes by left (1) to x (3), the second, once host (0) has switched, by right (2).
+const SWITCHED_BY_RIGHT: &str = "[Happened { effect: PutIn { number: 1, node: 0 }, handed: None }, \
+Happened { effect: Moved { number: 1, node: 1, hops: 1 }, handed: None }, \
+Happened { effect: Switched { node: 0 }, handed: None }, \
+Happened { effect: Moved { number: 1, node: 3, hops: 2 }, handed: None }, \
+Happened { effect: Whole { number: 1, node: 3, key: Key { source: Eid { value: 8 }, tag: Tag { value: 3 }, owner: true }, \
+bytes: [1, 128, 0, 2] }, handed: None }, \
+Happened { effect: PutIn { number: 2, node: 0 }, handed: None }, \
+Happened { effect: Moved { number: 2, node: 2, hops: 1 }, handed: None }, \
+Happened { effect: Refused(NoSwitch), handed: None }, \
+Happened { effect: Moved { number: 2, node: 3, hops: 2 }, handed: None }]";
 
 /// The network of a checked move; none where memory ran out.
 fn new_move<'a>(
@@ -179,7 +160,7 @@ fn switches(
     match new_move(alloc, checked, Vec::new(alloc))? {
         Some(mut network) => {
             let outcomes = outcomes_of(alloc, &mut network, events, Way::Run)?;
-            Ok(are_switched(&outcomes))
+            Ok(told(alloc, &outcomes)?.as_str() == SWITCHED_BY_RIGHT)
         }
         None => Ok(true),
     }
@@ -206,7 +187,7 @@ fn switches_in_steps(
     let checked = check_move(alloc, before, after, certificate)?;
     let mut network = moving_network_of(alloc, checked, Vec::new(alloc))?;
     let outcomes = outcomes_of(alloc, &mut network, events, Way::RefusedSteps)?;
-    Ok(are_switched(&outcomes))
+    Ok(told(alloc, &outcomes)?.as_str() == SWITCHED_BY_RIGHT)
 }
 
 #[test]
