@@ -3,11 +3,11 @@ pub mod Packets
 pub mod Tables
 pub mod Listing
 pub mod Exists
+pub mod FirstNoted
 pub mod Ascending
 pub mod Within
 pub mod Bounds
 pub mod Numbers
-pub mod SensorIds
 pub mod Walks
 pub mod FirstRows
 pub mod TopmostOwners
