@@ -1,5 +1,4 @@
-use Rattle.std.proofs.Common.{◌≡◌, ◌≤◌, List, length, sym, ◌∙◌, ap, subst, arith}
-use Rattle.std.specs.Prelude.{true, vec_capacity}
+use Rattle.std.proofs.Common.{◌≡◌, sym, subst, arith}
 use Rattle.mctp_transport.specs.Frames.{Frame}
 use Rattle.mctp_transport.specs.Histories.{Comes, Arrived, after}
 use Rattle.mctp_transport.specs.Hearing.{IsDropped}
