@@ -71,10 +71,10 @@ its_part parts k n part before new rows more here its more_sends sends e port m 
     ]
   ],
   λ kept. (
-    let out : ¬ ((part.first.value ≤ e) × (e ≤ part.last.value)) = λ within. kept (k, omega arith, part, here, (its, within.0, within.1)) in
-    let as_rows = (more_sends e port m).1 out in
-    let as_before = (sends e port m).1 (λ taken. kept (taken_later parts k n e taken)) in
-    (λ h. as_before.0 (as_rows.0 h), λ h. as_rows.1 (as_before.1 h))),
+      let out : ¬ ((part.first.value ≤ e) × (e ≤ part.last.value)) = λ within. kept (k, omega arith, part, here, (its, within.0, within.1)) in
+      let as_rows = (more_sends e port m).1 out in
+      let as_before = (sends e port m).1 (λ taken. kept (taken_later parts k n e taken)) in
+      (λ h. as_before.0 (as_rows.0 h), λ h. as_rows.1 (as_before.1 h))),
 )
   where
     less : IsTakenBefore parts (k + 1) n e → ¬ IsOfPart part n e → IsTakenBefore parts k n e
@@ -82,6 +82,7 @@ its_part parts k n part before new rows more here its more_sends sends e port m 
       | inl h ↦ h
       | inr h ↦ absurd (not_its h)
     ]
+
     earlier : ¬ ((part.first.value ≤ e) × (e ≤ part.last.value)) → IsTakenBefore parts k n e → SendsBy more e port m ↔ SendsBy new e port m
     earlier out taken =
         let as_rows = (more_sends e port m).1 out in
@@ -158,10 +159,13 @@ rows_beyond plan n beyond = ap (λ o. unwrap_or (option_map (λ (node : Node). n
 pub all_changed : (before after : Plan) (k : ℕ) (nodes : List ℕ) → length before.nodes.items ≤ k → length after.nodes.items ≤ k
     → AreChangedBefore before after k nodes → AreChanged before after nodes
 all_changed before after k nodes few few_after h = record {
-  named = λ n. (h.differ n, λ d. elim (cases_lt n k) [
-    | inl lt ↦ h.all n lt d
-    | inr ge ↦ absurd (d (ap (map row_value) (rows_beyond after n (omega (arith, ge, few_after)) ∙ sym (rows_beyond before n (omega (arith, ge, few))))))
-  ]);
+  named = λ n. (
+    h.differ n,
+    λ d. elim (cases_lt n k) [
+      | inl lt ↦ h.all n lt d
+      | inr ge ↦ absurd (d (ap (map row_value) (rows_beyond after n (omega (arith, ge, few_after)) ∙ sym (rows_beyond before n (omega (arith, ge, few))))))
+    ],
+  );
   ascend = h.ascend;
 }
 
@@ -213,13 +217,15 @@ made_plan here new change buses nodes None same after many told whole = tt
 made_plan here new change buses nodes (Some p) same after many told whole = record {
   rows_alone = (
     same_frame here p whole.0 (ap (λ (v : Vec Bus Global). map bus_value v.items) whole.1 ∙ same) made.long,
-    λ n. same_node here p n (alike n));
+    λ n. same_node here p n (alike n),
+  );
   rows = rows;
   told = told;
 }
   where
     made : AreNodesAfter here new change (length here.nodes.items) p.nodes.items
     made = subst (λ (v : Vec Node Global). AreNodesAfter here new change (length here.nodes.items) v.items) (sym whole.2) after
+
     alike : (n : ℕ) → option_map but_rows (node_at here n) ≡ option_map but_rows (node_at p n)
     alike n = elim (cases_lt n (length here.nodes.items)) [
       | inl lt ↦ (
@@ -227,6 +233,7 @@ made_plan here new change buses nodes (Some p) same after many told whole = reco
           (made.each n found.0 found.1).0 ∙ sym (ap (option_map but_rows) found.1))
       | inr ge ↦ ap (option_map but_rows) (slice_get_past here.nodes.items n ge ∙ sym (slice_get_past p.nodes.items n (omega (arith, ge, made.long))))
     ]
+
     rows : (n : ℕ) → GoesAs here new change n (rows_of p n)
     rows n = elim (cases_lt n (length here.nodes.items)) [
       | inl lt ↦ (

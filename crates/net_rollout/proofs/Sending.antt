@@ -45,11 +45,13 @@ one_added made row piece from to port_same next_same covers e port m = (there, b
         let p' : piece.port ≡ port = subst (λ y. y.port ≡ port) (sym same) p in
         let n' : piece.next ≡ m = subst (λ y. y.next ≡ m) (sym same) n in
         inr (parts.0, parts.1, parts.2, sym port_same ∙ p', sym next_same ∙ n')
+
     there : SendsBy (made ++ piece ∷ []) e port m → SendsBy made e port m ⊎ IsPieceOf row from to e port m
     there h = elim (item_pushed made piece h.0 h.1 h.2) [
       | inl is ↦ inl (h.0, h.1, is, h.3, h.4, h.5)
       | inr is ↦ of_piece h.1 is.1 h.3 h.4 h.5
     ]
+
     back : (SendsBy made e port m ⊎ IsPieceOf row from to e port m) → SendsBy (made ++ piece ∷ []) e port m
     back (inl h) = (h.0, h.1, item_kept made (piece ∷ []) h.0 h.1 h.2, h.3, h.4, h.5)
     back (inr h) = (length made, piece, item_last made piece, (covers e).1 (h.0, h.1, h.2), port_same ∙ h.3, next_same ∙ h.4)
@@ -63,15 +65,19 @@ one_row_more old made more rows k row from to here added before e port m = (ther
     later : (SendsBy old e port m ⊎ SentBefore rows k from to e port m) → SendsBy old e port m ⊎ SentBefore rows (k + 1) from to e port m
     later (inl h) = inl h
     later (inr h) = inr (h.0, omega (arith, h.1), h.2, h.3, h.4)
+
     there_of : (SendsBy made e port m ⊎ IsPieceOf row from to e port m) → SendsBy old e port m ⊎ SentBefore rows (k + 1) from to e port m
     there_of (inl h) = later ((before e port m).0 h)
     there_of (inr h) = inr (k, omega arith, row, here, h)
+
     there : SendsBy more e port m → SendsBy old e port m ⊎ SentBefore rows (k + 1) from to e port m
     there h = there_of ((added e port m).0 h)
+
     of_row : (r : ℕ) (one : Row) → slice_get rows r ≡ Some one → r ≡ k → IsPieceOf one from to e port m → IsPieceOf row from to e port m
     of_row r one is at h =
         let same : one ≡ row = item_same rows k one row (subst (λ x. slice_get rows x ≡ Some one) at is) here in
         subst (λ x. IsPieceOf x from to e port m) same h
+
     back : (SendsBy old e port m ⊎ SentBefore rows (k + 1) from to e port m) → SendsBy more e port m
     back (inl h) = (added e port m).1 (inl ((before e port m).1 (inl h)))
     back (inr h) = elim (cases_lt h.0 k) [
@@ -87,6 +93,7 @@ all_pieces old made rows k from to all before e port m = (λ h. more ((before e 
     more : (SendsBy old e port m ⊎ SentBefore rows k from to e port m) → SendsBy old e port m ⊎ (SendsBy rows e port m × (from ≤ e) × (e < to))
     more (inl h) = inl h
     more (inr h) = inr ((h.0, h.2, h.3, h.4.0, h.4.3, h.4.4), h.4.1, h.4.2)
+
     less : (SendsBy old e port m ⊎ (SendsBy rows e port m × (from ≤ e) × (e < to))) → SendsBy old e port m ⊎ SentBefore rows k from to e port m
     less (inl h) = inl h
     less (inr h) = inr (h.0.0, omega (arith, slice_get_within rows h.0.0 h.0.1 h.0.2, all), h.0.1, h.0.2, (h.0.3, h.1, h.2, h.0.4, h.0.5))
@@ -101,16 +108,19 @@ three_runs first last start behind rows new low both made at_first at_last one t
   where
     none : SendsBy [] e port m → ⊥
     none h = cc h.2
+
     of_low : SendsBy low e port m → SendsBy rows e port m × (e < start)
     of_low h = elim ((one e port m).0 h) [
       | inl x ↦ absurd (none x)
       | inr x ↦ (x.0, x.2)
     ]
+
     of_both : SendsBy both e port m → (SendsBy rows e port m × (e < start)) ⊎ (SendsBy new e port m × (start ≤ e) × (e < behind))
     of_both h = elim ((two e port m).0 h) [
       | inl x ↦ inl (of_low x)
       | inr x ↦ inr x
     ]
+
     taken : (first ≤ e) × (e ≤ last) → SendsBy made e port m ↔ SendsBy new e port m
     taken within = (there, λ h. (three e port m).1 (inl ((two e port m).1 (inr (h, omega (arith, within.0, at_first), omega (arith, within.1, at_last))))))
       where
@@ -122,6 +132,7 @@ three_runs first last start behind rows new low both made at_first at_last one t
           ]
           | inr x ↦ absurd (omega (arith, x.1, within.1, at_last))
         ]
+
     kept : ¬ ((first ≤ e) × (e ≤ last)) → SendsBy made e port m ↔ SendsBy rows e port m
     kept without = (there, back)
       where
@@ -133,8 +144,10 @@ three_runs first last start behind rows new low both made at_first at_last one t
           ]
           | inr x ↦ x.0
         ]
+
         few : SendsBy rows e port m → e ≤ 255
         few h = h.3.2
+
         back : SendsBy rows e port m → SendsBy made e port m
         back h = elim (cases_lt e first) [
           | inl lt ↦ (three e port m).1 (inl ((two e port m).1 (inl ((one e port m).1 (inr (h, omega arith, omega (arith, lt, at_first)))))))
@@ -205,6 +218,7 @@ sent_to_it rows k e next flag all is sent m = (there, back)
   where
     there : NamesFor rows e m → next ≡ Some m
     there h = sent.same h.0 h.1 (omega (arith, slice_get_within rows h.0 h.1 h.2, all)) h.2 h.3 ∙ ap Some h.4
+
     back : next ≡ Some m → NamesFor rows e m
     back some =
         let found = sent.some is in

@@ -50,12 +50,7 @@ pub fn settle(all: &mut [EidWays]) {
 }
 
 impl EidWays {
-    fn of(
-        alloc: Global,
-        before: &Plan,
-        after: &Plan,
-        eid: Eid,
-    ) -> Result<EidWays, AllocError> {
+    fn of(alloc: Global, before: &Plan, after: &Plan, eid: Eid) -> Result<EidWays, AllocError> {
         Ok(EidWays {
             eid,
             holder: before.nodes.iter().position(|node| node.eid == eid),

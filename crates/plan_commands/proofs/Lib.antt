@@ -11,6 +11,7 @@ pub mod Naming
 pub mod Moved
 pub mod MovePlayed
 pub mod MoveCertified
+pub mod RolledOut
 pub mod Playing
 pub mod Ends
 pub mod Linted

@@ -4,3 +4,4 @@ pub mod Chains
 pub mod Differing
 pub mod RowDrawn
 pub mod ObstacleLines
+pub mod StepLines
