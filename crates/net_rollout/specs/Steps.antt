@@ -1,5 +1,6 @@
 -- Steps from the rows of one plan to those of another.
-use Rattle.std.specs.Prelude.{◌≡◌, ◌≢◌, ◌⊎◌, ◌↔◌, ℕ, ◌<◌, ◌≤◌, List, [], ◌∷◌, slice_get, length, map, Some, option_map, AllPairs, Contains, ⊤}
+use Rattle.std.specs.Prelude.{◌≡◌, ◌≢◌, ◌⊎◌, ◌↔◌, ℕ, ◌<◌, ◌≤◌, List, [], ◌∷◌, slice_get, length, map}
+use Rattle.std.specs.Prelude.{AllPairs, Contains, Some, option_map, ⊤}
 use Rattle.net_plan.specs.declared.plan.Plan.{Plan}
 use Rattle.net_plan.specs.declared.nodes.Row.{Row}
 use Rattle.net_plan.specs.declared.certificate.Certificate.{Certificate}
@@ -62,7 +63,8 @@ pub record IsSwitched (before new : Plan) (nodes : List ℕ) (after : Plan) : Ty
 -- changes. The new rows send each EID of a part to the node that the part tells, if any.
 pub record TakesParts (before new : Plan) (parts : List Part) (after : Plan) : Type 0 where
   pub rows_alone : DifferInRows before after
-  pub taken : (n e port m : ℕ) → IsTaken parts n e → SendsBy (rows_of after n) e port m ↔ SendsBy (rows_of new n) e port m
+  pub taken : (n e port m : ℕ) → IsTaken parts n e
+      → SendsBy (rows_of after n) e port m ↔ SendsBy (rows_of new n) e port m
   pub kept : (n e port m : ℕ) → ¬ IsTaken parts n e
       → SendsBy (rows_of after n) e port m ↔ SendsBy (rows_of before n) e port m
   pub told : AreTold new parts

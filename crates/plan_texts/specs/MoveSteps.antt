@@ -1,5 +1,6 @@
 -- The lines of the steps from the rows of one plan to those of another.
-use Rattle.std.specs.Prelude.{ℕ, suc, ◌+◌, List, [], ◌∷◌, ◌++◌, Option, Some, option_map, codes, length, nat_eq, if◌then◌else◌}
+use Rattle.std.specs.Prelude.{ℕ, suc, ◌+◌, List, [], ◌∷◌, ◌++◌, codes, length, nat_eq, if◌then◌else◌}
+use Rattle.std.specs.Prelude.{Option, Some, option_map}
 use Rattle.std.specs.Fmt.{decimal}
 use Rattle.std.specs.List.{flat_map}
 use Rattle.net_plan.specs.declared.plan.Plan.{Plan}

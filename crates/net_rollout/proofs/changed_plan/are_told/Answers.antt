@@ -1,8 +1,7 @@
-use Rattle.std.proofs.Common.{◌≡◌, ◌+◌, ◌<◌, ◌≤◌, Some, length, arith, subst, sym, inl, inr, rules}
+use Rattle.std.proofs.Common.{◌≡◌, Some, length, arith, subst, inl, inr}
 use Rattle.std.specs.Prelude.{slice_get}
 use Rattle.std.proofs.lemmas.Bool.{cases_lt}
 use Rattle.std.proofs.lemmas.Option.{slice_get_read, slice_get_within}
-use Rattle.net_rollout.specs.declared.change.Part.{Part}
 use Rattle.net_rollout.specs.Steps.{IsPartTold}
 use Rattle.net_rollout.proofs.Items.{item_same}
 use Rattle.net_rollout.proofs.changed_plan.are_told.Goals as goal

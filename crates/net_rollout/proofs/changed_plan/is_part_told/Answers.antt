@@ -1,4 +1,4 @@
-use Rattle.std.proofs.Common.{◌≡◌, ◌↔◌, ◌+◌, ◌<◌, ◌≤◌, List, ℕ, Some, arith, subst, sym, inl, inr, refl, rules}
+use Rattle.std.proofs.Common.{◌≡◌, ◌↔◌, List, ℕ, Some, arith, subst, inl, inr}
 use Rattle.std.proofs.lemmas.Bool.{cases_lt}
 use Rattle.net_plan.specs.declared.nodes.Row.{Row}
 use Rattle.net_tables.specs.Routing.{NamesFor, rows_of}
