@@ -110,6 +110,7 @@ def commands():
         ("lint", [[plan], [TOP / "examples/questions/plan-without-rows.json"]]),
         ("move", [[left, right, ranks]]),
         ("certifymove", [[left, right], [MOVE / "to-left.json", MOVE / "to-right.json"]]),
+        ("rollout", [[left, right], [MOVE / "to-left.json", MOVE / "to-right.json"]]),
         ("simmove", [[left, right, ranks, MOVE / "events.json"]]),
         ("show", [["packet", "010a08cb01800002"], ["packet", "010a08"], ["record", record]]),
         ("describe", [[record]]),

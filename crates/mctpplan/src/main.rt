@@ -6,9 +6,9 @@ ghost use Rattle.std.specs.Prelude.{◌≡◌};
 use net_json::Counted;
 use plan_commands::{
     FileAtPath, PlanQuestion, Question, Refused, ShownKind, Status, Subcommand, WordQuestion,
-    hint_nodes, hint_words, parse_command, refuse, run_certified, run_certify_move, run_expect, run_explain,
-    run_explain_certified, run_known, run_move, run_planned, run_require, run_show, run_worded,
-    simulate, simulate_move,
+    hint_nodes, hint_words, parse_command, refuse, run_certified, run_certify_move, run_expect,
+    run_explain, run_explain_certified, run_known, run_move, run_planned, run_require, run_rollout,
+    run_show, run_worded, simulate, simulate_move,
 };
 use std::env;
 use std::io::IsTerminal;
@@ -77,6 +77,7 @@ fn run_command<'a>(rt: &'a HostRuntime, command: Subcommand<'a>) -> Status {
             certificate,
         } => check_move(rt, before, after, certificate),
         Subcommand::CertifyMove { before, after } => certify_move(rt, before, after),
+        Subcommand::Rollout { before, after } => roll_out(rt, before, after),
         Subcommand::SimMove {
             before,
             after,
@@ -218,6 +219,21 @@ fn certify_move<'a>(rt: &'a HostRuntime, before: &'a str, after: &'a str) -> Sta
     let mut output = Counted::new(rt.stdout());
     let mut errors = Counted::new(rt.stderr());
     run_certify_move(
+        rt.alloc(),
+        &mut before,
+        &mut after,
+        &mut output,
+        &mut errors,
+    )
+}
+
+/// Tells the steps from the rows of one plan to those of another.
+fn roll_out<'a>(rt: &'a HostRuntime, before: &'a str, after: &'a str) -> Status {
+    let mut before = file(rt, before);
+    let mut after = file(rt, after);
+    let mut output = Counted::new(rt.stdout());
+    let mut errors = Counted::new(rt.stderr());
+    run_rollout(
         rt.alloc(),
         &mut before,
         &mut after,

@@ -11,6 +11,7 @@ mod Naming
 mod Moved
 mod MovePlayed
 mod MoveCertified
+mod RolledOut
 mod Playing
 mod Ends
 mod FaultListed

@@ -23,4 +23,5 @@ pub mod Simulating
 pub mod Expecting
 pub mod Moving
 pub mod MoveCertifying
+pub mod Rollouts
 pub mod MoveSimulating

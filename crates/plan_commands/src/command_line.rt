@@ -61,6 +61,11 @@ pub enum Subcommand<'a> {
         before: &'a str,
         after: &'a str,
     },
+    /// By which steps do the nodes get from the rows of one plan to those of another?
+    Rollout {
+        before: &'a str,
+        after: &'a str,
+    },
     /// What comes of the events in a file while nodes go over from the rows of one plan to those of another?
     SimMove {
         before: &'a str,
@@ -113,7 +118,7 @@ fn worded(list: &[String]) -> Option<Subcommand<'_>> {
 }
 
 /// The name of each command, the names of its arguments, and those of the arguments that may be left out.
-const COMMANDS: [(&str, &[&str], &[&str]); 22] = [
+const COMMANDS: [(&str, &[&str], &[&str]); 23] = [
     ("check", &["plan", "certificate"], &[]),
     ("certify", &["plan"], &[]),
     ("assign", &["plan", "certificate"], &[]),
@@ -121,6 +126,7 @@ const COMMANDS: [(&str, &[&str], &[&str]); 22] = [
     ("expect", &["plan", "certificate", "events", "lines"], &[]),
     ("move", &["old", "new", "certificate"], &[]),
     ("certifymove", &["old", "new"], &[]),
+    ("rollout", &["old", "new"], &[]),
     ("simmove", &["old", "new", "certificate", "events"], &[]),
     ("walk", &["plan", "certificate", "node", "count"], &[]),
     ("reach", &["plan", "certificate"], &[]),
@@ -205,6 +211,7 @@ fn chosen<'a>(matches: &ArgMatches<'a>) -> Option<Subcommand<'a>> {
         "expect" => expecting(arguments),
         "move" => moving(arguments),
         "certifymove" => certifying_move(arguments),
+        "rollout" => rolling_out(arguments),
         "simmove" => playing_moves(arguments),
         "walk" => walking(arguments),
         "reach" => certified(arguments, Question::Reach),
@@ -274,6 +281,13 @@ fn moving<'a>(arguments: &ArgMatches<'a>) -> Option<Subcommand<'a>> {
 
 fn certifying_move<'a>(arguments: &ArgMatches<'a>) -> Option<Subcommand<'a>> {
     Some(Subcommand::CertifyMove {
+        before: arguments.get_str("old")?,
+        after: arguments.get_str("new")?,
+    })
+}
+
+fn rolling_out<'a>(arguments: &ArgMatches<'a>) -> Option<Subcommand<'a>> {
+    Some(Subcommand::Rollout {
         before: arguments.get_str("old")?,
         after: arguments.get_str("new")?,
     })

@@ -5,6 +5,7 @@ pub const GUIDE: &str = r#"check PLAN CERT              whether the certificate 
 certify PLAN                 the certificate of the plan, or why it has none
 move OLD NEW CERT            whether nodes may go over from the old plan's rows to the new one's
 certifymove OLD NEW          the certificate of a move from the old plan's rows to the new one's
+rollout OLD NEW              the steps from the old plan's rows to the new one's, each a move
 assign PLAN CERT             the requests that give the nodes their endpoint IDs and pools
 sim PLAN CERT EVENTS         what comes of events in the planned network
 expect PLAN CERT EVENTS LINES
@@ -44,6 +45,7 @@ pub fn guide_to(command: &str) -> Option<&'static str> {
         "certify" => Some(OF_CERTIFY),
         "move" => Some(OF_MOVE),
         "certifymove" => Some(OF_CERTIFYMOVE),
+        "rollout" => Some(OF_ROLLOUT),
         "assign" => Some(OF_ASSIGN),
         "sim" => Some(OF_SIM),
         "expect" => Some(OF_EXPECT),
@@ -116,6 +118,26 @@ Status 1: why there is none.
 
   $ mctpplan certifymove examples/move/to-left.json examples/move/to-right.json
   loop eid 17 nodes left right left by new old
+"#;
+
+const OF_ROLLOUT: &str = r#"mctpplan rollout OLD NEW
+
+Prints any order where one certificate serves for the whole move. Else it prints steps. Each is a
+move with a certificate of its own, so that its nodes may go over in any order, and it is finished
+before the next one begins. In step 1 switch A B these nodes take all their new rows. In step 1 rows
+of A: 10-12 by B node A sends what is for these endpoint IDs to B, as its new rows do, and all else
+as before; by - stands where no new row is for them. A step of parts has a line for each. The last
+step ends in the new plan. That the steps are the fewest is not promised.
+
+Status 0: any order, or the steps.
+Status 1: what certifymove says, where a plan has no certificate by itself, or where they differ in
+more than rows.
+Status 1: the steps as far as they go, stuck, and what stands in the way of the move from there to
+the new plan.
+
+  $ mctpplan rollout examples/move/to-left.json examples/move/to-right.json
+  step 1 switch host right
+  step 2 switch left
 "#;
 
 const OF_ASSIGN: &str = r#"mctpplan assign PLAN CERT
