@@ -5,9 +5,9 @@ ghost use Rattle.std.specs.Prelude.{◌≡◌};
 
 use net_json::Counted;
 use plan_commands::{
-    FileAtPath, PlanQuestion, Question, Refused, ShownKind, Status, Subcommand, WordQuestion,
+    FileAtPath, PlanQuestion, Question, Refused, ShownKind, Status, Subcommand, WalkScript, WordQuestion,
     hint_nodes, hint_words, parse_command, refuse, run_certified, run_certify_move, run_expect, run_explain,
-    run_explain_certified, run_known, run_move, run_planned, run_require, run_show, run_worded,
+    run_explain_certified, run_known, run_move, run_planned, run_require, run_script, run_show, run_worded,
     simulate, simulate_move,
 };
 use std::env;
@@ -71,6 +71,11 @@ fn run_command<'a>(rt: &'a HostRuntime, command: Subcommand<'a>) -> Status {
             events,
             lines,
         } => expect(rt, [plan, certificate, events, lines]),
+        Subcommand::Script {
+            script,
+            plan,
+            certificate,
+        } => write_script(rt, &script, plan, certificate),
         Subcommand::Move {
             before,
             after,
@@ -184,6 +189,27 @@ fn expect<'a>(rt: &'a HostRuntime, [plan, certificate, events, lines]: [&'a str;
         &mut certificate,
         &mut events,
         &mut lines,
+        &mut output,
+        &mut errors,
+    )
+}
+
+/// Makes the events of a walk over the network of a plan.
+fn write_script<'a>(
+    rt: &'a HostRuntime,
+    script: &WalkScript<'a>,
+    plan: &'a str,
+    certificate: &'a str,
+) -> Status {
+    let mut plan = file(rt, plan);
+    let mut certificate = file(rt, certificate);
+    let mut output = Counted::new(rt.stdout());
+    let mut errors = Counted::new(rt.stderr());
+    run_script(
+        rt.alloc(),
+        script,
+        &mut plan,
+        &mut certificate,
         &mut output,
         &mut errors,
     )

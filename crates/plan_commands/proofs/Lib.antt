@@ -7,6 +7,7 @@ pub mod Repositories
 pub mod Waiting
 pub mod Simulated
 pub mod Expected
+pub mod Scripted
 pub mod Naming
 pub mod Moved
 pub mod MovePlayed

@@ -20,6 +20,7 @@ pub mod planned;
 pub mod reach;
 pub mod repositories;
 pub mod require;
+pub mod script;
 pub mod show;
 pub mod sim;
 pub mod trace;

@@ -20,6 +20,7 @@ pub use commands::known::run_known;
 pub use commands::moving::run_move;
 pub use commands::planned::{PlanQuestion, run_planned};
 pub use commands::require::run_require;
+pub use commands::script::{Flights, WalkScript, run_script};
 pub use commands::show::{ShownKind, run_show};
 pub use commands::sim::files::simulate;
 pub use commands::sim::moves::simulate_move;
