@@ -1,7 +1,7 @@
 //! The events of a walk, made as the network of a plan plays them.
 ghost use Rattle.std.specs.Prelude.{IfOk, IsTrue};
 ghost use Rattle.net_sim.specs.Outcomes.{outcome_value};
-ghost use Rattle.plan_commands.specs.Scripting.{IsMade, IsEnd};
+ghost use Rattle.plan_commands.specs.Scripting.{IsMade, IsStuck, IsFinished};
 ghost use Rattle.plan_commands.specs.Walking.{IsFirstNamed};
 
 use crate::commands::script::WalkScript;
