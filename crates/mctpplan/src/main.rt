@@ -6,7 +6,7 @@ ghost use Rattle.std.specs.Prelude.{◌≡◌};
 use net_json::Counted;
 use plan_commands::{
     FileAtPath, PlanQuestion, Question, Refused, ShownKind, Status, Subcommand, WalkScript, WordQuestion,
-    hint_nodes, hint_words, parse_command, refuse, run_certified, run_certify_move, run_expect, run_explain,
+    hint_node, hint_nodes, hint_record, hint_words, parse_command, refuse, run_certified, run_certify_move, run_expect, run_explain,
     run_explain_certified, run_known, run_move, run_planned, run_require, run_script, run_show, run_worded,
     simulate, simulate_move,
 };
@@ -27,7 +27,13 @@ fn run(rt: &HostRuntime) -> Status {
         Err(refused) => return refuse(alloc, refused, &mut errors),
     };
     match parse_command(alloc, list.as_slice()) {
-        Ok(command) => run_command(rt, command),
+        Ok(command) => {
+            let status = run_command(rt, command);
+            if status == Status::Unreadable && rt.stderr().is_terminal() {
+                tell_record(rt, command, list.as_slice());
+            }
+            status
+        }
         Err(refused) => {
             let status = refuse(alloc, refused, &mut errors);
             if rt.stderr().is_terminal() {
@@ -91,6 +97,17 @@ fn run_command<'a>(rt: &'a HostRuntime, command: Subcommand<'a>) -> Status {
         Subcommand::Known { text } => tell(rt, text),
         Subcommand::Worded { question, words } => say(rt, question, words),
         Subcommand::Show { kind, hex } => show(rt, kind, hex),
+    }
+}
+
+/// Says at a terminal what is wrong with the words of a record.
+fn tell_record(rt: &HostRuntime, command: Subcommand, list: &[String]) {
+    if let Subcommand::Worded {
+        question: WordQuestion::Record,
+        ..
+    } = command
+    {
+        hint_record(rt.alloc(), list, &mut Counted::new(rt.stderr()));
     }
 }
 
@@ -201,18 +218,23 @@ fn write_script<'a>(
     plan: &'a str,
     certificate: &'a str,
 ) -> Status {
-    let mut plan = file(rt, plan);
+    let mut plan_file = file(rt, plan);
     let mut certificate = file(rt, certificate);
     let mut output = Counted::new(rt.stdout());
     let mut errors = Counted::new(rt.stderr());
-    run_script(
+    let status = run_script(
         rt.alloc(),
         script,
-        &mut plan,
+        &mut plan_file,
         &mut certificate,
         &mut output,
         &mut errors,
-    )
+    );
+    if status == Status::Unreadable && plan != "-" && rt.stderr().is_terminal() {
+        let mut plan = file(rt, plan);
+        hint_node(rt.alloc(), script.node, &mut plan, &mut Counted::new(rt.stderr()));
+    }
+    status
 }
 
 /// Checks a move from one plan to another.

@@ -1,6 +1,7 @@
 -- What `script` answers on a plan and its certificate.
 use Rattle.std.specs.Prelude.{◌≡◌, ◌≢◌, ◌⊎◌, ℕ, ◌-◌, ◌≤◌, List, [], ◌∷◌, length, map, slice_get, Option, Some, None}
 use Rattle.std.specs.Prelude.{All, Err, ⊤}
+use Rattle.pdr_repository.specs.declared.walk_fault.WalkFault.{WalkFault}
 use Rattle.pdr_repository.specs.declared.walk_fault.WalkFault.TheVariants.{NotAsked}
 use Rattle.net_json.specs.declared.error.PlanError.{PlanError}
 use Rattle.net_json.specs.declared.error.PlanError.TheVariants as error
@@ -15,6 +16,7 @@ use Rattle.net_plan.specs.EventValues.{event_entry}
 use Rattle.net_plan.specs.PlanValues.{plan_value, node_names}
 use Rattle.net_rules.specs.Names.{name_of}
 use Rattle.net_rules.specs.Rules.{Accepts}
+use Rattle.net_runs.specs.Events.{OutcomeValue}
 use Rattle.net_runs.specs.Events as flight
 use Rattle.net_runs.specs.WalkedRuns.{WalkedTurn, WalkedRunFrom}
 use Rattle.net_runs.specs.Walkers.{WalkedEvent, Happening, BeginWalk, Ask, TellWalk}
@@ -73,16 +75,20 @@ pub record EndsWith (plan : Plan) (cert : Certificate) (events : List WalkedEven
 
 -- a walker that is handed a message fails by it; one that it hasn't asked for changes nothing
 abbrev pub FailsBy : Option Handed → Type 0
-FailsBy (Some handed) = (fault : _) × (handed.result ≡ Err fault) × (fault ≢ NotAsked)
+FailsBy (Some handed) = (fault : WalkFault) × (handed.result ≡ Err fault) × (fault ≢ NotAsked)
 FailsBy None = ⊥
 
--- an event is refused, a packet is dropped on its way, there is no answer, or the walker fails
+-- an event is refused, a packet is dropped on its way, or there is no answer
+abbrev pub IsObstacle : OutcomeValue → Type 0
+IsObstacle (flight.Refused why) = ⊤
+IsObstacle (flight.Stopped number why) = ⊤
+IsObstacle (flight.Silent node) = ⊤
+IsObstacle _ = ⊥
+
+-- so it is, or the walker fails
 abbrev pub IsStuck : WalkedOutcome → Type 0
 IsStuck (WalkRefused why) = ⊤
-IsStuck (Happened (flight.Refused why) handed) = ⊤
-IsStuck (Happened (flight.Stopped number why) handed) = ⊤
-IsStuck (Happened (flight.Silent node) handed) = ⊤
-IsStuck (Happened outcome handed) = FailsBy handed
+IsStuck (Happened outcome handed) = IsObstacle outcome ⊎ FailsBy handed
 IsStuck (ToldWalk k records (EndedBy fault)) = ⊤
 IsStuck _ = ⊥
 

@@ -405,7 +405,7 @@ fn kind_of(word: &str) -> Option<ShownKind> {
 }
 
 /// The number of bytes that a word of ASCII digits gives, if a part of a record can have so many.
-fn part_size_of(word: &str) -> Option<PartSize> {
+pub fn part_size_of(word: &str) -> Option<PartSize> {
     if !word.bytes().all(|digit| digit.is_ascii_digit()) {
         return None;
     }

@@ -28,7 +28,7 @@ pub use commands::sim::{run_sim, run_simmove};
 pub use commands::walk::PartSize;
 pub use commands::worded::{WordQuestion, run_worded};
 pub use files::FileAtPath;
-pub use hints::{hint_nodes, hint_words};
+pub use hints::{hint_node, hint_nodes, hint_record, hint_words};
 pub use program_texts::{GUIDE, VERSION};
 pub use refused::{Input, Refused};
 pub use status::Status;

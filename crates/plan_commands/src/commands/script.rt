@@ -1,8 +1,11 @@
 //! The command `script`: the events of a walk over a network, made as it runs.
-ghost use Rattle.std.specs.Prelude.{◌≡◌, ◌⊎◌, IfOk, IfErr, MatchBool, map, option_map, string_bytes};
+ghost use Rattle.std.specs.Prelude.{◌≡◌, ◌≢◌, ◌⊎◌, ◌↔◌, IfOk, IfErr, IsTrue, MatchBool, length, map, option_map, string_bytes};
 ghost use Rattle.std.specs.Cow.{cow_str_bytes};
 ghost use Rattle.net_json.specs.Stream.{HasRoom};
 ghost use Rattle.net_sim.specs.Outcomes.{event_value, outcome_value};
+ghost use Rattle.net_tables.specs.Repositories.{records_of};
+ghost use Rattle.net_tables.specs.Routing.{Holds};
+ghost use Rattle.net_json.specs.declared.error.PlanError.TheVariants as error_of;
 ghost use Rattle.plan_commands.specs.declared.refused.Refused.TheVariants as refused;
 ghost use Rattle.plan_commands.specs.declared.status.Status.TheVariants.{Yes, Fault, Unreadable, NoMemory};
 ghost use Rattle.plan_commands.specs.Answers.{stream, IsWithoutPlan, BreaksOff};
@@ -138,8 +141,7 @@ fn answer_at(
     }
 }
 
-/// The answer on events that were made. Where the walk is done by them, it is looked at once more whether it is done by those
-/// that are read from their text.
+/// The answer on events that were made.
 fn answer_on_made(
     alloc: Global,
     script: &WalkScript,
@@ -152,9 +154,26 @@ fn answer_on_made(
     ensures answers { IfOk result (λ answer. AnswersScriptOn script.now plan.now certificate.now answer.status (cow_str_bytes answer.text)) }
     ensures lacks { IfErr result (λ why. why ≡ refused.NoMemory) }
 {
-    if !is_finished(&made.last) {
-        return stuck_answer(alloc, plan, made);
+    if is_finished(&made.last) {
+        return answer_by_text(alloc, script, plan, certificate, made);
     }
+    stuck_answer(alloc, plan, made)
+}
+
+/// The answer where the walk is done by the events: their text, if it is also done by those that are read from it.
+fn answer_by_text(
+    alloc: Global,
+    script: &WalkScript,
+    plan: &Plan,
+    certificate: &Certificate,
+    made: &Made,
+) -> Result<Answer, Refused>
+    requires accepted { Accepts plan.now certificate.now }
+    requires made { IsMade script.now plan.now certificate.now made.now }
+    requires finished { IsFinished (outcome_value made.now.last) }
+    ensures answers { IfOk result (λ answer. AnswersScriptOn script.now plan.now certificate.now answer.status (cow_str_bytes answer.text)) }
+    ensures lacks { IfErr result (λ why. why ≡ refused.NoMemory) }
+{
     let text = script_text(alloc, plan, &made.events)?;
     match check(alloc, plan, certificate) {
         Ok(checked) => {
@@ -188,9 +207,21 @@ fn reads_back(alloc: Global, eid: Eid, checked: Checked, text: &str) -> Result<b
             let last = last_outcome(alloc, checked, &events)?;
             Ok(is_done(plan, eid, &last))
         }
-        Err(PlanError::OutOfMemory) => Err(Refused::NoMemory),
-        Err(_) => Ok(false),
+        Err(error) => {
+            if is_refusal(error) {
+                Ok(false)
+            } else {
+                Err(Refused::NoMemory)
+            }
+        }
     }
+}
+
+/// Whether an error is one of a text.
+fn is_refusal(error: PlanError) -> bool
+    ensures { IsTrue result ↔ (error ≢ error_of.OutOfMemory) }
+{
+    !matches!(error, PlanError::OutOfMemory)
 }
 
 /// What comes of the last event in the network of a checked plan.
@@ -213,7 +244,7 @@ fn last_outcome(
 
 /// Whether what comes of an event is that a walk is done.
 fn is_finished(outcome: &Outcome) -> bool
-    ensures { MatchBool result (IsFinished (outcome_value outcome.now)) (¬ IsFinished (outcome_value outcome.now)) }
+    ensures { IsTrue result ↔ IsFinished (outcome_value outcome.now) }
 {
     matches!(
         outcome,
@@ -244,9 +275,16 @@ fn has_records(plan: &Plan, eid: Eid, count: usize) -> bool
     ensures { MatchBool result (HasRecords plan.now eid.value count) (¬ HasRecords plan.now eid.value count) }
 {
     for node in 0..plan.nodes.len() {
-        if holds(plan, node, eid) && records_at(plan, node).len() == count {
+        if is_holder(plan, node, eid, count) {
             return true;
         }
     }
     false
+}
+
+/// Whether a node holds the endpoint ID, and has so many records.
+fn is_holder(plan: &Plan, node: usize, eid: Eid, count: usize) -> bool
+    ensures { IsTrue result ↔ Holds plan.now node eid.value × (length (records_of plan.now node) ≡ count) }
+{
+    holds(plan, node, eid) && records_at(plan, node).len() == count
 }

@@ -1,7 +1,8 @@
 //! The events of a walk, made as the network of a plan plays them.
-ghost use Rattle.std.specs.Prelude.{IfOk, IsTrue};
-ghost use Rattle.net_sim.specs.Outcomes.{outcome_value};
-ghost use Rattle.plan_commands.specs.Scripting.{IsMade, IsStuck, IsFinished};
+ghost use Rattle.std.specs.Prelude.{◌⊎◌, IfOk, IsTrue, option_map};
+ghost use Rattle.net_sim.specs.Effects.{effect_value};
+ghost use Rattle.net_sim.specs.Outcomes.{handed_value, outcome_value};
+ghost use Rattle.plan_commands.specs.Scripting.{IsMade, IsObstacle, FailsBy, IsStuck, IsFinished};
 ghost use Rattle.plan_commands.specs.Walking.{IsFirstNamed};
 
 use crate::commands::script::WalkScript;
@@ -32,7 +33,7 @@ pub fn made_events(
     checked: Checked,
     node: usize,
 ) -> Result<Made, AllocError>
-    requires { IsFirstNamed checked.now.0 script.now.node.now node }
+    requires { IsFirstNamed checked.0 script.now.node.now node }
     ensures { IfOk result (λ made. IsMade script.now checked.entry.0 checked.entry.1 made) }
 {
     let termini = planned_termini(alloc, checked.plan(), checked.certificate())?;
@@ -47,9 +48,9 @@ pub fn made_events(
     let mut last = network.step(&walk)?;
     let mut events = Vec::new(alloc);
     events.push(walk)?;
-    for _ in 1..MOST_EVENTS {
+    for _count in 1..MOST_EVENTS {
         if is_end(&last) {
-            break;
+            return Ok(Made { events, last });
         }
         let event = course.next(&last)?;
         last = network.step(&event)?;
@@ -60,7 +61,7 @@ pub fn made_events(
 
 /// Whether no event follows one of which this comes.
 fn is_end(outcome: &Outcome) -> bool
-    ensures { IsTrue result → IsEnd (outcome_value outcome.now) }
+    ensures { IsTrue result → IsStuck (outcome_value outcome.now) ⊎ IsFinished (outcome_value outcome.now) }
 {
     match outcome {
         Outcome::Refused(_) => true,
@@ -71,7 +72,9 @@ fn is_end(outcome: &Outcome) -> bool
 }
 
 /// Whether it is refused, or a packet is dropped on its way, or there is no answer.
-fn is_obstacle(effect: &Effect) -> bool {
+fn is_obstacle(effect: &Effect) -> bool
+    ensures { IsTrue result → IsObstacle (effect_value effect.now) }
+{
     matches!(
         effect,
         Effect::Refused(_) | Effect::Stopped { .. } | Effect::Silent { .. }
@@ -79,7 +82,9 @@ fn is_obstacle(effect: &Effect) -> bool {
 }
 
 /// Whether the walker has failed by a message. One that it hasn't asked for changes nothing.
-fn is_failure(handed: &Option<Handed>) -> bool {
+fn is_failure(handed: &Option<Handed>) -> bool
+    ensures { IsTrue result → FailsBy (option_map handed_value handed.now) }
+{
     match handed {
         Some(handed) => !matches!(handed.result, Ok(_) | Err(WalkFault::NotAsked)),
         None => false,
