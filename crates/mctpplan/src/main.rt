@@ -5,10 +5,11 @@ ghost use Rattle.std.specs.Prelude.{◌≡◌};
 
 use net_json::Counted;
 use plan_commands::{
-    FileAtPath, PlanQuestion, Question, Refused, ShownKind, Status, Subcommand, WordQuestion,
-    hint_nodes, hint_words, parse_command, refuse, run_certified, run_certify_move, run_expect,
-    run_explain, run_explain_certified, run_known, run_move, run_planned, run_require, run_rollout,
-    run_show, run_worded, simulate, simulate_move,
+    FileAtPath, PlanQuestion, Question, Refused, ShownKind, Status, Subcommand, WalkScript,
+    WordQuestion, hint_node, hint_nodes, hint_record, hint_words, parse_command, refuse,
+    run_certified, run_certify_move, run_expect, run_explain, run_explain_certified, run_known,
+    run_move, run_planned, run_require, run_rollout, run_script, run_show, run_worded, simulate,
+    simulate_move,
 };
 use std::env;
 use std::io::IsTerminal;
@@ -27,7 +28,13 @@ fn run(rt: &HostRuntime) -> Status {
         Err(refused) => return refuse(alloc, refused, &mut errors),
     };
     match parse_command(alloc, list.as_slice()) {
-        Ok(command) => run_command(rt, command),
+        Ok(command) => {
+            let status = run_command(rt, command);
+            if status == Status::Unreadable && rt.stderr().is_terminal() {
+                tell_record(rt, command, list.as_slice());
+            }
+            status
+        }
         Err(refused) => {
             let status = refuse(alloc, refused, &mut errors);
             if rt.stderr().is_terminal() {
@@ -71,6 +78,11 @@ fn run_command<'a>(rt: &'a HostRuntime, command: Subcommand<'a>) -> Status {
             events,
             lines,
         } => expect(rt, [plan, certificate, events, lines]),
+        Subcommand::Script {
+            script,
+            plan,
+            certificate,
+        } => write_script(rt, &script, plan, certificate),
         Subcommand::Move {
             before,
             after,
@@ -87,6 +99,17 @@ fn run_command<'a>(rt: &'a HostRuntime, command: Subcommand<'a>) -> Status {
         Subcommand::Known { text } => tell(rt, text),
         Subcommand::Worded { question, words } => say(rt, question, words),
         Subcommand::Show { kind, hex } => show(rt, kind, hex),
+    }
+}
+
+/// Says at a terminal what is wrong with the words of a record.
+fn tell_record(rt: &HostRuntime, command: Subcommand, list: &[String]) {
+    if let Subcommand::Worded {
+        question: WordQuestion::Record,
+        ..
+    } = command
+    {
+        hint_record(rt.alloc(), list, &mut Counted::new(rt.stderr()));
     }
 }
 
@@ -188,6 +211,37 @@ fn expect<'a>(rt: &'a HostRuntime, [plan, certificate, events, lines]: [&'a str;
         &mut output,
         &mut errors,
     )
+}
+
+/// Makes the events of a walk over the network of a plan.
+fn write_script<'a>(
+    rt: &'a HostRuntime,
+    script: &WalkScript<'a>,
+    plan: &'a str,
+    certificate: &'a str,
+) -> Status {
+    let mut plan_file = file(rt, plan);
+    let mut certificate = file(rt, certificate);
+    let mut output = Counted::new(rt.stdout());
+    let mut errors = Counted::new(rt.stderr());
+    let status = run_script(
+        rt.alloc(),
+        script,
+        &mut plan_file,
+        &mut certificate,
+        &mut output,
+        &mut errors,
+    );
+    if status == Status::Unreadable && plan != "-" && rt.stderr().is_terminal() {
+        let mut plan = file(rt, plan);
+        hint_node(
+            rt.alloc(),
+            script.node,
+            &mut plan,
+            &mut Counted::new(rt.stderr()),
+        );
+    }
+    status
 }
 
 /// Checks a move from one plan to another.

@@ -7,6 +7,7 @@ mod Repositories
 mod Waiting
 mod Simulated
 mod Expected
+mod Scripted
 mod Naming
 mod Moved
 mod MovePlayed

@@ -21,6 +21,8 @@ pub mod Requiring
 pub mod Certified
 pub mod Simulating
 pub mod Expecting
+pub mod ScriptTexts
+pub mod Scripting
 pub mod Moving
 pub mod MoveCertifying
 pub mod Rollouts

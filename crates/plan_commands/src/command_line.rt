@@ -2,6 +2,7 @@
 use crate::commands::certified::Question;
 use crate::commands::draw::DrawnRows;
 use crate::commands::planned::PlanQuestion;
+use crate::commands::script::{Flights, WalkScript};
 use crate::commands::show::ShownKind;
 use crate::commands::trace::eid_of_word;
 use crate::commands::walk::PartSize;
@@ -48,6 +49,12 @@ pub enum Subcommand<'a> {
         certificate: &'a str,
         events: &'a str,
         lines: &'a str,
+    },
+    /// Which events are a walk over the network?
+    Script {
+        script: WalkScript<'a>,
+        plan: &'a str,
+        certificate: &'a str,
     },
     /// May the nodes of the plan in one file go over, in any order, to the rows of the plan in another, by one
     /// certificate?
@@ -118,7 +125,7 @@ fn worded(list: &[String]) -> Option<Subcommand<'_>> {
 }
 
 /// The name of each command, the names of its arguments, and those of the arguments that may be left out.
-const COMMANDS: [(&str, &[&str], &[&str]); 23] = [
+const COMMANDS: [(&str, &[&str], &[&str]); 24] = [
     ("check", &["plan", "certificate"], &[]),
     ("certify", &["plan"], &[]),
     ("assign", &["plan", "certificate"], &[]),
@@ -129,6 +136,11 @@ const COMMANDS: [(&str, &[&str], &[&str]); 23] = [
     ("rollout", &["old", "new"], &[]),
     ("simmove", &["old", "new", "certificate", "events"], &[]),
     ("walk", &["plan", "certificate", "node", "count"], &[]),
+    (
+        "script",
+        &["plan", "certificate", "what", "node", "eid", "count"],
+        &[],
+    ),
     ("reach", &["plan", "certificate"], &[]),
     ("matrix", &["plan", "certificate"], &[]),
     ("require", &["plan", "certificate", "wanted"], &[]),
@@ -148,7 +160,11 @@ const COMMANDS: [(&str, &[&str], &[&str]); 23] = [
 const ALL: &str = "all";
 
 /// The options of commands, and what each means where no value follows it, if it may stand alone.
-const OPTIONS: [(&str, &str, Option<&str>); 1] = [("draw", "rows", Some(ALL))];
+const OPTIONS: [(&str, &str, Option<&str>); 3] = [
+    ("draw", "rows", Some(ALL)),
+    ("script", "lose", None),
+    ("script", "repeat", None),
+];
 
 /// The names of all commands.
 pub fn command_names(alloc: Global) -> Result<Vec<&'static str>, AllocError> {
@@ -214,6 +230,7 @@ fn chosen<'a>(matches: &ArgMatches<'a>) -> Option<Subcommand<'a>> {
         "rollout" => rolling_out(arguments),
         "simmove" => playing_moves(arguments),
         "walk" => walking(arguments),
+        "script" => scripting(arguments),
         "reach" => certified(arguments, Question::Reach),
         "matrix" => certified(arguments, Question::Matrix),
         "require" => requiring(arguments),
@@ -308,6 +325,32 @@ fn walking<'a>(arguments: &ArgMatches<'a>) -> Option<Subcommand<'a>> {
     certified(arguments, Question::Walk { node, part })
 }
 
+fn scripting<'a>(arguments: &ArgMatches<'a>) -> Option<Subcommand<'a>> {
+    if arguments.get_str("what")? != "walk" {
+        return None;
+    }
+    let script = WalkScript {
+        node: arguments.get_str("node")?,
+        eid: eid_of_word(arguments.get_str("eid")?)?,
+        part: part_size_of(arguments.get_str("count")?)?,
+        lost: flights(arguments.get_str("lose"))?,
+        repeated: flights(arguments.get_str("repeat"))?,
+    };
+    Some(Subcommand::Script {
+        script,
+        plan: arguments.get_str("plan")?,
+        certificate: arguments.get_str("certificate")?,
+    })
+}
+
+/// The flights that an option names.
+fn flights(word: Option<&str>) -> Option<Flights<'_>> {
+    match word {
+        Some(word) => Flights::of(word),
+        None => Some(Flights::NONE),
+    }
+}
+
 fn tracing<'a>(arguments: &ArgMatches<'a>) -> Option<Subcommand<'a>> {
     let from = arguments.get_str("from")?;
     let to = arguments.get_str("to")?;
@@ -376,7 +419,7 @@ fn kind_of(word: &str) -> Option<ShownKind> {
 }
 
 /// The number of bytes that a word of ASCII digits gives, if a part of a record can have so many.
-fn part_size_of(word: &str) -> Option<PartSize> {
+pub fn part_size_of(word: &str) -> Option<PartSize> {
     if !word.bytes().all(|digit| digit.is_ascii_digit()) {
         return None;
     }

@@ -21,6 +21,7 @@ pub mod reach;
 pub mod repositories;
 pub mod require;
 pub mod rollout;
+pub mod script;
 pub mod show;
 pub mod sim;
 pub mod trace;

@@ -10,6 +10,8 @@ assign PLAN CERT             the requests that give the nodes their endpoint IDs
 sim PLAN CERT EVENTS         what comes of events in the planned network
 expect PLAN CERT EVENTS LINES
                              whether sim prints these lines, or the first one that differs
+script PLAN CERT walk NODE EID COUNT [--lose N,N] [--repeat N,N]
+                             the events of a whole walk over the network, made as it runs
 simmove OLD NEW CERT EVENTS  the same while nodes go over to new rows
 walk PLAN CERT NODE COUNT    the records that a walk over a node's terminus collects
 reach PLAN CERT              who reaches whom, and in how many hops
@@ -49,6 +51,7 @@ pub fn guide_to(command: &str) -> Option<&'static str> {
         "assign" => Some(OF_ASSIGN),
         "sim" => Some(OF_SIM),
         "expect" => Some(OF_EXPECT),
+        "script" => Some(OF_SCRIPT),
         "simmove" => Some(OF_SIMMOVE),
         "walk" => Some(OF_WALK),
         "reach" => Some(OF_REACH),
@@ -186,6 +189,28 @@ Status 1: the first line that differs.
   line 3 differs
   expected: 3 moved 1 to ssd hops 3
   came: 3 moved 1 to ssd hops 2
+"#;
+
+const OF_SCRIPT: &str = r#"mctpplan script PLAN CERT walk NODE EID COUNT [--lose N,N] [--repeat N,N]
+
+Prints events, as sim plays them, of a walk in which NODE reads the records of the terminus with
+endpoint ID EID, by requests of COUNT bytes each, 8 to 4079. They are made as the network plays
+them, request by request: packets move hop by hop, and where a packet is lost, the request is put in
+again. The packets with the numbers behind --lose are lost, and those behind --repeat come twice.
+Packets are numbered from 1, in the order in which they are put in, copies too.
+
+Before the events are printed they are read from their text and played once more: the last one,
+collected, tells that the walk is done, with all records. Where the walk doesn't go on, the line of
+sim is printed that tells why. A list has at most 100,000 events; where that is not enough, the line
+of the last one is printed.
+
+Status 0: the events.
+Status 1: where the walk doesn't go on; or a fault of the plan or the certificate.
+
+  $ mctpplan script examples/riser/plan.json examples/riser/certificate.json walk host 17 64 \
+      --lose 1 > events.json
+  $ mctpplan sim examples/riser/plan.json examples/riser/certificate.json events.json | tail -n 1
+  12 collected 1 records 1 done
 "#;
 
 const OF_SIMMOVE: &str = r#"mctpplan simmove OLD NEW CERT EVENTS
