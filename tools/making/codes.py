@@ -35,7 +35,7 @@ def texts():
         if not made:
             continue
         code, where, meaning = (made[1], made[2] or "", made[3]) if made[1] else (made[4], "", made[5])
-        name = f"rule {code}" if code[0] in "CM" else code
+        name = f"rule {code}" if code[0] == "M" else code
         lines = [f"{name}{where}: {meaning}", *rest]
         found.setdefault(code, []).append("".join(f"{line}\n" for it in lines for line in textwrap.wrap(plain(it), WIDTH)))
     return [(code, "\n".join(parts)) for code, parts in found.items()]

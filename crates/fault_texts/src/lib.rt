@@ -5,4 +5,4 @@ mod fault_lists;
 mod places;
 
 pub use fault_lists::{fault_lines, more_line, obstacle_list};
-pub use places::obstacle_place;
+pub use places::{obstacle_place, part_pointer, record_pointer, row_pointer};

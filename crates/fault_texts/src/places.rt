@@ -270,7 +270,7 @@ fn node_pointer(alloc: Global, node: usize) -> Result<Vec<PointerStep>, AllocErr
 }
 
 /// The pointer to what a node says at a key.
-fn part_pointer(
+pub fn part_pointer(
     alloc: Global,
     node: usize,
     key: &'static str,
@@ -285,7 +285,8 @@ fn part_pointer(
     .to_vec(alloc)
 }
 
-fn row_pointer(alloc: Global, node: usize, row: usize) -> Result<Vec<PointerStep>, AllocError>
+/// The pointer to a row of a node.
+pub fn row_pointer(alloc: Global, node: usize, row: usize) -> Result<Vec<PointerStep>, AllocError>
     ensures { IfOk result (λ pointer. map step_value pointer.items ≡ row_pointer node row) }
 {
     [
@@ -297,7 +298,8 @@ fn row_pointer(alloc: Global, node: usize, row: usize) -> Result<Vec<PointerStep
     .to_vec(alloc)
 }
 
-fn record_pointer(alloc: Global, node: usize, index: usize) -> Result<Vec<PointerStep>, AllocError>
+/// The pointer to a record of a node's terminus.
+pub fn record_pointer(alloc: Global, node: usize, index: usize) -> Result<Vec<PointerStep>, AllocError>
     ensures { IfOk result (λ pointer. map step_value pointer.items ≡ record_pointer node index) }
 {
     [

@@ -1,11 +1,16 @@
 -- The name that is nearest to another.
 use Rattle.std.specs.Prelude.{◌<◌, ◌≤◌, ◌/◌, ℕ, nat_eq, List, map, length, get_or, All, Option, Some, None}
+use Rattle.std.specs.Char.{to_ascii_lowercase}
 use Rattle.std.specs.Str.{chars}
 use Rattle.strsim.specs.Edits.{levenshtein_row}
 
--- how many characters are put in, left out or changed to come from one name to the other
+-- a name in small letters
+abbrev pub small : List ℕ → List ℕ
+small name = map to_ascii_lowercase name
+
+-- how many characters are put in, left out or changed to come from one name to the other, whatever their case
 abbrev pub edits : List ℕ → List ℕ → ℕ
-edits a b = levenshtein_row nat_eq (chars a) (chars b) (length (chars b))
+edits a b = levenshtein_row nat_eq (chars (small a)) (chars (small b)) (length (chars (small b)))
 
 -- at most so many edits make a name close: a third of its length
 abbrev pub close : List ℕ → ℕ

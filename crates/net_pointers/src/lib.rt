@@ -23,6 +23,6 @@ pub use offset::{offset_of_key, offset_of_pointer};
 pub use path::part_after;
 pub use plans::{PlanTrouble, plan_trouble};
 pub use position::{Position, position_of};
-pub use ranges::{Overlap, first_overlap};
+pub use ranges::{Overlap, end_of_range, first_in_range, first_overlap};
 pub use syntax::{JsonFault, Wanted, json_fault};
 pub use texts::{TextTrouble, certificate_text_trouble, plan_text_trouble};

@@ -24,10 +24,13 @@ fn edits_to(alloc: Global, name: &str, names: &[&str]) -> Result<Vec<usize>, All
     Ok(edits)
 }
 
+/// How many edits lead from a name to another, whatever their case.
 fn edits_between(alloc: Global, name: &str, other: &str) -> Result<usize, AllocError>
     ensures { IfOk result (λ count. count ≡ edits name.now other.now) }
 {
-    levenshtein(alloc, name, other)
+    let name = name.to_ascii_lowercase(alloc)?;
+    let other = other.to_ascii_lowercase(alloc)?;
+    levenshtein(alloc, &name, &other)
 }
 
 /// The index of the first least count, where it is at most this.

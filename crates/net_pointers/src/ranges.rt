@@ -80,16 +80,16 @@ fn overlap_within(ranges: &[Value<'_>]) -> Option<usize>
 {
     let mut end = 0;
     for (index, range) in ranges.iter().enumerate() {
-        if first_of(range) < end {
+        if first_in_range(range) < end {
             return Some(index - 1);
         }
-        end = end_of(range);
+        end = end_of_range(range);
     }
     None
 }
 
 /// The first endpoint ID of a range.
-fn first_of(range: &Value<'_>) -> u64
+pub fn first_in_range(range: &Value<'_>) -> u64
     ensures { result ≡ first_in (view range.now) }
 {
     match byte_at(range, "first", 0) {
@@ -99,7 +99,7 @@ fn first_of(range: &Value<'_>) -> u64
 }
 
 /// The endpoint ID after the last of a range.
-fn end_of(range: &Value<'_>) -> u64
+pub fn end_of_range(range: &Value<'_>) -> u64
     ensures { result ≡ end_in (view range.now) }
 {
     match range_end(range) {

@@ -37,7 +37,7 @@ use net_plan::Plan;
 use net_rules::{CertifyError, ChainFault, Fault};
 pub use outcomes::outcome_line;
 pub use pairs::reach_lines;
-pub use proposals::edit_lines;
+pub use proposals::{edit_line, edit_lines, value_text};
 pub use shown::{packet_text, record_text, refused_text};
 use std::alloc::{AllocError, Global};
 use std::fmt;

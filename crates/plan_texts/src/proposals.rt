@@ -45,7 +45,7 @@ fn left_line(alloc: Global, plan: &Plan, left: &Option<CertifyError>) -> Result<
 }
 
 /// The place in the plan's text, by its JSON pointer, the node and the value that is to stand there.
-fn edit_line(alloc: Global, plan: &Plan, edit: &Edit) -> Result<String, AllocError>
+pub fn edit_line(alloc: Global, plan: &Plan, edit: &Edit) -> Result<String, AllocError>
     ensures { IfOk result (λ line. string_bytes line ≡ edit_text plan.now edit.now) }
 {
     let node = edit.node;
@@ -107,7 +107,7 @@ fn place_text(
 }
 
 /// What is to stand there, as a plan's text has it.
-fn value_text(alloc: Global, plan: &Plan, change: &Change) -> Result<String, AllocError>
+pub fn value_text(alloc: Global, plan: &Plan, change: &Change) -> Result<String, AllocError>
     ensures { IfOk result (λ text. string_bytes text ≡ value_text plan.now change.now) }
 {
     match change {

@@ -37,11 +37,10 @@ use Rattle.net_json.proofs.FieldKeys.{fields_cons}
 use Rattle.net_pointers.specs.Doubles.{item_at, member_at, part_at, part_after}
 use Rattle.net_pointers.specs.Pointers.{value_at, value_after}
 use Rattle.net_pointers.specs.TextTroubles.{IsJsonOf, IsToldOfPlanText, IsToldOfCertificateText}
-use Rattle.net_pointers.specs.declared.ranges.Overlap.{Overlap}
 use Rattle.net_pointers.specs.declared.texts.TextTrouble.{TextTrouble}
 use Rattle.reading_texts.specs.ReadingLines.{key_words, keys_words}
 use Rattle.reading_texts.specs.Standing.{IsShownLength, IsShownOf, IsShown, dots_after, printed}
-use Rattle.reading_texts.specs.TroubleLines.{IsStandingTold, IsWrongTold, IsLineOf, IsValueTold, value_line, IsOffsetOf, two_lines, tree_at, entry_pointer, doubled_name, name_line, again_line, IsDoubledNameTold, IsOverlapTold, range_line, next_range_line, range_pointer}
+use Rattle.reading_texts.specs.TroubleLines.{IsStandingTold, IsWrongTold, IsLineOf, IsValueTold, value_line, IsOffsetOf, two_lines, tree_at, entry_pointer, doubled_name, name_line, again_line, IsDoubledNameTold}
 use Rattle.std.proofs.lemmas.Str.{IsUtf8-drop, IsCharBoundary-before_ascii}
 use Rattle.net_pointers.specs.Offsets.{LeadsTo}
 use Rattle.net_pointers.specs.declared.doubled.TwoIndices.{TwoIndices}
@@ -154,23 +153,16 @@ wrong_told bytes fs fault.BadHex d rest r missing unknown over told = told
 wrong_told bytes fs fault.Doubled d rest r missing unknown over told = told
 wrong_told bytes fs fault.OutOfMemory d rest r missing unknown over told = told
 
-pub line_told : {A E : Type 0} (bytes : A → List ℕ) (text : List ℕ) (l : Located) (d : Json) (offset : ℕ) (words : List ℕ) (r : Result A E)
-    → IsWrongTold (fields_of l.grammar) l.fault d (drop offset text) words → IfOk r (λ t. bytes t ≡ value_line text offset l words) → IfOk r (λ t. IsLineOf text l d offset (bytes t))
-line_told bytes text l d offset words (Ok t) wrong is = (words, wrong, is)
-line_told bytes text l d offset words (Err e) wrong is = tt
+pub line_told : {A E : Type 0} (bytes : A → List ℕ) (text : List ℕ) (l : Located) (also : List ℕ) (d : Json) (offset : ℕ) (words : List ℕ) (r : Result A E)
+    → IsWrongTold (fields_of l.grammar) l.fault d (drop offset text) words → IfOk r (λ t. bytes t ≡ value_line text offset l also words) → IfOk r (λ t. IsLineOf text l also d offset (bytes t))
+line_told bytes text l also d offset words (Ok t) wrong is = (words, wrong, is)
+line_told bytes text l also d offset words (Err e) wrong is = tt
 
-pub value_told : {A E : Type 0} (bytes : A → List ℕ) (text : List ℕ) (j stands : Json) (l : Located) (offset : ℕ) (r : Result A E)
+pub value_told : {A E : Type 0} (bytes : A → List ℕ) (text : List ℕ) (j stands : Json) (l : Located) (also : List ℕ) (offset : ℕ) (r : Result A E)
     → LeadsTo text l.pointer offset → tree_at l.pointer j ≡ Some stands → value_at l.pointer (data_of j) ≡ Some (data_of stands)
-    → IfOk r (λ t. IsLineOf text l stands offset (bytes t)) → IfOk r (λ t. IsValueTold text j l (bytes t))
-value_told bytes text j stands l offset (Ok t) at tree leads is = record { offset = offset; stands = stands; at = at; tree = tree; leads = leads; written = is }
-value_told bytes text j stands l offset (Err e) at tree leads is = tt
-
-pub overlap_told : {A E : Type 0} (bytes : A → List ℕ) (text : List ℕ) (o : Overlap) (first second : ℕ) (r : Result A E)
-    → LeadsTo text (range_pointer o.entry o.range) first → LeadsTo text (range_pointer o.entry (o.range + 1)) second
-    → IfOk r (λ t. bytes t ≡ two_lines text (Some first) (Some second) (range_line (range_pointer o.entry o.range)) (next_range_line (range_pointer o.entry (o.range + 1))))
-    → IfOk r (λ t. IsOverlapTold text o (bytes t))
-overlap_told bytes text o first second (Ok t) one other is = (first, second, one, other, is)
-overlap_told bytes text o first second (Err e) one other is = tt
+    → IfOk r (λ t. IsLineOf text l also stands offset (bytes t)) → IfOk r (λ t. IsValueTold text j l also (bytes t))
+value_told bytes text j stands l also offset (Ok t) at tree leads is = record { offset = offset; stands = stands; at = at; tree = tree; leads = leads; written = is }
+value_told bytes text j stands l also offset (Err e) at tree leads is = tt
 
 pub name_told_twice : {A E : Type 0} (bytes : A → List ℕ) (text : List ℕ) (d : Data) (list k why : List ℕ) (indices : TwoIndices) (first second : Option ℕ) (r : Result A E)
     → IsOffsetOf text d (entry_pointer list indices.first k) first → IsOffsetOf text d (entry_pointer list indices.second k) second

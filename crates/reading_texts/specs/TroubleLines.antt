@@ -1,9 +1,11 @@
 -- The lines that tell what is wrong with a text, and where.
-use Rattle.std.specs.Prelude.{◌≡◌, ◌<◌, ◌≤◌, ◌+◌, ⊤, ℕ, zero, suc, not, codes, is_some, get_or}
+use Rattle.std.specs.Prelude.{◌≡◌, ◌<◌, ◌≤◌, ◌+◌, ◌-◌, ⊤, ℕ, zero, suc, not, codes, is_some, get_or, true}
+use Rattle.std.specs.Prelude.{if◌then◌else◌}
 use Rattle.std.specs.Prelude.{List, [], ◌∷◌, ◌++◌, length, drop}
 use Rattle.std.specs.Prelude.{Option, Some, None, MatchOption, option_and_then}
 use Rattle.std.specs.Fmt.{decimal}
-use Rattle.std.specs.List.{find}
+use Rattle.std.specs.List.{find, slice_get}
+use Rattle.std.specs.Str.{bytes_eq}
 use Rattle.json.specs.Json.{Json, object, Members, no_members, member}
 use Rattle.json.specs.Find as written
 use Rattle.json.specs.Lex.{tokens}
@@ -16,15 +18,15 @@ use Rattle.serde_json.specs.Find.{get}
 use Rattle.net_json.specs.Finding.{Located, key, index, Step, names_of, located}
 use Rattle.net_json.specs.Grammar.{Grammar, plain, Fields, fields_of, keys_of, Known}
 use Rattle.net_json.specs.Json.{is_among, items_count}
-use Rattle.net_json.specs.Names.{text_found}
+use Rattle.net_json.specs.Names.{names_differ, text_found}
 use Rattle.net_json.specs.Trees.{data_of}
 use Rattle.net_json.specs.declared.error.ValueFault.{ValueFault}
 use Rattle.net_json.specs.declared.error.ValueFault.TheVariants as fault
 use Rattle.net_json.specs.declared.shape.Named.{Named}
 use Rattle.net_json.specs.declared.shape.Named.TheVariants.{Buses, Nodes}
 use Rattle.net_json.specs.declared.shape.Word.TheVariants as word
-use Rattle.net_pointers.specs.CertificateTroubles.{list_key, known_nodes}
-use Rattle.net_pointers.specs.Doubles.{part_at, part_after}
+use Rattle.net_pointers.specs.CertificateTroubles.{list_key, known_nodes, first_in, end_in}
+use Rattle.net_pointers.specs.Doubles.{part_at, part_after, IsFirstDoubled}
 use Rattle.net_pointers.specs.KnownNames.{known_in}
 use Rattle.net_pointers.specs.Nearest.{IsNearest}
 use Rattle.net_pointers.specs.Offsets.{LeadsTo, LeadsToKey}
@@ -106,7 +108,7 @@ abbrev pub some_unknown_key : List ℕ
 some_unknown_key = codes "has a key that doesn't belong there"
 
 abbrev pub unknown_words : Option (List ℕ) → List ℕ
-unknown_words (Some k) = codes "has the key " ++ shown_key k
+unknown_words (Some k) = codes "has the unknown key " ++ shown_key k
 unknown_words None = some_unknown_key
 
 -- the first key of an object, as it is written, that is none of those that may stand there
@@ -129,26 +131,36 @@ IsWrongTold fs fault.UnknownKey j rest words = words ≡ unknown_key_words fs j
 IsWrongTold fs fault.OverLimit j rest words = IsLengthTold (data_of j) rest words
 IsWrongTold fs f j rest words = IsStandingTold rest words
 
+-- what else may stand at a key of a plan: its other format, and of the endpoint IDs those that a node has
+abbrev pub also_at : Option Step → List ℕ
+also_at (Some (key k)) = if bytes_eq k (codes "format") then codes " or 2"
+    else if bytes_eq k (codes "eid") then codes ", and a node's is 8 to 254" else []
+also_at _ = []
+
+abbrev pub also_words : List Step → List ℕ
+also_words pointer = also_at (slice_get pointer (length pointer - 1))
+
 -- where the value is, what is wrong with it, and what may stand there
-abbrev pub value_line : List ℕ → ℕ → Located → List ℕ → List ℕ
-value_line text offset l words =
+abbrev pub value_line : List ℕ → ℕ → Located → List ℕ → List ℕ → List ℕ
+value_line text offset l also words =
     joined (position_text text (Some offset) ++ (pointer_text l.pointer ++ (codes " " ++ words)))
-    (shape_words (number_noun l.pointer) l.grammar)
+    (shape_words (number_noun l.pointer) l.grammar ++ also)
 
 -- the line of a value, with what is wrong with it
-abbrev pub IsLineOf : List ℕ → Located → Json → ℕ → List ℕ → Type 0
-IsLineOf text l j offset line = (words : List ℕ) × IsWrongTold (fields_of l.grammar) l.fault j (drop offset text) words
-    × (line ≡ value_line text offset l words)
+abbrev pub IsLineOf : List ℕ → Located → List ℕ → Json → ℕ → List ℕ → Type 0
+IsLineOf text l also j offset line =
+    (words : List ℕ) × IsWrongTold (fields_of l.grammar) l.fault j (drop offset text) words
+    × (line ≡ value_line text offset l also words)
 
--- The line tells of a value of the tree that has a fault: where it is, what is wrong with it, and what may stand there.
--- The offset is that to which the pointer leads.
-pub record IsValueTold (text : List ℕ) (j : Json) (l : Located) (line : List ℕ) : Type 0 where
+-- The line tells of a value of the tree that has a fault: where it is, what is wrong with it, and what may stand there,
+-- these words at the end. The offset is that to which the pointer leads.
+pub record IsValueTold (text : List ℕ) (j : Json) (l : Located) (also line : List ℕ) : Type 0 where
   pub offset : ℕ
   pub stands : Json
   pub at : LeadsTo text l.pointer offset
   pub tree : tree_at l.pointer j ≡ Some stands
   pub leads : value_at l.pointer (data_of j) ≡ Some (data_of stands)
-  pub written : IsLineOf text l stands offset line
+  pub written : IsLineOf text l also stands offset line
 
 -- ---- a name that nothing has
 
@@ -175,15 +187,33 @@ unknown_line text offset pointer name noun =
     joined (position_text text (Some offset) ++ (pointer_text pointer ++ (codes " is " ++ name)))
     (missing_words noun)
 
--- The lines tell of a name in the data that is none of those that are known: where it stands, and the nearest of them,
--- where one is close.
+-- two nodes with one name, if there are such
+abbrev pub named_twice : List (List ℕ) → Option TwoIndices → List ℕ
+named_twice names (Some twins) = codes "Nodes " ++ (decimal twins.first ++ (codes " and " ++ (decimal twins.second
+    ++ (codes ", counted from 0, are both named " ++ (get_or names twins.second [] ++ codes ".\n")))))
+named_twice names None = []
+
+-- the same where a node is named
+abbrev pub twins_line : List (List ℕ) → Named → Option TwoIndices → List ℕ
+twins_line names Buses twins = []
+twins_line names Nodes twins = named_twice names twins
+
+-- the first name that stands before it too, if one does
+abbrev pub AreTwins : List (List ℕ) → Option TwoIndices → Type 0
+AreTwins names twins = MatchOption twins (names_differ names ≡ true) (IsFirstDoubled names)
+
+-- The lines tell of a name in the data that is none of those that are known: where it stands, the nearest of them,
+-- where one is close, and two nodes of one name, where there are such.
 pub record IsUnknownNameTold (text : List ℕ) (d : Data) (known : Known) (l : Located) (lines : List ℕ) : Type 0 where
   pub offset : ℕ
   pub nearest : Option ℕ
+  pub twins : Option TwoIndices
   pub at : LeadsTo text l.pointer offset
+  pub are_twins : AreTwins (names_of (named_there l.grammar) known) twins
   pub is_nearest : IsNearest (names_of (named_there l.grammar) known) (text_found (value_at l.pointer d)) nearest
   pub written : lines ≡ unknown_line text offset l.pointer (text_found (value_at l.pointer d))
-      (named_noun (named_there l.grammar)) ++ nearest_line (names_of (named_there l.grammar) known) nearest
+      (named_noun (named_there l.grammar)) ++ (nearest_line (names_of (named_there l.grammar) known) nearest
+      ++ twins_line (names_of (named_there l.grammar) known) (named_there l.grammar) twins)
 
 -- ---- what stands twice
 
@@ -281,18 +311,39 @@ abbrev pub next_range_line : List Step → List ℕ
 next_range_line pointer =
     pointer_text pointer ++ codes " is the next one, and begins before that one has ended.\n"
 
--- the lines tell of two ranges of a node, of which the second begins before the first has ended, and where both stand
-abbrev pub IsOverlapTold : List ℕ → Overlap → List ℕ → Type 0
-IsOverlapTold text o lines = (first second : ℕ)
+-- the first endpoint ID of a range and its last one
+abbrev pub range_words : Option Data → List ℕ
+range_words (Some d) = decimal (first_in d) ++ (codes "-" ++ decimal (end_in d - 1))
+range_words None = codes "-"
+
+-- which endpoint IDs two ranges have
+abbrev pub overlap_line : Option Data → Option Data → List ℕ
+overlap_line before after =
+    codes "Ranges " ++ (range_words before ++ (codes " and " ++ (range_words after ++ codes " overlap.\n")))
+
+-- the same of two ranges of the certificate, one behind the other
+abbrev pub overlap_of : Data → Overlap → List ℕ
+overlap_of d o =
+    overlap_line (value_at (range_pointer o.entry o.range) d) (value_at (range_pointer o.entry (o.range + 1)) d)
+
+-- the lines tell where two ranges of a node stand
+abbrev pub AreRangesTold : List ℕ → Overlap → List ℕ → Type 0
+AreRangesTold text o lines = (first second : ℕ)
     × LeadsTo text (range_pointer o.entry o.range) first × LeadsTo text (range_pointer o.entry (o.range + 1)) second
     × (lines ≡ two_lines text (Some first) (Some second) (range_line (range_pointer o.entry o.range))
     (next_range_line (range_pointer o.entry (o.range + 1))))
+
+-- the lines tell of two ranges of a node, of which the second begins before the first has ended: where both stand, and
+-- which endpoint IDs they have
+abbrev pub IsOverlapTold : List ℕ → Data → Overlap → List ℕ → Type 0
+IsOverlapTold text d o lines = (told : List ℕ) × AreRangesTold text o told × (lines ≡ told ++ overlap_of d o)
 
 -- ---- a text
 
 -- the lines tell of what is wrong with the plan that a tree is
 abbrev pub ArePlanLines : List ℕ → Json → PlanTrouble → List ℕ → Type 0
-ArePlanLines text j (of_plan.Value found) lines = IsValueTold text j (located found) lines
+ArePlanLines text j (of_plan.Value found) lines =
+    IsValueTold text j (located found) (also_words (located found).pointer) lines
 ArePlanLines text j (of_plan.DoubledBus indices) lines =
     IsDoubledNameTold text (data_of j) (codes "buses") (codes "name") one_bus indices lines
 ArePlanLines text j (of_plan.DoubledKey doubled) lines = IsDoubledKeyTold text j doubled lines
@@ -302,10 +353,10 @@ ArePlanLines text j (of_plan.UnknownName found) lines =
 -- the lines tell of what is wrong with the certificate that a tree is, among nodes of these names
 abbrev pub AreCertificateLines : List (List ℕ) → List ℕ → Json → CertificateTrouble → List ℕ → Type 0
 AreCertificateLines nodes text j (of_certificate.Value found) lines =
-    IsValueTold text j (located found) lines
+    IsValueTold text j (located found) [] lines
 AreCertificateLines nodes text j (of_certificate.DoubledNode list indices) lines =
     IsDoubledNameTold text (data_of j) (list_key list) (codes "node") one_entry indices lines
-AreCertificateLines nodes text j (of_certificate.Overlap overlap) lines = IsOverlapTold text overlap lines
+AreCertificateLines nodes text j (of_certificate.Overlap overlap) lines = IsOverlapTold text (data_of j) overlap lines
 AreCertificateLines nodes text j (of_certificate.DoubledKey doubled) lines = IsDoubledKeyTold text j doubled lines
 AreCertificateLines nodes text j (of_certificate.UnknownName found) lines =
     IsUnknownNameTold text (data_of j) (known_nodes nodes) (located found) lines

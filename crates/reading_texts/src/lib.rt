@@ -34,6 +34,7 @@ use net_pointers::{
     names_of_nodes, plan_text_trouble,
 };
 pub use positions::pointer_text;
+use shapes::also_words;
 use std::alloc::{AllocError, Global};
 use syntax::json_line;
 use twice::{doubled_key_lines, doubled_name_lines, overlap_lines};
@@ -119,7 +120,15 @@ fn plan_value_lines(
     ensures { IfOk result (λ lines. ArePlanLines text.now (value_view value.now) trouble.now (string_bytes lines)) }
 {
     match trouble {
-        PlanTrouble::Value(found) => value_line(alloc, text, value, found),
+        PlanTrouble::Value(found) => {
+            value_line(
+                alloc,
+                text,
+                value,
+                found,
+                also_words(found.pointer.as_slice()),
+            )
+        }
         PlanTrouble::DoubledBus(indices) => {
             doubled_name_lines(alloc, text, value, "buses", "name", ONE_BUS, *indices)
         }
@@ -192,7 +201,7 @@ fn certificate_value_lines(
     ensures { IfOk result (λ lines. AreCertificateLines (node_names (plan_value plan.now).nodes) text.now (value_view value.now) trouble.now (string_bytes lines)) }
 {
     match trouble {
-        CertificateTrouble::Value(found) => value_line(alloc, text, value, found),
+        CertificateTrouble::Value(found) => value_line(alloc, text, value, found, ""),
         CertificateTrouble::DoubledNode(list, indices) => {
             doubled_name_lines(
                 alloc,

@@ -6,14 +6,14 @@ ghost use Rattle.net_json.specs.Trees.{view};
 ghost use Rattle.json.specs.Value.{value_view};
 ghost use Rattle.net_pointers.specs.Offsets.{IsTextOf};
 ghost use Rattle.net_pointers.specs.Pointers.{value_at};
-ghost use Rattle.reading_texts.specs.TroubleLines.{IsUnknownNameTold, named_there, named_noun, nearest_line, missing_words, unknown_line};
+ghost use Rattle.reading_texts.specs.TroubleLines.{IsUnknownNameTold, named_there, named_noun, nearest_line, missing_words, named_twice, twins_line, unknown_line};
 
 use crate::joined::joined;
 use crate::positions::{pointer_text, position_text};
 use crate::values::{offset_there, text_of, value_at};
 use json::Value;
 use net_json::{Found, KnownNames, Named, PointerStep, Shape, Word};
-use net_pointers::nearest_name;
+use net_pointers::{TwoIndices, first_doubled, nearest_name};
 use std::alloc::{AllocError, Global};
 
 /// The lines of a name that is none of those that are known.
@@ -33,9 +33,45 @@ pub fn unknown_name_lines(
     let named = named_there(found.shape);
     let names = names_of(known, named);
     let nearest = nearest_name(alloc, name, names)?;
-    let mut lines = unknown_line(alloc, text, offset, found.pointer.as_slice(), name, named)?;
-    lines.push_str(&nearest_line(alloc, names, nearest)?)?;
-    Ok(lines)
+    let twins = first_doubled(alloc, names)?;
+    let nearest = nearest_line(alloc, names, nearest)?;
+    let twins = twins_line(alloc, names, named, twins)?;
+    let line = unknown_line(alloc, text, offset, found.pointer.as_slice(), name, named)?;
+    format!(in alloc; "{line}{nearest}{twins}")
+}
+
+/// The line that tells that two nodes have one name, so that a name which one of them had is that of none.
+fn twins_line(
+    alloc: Global,
+    names: &[&str],
+    named: Named,
+    twins: Option<TwoIndices>,
+) -> Result<String, AllocError>
+    ensures { IfOk result (λ line. string_bytes line ≡ twins_line (map (λ name. name.now) names.now) named twins) }
+{
+    match named {
+        Named::Buses => Ok(String::new(alloc)),
+        Named::Nodes => named_twice(alloc, names, twins),
+    }
+}
+
+fn named_twice(
+    alloc: Global,
+    names: &[&str],
+    twins: Option<TwoIndices>,
+) -> Result<String, AllocError>
+    ensures { IfOk result (λ line. string_bytes line ≡ named_twice (map (λ name. name.now) names.now) twins) }
+{
+    match twins {
+        Some(twins) => {
+            let (first, second) = (twins.first, twins.second);
+            let name = name_at(names, second);
+            format!(in alloc;
+                "Nodes {first} and {second}, counted from 0, are both named {name}.\n"
+            )
+        }
+        None => Ok(String::new(alloc)),
+    }
 }
 
 fn unknown_line(

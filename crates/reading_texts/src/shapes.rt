@@ -4,6 +4,7 @@ ghost use Rattle.std.specs.List.{flat_map};
 ghost use Rattle.net_json.specs.Finding.{step_value};
 ghost use Rattle.net_json.specs.Grammar.{grammar, fields_view};
 ghost use Rattle.net_json.specs.declared.shape.Field.{out-Field};
+ghost use Rattle.reading_texts.specs.TroubleLines.{also_at, also_words};
 ghost use Rattle.reading_texts.specs.ReadingLines.{key_words, key_noun, step_noun, number_noun, number_words, word_words, list_words, rule_words, object_words, shape_words};
 
 use net_json::{Field, PointerStep, Rule, Shape, Word};
@@ -68,6 +69,26 @@ fn key_noun(key: &'static str) -> &'static str
     match key {
         "eid" => "an endpoint ID",
         _ => key,
+    }
+}
+
+/// What else may stand in a plan where a pointer leads: its other format, and of the endpoint IDs those that a node has.
+pub fn also_words(pointer: &[PointerStep]) -> &'static str
+    ensures { result.now ≡ also_words (map step_value pointer.now) }
+{
+    match pointer.last() {
+        Some(step) => also_at(*step),
+        None => "",
+    }
+}
+
+fn also_at(step: PointerStep) -> &'static str
+    ensures { result.now ≡ also_at (Some (step_value step)) }
+{
+    match step {
+        PointerStep::Key("format") => " or 2",
+        PointerStep::Key("eid") => ", and a node's is 8 to 254",
+        _ => "",
     }
 }
 

@@ -7,13 +7,16 @@ ghost use Rattle.net_json.specs.Trees.{view};
 ghost use Rattle.net_pointers.specs.CertificateTroubles.{DoOverlap};
 ghost use Rattle.net_pointers.specs.Doubles.{HasDoubledKey, part_at};
 ghost use Rattle.net_pointers.specs.Offsets.{IsTextOf, LeadsToKey};
-ghost use Rattle.reading_texts.specs.TroubleLines.{two_lines, entry_pointer, IsDoubledNameTold, name_line, again_line, IsDoubledKeyTold, key_at, part_step, path_text, object_text, keys_in, key_line, key_again_line, IsOverlapTold, range_pointer, range_line, next_range_line};
+ghost use Rattle.reading_texts.specs.TroubleLines.{two_lines, entry_pointer, IsDoubledNameTold, name_line, again_line, IsDoubledKeyTold, key_at, part_step, path_text, object_text, keys_in, key_line, key_again_line, AreRangesTold, IsOverlapTold, overlap_line, overlap_of, range_pointer, range_line, range_words, next_range_line};
 
 use crate::positions::{pointer_text, position_text};
 use crate::values::{offset_there, text_of, value_at};
 use json::Value;
 use net_json::PointerStep;
-use net_pointers::{DoubledKey, Overlap, TwoIndices, offset_of_key, offset_of_pointer, part_after};
+use net_pointers::{
+    DoubledKey, Overlap, TwoIndices, end_of_range, first_in_range, offset_of_key,
+    offset_of_pointer, part_after,
+};
 use std::alloc::{AllocError, Global};
 
 /// The lines of a name that stands at two items of a list. `why` says why it may not.
@@ -220,7 +223,23 @@ pub fn overlap_lines(
 ) -> Result<String, AllocError>
     requires text { IsTextOf text.now (value_view value.now) }
     requires overlap { DoOverlap (view value.now) overlap }
-    ensures { IfOk result (λ lines. IsOverlapTold text.now overlap (string_bytes lines)) }
+    ensures { IfOk result (λ lines. IsOverlapTold text.now (view value.now) overlap (string_bytes lines)) }
+{
+    let mut lines = both_ranges(alloc, text, value, overlap)?;
+    lines.push_str(&overlap_of(alloc, value, overlap)?)?;
+    Ok(lines)
+}
+
+/// Where two ranges of a node stand.
+fn both_ranges(
+    alloc: Global,
+    text: &[u8],
+    value: &Value<'_>,
+    overlap: Overlap,
+) -> Result<String, AllocError>
+    requires text { IsTextOf text.now (value_view value.now) }
+    requires overlap { DoOverlap (view value.now) overlap }
+    ensures { IfOk result (λ lines. AreRangesTold text.now overlap (string_bytes lines)) }
 {
     let Some(next) = overlap.range.checked_add(1) else {
         // (no list is so long)
@@ -233,6 +252,46 @@ pub fn overlap_lines(
     let one = range_line(alloc, &one)?;
     let other = next_range_line(alloc, &other)?;
     two_lines(alloc, text, Some(first), Some(second), &one, &other)
+}
+
+/// Which endpoint IDs two ranges of a node have.
+fn overlap_of(alloc: Global, value: &Value<'_>, overlap: Overlap) -> Result<String, AllocError>
+    ensures { IfOk result (λ line. string_bytes line ≡ overlap_of (view value.now) overlap) }
+{
+    let Some(next) = overlap.range.checked_add(1) else {
+        // (no list is so long)
+        return Err(AllocError);
+    };
+    let one = range_pointer(overlap.entry, overlap.range);
+    let other = range_pointer(overlap.entry, next);
+    overlap_line(alloc, value_at(value, &one), value_at(value, &other))
+}
+
+/// Which endpoint IDs two ranges have.
+fn overlap_line(
+    alloc: Global,
+    before: Option<&Value<'_>>,
+    after: Option<&Value<'_>>,
+) -> Result<String, AllocError>
+    ensures { IfOk result (λ line. string_bytes line ≡ overlap_line (option_map (λ v. view v.now) before.entry) (option_map (λ v. view v.now) after.entry)) }
+{
+    let before = range_words(alloc, before)?;
+    let after = range_words(alloc, after)?;
+    format!(in alloc; "Ranges {before} and {after} overlap.\n")
+}
+
+/// The first endpoint ID of a range and its last one.
+fn range_words(alloc: Global, range: Option<&Value<'_>>) -> Result<String, AllocError>
+    ensures { IfOk result (λ words. string_bytes words ≡ range_words (option_map (λ v. view v.now) range.entry)) }
+{
+    match range {
+        Some(range) => {
+            let first = first_in_range(range);
+            let last = end_of_range(range).saturating_sub(1);
+            format!(in alloc; "{first}-{last}")
+        }
+        None => "-".to_string(alloc),
+    }
 }
 
 fn range_pointer(entry: usize, range: usize) -> [PointerStep; 4]

@@ -30,23 +30,25 @@ const LACKS_A_KEY: &str = "lacks a key that belongs there";
 
 const UNKNOWN_KEY: &str = "has a key that doesn't belong there";
 
-/// The line of a value that has a fault in itself: where it stands, what is wrong with it, and what may stand there.
+/// The line of a value that has a fault in itself: where it stands, what is wrong with it, and what may stand there, with
+/// these words at the end.
 pub fn value_line(
     alloc: Global,
     text: &[u8],
     value: &Value<'_>,
     found: &Found,
+    also: &str,
 ) -> Result<String, AllocError>
     requires text { IsTextOf text.now (value_view value.now) }
     requires leads { is_some (value_at (located found.now).pointer (view value.now)) ≡ true }
-    ensures { IfOk result (λ line. IsValueTold text.now (value_view value.now) (located found.now) (string_bytes line)) }
+    ensures { IfOk result (λ line. IsValueTold text.now (value_view value.now) (located found.now) also.now (string_bytes line)) }
 {
     let pointer = found.pointer.as_slice();
     let Some(stands) = value_at(value, pointer) else {
         unreachable!();
     };
     let offset = offset_there(alloc, text, value, pointer)?;
-    line_of(alloc, text, found, stands, offset)
+    line_of(alloc, text, found, also, stands, offset)
 }
 
 /// The offset at which the value begins to which a pointer leads.
@@ -70,31 +72,34 @@ fn line_of(
     alloc: Global,
     text: &[u8],
     found: &Found,
+    also: &str,
     stands: &Value<'_>,
     offset: usize,
 ) -> Result<String, AllocError>
     requires { (offset ≤ length text.now) × IsUtf8 (drop offset text.now) }
-    ensures { IfOk result (λ line. IsLineOf text.now (located found.now) (value_view stands.now) offset (string_bytes line)) }
+    ensures { IfOk result (λ line. IsLineOf text.now (located found.now) also.now (value_view stands.now) offset (string_bytes line)) }
 {
     let words = wrong_words(alloc, found, stands, rest_at(text, offset))?;
-    value_text(alloc, text, found, offset, &words)
+    value_text(alloc, text, found, also, offset, &words)
 }
 
 fn value_text(
     alloc: Global,
     text: &[u8],
     found: &Found,
+    also: &str,
     offset: usize,
     words: &str,
 ) -> Result<String, AllocError>
     requires { offset ≤ length text.now }
-    ensures { IfOk result (λ line. string_bytes line ≡ value_line text.now offset (located found.now) words.now) }
+    ensures { IfOk result (λ line. string_bytes line ≡ value_line text.now offset (located found.now) also.now words.now) }
 {
     let position = position_text(alloc, text, Some(offset))?;
     let pointer = pointer_text(alloc, found.pointer.as_slice())?;
     let stands = format!(in alloc; "{position}{pointer} {words}")?;
     let noun = number_noun(found.pointer.as_slice());
-    let shape = shape_words(alloc, noun, found.shape)?;
+    let mut shape = shape_words(alloc, noun, found.shape)?;
+    shape.push_str(also)?;
     joined(alloc, &stands, &shape)
 }
 
@@ -178,7 +183,7 @@ fn key_words_of(alloc: Global, key: Option<&str>) -> Result<String, AllocError>
     match key {
         Some(key) => {
             let key = shown_key(alloc, key)?;
-            format!(in alloc; "has the key {key}")
+            format!(in alloc; "has the unknown key {key}")
         }
         None => UNKNOWN_KEY.to_string(alloc),
     }

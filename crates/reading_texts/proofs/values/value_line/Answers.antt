@@ -19,4 +19,4 @@ returns c =
     let at : LeadsTo c.args.text.now l.pointer c.in_ok-offset.offset = search rules in
     let leads : value_at l.pointer (view c.args.value.now) ≡ Some (view c.in-Some.stands.now) = search rules in
     let tree : tree_at l.pointer (value_view c.args.value.now) ≡ Some (value_view c.in-Some.stands.now) = search rules in
-    value_told string_bytes c.args.text.now (value_view c.args.value.now) (value_view c.in-Some.stands.now) l c.in_ok-offset.offset c.line_of.result at tree leads c.line_of.ensures
+    value_told string_bytes c.args.text.now (value_view c.args.value.now) (value_view c.in-Some.stands.now) l c.args.also.now c.in_ok-offset.offset c.line_of.result at tree leads c.line_of.ensures
