@@ -2,7 +2,7 @@
 # Source it, or put it into /usr/share/bash-completion/completions/mctpplan.
 
 # tools/made writes these commands
-_mctpplan_commands='check certify move certifymove assign sim expect simmove walk reach matrix require trace draw
+_mctpplan_commands='make check certify move certifymove assign sim expect simmove walk reach matrix require trace draw
 explain faults lint show describe record code schema guide version'
 
 # tools/made writes these codes
@@ -38,7 +38,7 @@ _mctpplan() {
         return
     fi
     case $command in
-        certify | lint) files=1 ;;
+        certify | lint | make) files=1 ;;
         check | assign | walk | reach | matrix | require | trace | draw | explain | faults) files=2 ;;
         move | sim) files=3 ;;
         simmove) files=4 ;;

@@ -7,7 +7,7 @@ use net_json::Counted;
 use plan_commands::{
     FileAtPath, PlanQuestion, Question, Refused, ShownKind, Status, Subcommand, WordQuestion,
     hint_nodes, hint_words, parse_command, refuse, run_certified, run_certify_move, run_expect, run_explain,
-    run_explain_certified, run_known, run_move, run_planned, run_require, run_show, run_worded,
+    run_explain_certified, run_known, run_make, run_move, run_planned, run_require, run_show, run_worded,
     simulate, simulate_move,
 };
 use std::env;
@@ -60,6 +60,7 @@ fn run_command<'a>(rt: &'a HostRuntime, command: Subcommand<'a>) -> Status {
             certificate,
             wanted,
         } => require(rt, plan, certificate, wanted),
+        Subcommand::Make { board } => make(rt, board),
         Subcommand::Sim {
             plan,
             certificate,
@@ -151,6 +152,14 @@ fn require<'a>(
         &mut output,
         &mut errors,
     )
+}
+
+/// Makes a plan of a board.
+fn make<'a>(rt: &'a HostRuntime, board: &'a str) -> Status {
+    let mut board = file(rt, board);
+    let mut output = Counted::new(rt.stdout());
+    let mut errors = Counted::new(rt.stderr());
+    run_make(rt.alloc(), &mut board, &mut output, &mut errors)
 }
 
 /// Plays events in the network of a plan.

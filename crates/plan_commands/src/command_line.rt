@@ -36,6 +36,10 @@ pub enum Subcommand<'a> {
         certificate: &'a str,
         wanted: &'a str,
     },
+    /// Which plan is made of the board in a file?
+    Make {
+        board: &'a str,
+    },
     /// What comes of the events in a file?
     Sim {
         plan: &'a str,
@@ -113,7 +117,8 @@ fn worded(list: &[String]) -> Option<Subcommand<'_>> {
 }
 
 /// The name of each command, the names of its arguments, and those of the arguments that may be left out.
-const COMMANDS: [(&str, &[&str], &[&str]); 22] = [
+const COMMANDS: [(&str, &[&str], &[&str]); 23] = [
+    ("make", &["board"], &[]),
     ("check", &["plan", "certificate"], &[]),
     ("certify", &["plan"], &[]),
     ("assign", &["plan", "certificate"], &[]),
@@ -198,6 +203,7 @@ fn option<'a>(alloc: Global, id: &'a str, alone: Option<&'a str>) -> Arg<'a> {
 fn chosen<'a>(matches: &ArgMatches<'a>) -> Option<Subcommand<'a>> {
     let (name, arguments) = matches.subcommand()?;
     match name {
+        "make" => making(arguments),
         "check" => certified(arguments, Question::Check),
         "certify" => planned(arguments, PlanQuestion::Certify),
         "assign" => certified(arguments, Question::Assign),
@@ -244,6 +250,12 @@ fn requiring<'a>(arguments: &ArgMatches<'a>) -> Option<Subcommand<'a>> {
         plan: arguments.get_str("plan")?,
         certificate: arguments.get_str("certificate")?,
         wanted: arguments.get_str("wanted")?,
+    })
+}
+
+fn making<'a>(arguments: &ArgMatches<'a>) -> Option<Subcommand<'a>> {
+    Some(Subcommand::Make {
+        board: arguments.get_str("board")?,
     })
 }
 

@@ -14,6 +14,7 @@ pub mod inputs;
 pub mod known;
 pub mod lint;
 pub mod listing;
+pub mod make;
 pub mod moving;
 pub mod naming;
 pub mod planned;

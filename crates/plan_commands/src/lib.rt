@@ -17,6 +17,7 @@ pub use commands::expect::run_expect;
 pub use commands::explain::certified::run_explain_certified;
 pub use commands::explain::run_explain;
 pub use commands::known::run_known;
+pub use commands::make::run_make;
 pub use commands::moving::run_move;
 pub use commands::planned::{PlanQuestion, run_planned};
 pub use commands::require::run_require;

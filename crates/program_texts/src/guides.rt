@@ -1,7 +1,8 @@
 //! What is said of the commands. `tools/made` writes this file from docs/COMMANDS.md.
 
 /// The commands, a line each with its words.
-pub const GUIDE: &str = r#"check PLAN CERT              whether the certificate fits the plan
+pub const GUIDE: &str = r#"make BOARD                   the plan that is made of a board, which is a short TOML text
+check PLAN CERT              whether the certificate fits the plan
 certify PLAN                 the certificate of the plan, or why it has none
 move OLD NEW CERT            whether nodes may go over from the old plan's rows to the new one's
 certifymove OLD NEW          the certificate of a move from the old plan's rows to the new one's
@@ -40,6 +41,7 @@ proved with rattle-kit-13f logic dac8208d650f15bf
 /// What is said of a command, if it is one.
 pub fn guide_to(command: &str) -> Option<&'static str> {
     match command {
+        "make" => Some(OF_MAKE),
         "check" => Some(OF_CHECK),
         "certify" => Some(OF_CERTIFY),
         "move" => Some(OF_MOVE),
@@ -67,6 +69,24 @@ pub fn guide_to(command: &str) -> Option<&'static str> {
         _ => None,
     }
 }
+
+const OF_MAKE: &str = r#"mctpplan make BOARD
+
+Prints a plan that is made of what an engineer decides: the buses, the nodes on them, who owns whom.
+What the board leaves out is found, as endpoint IDs, pools, rows and the bytes of records; what it
+gives is kept. The plan is judged before it is printed: it has a certificate, all that the board
+gives is in it, and each node reaches those that it is to reach. docs/BOARD.md says what may stand
+in a board.
+
+Status 0: the plan.
+Status 1: why no plan can be made.
+Status 2: where the board can't be read, with what stands there and what may.
+
+  $ mctpplan make examples/board/riser.toml > plan.json
+  $ mctpplan certify plan.json > certificate.json
+  $ mctpplan check plan.json certificate.json
+  yes
+"#;
 
 const OF_CHECK: &str = r#"mctpplan check PLAN CERT
 

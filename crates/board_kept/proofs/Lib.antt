@@ -1,0 +1,5 @@
+pub mod Beyond
+pub mod More
+pub mod Members
+pub mod Reaching
+pub mod Asking

@@ -1,0 +1,9 @@
+use Rattle.board_made.proofs.judged.judged_with.Goals as goal
+
+pub returns-in-None : goal.returns-in-None
+returns-in-None c = record {
+  plan = c.args.plan.now;
+  certificate = c.args.certificate.now;
+  reads = c.requires;
+  fit = c.in_ok-why_unfit.ensures c.in-None.is;
+}

@@ -1,0 +1,8 @@
+//! The plan that is made of a board's text, judged before it is answered, or why none is.
+#![tactic(auto)]
+
+mod answer;
+mod judged;
+mod reasons;
+
+pub use answer::{BoardAnswer, answer_board};
