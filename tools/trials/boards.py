@@ -1,11 +1,11 @@
 """Random boards: each ends in a plan that is fit for it, or in a reason that is true.
 
 Boards are trees of bridges with endpoints, some with a second way, and with endpoint IDs, pools, rows and lists of whom to
-reach left out or given. Of a plan that make prints certify has to have a certificate, and what the board gives has to be in
+reach left out or given. Of a plan that make prints check has to say yes with the certificate that it writes, and what the board gives has to be in
 it; from each node packets have to come to all that it is to reach, by the rows, and in as few hops as the buses allow
 where no row is given for the endpoint ID. Of a reason is tried that no endpoint ID of the pool, no run of them or no way
-is left, or that a rule is named of a board that gives endpoint IDs, pools or rows. 10,000 boards are tried of the proved
-program, 200 of another; a word that is a number is the seed of one.
+is left, or that a rule is named of a board that gives endpoint IDs, pools or rows. 2,000 boards are tried of the proved
+program, 200 of another; a word that is a number says how many, and `from N` with which to begin.
 """
 import json
 import random
@@ -13,7 +13,7 @@ import re
 
 from runner import each
 
-COUNT, FEW = 10_000, 200
+COUNT, FEW = 2_000, 200
 
 
 # ---- boards
@@ -148,10 +148,10 @@ def lacks(board, plan):
     return None
 
 
-def wrong_of_plan(trial, board, text):
+def wrong_of_plan(trial, board, text, certificate):
     plan = json.loads(text)
-    if trial.run(["certify", trial.file("plan.json", text)])[0] != 0:
-        return "no certificate"
+    if trial.run(["check", trial.file("plan.json", text), certificate])[1] != b"yes\n":
+        return "its certificate doesn't fit"
     if wrong := lacks(board, plan):
         return f"lacks {wrong}"
     nodes, is_bridge = plan["nodes"], [it["kind"] == "bridge" for it in plan["nodes"]]
@@ -195,17 +195,22 @@ def wrong_of_reason(board, reason):
 
 def wrong_of(trial, seed):
     board = Board(seed)
-    status, output, error = trial.run(["make", trial.file("board.toml", board.text())])
+    certificate = trial.file("certificate.json", "")
+    status, output, error = trial.run(["make", trial.file("board.toml", board.text()), "--certificate", certificate])
     if status == 0:
-        return wrong_of_plan(trial, board, output.decode())
+        return wrong_of_plan(trial, board, output.decode(), certificate)
     if status == 1:
         return wrong_of_reason(board, output.decode())
     return f"status {status}: {(output + error).decode()}"
 
 
 def try_all(trial):
-    seeds = [int(it) for it in trial.words if it.isdigit()]
-    seeds = seeds or range(FEW if trial.is_unproved or trial.given else COUNT)
+    words, first = [*trial.words], 0
+    if "from" in words:
+        at = words.index("from")
+        first = int(words[at + 1])
+        del words[at : at + 2]
+    count = int(words[0]) if words else FEW if trial.is_unproved or trial.given else COUNT
 
     def tried(seed):
         try:
@@ -214,4 +219,4 @@ def try_all(trial):
             wrong = f"{type(why).__name__} {why}"
         trial.note(not wrong, f"board {seed}: {wrong}")
 
-    each(tried, seeds)
+    each(tried, range(first, first + count))

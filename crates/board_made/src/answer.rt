@@ -1,11 +1,11 @@
 //! What is answered of the text of a board.
-ghost use Rattle.std.specs.Prelude.{IfOk};
+ghost use Rattle.std.specs.Prelude.{IfOk, string_bytes};
 ghost use Rattle.toml.specs.View.{view};
 ghost use Rattle.board_kept.specs.Said.{IsTomlOf};
-ghost use Rattle.board_made.specs.Made.{IsAnswerTo, IsAnswerFor};
+ghost use Rattle.board_made.specs.Made.{IsAnswerTo, IsAnswerFor, IsUnreadLine};
 
 use crate::judged::judged;
-use crate::reasons::{no_plan_line, unread_line};
+use crate::reasons::{no_plan_line, place_line, unread_line};
 use board::{Board, BoardError, made_plan, read_board};
 use board_kept::board_of_text;
 use std::alloc::{AllocError, Global};
@@ -14,12 +14,19 @@ use toml::Value;
 /// What is answered of a board.
 #[derive(Debug, Drop)]
 pub enum BoardAnswer {
-    /// The text of a plan.
-    Made(String),
+    /// A plan, judged.
+    Made(MadePlan),
     /// Why no plan can be made of it.
     NoPlan(String),
     /// Why it can't be read.
     Unread(String),
+}
+
+/// The text of a plan that was made, and that of its certificate.
+#[derive(Debug, Drop)]
+pub struct MadePlan {
+    pub plan: String,
+    pub certificate: String,
 }
 
 /// The plan that is made of the text of a board, or why there is none.
@@ -28,9 +35,7 @@ pub fn answer_board(alloc: Global, text: &[u8]) -> Result<BoardAnswer, AllocErro
 {
     match std::str::from_utf8(text) {
         Ok(text) => answer_text(alloc, text),
-        Err(_) => Ok(BoardAnswer::Unread("unreadable board: the text is not UTF-8\n".to_string(
-            alloc,
-        )?)),
+        Err(_) => Ok(BoardAnswer::Unread(unread_line(alloc, "the text is not UTF-8")?)),
     }
 }
 
@@ -43,14 +48,15 @@ fn answer_text(alloc: Global, text: &str) -> Result<BoardAnswer, AllocError>
     }
 }
 
-/// Where the text is no TOML, and why.
-fn syntax_line(alloc: Global, text: &str, error: &toml::de::Error) -> Result<String, AllocError> {
+/// Where the text is no TOML, and why. An error of memory has no place.
+fn syntax_line(alloc: Global, text: &str, error: &toml::de::Error) -> Result<String, AllocError>
+    ensures { IfOk result (λ line. IsUnreadLine (string_bytes line)) }
+{
     let Some(span) = error.span() else {
         return Err(AllocError);
     };
     let (line, column) = line_and_column(text, span.start);
-    let reason = error.message();
-    unread_line(alloc, line, column, reason)
+    place_line(alloc, line, column, error.message())
 }
 
 /// The line and the column, both from 1, of a byte of a text.
@@ -73,15 +79,8 @@ fn answer_value(alloc: Global, text: &str, board: &Value) -> Result<BoardAnswer,
     ensures { IfOk result (λ answer. IsAnswerFor (view board.now) answer) }
 {
     match read_value(alloc, text, board) {
-        Ok(given) => Ok(answer_given(alloc, text, board, &given)?),
-        Err(
-            BoardError::Unread {
-                line,
-                column,
-                reason,
-            },
-        ) => Ok(BoardAnswer::Unread(unread_line(alloc, line, column, &reason)?)),
-        Err(BoardError::OutOfMemory) => Err(AllocError),
+        Ok(given) => answer_given(alloc, text, board, &given),
+        Err(error) => Ok(BoardAnswer::Unread(error_line(alloc, error)?)),
     }
 }
 
@@ -89,6 +88,19 @@ fn read_value(alloc: Global, text: &str, board: &Value) -> Result<Board, BoardEr
     match board.as_table() {
         Some(table) => read_board(alloc, text, table),
         None => Err(BoardError::OutOfMemory),
+    }
+}
+
+fn error_line(alloc: Global, error: BoardError) -> Result<String, AllocError>
+    ensures { IfOk result (λ line. IsUnreadLine (string_bytes line)) }
+{
+    match error {
+        BoardError::Unread {
+            line,
+            column,
+            reason,
+        } => place_line(alloc, line, column, &reason),
+        BoardError::OutOfMemory => Err(AllocError),
     }
 }
 

@@ -5,4 +5,4 @@ mod answer;
 mod judged;
 mod reasons;
 
-pub use answer::{BoardAnswer, answer_board};
+pub use answer::{BoardAnswer, MadePlan, answer_board};

@@ -1,5 +1,9 @@
 //! The lines that say why a board can't be read, or why no plan is made of it.
-ghost use Rattle.net_rules.specs.Certificates.{NamesObstacle};
+ghost use Rattle.std.specs.Prelude.{IfOk, string_bytes};
+ghost use Rattle.toml.specs.View.{view};
+ghost use Rattle.net_rules.specs.Certificates.{NamesObstacle, RulesOutCertificates};
+ghost use Rattle.board_kept.specs.Kept.{Keeps};
+ghost use Rattle.board_made.specs.Made.{IsUnreadLine, IsOtherReason, IsRuledOut};
 
 use board::{Board, NoPlan, line_of_node};
 use board_kept::Unfit;
@@ -7,15 +11,35 @@ use net_check::CertifyError;
 use net_plan::Plan;
 use plan_texts::{obstacle_line, obstacle_lines};
 use std::alloc::{AllocError, Global};
+use toml::Value;
 
-/// Why a board can't be read, with the line and the column.
-pub fn unread_line(
+/// Says why a board can't be read, and where.
+pub fn place_line(
     alloc: Global,
     line: usize,
     column: usize,
     reason: &str,
-) -> Result<String, AllocError> {
-    format!(in alloc; "unreadable board: line {line}, column {column}: {reason}\n")
+) -> Result<String, AllocError>
+    ensures { IfOk result (λ line. IsUnreadLine (string_bytes line)) }
+{
+    unread_line(
+        alloc,
+        &format!(in alloc; "line {line}, column {column}: {reason}")?,
+    )
+}
+
+/// Says why a board can't be read.
+pub fn unread_line(alloc: Global, reason: &str) -> Result<String, AllocError>
+    ensures { IfOk result (λ line. IsUnreadLine (string_bytes line)) }
+{
+    format!(in alloc; "unreadable board: {reason}\n")
+}
+
+/// Says why no plan is made of a board: there is no such thing.
+pub fn other_reason(alloc: Global, lacking: &str) -> Result<String, AllocError>
+    ensures { IfOk result (λ reason. IsOtherReason (string_bytes reason)) }
+{
+    format!(in alloc; "no plan: no {lacking}\n")
 }
 
 /// A node by its name and the line of its table.
@@ -49,32 +73,64 @@ pub fn no_plan_line(
     text: &str,
     board: &Board,
     why: NoPlan,
+) -> Result<String, AllocError>
+    ensures { IfOk result (λ reason. IsOtherReason (string_bytes reason)) }
+{
+    other_reason(alloc, &lacking_text(alloc, text, board, why)?)
+}
+
+/// What is lacking for a plan.
+fn lacking_text(
+    alloc: Global,
+    text: &str,
+    board: &Board,
+    why: NoPlan,
 ) -> Result<String, AllocError> {
     match why {
-        NoPlan::OwnerLoop { node } => {
-            let node = node_of_board(alloc, text, board, node)?;
-            format!(in alloc; "no plan: the owners of {node} go round in a circle\n")
-        }
         NoPlan::NoPool { node, owner } => {
             let node = node_of_board(alloc, text, board, node)?;
             let owner = node_of_board(alloc, text, board, owner)?;
-            format!(in alloc;
-                "no plan: {node} has no endpoint ID, and its owner, {owner}, no pool to take one from\n"
-            )
+            format!(in alloc; "pool stands at {owner}, from which {node} is to take its endpoint ID")
         }
         NoPlan::NoEid { node, owner } => {
             let node = node_of_board(alloc, text, board, node)?;
             let whose = pool_text(alloc, text, board, owner)?;
-            format!(in alloc; "no plan: no endpoint ID of {whose} is left for {node}\n")
+            format!(in alloc; "endpoint ID of {whose} is left for {node}")
         }
         NoPlan::NoRun { node, size, owner } => {
             let node = node_of_board(alloc, text, board, node)?;
             let whose = pool_text(alloc, text, board, owner)?;
             format!(in alloc;
-                "no plan: no {size} endpoint IDs of {whose}, one after another, are left for the pool of {node}\n"
+                "{size} endpoint IDs of {whose}, one after another, are left for the pool of {node}"
             )
         }
-        _ => other_line(alloc, text, board, why),
+        NoPlan::NoWay { from, to } => {
+            let from = node_of_board(alloc, text, board, from)?;
+            let to = node_of_board(alloc, text, board, to)?;
+            format!(in alloc; "way over buses, bridges and given rows leads from {from} to {to}")
+        }
+        _ => lacking_at(alloc, text, board, why),
+    }
+}
+
+/// What is lacking at one node.
+fn lacking_at(alloc: Global, text: &str, board: &Board, why: NoPlan) -> Result<String, AllocError> {
+    match why {
+        NoPlan::OwnerLoop { node } => {
+            let node = node_of_board(alloc, text, board, node)?;
+            format!(in alloc; "node stands above all owners of {node}: they go round in a circle")
+        }
+        NoPlan::TooManyRows { node } => {
+            let node = node_of_board(alloc, text, board, node)?;
+            format!(in alloc; "room is left for the rows of {node}: it would have more than 256")
+        }
+        NoPlan::WrongRecord { node, record } => {
+            let node = node_of_board(alloc, text, board, node)?;
+            format!(in alloc;
+                "bytes spell record {record} of {node}: it gives a field that its type doesn't have, or what the field can't hold"
+            )
+        }
+        _ => Err(AllocError),
     }
 }
 
@@ -94,42 +150,23 @@ fn pool_text(
     }
 }
 
-fn other_line(alloc: Global, text: &str, board: &Board, why: NoPlan) -> Result<String, AllocError> {
-    match why {
-        NoPlan::NoWay { from, to } => {
-            let from = node_of_board(alloc, text, board, from)?;
-            let to = node_of_board(alloc, text, board, to)?;
-            format!(in alloc;
-                "no plan: no way over buses, bridges and given rows leads from {from} to {to}\n"
-            )
-        }
-        NoPlan::TooManyRows { node } => {
-            let node = node_of_board(alloc, text, board, node)?;
-            format!(in alloc; "no plan: {node} would have more than 256 rows\n")
-        }
-        NoPlan::WrongRecord { node, record } => {
-            let node = node_of_board(alloc, text, board, node)?;
-            format!(in alloc;
-                "no plan: record {record} of {node} gives a field that its type doesn't have, or what the field can't hold\n"
-            )
-        }
-        _ => Err(AllocError),
-    }
-}
-
 /// What rules certificates of the made plan out, with the node's line of the board and the explanation.
 pub fn obstacle_reason(
     alloc: Global,
     text: &str,
+    board: &Value,
     plan: &Plan,
     obstacle: &CertifyError,
 ) -> Result<String, AllocError>
-    requires { NamesObstacle plan.now obstacle.now }
+    requires keeps { Keeps (view board.now) plan.now }
+    requires names { NamesObstacle plan.now obstacle.now }
+    requires none { RulesOutCertificates plan.now obstacle.now }
+    ensures { IfOk result (λ reason. IsRuledOut (view board.now) (string_bytes reason)) }
 {
     let line = obstacle_line(alloc, plan, obstacle)?;
     let place = place_text(alloc, text, plan, obstacle)?;
-    let lines = obstacle_lines(alloc, plan, obstacle)?;
-    format!(in alloc; "no plan: {line}{place}{lines}")
+    let told = obstacle_lines(alloc, plan, obstacle)?;
+    format!(in alloc; "no plan: {line}{place}{told}")
 }
 
 /// The line of the node of which an obstacle tells.
@@ -156,20 +193,29 @@ pub fn unfit_line(
     text: &str,
     plan: &Plan,
     unfit: Unfit,
+) -> Result<String, AllocError>
+    ensures { IfOk result (λ reason. IsOtherReason (string_bytes reason)) }
+{
+    other_reason(alloc, &unfit_text(alloc, text, plan, unfit)?)
+}
+
+fn unfit_text(
+    alloc: Global,
+    text: &str,
+    plan: &Plan,
+    unfit: Unfit,
 ) -> Result<String, AllocError> {
     match unfit {
-        Unfit::NotKept => {
-            "no plan: what was made lacks something that the board gives\n".to_string(alloc)
-        }
+        Unfit::NotKept => "plan that was made has all that the board gives".to_string(alloc),
         Unfit::Unreached { from, to } => {
             let from = node_of_plan(alloc, text, plan, from)?;
             let to = node_of_plan(alloc, text, plan, to)?;
-            format!(in alloc; "no plan: packets of {from} don't reach {to}\n")
+            format!(in alloc; "packet of {from} comes to {to} by the rows that were found")
         }
         Unfit::Longer { from } => {
             let from = node_of_plan(alloc, text, plan, from)?;
             format!(in alloc;
-                "no plan: packets of {from} would go a longer way than the buses and bridges allow\n"
+                "rows were found that lead from {from} in as few hops as the buses and bridges allow"
             )
         }
         Unfit::OutOfMemory => Err(AllocError),

@@ -36,9 +36,10 @@ pub enum Subcommand<'a> {
         certificate: &'a str,
         wanted: &'a str,
     },
-    /// Which plan is made of the board in a file?
+    /// Which plan is made of the board in a file, and into which file is its certificate written?
     Make {
         board: &'a str,
+        certificate: Option<&'a str>,
     },
     /// What comes of the events in a file?
     Sim {
@@ -147,7 +148,8 @@ const COMMANDS: [(&str, &[&str], &[&str]); 23] = [
 const ALL: &str = "all";
 
 /// The options of commands, and what each means where no value follows it, if it may stand alone.
-const OPTIONS: [(&str, &str, Option<&str>); 1] = [("draw", "rows", Some(ALL))];
+const OPTIONS: [(&str, &str, Option<&str>); 2] =
+    [("draw", "rows", Some(ALL)), ("make", "certificate", None)];
 
 /// The names of all commands.
 pub fn command_names(alloc: Global) -> Result<Vec<&'static str>, AllocError> {
@@ -254,8 +256,13 @@ fn requiring<'a>(arguments: &ArgMatches<'a>) -> Option<Subcommand<'a>> {
 }
 
 fn making<'a>(arguments: &ArgMatches<'a>) -> Option<Subcommand<'a>> {
+    let certificate = arguments.get_str("certificate");
+    if certificate == Some("-") {
+        return None;
+    }
     Some(Subcommand::Make {
         board: arguments.get_str("board")?,
+        certificate,
     })
 }
 
