@@ -4,6 +4,7 @@
 mod board;
 mod fault;
 mod given;
+mod given_plan;
 mod items;
 mod making;
 mod places;
@@ -16,6 +17,7 @@ pub use board::{
     RecordContent,
 };
 pub use fault::BoardError;
+pub use given_plan::board_of_plan;
 pub use making::{NoPlan, made_plan};
 pub use places::line_of_node;
 pub use reading::read_board;

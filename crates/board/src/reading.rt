@@ -21,7 +21,7 @@ const NODES: &str = "a list of at most 64 tables, each under [[node]],";
 const BUSES: &str = "a list of at most 64 tables, each under [[bus]],";
 
 /// The board that a text stands for, whose table this is.
-pub fn read_board(alloc: Global, text: &str, table: &Table) -> Result<Board, BoardError> {
+pub fn read_board<'v>(alloc: Global, text: &'v str, table: &'v Table) -> Result<Board, BoardError> {
     let top = Given {
         alloc,
         text,
@@ -52,9 +52,9 @@ pub fn read_board(alloc: Global, text: &str, table: &Table) -> Result<Board, Boa
 
 /// The names of buses and of nodes, in their order.
 #[derive(Clone, Copy)]
-pub struct Names<'n> {
-    pub buses: &'n [&'n str],
-    pub nodes: &'n [&'n str],
+pub struct Names<'n, 'v> {
+    pub buses: &'n [&'v str],
+    pub nodes: &'n [&'v str],
 }
 
 fn read_unit(top: &Given) -> Result<u16, BoardError> {

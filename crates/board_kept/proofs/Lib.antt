@@ -2,4 +2,6 @@ pub mod Beyond
 pub mod More
 pub mod Members
 pub mod Reaching
-pub mod Asking
+pub mod Raising
+pub mod Turning
+pub mod SameLists

@@ -6,6 +6,7 @@ use Rattle.toml.specs.Data.{Data, at}
 use Rattle.toml.specs.View.{view, members_view}
 use Rattle.toml.specs.declared.value.Value.{Value}
 use Rattle.net_plan.specs.declared.plan.Plan.{Plan}
+use Rattle.board_kept.specs.Said.{AreKeys}
 use Rattle.board_kept.specs.Fields.{IsMemberGiven, AreMembersGiven}
 use Rattle.board_kept.proofs.Beyond.{at_beyond}
 
@@ -15,6 +16,11 @@ pub next_member : (plan : Plan) (type bytes : List ℕ) (k : String Global) (v :
 next_member plan type bytes k v name entries rest same named given others =
     subst (λ es. AreMembersGiven plan type bytes (members_view es)) (sym same)
     (subst (λ n. IsMemberGiven plan type bytes n (view v)) named given, others)
+
+pub next_key : (IsKey : List ℕ → Type 0) (k : String Global) (v : Value) (name : List ℕ) (entries rest : List (String Global × Value))
+    → entries ≡ (k, v) ∷ rest → name ≡ string_bytes k → IsKey name → AreKeys IsKey (members_view rest) → AreKeys IsKey (members_view entries)
+next_key IsKey k v name entries rest same named here others =
+    subst (λ es. AreKeys IsKey (members_view es)) (sym same) (subst IsKey named here, others)
 
 -- what is so of the first values of a list is so of all, where there are no more
 pub all_values : (d : Data) (P : Data → Type 0) (most : ℕ) → ((i : ℕ) (e : Data) → i < most → at i d ≡ Some e → P e) → at most d ≡ None

@@ -9,7 +9,7 @@ use Rattle.net_plan.specs.declared.nodes.Node.{Node}
 use Rattle.board_kept.specs.Said.{SaysText, item_at}
 use Rattle.net_plan.specs.declared.nodes.Row.{Row}
 use Rattle.board_kept.specs.Fields.{NamesHolder}
-use Rattle.board_kept.specs.Kept.{IsRowKeptAt}
+use Rattle.board_kept.specs.Kept.{IsRowKeptAt, IsNameAt}
 use Rattle.board_kept.proofs.Beyond.{item_beyond}
 
 pub one_more : (P : ℕ → Type 0) (i : ℕ) → ((k : ℕ) → k < i → P k) → P i → (k : ℕ) → k < i + 1 → P k
@@ -43,6 +43,14 @@ pub all_rows_kept : (plan : Plan) (rows : List Row) (d : Data) (most : ℕ) → 
 all_rows_kept plan rows d most before none i = elim (cases_lt i most) [
   | inl less ↦ before i less
   | inr more ↦ inl (item_beyond d (codes "rows") most i none (omega (arith, more)))
+]
+
+-- so it is of names
+pub all_names_kept : (plan : Plan) (d : Data) (most : ℕ) → ((i : ℕ) → i < most → IsNameAt plan d i)
+    → item_at (codes "reaches") most d ≡ None → (i : ℕ) → IsNameAt plan d i
+all_names_kept plan d most before none i = elim (cases_lt i most) [
+  | inl less ↦ before i less
+  | inr more ↦ inl (item_beyond d (codes "reaches") most i none (omega (arith, more)))
 ]
 
 -- the node at an index, if it has the name

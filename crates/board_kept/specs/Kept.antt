@@ -12,7 +12,9 @@ use Rattle.net_plan.specs.declared.nodes.Port.{Port}
 use Rattle.net_plan.specs.declared.nodes.Row.{Row}
 use Rattle.net_plan.specs.declared.terminus.PlannedRecord.{PlannedRecord}
 use Rattle.net_plan.specs.declared.terminus.PlannedTerminus.{PlannedTerminus}
-use Rattle.board_kept.specs.Said.{SaysText, SaysNumber, SaysOr, SaysNoneOr, item_at, AreItemsKept}
+use Rattle.board_kept.specs.Said.{SaysText, SaysNumber, SaysOr, SaysNoneOr, item_at, IsListAt, HasOnlyKeys}
+use Rattle.board_kept.specs.Said.{AreItemsKept}
+use Rattle.board_kept.specs.Keys.{IsBoardKey, IsBusKey, IsNodeKey, IsHexKey}
 use Rattle.board_kept.specs.Texts.{binding_word, kind_word, node_name, eids_text, port_text, row_text}
 use Rattle.board_kept.specs.Fields.{AreFieldsGiven}
 
@@ -23,6 +25,7 @@ SaysBinding said n =
 
 -- a bus: a medium that is left out is 0
 pub record IsBusKept (bus : Bus) (d : Data) : Type 0 where
+  pub keys : HasOnlyKeys IsBusKey d
   pub name : SaysText (get (codes "name") d) (string_bytes bus.name.text)
   pub binding : SaysBinding (get (codes "binding") d) bus.binding
   pub media : SaysOr 0 (get (codes "media") d) bus.media
@@ -58,16 +61,30 @@ abbrev pub IsRowKeptAt : Plan → List Row → Data → ℕ → Type 0
 IsRowKeptAt plan rows d i = (item_at (codes "rows") i d ≡ None) ⊎ IsAmongRows plan rows (item_at (codes "rows") i d)
 
 -- each row that stands in the list is one of these
-abbrev pub AreRowsKept : Plan → List Row → Data → Type 0
-AreRowsKept plan rows d = (i : ℕ) → IsRowKeptAt plan rows d i
+pub record AreRowsKept (plan : Plan) (rows : List Row) (d : Data) : Type 0 where
+  pub list : IsListAt (codes "rows") d
+  pub each : (i : ℕ) → IsRowKeptAt plan rows d i
+
+-- what stands there is a node's name
+abbrev pub NamesNode : Plan → Option Data → Type 0
+NamesNode plan said = (n : ℕ) × (name : List ℕ) × (node_name plan n ≡ Some name) × SaysText said name
+
+-- nothing stands at the index of the list, or a node's name
+abbrev pub IsNameAt : Plan → Data → ℕ → Type 0
+IsNameAt plan d i = (item_at (codes "reaches") i d ≡ None) ⊎ NamesNode plan (item_at (codes "reaches") i d)
+
+-- each name that stands in the list is a node's
+pub record AreNamesKept (plan : Plan) (d : Data) : Type 0 where
+  pub list : IsListAt (codes "reaches") d
+  pub each : (i : ℕ) → IsNameAt plan d i
 
 -- the handle of the record that follows, 0 behind the last
 abbrev pub next_handle : List PlannedRecord → ℕ → ℕ
 next_handle records j = unwrap_or (option_map (λ r. r.handle) (slice_get records (j + 1))) 0
 
--- the bytes of a record, in hex or by its fields
+-- the bytes of a record, in hex with nothing but its handles beside it, or by its fields
 abbrev pub AreBytesKept : Plan → List ℕ → Data → Type 0
-AreBytesKept plan bytes d = SaysText (get (codes "hex") d) (encode_lower bytes)
+AreBytesKept plan bytes d = (HasOnlyKeys IsHexKey d × SaysText (get (codes "hex") d) (encode_lower bytes))
     ⊎ ((type : List ℕ) × SaysText (get (codes "type") d) type × AreFieldsGiven plan type bytes d)
 
 -- A record, and its place in the list: handles that are left out count from 1, and next handles that are left out
@@ -85,6 +102,7 @@ IsRecordKeptAt plan records d j = (r : PlannedRecord) → slice_get records j �
 
 -- the records of a list
 pub record AreRecordsKept (plan : Plan) (records : List PlannedRecord) (d : Data) : Type 0 where
+  pub list : IsListAt (codes "record") d
   pub each : (j : ℕ) → IsRecordKeptAt plan records d j
   pub no_more : item_at (codes "record") (length records) d ≡ None
 
@@ -93,11 +111,16 @@ pub record IsTerminusGiven (plan : Plan) (t : PlannedTerminus) (d : Data) : Type
   pub tid : SaysOr 0 (get (codes "tid") d) t.tid
   pub records : AreRecordsKept plan t.records.items d
 
--- a node has a terminus where a terminus ID or a record stands there
+-- neither a terminus ID nor a record stands there
+pub record HasNoTerminus (d : Data) : Type 0 where
+  pub tid : get (codes "tid") d ≡ None
+  pub list : IsListAt (codes "record") d
+  pub record_is : item_at (codes "record") 0 d ≡ None
+
+-- a node has a terminus exactly where a terminus ID or a record stands there
 abbrev pub IsTerminusKept : Plan → Option PlannedTerminus → Data → Type 0
-IsTerminusKept plan terminus d =
-    ((get (codes "tid") d ≡ None) × (get (codes "record") d ≡ None) × (terminus ≡ None))
-    ⊎ ((t : PlannedTerminus) × (terminus ≡ Some t) × IsTerminusGiven plan t d)
+IsTerminusKept plan terminus d = (HasNoTerminus d × (terminus ≡ None))
+    ⊎ ((t : PlannedTerminus) × (terminus ≡ Some t) × ¬ HasNoTerminus d × IsTerminusGiven plan t d)
 
 -- the name, the kind, the endpoint ID and the owner of a node
 pub record IsHeadKept (plan : Plan) (node : Node) (d : Data) : Type 0 where
@@ -108,15 +131,18 @@ pub record IsHeadKept (plan : Plan) (node : Node) (d : Data) : Type 0 where
 
 -- a node
 pub record IsNodeKept (plan : Plan) (node : Node) (d : Data) : Type 0 where
+  pub keys : HasOnlyKeys IsNodeKey d
   pub head : IsHeadKept plan node d
   pub pool : IsPoolKept node.pool (get (codes "pool") d)
   pub ports : AreItemsKept (IsPortKept plan) node.ports.items (codes "ports") d
   pub rows : AreRowsKept plan node.rows.items d
+  pub reaches : AreNamesKept plan d
   pub terminus : IsTerminusKept plan node.terminus d
 
 -- All that the board gives is in the plan: the unit, the buses and the nodes in their order, and of each node what is
--- given of it.
+-- given of it. Nothing else stands in the board's tables.
 pub record Keeps (board : Data) (plan : Plan) : Type 0 where
+  pub keys : HasOnlyKeys IsBoardKey board
   pub unit : SaysOr 64 (get (codes "unit") board) plan.unit
   pub buses : AreItemsKept IsBusKept plan.buses.items (codes "bus") board
   pub nodes : AreItemsKept (IsNodeKept plan) plan.nodes.items (codes "node") board

@@ -1,8 +1,9 @@
 //! What a board asks for: who is to reach whom, and rows of its own.
-ghost use Rattle.std.specs.Prelude.{◌≡◌, IfOk, IsTrue, Some, codes};
+ghost use Rattle.std.specs.Prelude.{◌≡◌, IfOk, IfSome, IsTrue, Some, codes};
 ghost use Rattle.toml.specs.View.{view};
 ghost use Rattle.board_kept.specs.Said.{SaysText, item_at};
-ghost use Rattle.board_kept.specs.Made.{ListsName, Asks, AsksFor, ListsRow, GivesRowAt, GivesRow, GivesRowTo};
+ghost use Rattle.board_kept.specs.Turns.{AreTurns, AreTurnsTo};
+ghost use Rattle.board_kept.specs.Made.{ListsName, Asks, AsksFor, ListsRow, IsRowGiven, GivesStepAt, GivesStep};
 
 use crate::said::{has_item, is_left_out, is_text, item};
 use crate::texts::{node_name, row_text};
@@ -60,82 +61,108 @@ fn is_name_at(said: &Value, name: &str, index: usize) -> bool
     }
 }
 
-/// Whether the board gives a row for the endpoint ID of a node.
-pub fn gives_row_to(
+/// Where the rows lead that the board gives for the endpoint ID of a node. Nothing is answered where it gives none.
+pub fn turns_to(
     alloc: Global,
     board: &Value,
     plan: &Plan,
     to: usize,
-) -> Result<bool, AllocError>
-    ensures { IfOk result (λ answer. IsTrue answer → GivesRowTo (view board.now) plan.now to) }
+) -> Result<Vec<Option<usize>>, AllocError>
+    ensures { IfOk result (λ turns. AreTurnsTo (GivesStep (view board.now) plan.now) plan.now to turns.items) }
 {
     match eid_at(plan, to) {
-        Some(eid) => Ok(gives_row(alloc, board, plan, eid)?),
-        None => Ok(false),
+        Some(eid) => Ok(turns_for(alloc, board, plan, eid)?),
+        None => Ok(Vec::new(alloc)),
     }
 }
 
-fn gives_row(alloc: Global, board: &Value, plan: &Plan, eid: Eid) -> Result<bool, AllocError>
-    ensures { IfOk result (λ answer. IsTrue answer → GivesRow (view board.now) plan.now eid.value) }
+fn turns_for(
+    alloc: Global,
+    board: &Value,
+    plan: &Plan,
+    eid: Eid,
+) -> Result<Vec<Option<usize>>, AllocError>
+    ensures { IfOk result (λ turns. AreTurns (GivesStep (view board.now) plan.now eid.value) turns.items) }
 {
+    let mut turns = Vec::new(alloc);
+    let mut are_some = false;
     for node in 0..plan.nodes.len() {
-        if gives_row_of(alloc, board, plan, node, eid)? {
-            return Ok(true);
-        }
+        let turn = turn_of(alloc, board, plan, node, eid)?;
+        are_some = are_some || turn.is_some();
+        turns.push(turn)?;
     }
-    Ok(false)
+    if !are_some {
+        return Ok(Vec::new(alloc));
+    }
+    Ok(turns)
 }
 
-fn gives_row_of(
+/// Where a row leads that the board gives a node for the endpoint ID.
+fn turn_of(
     alloc: Global,
     board: &Value,
     plan: &Plan,
     node: usize,
     eid: Eid,
-) -> Result<bool, AllocError>
-    ensures { IfOk result (λ answer. IsTrue answer → GivesRow (view board.now) plan.now eid.value) }
+) -> Result<Option<usize>, AllocError>
+    ensures { IfOk result (λ turn. IfSome turn (λ k. GivesStep (view board.now) plan.now eid.value node k)) }
 {
     match item(board, "node", node) {
-        Some(said) => Ok(gives_row_at(alloc, said, plan, node, eid)?),
-        None => Ok(false),
+        Some(said) => Ok(turn_at(alloc, said, plan, node, eid)?),
+        None => Ok(None),
     }
 }
 
-/// Whether a node has a row for the endpoint ID that stands in the list.
-fn gives_row_at(
+fn turn_at(
     alloc: Global,
     said: &Value,
     plan: &Plan,
     node: usize,
     eid: Eid,
-) -> Result<bool, AllocError>
-    ensures { IfOk result (λ answer. IsTrue answer → GivesRowAt (view said.now) plan.now node eid.value) }
+) -> Result<Option<usize>, AllocError>
+    ensures { IfOk result (λ turn. IfSome turn (λ k. GivesStepAt (view said.now) plan.now eid.value node k)) }
 {
     if is_left_out(said, "rows") {
-        return Ok(false);
+        return Ok(None);
     }
     for index in 0..rows_at(plan, node).len() {
-        if is_given_at(alloc, said, plan, node, eid, index)? {
-            return Ok(true);
+        if let Some(next) = turn_by(alloc, said, plan, node, eid, index)? {
+            return Ok(Some(next));
         }
     }
-    Ok(false)
+    Ok(None)
 }
 
-fn is_given_at(
+/// Where the row at an index leads, if it is for the endpoint ID and stands in the list.
+fn turn_by(
     alloc: Global,
     said: &Value,
     plan: &Plan,
     node: usize,
     eid: Eid,
     index: usize,
-) -> Result<bool, AllocError>
-    ensures { IfOk result (λ answer. IsTrue answer → GivesRowAt (view said.now) plan.now node eid.value) }
+) -> Result<Option<usize>, AllocError>
+    ensures { IfOk result (λ turn. IfSome turn (λ k. GivesStepAt (view said.now) plan.now eid.value node k)) }
 {
     match row_at(plan, node, index) {
-        Some(row) => Ok(covers(row, eid) && lists_row(alloc, said, plan, row)?),
-        None => Ok(false),
+        Some(row) => Ok(next_if_given(alloc, said, plan, row, eid)?),
+        None => Ok(None),
     }
+}
+
+fn next_if_given(
+    alloc: Global,
+    said: &Value,
+    plan: &Plan,
+    row: &Row,
+    eid: Eid,
+) -> Result<Option<usize>, AllocError>
+    ensures { IfOk result (λ turn. IfSome turn (λ k. IsRowGiven (view said.now) plan.now row.now eid.value k)) }
+{
+    if covers(row, eid) && lists_row(alloc, said, plan, row)? {
+        return Ok(Some(row.next));
+    }
+    Ok(None)
 }
 
 /// The most rows of a node.

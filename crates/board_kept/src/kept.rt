@@ -5,8 +5,9 @@ ghost use Rattle.toml.specs.View.{view};
 ghost use Rattle.board_kept.specs.Said.{IsItemKept, AreItemsKept};
 ghost use Rattle.board_kept.specs.Kept.{SaysBinding, IsBusKept, IsNodeKept, Keeps};
 
+use crate::keys::{Level, has_only_keys};
 use crate::nodes::keeps_node;
-use crate::said::{item, says_number, says_or, says_text};
+use crate::said::{is_list_at, item, says_number, says_or, says_text};
 use crate::texts::binding_word;
 use net_plan::{Bus, Plan};
 use std::alloc::{AllocError, Global};
@@ -16,7 +17,9 @@ use toml::Value;
 pub fn keeps(alloc: Global, board: &Value, plan: &Plan) -> Result<bool, AllocError>
     ensures { IfOk result (λ answer. IsTrue answer → Keeps (view board.now) plan.now) }
 {
-    let head = says_or(board, "unit", u32::from(plan.unit), 64) && keeps_buses(board, &plan.buses);
+    let head = has_only_keys(board, Level::Top)
+        && says_or(board, "unit", u32::from(plan.unit), 64)
+        && keeps_buses(board, &plan.buses);
     Ok(keeps_nodes(alloc, board, plan)? && head)
 }
 
@@ -28,7 +31,7 @@ fn keeps_buses(board: &Value, buses: &[Bus]) -> bool
             return false;
         }
     }
-    item(board, "bus", buses.len()).is_none()
+    is_list_at(board, "bus") && item(board, "bus", buses.len()).is_none()
 }
 
 fn keeps_bus_at(board: &Value, buses: &[Bus], index: usize) -> bool
@@ -46,7 +49,8 @@ fn keeps_bus_at(board: &Value, buses: &[Bus], index: usize) -> bool
 fn keeps_bus(said: &Value, bus: &Bus) -> bool
     ensures { IsTrue result → IsBusKept bus.now (view said.now) }
 {
-    says_text(said, "name", bus.name.text.as_str())
+    has_only_keys(said, Level::OfBus)
+        && says_text(said, "name", bus.name.text.as_str())
         && says_binding(said, bus.binding)
         && says_or(said, "media", u32::from(bus.media), 0)
 }
@@ -71,7 +75,7 @@ fn keeps_nodes(alloc: Global, board: &Value, plan: &Plan) -> Result<bool, AllocE
             return Ok(false);
         }
     }
-    Ok(item(board, "node", plan.nodes.len()).is_none())
+    Ok(is_list_at(board, "node") && item(board, "node", plan.nodes.len()).is_none())
 }
 
 fn keeps_node_at(

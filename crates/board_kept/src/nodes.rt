@@ -3,10 +3,13 @@ ghost use Rattle.std.specs.Prelude.{◌≡◌, IfOk, IsTrue, codes, option_map, 
 ghost use Rattle.toml.specs.Data.{get};
 ghost use Rattle.toml.specs.View.{view};
 ghost use Rattle.board_kept.specs.Said.{IsItemKept, AreItemsKept};
-ghost use Rattle.board_kept.specs.Kept.{IsKindKept, IsOwnerKept, SaysPool, IsPoolKept, IsPortKept, IsAmongRows, IsRowKeptAt, AreRowsKept, IsHeadKept, IsNodeKept};
+ghost use Rattle.board_kept.specs.Kept.{IsKindKept, IsOwnerKept, SaysPool, IsPoolKept, IsPortKept, IsAmongRows, IsRowKeptAt, AreRowsKept, NamesNode, IsNameAt, AreNamesKept, IsHeadKept, IsNodeKept};
 
+use crate::keys::{Level, has_only_keys};
 use crate::records::keeps_terminus;
-use crate::said::{has_item, is_left_out, is_text, item, says_none_or, says_number, says_text};
+use crate::said::{
+    has_item, is_left_out, is_list_at, is_text, item, says_none_or, says_number, says_text,
+};
 use crate::texts::{eids_text, kind_word, node_name, port_text, row_text};
 use net_plan::{Kind, Node, Plan, Pool, Port, Row};
 use std::alloc::{AllocError, Global};
@@ -16,7 +19,7 @@ use toml::Value;
 pub fn keeps_node(alloc: Global, plan: &Plan, node: &Node, said: &Value) -> Result<bool, AllocError>
     ensures { IfOk result (λ answer. IsTrue answer → IsNodeKept plan.now node.now (view said.now)) }
 {
-    if !keeps_head(plan, node, said) {
+    if !has_only_keys(said, Level::OfNode) || !keeps_head(plan, node, said) {
         return Ok(false);
     }
     if !keeps_pool(alloc, node.pool, said)? {
@@ -25,7 +28,7 @@ pub fn keeps_node(alloc: Global, plan: &Plan, node: &Node, said: &Value) -> Resu
     if !keeps_ports(alloc, plan, &node.ports, said)? {
         return Ok(false);
     }
-    if !keeps_rows(alloc, plan, &node.rows, said)? {
+    if !keeps_rows(alloc, plan, &node.rows, said)? || !keeps_names(plan, said) {
         return Ok(false);
     }
     Ok(keeps_terminus(alloc, plan, node, said)?)
@@ -85,7 +88,7 @@ fn keeps_ports(alloc: Global, plan: &Plan, ports: &[Port], said: &Value) -> Resu
             return Ok(false);
         }
     }
-    Ok(item(said, "ports", ports.len()).is_none())
+    Ok(is_list_at(said, "ports") && item(said, "ports", ports.len()).is_none())
 }
 
 fn keeps_port_at(
@@ -121,7 +124,7 @@ fn keeps_rows(alloc: Global, plan: &Plan, rows: &[Row], said: &Value) -> Result<
             return Ok(false);
         }
     }
-    Ok(!has_item(said, "rows", MOST_ROWS))
+    Ok(is_list_at(said, "rows") && !has_item(said, "rows", MOST_ROWS))
 }
 
 fn keeps_row_at(
@@ -175,4 +178,48 @@ fn row_in(rows: &[Row], index: usize) -> Option<&Row>
     ensures { option_map (λ row. row.now) result ≡ slice_get rows.now index }
 {
     rows.get(index)
+}
+
+/// The most names that a node is to reach.
+const MOST_NAMES: usize = 64;
+
+/// Whether each name that stands at `reaches` is a node's.
+fn keeps_names(plan: &Plan, said: &Value) -> bool
+    ensures { IsTrue result → AreNamesKept plan.now (view said.now) }
+{
+    for index in 0..MOST_NAMES {
+        if !keeps_name_at(plan, said, index) {
+            return false;
+        }
+    }
+    is_list_at(said, "reaches") && !has_item(said, "reaches", MOST_NAMES)
+}
+
+fn keeps_name_at(plan: &Plan, said: &Value, index: usize) -> bool
+    ensures { IsTrue result → IsNameAt plan.now (view said.now) index }
+{
+    match item(said, "reaches", index) {
+        Some(value) => is_name_of_node(plan, value),
+        None => true,
+    }
+}
+
+fn is_name_of_node(plan: &Plan, said: &Value) -> bool
+    ensures { IsTrue result → NamesNode plan.now (Some (view said.now)) }
+{
+    for node in 0..plan.nodes.len() {
+        if is_name_of(plan, node, said) {
+            return true;
+        }
+    }
+    false
+}
+
+fn is_name_of(plan: &Plan, node: usize, said: &Value) -> bool
+    ensures { IsTrue result → NamesNode plan.now (Some (view said.now)) }
+{
+    match node_name(plan, node) {
+        Some(name) => is_text(said, name),
+        None => false,
+    }
 }

@@ -3,10 +3,11 @@ ghost use Rattle.std.specs.Prelude.{◌≡◌, ◌+◌, ◌<◌, IfOk, IsTrue, c
 ghost use Rattle.toml.specs.Data.{get};
 ghost use Rattle.toml.specs.View.{view};
 ghost use Rattle.board_kept.specs.Said.{SaysOr};
-ghost use Rattle.board_kept.specs.Kept.{next_handle, AreBytesKept, IsRecordKept, IsRecordKeptAt, AreRecordsKept, IsTerminusGiven, IsTerminusKept};
+ghost use Rattle.board_kept.specs.Kept.{next_handle, AreBytesKept, IsRecordKept, IsRecordKeptAt, AreRecordsKept, HasNoTerminus, IsTerminusGiven, IsTerminusKept};
 
 use crate::fields::are_fields_given;
-use crate::said::{is_left_out, item, says_or, says_text};
+use crate::keys::{Level, has_only_keys};
+use crate::said::{is_left_out, is_list_at, item, says_or, says_text};
 use net_plan::{Node, Plan, PlannedRecord, PlannedTerminus};
 use std::alloc::{AllocError, Global};
 use toml::Value;
@@ -21,9 +22,23 @@ pub fn keeps_terminus(
     ensures { IfOk result (λ answer. IsTrue answer → IsTerminusKept plan.now node.now.terminus (view said.now)) }
 {
     match &node.terminus {
-        Some(terminus) => Ok(is_terminus_given(alloc, plan, terminus, said)?),
-        None => Ok(is_left_out(said, "tid") && is_left_out(said, "record")),
+        Some(terminus) => Ok(is_terminus_given(alloc, plan, terminus, said)? && has_terminus(said)),
+        None => Ok(has_no_terminus(said)),
     }
+}
+
+/// Whether a terminus ID or a record stands there.
+fn has_terminus(said: &Value) -> bool
+    ensures { IsTrue result → ¬ HasNoTerminus (view said.now) }
+{
+    !is_left_out(said, "tid") || item(said, "record", 0).is_some()
+}
+
+/// Whether neither stands there.
+fn has_no_terminus(said: &Value) -> bool
+    ensures { IsTrue result → HasNoTerminus (view said.now) }
+{
+    is_left_out(said, "tid") && is_list_at(said, "record") && item(said, "record", 0).is_none()
 }
 
 fn is_terminus_given(
@@ -51,7 +66,7 @@ fn keeps_records(
             return Ok(false);
         }
     }
-    Ok(item(said, "record", records.len()).is_none())
+    Ok(is_list_at(said, "record") && item(said, "record", records.len()).is_none())
 }
 
 fn keeps_record_at(
@@ -123,5 +138,5 @@ fn are_bytes_kept(
         return are_fields_given(alloc, plan, bytes, given);
     }
     let text = hex::encode(alloc, bytes)?;
-    Ok(says_text(given, "hex", &text))
+    Ok(has_only_keys(given, Level::OfHex) && says_text(given, "hex", &text))
 }

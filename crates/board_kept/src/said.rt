@@ -2,7 +2,7 @@
 ghost use Rattle.std.specs.Prelude.{◌≡◌, ◌↔◌, IfOk, IsTrue, Some, None, false, option_map};
 ghost use Rattle.toml.specs.Data.{at, get};
 ghost use Rattle.toml.specs.View.{view};
-ghost use Rattle.board_kept.specs.Said.{IsTomlOf, SaysText, SaysNumber, SaysOr, SaysNoneOr, item_at};
+ghost use Rattle.board_kept.specs.Said.{IsTomlOf, SaysText, SaysNumber, SaysOr, SaysNoneOr, IsListAt, item_at};
 
 use std::alloc::Global;
 use toml::Value;
@@ -31,6 +31,16 @@ pub fn item<'v>(value: &'v Value, key: &str, index: usize) -> Option<&'v Value>
     match value.get(key) {
         Some(list) => list.get(index),
         None => None,
+    }
+}
+
+/// Whether nothing stands at the key, or a list.
+pub fn is_list_at(value: &Value, key: &str) -> bool
+    ensures { IsTrue result → IsListAt key.now (view value.now) }
+{
+    match value.get(key) {
+        Some(list) => list.as_array().is_some(),
+        None => true,
     }
 }
 

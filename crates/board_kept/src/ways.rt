@@ -1,58 +1,76 @@
-//! Ways over buses and bridges, whatever the rows.
-ghost use Rattle.std.specs.Prelude.{◌≡◌, ◌≢◌, ◌+◌, ◌<◌, ◌≤◌, ℕ, IfOk, IsTrue, length, slice_get, Some, true};
-ghost use Rattle.board_kept.specs.Ways.{IsPortOnBusOf, ShareBus, SendsOn, LeadsTo, IsNext, HaveReached, NoneFewerToEach};
+//! Ways over buses and bridges, whatever rows are made. What is given at a node may say where it goes on from there.
+ghost use Rattle.std.specs.Prelude.{◌≡◌, ◌≢◌, ◌+◌, ◌<◌, ◌⊎◌, ℕ, IfOk, IsTrue, length, slice_get, Some, true};
+ghost use Rattle.board_kept.specs.Ways.{IsPortOnBusOf, ShareBus, MayStep, SendsOn, TurnsTo, LeadsTo, IsNext, HaveReached, AreLeast, IsRaised, IsRaisedAt};
 
 use net_plan::Plan;
 use net_tables::lookup::{is_bridge, is_on_bus, port_at, ports_at};
 use std::alloc::{AllocError, Global};
 
-/// Whether no fewer hops over buses lead from a node to each node than are said of it.
-pub fn none_fewer(
+/// For each node a number of hops, than which no fewer lead there from one node. `turns` has where what is given leads
+/// from each node; nothing is given at those that it lacks.
+pub fn least_hops(
     alloc: Global,
     plan: &Plan,
     from: usize,
-    hops: &[usize],
-) -> Result<bool, AllocError>
-    ensures { IfOk result (λ answer. IsTrue answer → NoneFewerToEach plan.now from hops.now) }
+    turns: &[Option<usize>],
+) -> Result<Vec<usize>, AllocError>
+    ensures { IfOk result (λ hops. AreLeast turns.now plan.now from hops.items) }
 {
     let mut reached = first_reached(alloc, plan, from)?;
-    for fewer in 0..most_of(hops) {
-        if !are_late(&reached, hops, fewer) {
-            return Ok(false);
+    let mut least = no_hops(alloc, plan)?;
+    for hops in 0..plan.nodes.len() {
+        least = raised(alloc, &least, &reached, hops)?;
+        if !least.contains(&hops) {
+            return Ok(least);
         }
-        reached = next_reached(alloc, plan, &reached, fewer)?;
+        reached = next_reached(alloc, plan, &reached, hops, turns)?;
     }
-    Ok(true)
+    Ok(least)
 }
 
-/// The most of some hops.
-fn most_of(hops: &[usize]) -> usize
-    ensures { (n said : ℕ) → slice_get hops.now n ≡ Some said → said ≤ result }
+/// No hop for each node.
+fn no_hops(alloc: Global, plan: &Plan) -> Result<Vec<usize>, AllocError>
+    ensures { IfOk result (λ hops. (b said : ℕ) → slice_get hops.items b ≡ Some said → said ≡ 0) }
 {
-    let mut most = 0;
-    for said in hops {
-        if most < *said {
-            most = *said;
-        }
+    let mut hops = Vec::new(alloc);
+    for _ in 0..plan.nodes.len() {
+        hops.push(0usize)?;
     }
-    most
+    Ok(hops)
 }
 
-/// Whether of each node that was reached with so many hops no more are said.
-fn are_late(reached: &[bool], hops: &[usize], fewer: usize) -> bool
-    ensures { IsTrue result → (n said : ℕ) → slice_get hops.now n ≡ Some said → fewer < said → slice_get reached.now n ≢ Some true }
+/// A hop more for each node of which so many are said and that these don't reach.
+fn raised(
+    alloc: Global,
+    least: &[usize],
+    reached: &[bool],
+    hops: usize,
+) -> Result<Vec<usize>, AllocError>
+    requires { hops < 64 }
+    ensures { IfOk result (λ raised. IsRaised reached.now hops least.now raised.items) }
 {
-    for index in 0..hops.len() {
-        if hops[index] > fewer && reached.get(index).copied() == Some(true) {
-            return false;
-        }
+    let mut raised = Vec::new(alloc);
+    for index in 0..least.len() {
+        raised.push(raised_at(least, reached, hops, index))?;
     }
-    true
+    Ok(raised)
+}
+
+fn raised_at(least: &[usize], reached: &[bool], hops: usize, index: usize) -> usize
+    requires few { hops < 64 }
+    requires within { index < length least.now }
+    ensures { IsRaisedAt reached.now hops least.now index result }
+{
+    if least[index] == hops && reached.get(index).copied() != Some(true) {
+        hops + 1
+    } else {
+        least[index]
+    }
 }
 
 /// The node itself, reached with no hop.
 fn first_reached(alloc: Global, plan: &Plan, from: usize) -> Result<Vec<bool>, AllocError>
-    ensures { IfOk result (λ flags. HaveReached plan.now from 0 flags.items) }
+    ensures { IfOk result (λ flags. (n : ℕ) → n < length plan.now.nodes.items → from ≡ n → slice_get flags.items n ≡ Some true) }
 {
     let mut flags = Vec::new(alloc);
     for node in 0..plan.nodes.len() {
@@ -67,34 +85,42 @@ fn next_reached(
     plan: &Plan,
     reached: &[bool],
     hops: usize,
+    turns: &[Option<usize>],
 ) -> Result<Vec<bool>, AllocError>
-    ensures { IfOk result (λ flags. (from : ℕ) → HaveReached plan.now from hops reached.now → HaveReached plan.now from (hops + 1) flags.items) }
+    ensures { IfOk result (λ flags. (from : ℕ) → HaveReached turns.now plan.now from hops reached.now → HaveReached turns.now plan.now from (hops + 1) flags.items) }
 {
     let mut flags = Vec::new(alloc);
     for node in 0..plan.nodes.len() {
-        flags.push(is_next(plan, reached, hops, node))?;
+        flags.push(is_next(plan, reached, hops, turns, node))?;
     }
     Ok(flags)
 }
 
-/// Whether a node that was reached with so many hops sends on over a bus of this one.
-fn is_next(plan: &Plan, reached: &[bool], hops: usize, node: usize) -> bool
-    ensures { IsNext plan.now reached.now hops node → IsTrue result }
+/// Whether a node that was reached with so many hops sends on to this one.
+fn is_next(plan: &Plan, reached: &[bool], hops: usize, turns: &[Option<usize>], node: usize) -> bool
+    ensures { IsNext turns.now plan.now reached.now hops node → IsTrue result }
 {
     for before in 0..plan.nodes.len() {
-        if leads_to(plan, reached, hops, before, node) {
+        if leads_to(plan, reached, hops, turns, before, node) {
             return true;
         }
     }
     false
 }
 
-/// Whether a node was reached with so many hops, and sends on over a bus of another.
-fn leads_to(plan: &Plan, reached: &[bool], hops: usize, before: usize, node: usize) -> bool
-    ensures { LeadsTo plan.now reached.now hops before node → IsTrue result }
+/// Whether a node was reached with so many hops, and sends on to another.
+fn leads_to(
+    plan: &Plan,
+    reached: &[bool],
+    hops: usize,
+    turns: &[Option<usize>],
+    before: usize,
+    node: usize,
+) -> bool
+    ensures { LeadsTo turns.now plan.now reached.now hops before node → IsTrue result }
 {
     match reached.get(before) {
-        Some(true) => sends_on(plan, hops, before) && share_bus(plan, before, node),
+        Some(true) => sends_on(plan, hops, before) && may_step(plan, turns, before, node),
         _ => false,
     }
 }
@@ -104,6 +130,23 @@ fn sends_on(plan: &Plan, hops: usize, node: usize) -> bool
     ensures { SendsOn plan.now hops node → IsTrue result }
 {
     hops == 0 || is_bridge(plan, node)
+}
+
+/// Whether a node has a port on a bus of another, and nothing that is given leads elsewhere.
+fn may_step(plan: &Plan, turns: &[Option<usize>], one: usize, other: usize) -> bool
+    ensures { MayStep (TurnsTo turns.now) plan.now one other → IsTrue result }
+{
+    !turns_away(turns, one, other) && share_bus(plan, one, other)
+}
+
+/// Whether what is given at a node leads elsewhere than to another.
+fn turns_away(turns: &[Option<usize>], one: usize, other: usize) -> bool
+    ensures { IsTrue result → (k : ℕ) × TurnsTo turns.now one k × (k ≢ other) }
+{
+    match turns.get(one) {
+        Some(Some(next)) => *next != other,
+        _ => false,
+    }
 }
 
 /// Whether a node has a port on a bus of another.

@@ -1,6 +1,5 @@
 use Rattle.std.proofs.Common.{ℕ, ◌<◌, ◌≡◌, Some, true, length}
 use Rattle.std.specs.Prelude.{slice_get}
-use Rattle.board_kept.specs.Ways.{ComesOver}
 use Rattle.board_kept.proofs.ways.first_reached.Given as goal
 
 abbrev pub invariant-loop-node : goal.invariant-loop-node

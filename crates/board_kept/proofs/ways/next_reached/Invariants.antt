@@ -6,5 +6,5 @@ use Rattle.board_kept.proofs.ways.next_reached.Given as goal
 abbrev pub invariant-loop-node : goal.invariant-loop-node
 invariant-loop-node l = record {
   counted : length l.flags.items ≡ l.node;
-  reached : (n : ℕ) → n < l.node → IsNext l.plan l.reached l.hops n → slice_get l.flags.items n ≡ Some true;
+  reached : (n : ℕ) → n < l.node → IsNext l.turns l.plan l.reached l.hops n → slice_get l.flags.items n ≡ Some true;
 }
