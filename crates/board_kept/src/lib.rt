@@ -20,4 +20,5 @@ pub use fit::judge;
 pub use kept::keeps;
 pub use rowed::judge_rows;
 pub use said::board_of_text;
+pub use same::is_same_but_rows;
 pub use unfit::Unfit;

@@ -34,27 +34,32 @@ pub record IsFitText (board : Data) (text certified : List ℕ) : Type 0 where
   pub written : IsCertificateText plan certificate certified
   pub fit : IsFitFor board plan certificate
 
--- The text tells what comes first, in the order of the rules, of what rules certificates out of a plan that has all
--- that the board gives: its line, a place in the board, and an explanation.
-pub record IsRuledOut (board : Data) (text : List ℕ) : Type 0 where
-  pub plan : Plan
-  pub obstacle : CertifyError
+-- The text tells this obstacle: its line, a place in the board or none, and an explanation.
+pub record TellsObstacle (plan : Plan) (obstacle : CertifyError) (text : List ℕ) : Type 0 where
   pub line : List ℕ
   pub place : List ℕ
   pub told : List ℕ
-  pub keeps : Keeps board plan
-  pub first : NamesObstacle plan obstacle
-  pub none : HasNoCertificate plan
   pub worded : obstacle_text plan obstacle ≡ Some line
   pub explained : IsObstacleTold plan obstacle told
   pub written : text ≡ codes "no plan: " ++ (line ++ (place ++ told))
+
+-- The text tells what comes first, in the order of the rules, of what rules certificates out of a plan of which this
+-- holds.
+pub record IsRuledOut (IsGiven : Plan → Type 0) (text : List ℕ) : Type 0 where
+  pub plan : Plan
+  pub obstacle : CertifyError
+  pub given : IsGiven plan
+  pub first : NamesObstacle plan obstacle
+  pub none : HasNoCertificate plan
+  pub told : TellsObstacle plan obstacle text
 
 -- another reason, which no line of an obstacle begins like; nothing more is promised of it
 abbrev pub IsOtherReason : List ℕ → Type 0
 IsOtherReason text = (words : List ℕ) × (text ≡ codes "no plan: no " ++ (words ++ codes "\n"))
 
-abbrev pub IsReason : Data → List ℕ → Type 0
-IsReason board text = IsRuledOut board text ⊎ IsOtherReason text
+-- why no plan is made: of one of which this holds its obstacle, or another reason
+abbrev pub IsReason : (Plan → Type 0) → List ℕ → Type 0
+IsReason IsGiven text = IsRuledOut IsGiven text ⊎ IsOtherReason text
 
 -- a line that says why a board can't be read; nothing more is promised of it
 abbrev pub IsUnreadLine : List ℕ → Type 0
@@ -63,7 +68,7 @@ IsUnreadLine text = (words : List ℕ) × (text ≡ codes "unreadable board: " +
 -- what is answered of a board that was read
 abbrev pub IsAnswerFor : Data → BoardAnswer → Type 0
 IsAnswerFor board (Made made) = IsFitText board (string_bytes made.plan) (string_bytes made.certificate)
-IsAnswerFor board (NoPlan reason) = IsReason board (string_bytes reason)
+IsAnswerFor board (NoPlan reason) = IsReason (Keeps board) (string_bytes reason)
 IsAnswerFor board (Unread line) = IsUnreadLine (string_bytes line)
 
 -- The one text is a TOML document; of what stands in it the others are a plan that is fit for it, and the certificate.
@@ -76,7 +81,7 @@ pub record IsMadeOf (board_text text certified : List ℕ) : Type 0 where
 pub record IsUnmadeOf (board_text text : List ℕ) : Type 0 where
   pub board : Data
   pub toml : IsTomlOf board_text board
-  pub reason : IsReason board text
+  pub reason : IsReason (Keeps board) text
 
 -- what is answered of a text, so of one that is no TOML document a line that says why it can't be read
 abbrev pub IsAnswerTo : List ℕ → BoardAnswer → Type 0

@@ -114,6 +114,6 @@ fn answer_given(
 {
     match made_plan(alloc, given) {
         Ok(made) => judged(alloc, text, board, made),
-        Err(why) => Ok(BoardAnswer::NoPlan(no_plan_line(alloc, text, given, why)?)),
+        Err(why) => Ok(BoardAnswer::NoPlan(no_plan_line(alloc, Some(text), given, why)?)),
     }
 }

@@ -7,11 +7,12 @@ ghost use Rattle.net_plan.specs.WellFormed.{IsWellFormed};
 ghost use Rattle.net_json.specs.PlanText.{IsPlanOf};
 ghost use Rattle.net_json.specs.Texts.{StandsFor};
 ghost use Rattle.net_rules.specs.Certificates.{IsExact, NamesObstacle, RulesOutCertificates};
+ghost use Rattle.board_kept.specs.Kept.{Keeps};
 ghost use Rattle.board_kept.specs.Made.{IsFitFor};
 ghost use Rattle.board_made.specs.Made.{IsAnswerFor, IsCertificateText, IsOtherReason, IsReason};
 
 use crate::answer::{BoardAnswer, MadePlan};
-use crate::reasons::{obstacle_reason, other_reason, unfit_line};
+use crate::reasons::{lacking, obstacle_reason, other_reason, unfit_line};
 use board_kept::{judge, keeps};
 use net_check::{CertifyError, CheckError, certify, check};
 use net_json::{PlanError, plan_of_text, text_of_certificate};
@@ -66,20 +67,13 @@ fn why_ruled_out(
 ) -> Result<String, AllocError>
     requires names { NamesObstacle plan.now obstacle.now }
     requires none { RulesOutCertificates plan.now obstacle.now }
-    ensures { IfOk result (λ reason. IsReason (view board.now) (string_bytes reason)) }
+    ensures { IfOk result (λ reason. IsReason (Keeps (view board.now)) (string_bytes reason)) }
 {
     if keeps(alloc, board, plan)? {
-        Ok(obstacle_reason(alloc, text, board, plan, obstacle)?)
+        Ok(obstacle_reason(alloc, Some(text), plan, obstacle)?)
     } else {
         Ok(lacking(alloc)?)
     }
-}
-
-/// Says that the plan that was made lacks something.
-fn lacking(alloc: Global) -> Result<String, AllocError>
-    ensures { IfOk result (λ reason. IsOtherReason (string_bytes reason)) }
-{
-    other_reason(alloc, "plan that was made has all that the board gives")
 }
 
 fn judged_with(
@@ -131,7 +125,7 @@ fn why_unfit(
     match check(alloc, plan, certificate) {
         Ok(checked) => match judge(alloc, board, &checked) {
             Ok(()) => Ok(None),
-            Err(unfit) => Ok(Some(unfit_line(alloc, text, plan, unfit)?)),
+            Err(unfit) => Ok(Some(unfit_line(alloc, Some(text), plan, unfit)?)),
         },
         Err(CheckError::Fault(_)) => Ok(Some(other_reason(
             alloc,

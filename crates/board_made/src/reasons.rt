@@ -1,9 +1,7 @@
 //! The lines that say why a board can't be read, or why no plan is made of it.
 ghost use Rattle.std.specs.Prelude.{IfOk, string_bytes};
-ghost use Rattle.toml.specs.View.{view};
-ghost use Rattle.net_rules.specs.Certificates.{NamesObstacle, RulesOutCertificates};
-ghost use Rattle.board_kept.specs.Kept.{Keeps};
-ghost use Rattle.board_made.specs.Made.{IsUnreadLine, IsOtherReason, IsRuledOut};
+ghost use Rattle.net_rules.specs.Certificates.{NamesObstacle};
+ghost use Rattle.board_made.specs.Made.{IsUnreadLine, IsOtherReason, TellsObstacle};
 
 use board::{Board, NoPlan, line_of_node};
 use board_kept::Unfit;
@@ -11,7 +9,6 @@ use net_check::CertifyError;
 use net_plan::Plan;
 use plan_texts::{obstacle_line, obstacle_lines};
 use std::alloc::{AllocError, Global};
-use toml::Value;
 
 /// Says why a board can't be read, and where.
 pub fn place_line(
@@ -42,15 +39,32 @@ pub fn other_reason(alloc: Global, lacking: &str) -> Result<String, AllocError>
     format!(in alloc; "no plan: no {lacking}\n")
 }
 
-/// A node by its name and the line of its table.
-fn node_text(alloc: Global, text: &str, name: &str, node: usize) -> Result<String, AllocError> {
-    let line = line_of_node(text, node);
-    format!(in alloc; "node \"{name}\" (line {line})")
+/// Says that the plan that was made lacks something.
+pub fn lacking(alloc: Global) -> Result<String, AllocError>
+    ensures { IfOk result (λ reason. IsOtherReason (string_bytes reason)) }
+{
+    other_reason(alloc, "plan that was made has all that is given")
+}
+
+/// A node by its name and the line of its table, where there is the text of a board.
+fn node_text(
+    alloc: Global,
+    text: Option<&str>,
+    name: &str,
+    node: usize,
+) -> Result<String, AllocError> {
+    match text {
+        Some(text) => {
+            let line = line_of_node(text, node);
+            format!(in alloc; "node \"{name}\" (line {line})")
+        }
+        None => format!(in alloc; "node \"{name}\""),
+    }
 }
 
 fn node_of_board(
     alloc: Global,
-    text: &str,
+    text: Option<&str>,
     board: &Board,
     node: usize,
 ) -> Result<String, AllocError> {
@@ -60,7 +74,12 @@ fn node_of_board(
     }
 }
 
-fn node_of_plan(alloc: Global, text: &str, plan: &Plan, node: usize) -> Result<String, AllocError> {
+fn node_of_plan(
+    alloc: Global,
+    text: Option<&str>,
+    plan: &Plan,
+    node: usize,
+) -> Result<String, AllocError> {
     match plan.nodes.get(node) {
         Some(own) => node_text(alloc, text, own.name.text.as_str(), node),
         None => node_text(alloc, text, "", node),
@@ -70,7 +89,7 @@ fn node_of_plan(alloc: Global, text: &str, plan: &Plan, node: usize) -> Result<S
 /// Why no plan is made of a board.
 pub fn no_plan_line(
     alloc: Global,
-    text: &str,
+    text: Option<&str>,
     board: &Board,
     why: NoPlan,
 ) -> Result<String, AllocError>
@@ -82,7 +101,7 @@ pub fn no_plan_line(
 /// What is lacking for a plan.
 fn lacking_text(
     alloc: Global,
-    text: &str,
+    text: Option<&str>,
     board: &Board,
     why: NoPlan,
 ) -> Result<String, AllocError> {
@@ -90,7 +109,9 @@ fn lacking_text(
         NoPlan::NoPool { node, owner } => {
             let node = node_of_board(alloc, text, board, node)?;
             let owner = node_of_board(alloc, text, board, owner)?;
-            format!(in alloc; "pool stands at {owner}, from which {node} is to take its endpoint ID")
+            format!(in alloc;
+                "pool stands at {owner}, from which {node} is to take its endpoint ID"
+            )
         }
         NoPlan::NoEid { node, owner } => {
             let node = node_of_board(alloc, text, board, node)?;
@@ -114,7 +135,12 @@ fn lacking_text(
 }
 
 /// What is lacking at one node.
-fn lacking_at(alloc: Global, text: &str, board: &Board, why: NoPlan) -> Result<String, AllocError> {
+fn lacking_at(
+    alloc: Global,
+    text: Option<&str>,
+    board: &Board,
+    why: NoPlan,
+) -> Result<String, AllocError> {
     match why {
         NoPlan::OwnerLoop { node } => {
             let node = node_of_board(alloc, text, board, node)?;
@@ -137,7 +163,7 @@ fn lacking_at(alloc: Global, text: &str, board: &Board, why: NoPlan) -> Result<S
 /// The pool that an owner gives from.
 fn pool_text(
     alloc: Global,
-    text: &str,
+    text: Option<&str>,
     board: &Board,
     owner: Option<usize>,
 ) -> Result<String, AllocError> {
@@ -150,18 +176,15 @@ fn pool_text(
     }
 }
 
-/// What rules certificates of the made plan out, with the node's line of the board and the explanation.
+/// What rules certificates of the made plan out, with the node's line of the board, if there is one, and the explanation.
 pub fn obstacle_reason(
     alloc: Global,
-    text: &str,
-    board: &Value,
+    text: Option<&str>,
     plan: &Plan,
     obstacle: &CertifyError,
 ) -> Result<String, AllocError>
-    requires keeps { Keeps (view board.now) plan.now }
-    requires names { NamesObstacle plan.now obstacle.now }
-    requires none { RulesOutCertificates plan.now obstacle.now }
-    ensures { IfOk result (λ reason. IsRuledOut (view board.now) (string_bytes reason)) }
+    requires { NamesObstacle plan.now obstacle.now }
+    ensures { IfOk result (λ reason. TellsObstacle plan.now obstacle.now (string_bytes reason)) }
 {
     let line = obstacle_line(alloc, plan, obstacle)?;
     let place = place_text(alloc, text, plan, obstacle)?;
@@ -169,13 +192,16 @@ pub fn obstacle_reason(
     format!(in alloc; "no plan: {line}{place}{told}")
 }
 
-/// The line of the node of which an obstacle tells.
+/// The line of the board for the node of which an obstacle tells; nothing where there is no board.
 fn place_text(
     alloc: Global,
-    text: &str,
+    text: Option<&str>,
     plan: &Plan,
     obstacle: &CertifyError,
 ) -> Result<String, AllocError> {
+    if text.is_none() {
+        return Ok(String::new(alloc));
+    }
     let node = match obstacle {
         CertifyError::Fault(fault) => fault.node,
         CertifyError::BadChain(node, _) => *node,
@@ -187,10 +213,10 @@ fn place_text(
     format!(in alloc; "{node}\n")
 }
 
-/// Why a plan that was made is not fit for its board.
+/// Why a plan that was made is not fit.
 pub fn unfit_line(
     alloc: Global,
-    text: &str,
+    text: Option<&str>,
     plan: &Plan,
     unfit: Unfit,
 ) -> Result<String, AllocError>
@@ -201,12 +227,12 @@ pub fn unfit_line(
 
 fn unfit_text(
     alloc: Global,
-    text: &str,
+    text: Option<&str>,
     plan: &Plan,
     unfit: Unfit,
 ) -> Result<String, AllocError> {
     match unfit {
-        Unfit::NotKept => "plan that was made has all that the board gives".to_string(alloc),
+        Unfit::NotKept => "plan that was made has all that is given".to_string(alloc),
         Unfit::Unreached { from, to } => {
             let from = node_of_plan(alloc, text, plan, from)?;
             let to = node_of_plan(alloc, text, plan, to)?;
@@ -215,7 +241,7 @@ fn unfit_text(
         Unfit::Longer { from } => {
             let from = node_of_plan(alloc, text, plan, from)?;
             format!(in alloc;
-                "rows were found that lead from {from} in as few hops as the buses and bridges allow"
+                "rows were found that lead from {from} in as few hops as the buses, the bridges and given rows allow"
             )
         }
         Unfit::OutOfMemory => Err(AllocError),

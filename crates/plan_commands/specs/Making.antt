@@ -6,7 +6,9 @@ use Rattle.net_json.specs.Stream.{TakesMoreThan}
 use Rattle.net_json.specs.Texts.{Gave}
 use Rattle.board_made.specs.declared.answer.BoardAnswer.{BoardAnswer}
 use Rattle.board_made.specs.declared.answer.BoardAnswer.TheVariants.{Made, NoPlan, Unread}
+use Rattle.net_plan.specs.declared.plan.Plan.{Plan}
 use Rattle.board_made.specs.Made.{IsMadeOf, IsUnmadeOf, IsUnreadLine, IsAnswerTo}
+use Rattle.board_made.specs.Rowed.{IsRowedText, IsRowsReason}
 use Rattle.plan_commands.specs.declared.refused.Input.TheVariants as input
 use Rattle.plan_commands.specs.declared.refused.Refused.{Refused}
 use Rattle.plan_commands.specs.declared.refused.Refused.TheVariants as refused
@@ -76,3 +78,12 @@ MakesWithSo boards certificates ended text =
 abbrev pub IsUnwrittenBy : Stream → Refused → Type 0
 IsUnwrittenBy certificates why = (why ≡ refused.NoMemory)
     ⊎ ((why ≡ refused.Unreadable input.Certificate error.Device) × Fails certificates)
+
+-- ---- rows PLAN
+
+-- The text answers for a plan, in a run that ends so: it reads as the plan with rows, or says why none is made.
+abbrev pub IsRowed : Plan → Status → List ℕ → Type 0
+IsRowed plan status.Yes text = IsRowedText plan text
+IsRowed plan status.Fault text = IsRowsReason plan text
+IsRowed plan status.Unreadable text = ⊥
+IsRowed plan status.NoMemory text = ⊥

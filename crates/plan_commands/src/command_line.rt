@@ -118,8 +118,9 @@ fn worded(list: &[String]) -> Option<Subcommand<'_>> {
 }
 
 /// The name of each command, the names of its arguments, and those of the arguments that may be left out.
-const COMMANDS: [(&str, &[&str], &[&str]); 23] = [
+const COMMANDS: [(&str, &[&str], &[&str]); 24] = [
     ("make", &["board"], &[]),
+    ("rows", &["plan"], &[]),
     ("check", &["plan", "certificate"], &[]),
     ("certify", &["plan"], &[]),
     ("assign", &["plan", "certificate"], &[]),
@@ -148,8 +149,10 @@ const COMMANDS: [(&str, &[&str], &[&str]); 23] = [
 const ALL: &str = "all";
 
 /// The options of commands, and what each means where no value follows it, if it may stand alone.
-const OPTIONS: [(&str, &str, Option<&str>); 2] =
-    [("draw", "rows", Some(ALL)), ("make", "certificate", None)];
+const OPTIONS: [(&str, &str, Option<&str>); 2] = [
+    ("draw", "rows", Some(ALL)),
+    ("make", "certificate", None),
+];
 
 /// The names of all commands.
 pub fn command_names(alloc: Global) -> Result<Vec<&'static str>, AllocError> {
@@ -206,6 +209,7 @@ fn chosen<'a>(matches: &ArgMatches<'a>) -> Option<Subcommand<'a>> {
     let (name, arguments) = matches.subcommand()?;
     match name {
         "make" => making(arguments),
+        "rows" => planned(arguments, PlanQuestion::Rows),
         "check" => certified(arguments, Question::Check),
         "certify" => planned(arguments, PlanQuestion::Certify),
         "assign" => certified(arguments, Question::Assign),

@@ -21,6 +21,7 @@ pub mod planned;
 pub mod reach;
 pub mod repositories;
 pub mod require;
+pub mod rows;
 pub mod show;
 pub mod sim;
 pub mod trace;

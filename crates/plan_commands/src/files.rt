@@ -46,12 +46,7 @@ impl<'a, R: Files + Input> FileAtPath<'a, R> {
 }
 
 /// Tells a path and the system's reason why a file could not be opened, read or written, if that is so.
-fn tell_failure_of<E: Sink>(
-    alloc: Global,
-    path: &str,
-    failure: Option<io::Error>,
-    errors: &mut E,
-)
+fn tell_failure_of<E: Sink>(alloc: Global, path: &str, failure: Option<io::Error>, errors: &mut E)
     requires { HasRoom (E.account errors.old) }
 {
     let Some(failure) = failure else {

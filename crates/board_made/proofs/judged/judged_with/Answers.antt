@@ -4,6 +4,7 @@ pub returns-in-None : goal.returns-in-None
 returns-in-None c = record {
   plan = c.args.plan.now;
   certificate = c.args.certificate.now;
-  reads = c.requires;
-  fit = c.in_ok-why_unfit.ensures c.in-None.is;
+  reads = c.requires.reads;
+  written = c.in_ok-certified.ensures;
+  fit = c.in_ok-reason.ensures.fit c.in-None.is;
 }
