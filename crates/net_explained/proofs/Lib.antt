@@ -1,10 +1,10 @@
-pub mod Items
-pub mod Found
-pub mod PoolFaults
-pub mod MostOf
-pub mod FollowersOf
-pub mod RowsOf
-pub mod SamePlan
-pub mod Later
-pub mod Editing
-pub mod Healing
+mod Items
+mod Found
+mod PoolFaults
+mod MostOf
+mod FollowersOf
+mod RowsOf
+mod SamePlan
+mod Later
+mod Editing
+mod Healing

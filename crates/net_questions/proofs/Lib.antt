@@ -1,15 +1,15 @@
 pub mod WayLaws
 pub mod Packets
-pub mod Tables
-pub mod Listing
-pub mod Exists
-pub mod Ascending
-pub mod Within
-pub mod Bounds
-pub mod Numbers
-pub mod SensorIds
-pub mod Walks
-pub mod FirstRows
-pub mod TopmostOwners
-pub mod Referring
-pub mod Crossing
+mod Tables
+mod Listing
+mod Exists
+mod Ascending
+mod Within
+mod Bounds
+mod Numbers
+mod SensorIds
+mod Walks
+mod FirstRows
+mod TopmostOwners
+mod Referring
+mod Crossing

@@ -1,3 +1,3 @@
 pub mod Missed
-pub mod Arriving
-pub mod Saying
+mod Arriving
+mod Saying

@@ -1,22 +1,21 @@
-pub mod Causes
-pub mod Telling
-pub mod Named
-pub mod Exchanging
-pub mod Told
-pub mod Repositories
-pub mod Waiting
-pub mod Simulated
-pub mod Expected
-pub mod Naming
-pub mod Moved
-pub mod MovePlayed
-pub mod MoveCertified
-pub mod Playing
-pub mod Ends
-pub mod Linted
-pub mod FaultListed
-pub mod Drawn
-pub mod UnreadTexts
-pub mod GivenTexts
-pub mod Explained
-pub mod Required
+mod Causes
+mod Telling
+mod Named
+mod Exchanging
+mod Told
+mod Repositories
+mod Waiting
+mod Simulated
+mod Expected
+mod Naming
+mod Moved
+mod MovePlayed
+mod MoveCertified
+mod Playing
+mod Ends
+mod FaultListed
+mod Drawn
+mod UnreadTexts
+mod GivenTexts
+mod Explained
+mod Required

@@ -60,6 +60,7 @@ IsUnreadOfPlans input.Plan cause befores afters = GaveNothing GaveNoPlan befores
     ⊎ ((before : Plan) × GavePlan befores before × GaveNothing GaveNoPlan afters cause)
 IsUnreadOfPlans input.Certificate cause befores afters = ⊥
 IsUnreadOfPlans input.Events cause befores afters = ⊥
+IsUnreadOfPlans input.Lines cause befores afters = ⊥
 
 -- why the plans were not read
 abbrev pub ArePlansUnread : Refused → Stream → Stream → Type 0

@@ -1,6 +1,6 @@
-pub mod Drawn
-pub mod Traced
-pub mod Chains
-pub mod Differing
-pub mod RowDrawn
-pub mod ObstacleLines
+mod Drawn
+mod Traced
+mod Chains
+mod Differing
+mod RowDrawn
+mod ObstacleLines

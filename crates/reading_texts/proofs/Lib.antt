@@ -1,2 +1,2 @@
-pub mod ToldTexts
-pub mod DoubledTold
+mod ToldTexts
+mod DoubledTold

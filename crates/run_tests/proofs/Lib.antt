@@ -1,1 +1,1 @@
-pub mod Alone
+mod Alone
