@@ -1,5 +1,5 @@
 -- What is answered for a board is answered to its text, and how lines are worded.
-use Rattle.std.proofs.Common.{◌≡◌, ◌≢◌, ℕ, List, ◌++◌, Option, Some, None, Result, Ok, Err, inl, subst}
+use Rattle.std.proofs.Common.{◌≡◌, ◌≢◌, ℕ, List, ◌++◌, Some, Result, Ok, Err, inl, subst}
 use Rattle.std.specs.Prelude.{IfOk, codes}
 use Rattle.toml.specs.Data.{Data}
 use Rattle.net_plan.specs.declared.plan.Plan.{Plan}

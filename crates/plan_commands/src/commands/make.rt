@@ -96,8 +96,8 @@ fn answer_certified<B: Source, C: Sink>(
             write_certificate(certificate, &made.certificate)?;
             Ok(Answer::found(made.plan))
         }
-        BoardAnswer::NoPlan(reason) => Ok(Answer::fault(reason)),
-        BoardAnswer::Unread(line) => Ok(Answer::unread(line)),
+        BoardAnswer::NoPlan(why) => Ok(Answer::fault(why)),
+        BoardAnswer::Unread(why) => Ok(Answer::unread(why)),
     }
 }
 
