@@ -42,10 +42,18 @@ raised_is_least : (turns : List (Option ℕ)) (plan : Plan) (a b said hops : ℕ
     → HaveReached turns plan a hops flags → AreLeast turns plan a least → IsRaisedAt flags hops least b said
     → NoneFewer (TurnsTo turns) plan a b said
 raised_is_least turns plan a b said hops flags least within reached are (inl found) = are b said within found
-raised_is_least turns plan a b said hops flags least within reached are (inr (same, (found, late))) =
+raised_is_least turns plan a b said hops flags least within reached are (inr (same, found, late)) =
     subst (λ n. NoneFewer (TurnsTo turns) plan a b n) (sym same) (one_more_none turns plan a b hops flags within reached late (are b hops within found))
 
-pub raised_are_least : (turns : List (Option ℕ)) (plan : Plan) (a hops : ℕ) (flags : List Bool) (least raised : List ℕ)
-    → HaveReached turns plan a hops flags → AreLeast turns plan a least → IsRaised flags hops least raised → AreLeast turns plan a raised
-raised_are_least turns plan a hops flags least raised reached are is b said within found =
-    raised_is_least turns plan a b said hops flags least within reached are (is b said found)
+pub raised_are_least : (turns : List (Option ℕ)) (plan : Plan) (a hops : ℕ) (flags seen : List Bool) (least said_before raised : List ℕ)
+    → seen ≡ flags → said_before ≡ least → HaveReached turns plan a hops flags → AreLeast turns plan a least → IsRaised seen hops said_before raised
+    → AreLeast turns plan a raised
+raised_are_least turns plan a hops flags seen least said_before raised same alike reached are is b said within found =
+    raised_is_least turns plan a b said hops flags least within reached are
+    (subst (λ fs. IsRaisedAt fs hops least b said) same (subst (λ ls. IsRaisedAt seen hops ls b said) alike (is b said found)))
+
+-- the nodes that one hop more leads to, from flags that are the same
+pub reached_next : (turns : List (Option ℕ)) (plan : Plan) (a hops : ℕ) (flags seen next : List Bool) → seen ≡ flags
+    → ((from : ℕ) → HaveReached turns plan from hops seen → HaveReached turns plan from (hops + 1) next) → HaveReached turns plan a hops flags
+    → HaveReached turns plan a (hops + 1) next
+reached_next turns plan a hops flags seen next same step reached = step a (subst (λ fs. HaveReached turns plan a hops fs) (sym same) reached)

@@ -1,6 +1,6 @@
 -- Which plans are another one with rows.
 use Rattle.std.specs.Prelude.{◌≡◌, ℕ, ◌<◌, Some, length, map, slice_get}
-use Rattle.net_plan.specs.NodeValues.{bus_value}
+use Rattle.net_plan.specs.NodeValues.{bus_value, row_value}
 use Rattle.net_plan.specs.declared.plan.Plan.{Plan}
 use Rattle.net_plan.specs.declared.certificate.Certificate.{Certificate}
 use Rattle.net_plan.specs.declared.nodes.Row.{Row}
@@ -17,7 +17,8 @@ pub record IsSameButRows (before after : Plan) : Type 0 where
 
 -- n has the row
 abbrev pub HasTheRow : Plan → ℕ → Row → Type 0
-HasTheRow plan n row = (r : ℕ) × (slice_get (rows_of plan n) r ≡ Some row)
+HasTheRow plan n row =
+    (r : ℕ) × (own : Row) × (slice_get (rows_of plan n) r ≡ Some own) × (row_value own ≡ row_value row)
 
 -- the row of n at an index in the old plan, if there is one, is one of its rows in the new plan
 abbrev pub IsRowOfNodeKept : Plan → Plan → ℕ → ℕ → Type 0
@@ -43,10 +44,14 @@ ReachesAll before after a = (b : ℕ) → b < length after.nodes.items → Reach
 abbrev pub AllReachAll : Plan → Plan → Type 0
 AllReachAll before after = (a : ℕ) → a < length after.nodes.items → ReachesAll before after a
 
--- Every rule holds of the new plan and the certificate; it is the old one but for its rows, in which it has the old
--- ones; and all its nodes reach each other.
-pub record IsRowedFrom (before after : Plan) (certificate : Certificate) : Type 0 where
+-- Every rule holds of the new plan and the certificate, and it is the old one but for its rows, in which it has the old
+-- ones.
+pub record IsKeptIn (before after : Plan) (certificate : Certificate) : Type 0 where
   pub accepted : Accepts after certificate
   pub same : IsSameButRows before after
   pub rows : AreRowsOfAllKept before after
+
+-- so it is, and all nodes of the new plan reach each other
+pub record IsRowedFrom (before after : Plan) (certificate : Certificate) : Type 0 where
+  pub kept : IsKeptIn before after certificate
   pub reaches : AllReachAll before after

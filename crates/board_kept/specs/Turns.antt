@@ -13,6 +13,10 @@ AreTurns Given turns = (n k : ℕ) → TurnsTo turns n k → Given n k
 abbrev pub AreTurnsTo : (ℕ → ℕ → ℕ → Type 0) → Plan → ℕ → List (Option ℕ) → Type 0
 AreTurnsTo Given plan b turns = (e : ℕ) → Holds plan b e → AreTurns (Given e) turns
 
+-- the list has these turns of b
+abbrev pub IsTurnsAt : List (Vec (Option ℕ) Global) → ℕ → List (Option ℕ) → Type 0
+IsTurnsAt given b turns = (own : Vec (Option ℕ) Global) × (slice_get given b ≡ Some own) × (own.items ≡ turns)
+
 -- so it is of each node of which the list has turns
 abbrev pub HaveTurns : (ℕ → ℕ → ℕ → Type 0) → Plan → List (Vec (Option ℕ) Global) → Type 0
 HaveTurns Given plan given = (b : ℕ) (turns : Vec (Option ℕ) Global) → slice_get given b ≡ Some turns

@@ -1,5 +1,7 @@
 -- Ways over buses and bridges. What is given at a node may say where it goes on from there; made rows don't count.
-use Rattle.std.specs.Prelude.{◌≡◌, ◌≢◌, ◌⊎◌, ℕ, zero, suc, ◌+◌, ◌<◌, List, length, Bool, true, Option, Some, slice_get}
+use Rattle.std.specs.Prelude.{◌≡◌, ◌≢◌, ◌⊎◌, ℕ, zero, suc, ◌+◌, ◌<◌, List, Vec, length, Bool, true, Option, Some}
+use Rattle.std.specs.Prelude.{slice_get}
+use Rattle.std.specs.declared.alloc.Global.{Global}
 use Rattle.net_plan.specs.declared.plan.Plan.{Plan}
 use Rattle.net_plan.specs.declared.nodes.Port.{Port}
 use Rattle.net_tables.specs.Routing.{Holds, IsBridge, ports_of}
@@ -45,14 +47,31 @@ ReachesBy Given plan a b = (e : ℕ) × (moves : ℕ) × Holds plan b e × Arriv
 abbrev pub TurnsTo : List (Option ℕ) → ℕ → ℕ → Type 0
 TurnsTo turns n k = slice_get turns n ≡ Some (Some k)
 
--- the flags have m, which sends on what has come to it with so many hops, and may do so to n
-abbrev pub LeadsTo : List (Option ℕ) → Plan → List Bool → ℕ → ℕ → ℕ → Type 0
-LeadsTo turns plan flags hops m n =
-    (slice_get flags m ≡ Some true) × SendsOn plan hops m × MayStep (TurnsTo turns) plan m n
+-- the flags have the nodes with which m shares a bus
+abbrev pub AreNeighbours : Plan → ℕ → List Bool → Type 0
+AreNeighbours plan m flags = (n : ℕ) → n < length plan.nodes.items → ShareBus plan m n → slice_get flags n ≡ Some true
 
--- some node does so
-abbrev pub IsNext : List (Option ℕ) → Plan → List Bool → ℕ → ℕ → Type 0
-IsNext turns plan flags hops n = (m : ℕ) × (m < length plan.nodes.items) × LeadsTo turns plan flags hops m n
+-- the list has m's flags, and these have n
+abbrev pub IsNearIn : List (Vec Bool Global) → ℕ → ℕ → Type 0
+IsNearIn near m n = (flags : Vec Bool Global) × (slice_get near m ≡ Some flags) × (slice_get flags.items n ≡ Some true)
+
+-- the list has the flags of each node's neighbours
+abbrev pub AreNear : Plan → List (Vec Bool Global) → Type 0
+AreNear plan near = (m n : ℕ) → m < length plan.nodes.items → n < length plan.nodes.items → ShareBus plan m n
+    → IsNearIn near m n
+
+-- m is near n, and what is given at m leads nowhere else
+abbrev pub IsStepIn : List (Vec Bool Global) → List (Option ℕ) → ℕ → ℕ → Type 0
+IsStepIn near turns m n = IsNearIn near m n × ((k : ℕ) → TurnsTo turns m k → k ≡ n)
+
+-- the flags have m, which sends on what has come to it with so many hops
+abbrev pub IsSender : Plan → List Bool → ℕ → ℕ → Type 0
+IsSender plan flags hops m = (slice_get flags m ≡ Some true) × SendsOn plan hops m
+
+-- the list has each node that is so
+abbrev pub AreSenders : Plan → List Bool → ℕ → List ℕ → Type 0
+AreSenders plan flags hops senders =
+    (m : ℕ) → m < length plan.nodes.items → IsSender plan flags hops m → (i : ℕ) × (slice_get senders i ≡ Some m)
 
 -- the flags have every node to which so many hops lead from a
 abbrev pub HaveReached : List (Option ℕ) → Plan → ℕ → ℕ → List Bool → Type 0

@@ -1,14 +1,14 @@
 //! Whether a checked plan is another one with rows.
 ghost use Rattle.std.specs.Prelude.{◌≡◌, ◌<◌, [], IfOk, IfSome, IsTrue, OnOk, length};
+ghost use Rattle.net_plan.specs.NodeValues.{row_value};
 ghost use Rattle.net_tables.specs.Routing.{Routes};
-ghost use Rattle.board_kept.specs.Ways.{AreLeast, ReachesBy};
+ghost use Rattle.board_kept.specs.Ways.{AreLeast, AreNear, ReachesBy};
 ghost use Rattle.board_kept.specs.Turns.{AreTurns, AreTurnsTo, HaveTurns};
-ghost use Rattle.board_kept.specs.Rowed.{LeadsAlready, HasTheRow, IsRowOfNodeKept, AreRowsOfNodeKept, AreRowsOfAllKept, ReachesAll, AllReachAll, IsRowedFrom};
+ghost use Rattle.board_kept.specs.Rowed.{IsKeptIn, LeadsAlready, HasTheRow, IsRowOfNodeKept, AreRowsOfNodeKept, AreRowsOfAllKept, ReachesAll, AllReachAll, IsRowedFrom};
 
-use crate::pairs::judge_pair;
+use crate::pairs::{Known, judge_pair, least_in, near_in, turns_at};
 use crate::same::is_same_but_rows;
 use crate::unfit::Unfit;
-use crate::ways::least_hops;
 use mctp_transport::Eid;
 use net_check::Checked;
 use net_plan::{Plan, Row};
@@ -20,12 +20,26 @@ use std::alloc::{AllocError, Global};
 pub fn judge_rows(alloc: Global, before: &Plan, checked: &Checked) -> Result<(), Unfit>
     ensures { OnOk result (IsRowedFrom before.now checked.now.0 checked.now.1) }
 {
-    let plan = checked.plan();
-    if !is_same_but_rows(before, plan) || !keeps_all_rows(before, plan) {
+    if !is_kept(before, checked) {
         return Err(Unfit::NotKept);
     }
-    let given = turns_before(alloc, before, plan)?;
-    judge_all(alloc, before, checked, &given)
+    judge_reached(alloc, before, checked)
+}
+
+/// Whether a checked plan is another one but for its rows, in which it has those of the other.
+fn is_kept(before: &Plan, checked: &Checked) -> bool
+    ensures { IsTrue result → IsKeptIn before.now checked.now.0 checked.now.1 }
+{
+    let plan = checked.plan();
+    is_same_but_rows(before, plan) && keeps_all_rows(before, plan)
+}
+
+fn judge_reached(alloc: Global, before: &Plan, checked: &Checked) -> Result<(), Unfit>
+    ensures { OnOk result (AllReachAll before.now checked.now.0) }
+{
+    let near = near_in(alloc, checked)?;
+    let turns = turns_before(alloc, before, checked)?;
+    judge_all(alloc, before, checked, &near, &turns)
 }
 
 /// Whether each node has the rows that it has in the other plan.
@@ -76,22 +90,28 @@ fn is_the_row(plan: &Plan, node: usize, row: &Row, index: usize) -> bool
     ensures { IsTrue result → HasTheRow plan.now node row.now }
 {
     match row_at(plan, node, index) {
-        Some(own) => *own == *row,
+        Some(own) => is_same_row(own, row),
         None => false,
     }
+}
+
+fn is_same_row(own: &Row, row: &Row) -> bool
+    ensures { IsTrue result → row_value own.now ≡ row_value row.now }
+{
+    own.first == row.first && own.size == row.size && own.port == row.port && own.next == row.next
 }
 
 /// Where the rows of the other plan lead for each node's endpoint ID.
 fn turns_before(
     alloc: Global,
     before: &Plan,
-    plan: &Plan,
+    checked: &Checked,
 ) -> Result<Vec<Vec<Option<usize>>>, AllocError>
-    ensures { IfOk result (λ given. HaveTurns (LeadsAlready before.now) plan.now given.items) }
+    ensures { IfOk result (λ given. HaveTurns (LeadsAlready before.now) checked.now.0 given.items) }
 {
     let mut given = Vec::new(alloc);
-    for to in 0..plan.nodes.len() {
-        given.push(turns_to(alloc, before, plan, to)?)?;
+    for to in 0..checked.plan().nodes.len() {
+        given.push(turns_to(alloc, before, checked.plan(), to)?)?;
     }
     Ok(given)
 }
@@ -159,13 +179,15 @@ fn judge_all(
     alloc: Global,
     before: &Plan,
     checked: &Checked,
-    given: &[Vec<Option<usize>>],
+    near: &[Vec<bool>],
+    turns: &[Vec<Option<usize>>],
 ) -> Result<(), Unfit>
-    requires { HaveTurns (LeadsAlready before.now) checked.now.0 given.now }
+    requires near { AreNear checked.now.0 near.now }
+    requires turns { HaveTurns (LeadsAlready before.now) checked.now.0 turns.now }
     ensures { OnOk result (AllReachAll before.now checked.now.0) }
 {
     for from in 0..checked.plan().nodes.len() {
-        judge_from(alloc, before, checked, given, from)?;
+        judge_from(alloc, before, checked, Known { near, turns }, from)?;
     }
     Ok(())
 }
@@ -175,15 +197,16 @@ fn judge_from(
     alloc: Global,
     before: &Plan,
     checked: &Checked,
-    given: &[Vec<Option<usize>>],
+    known: Known,
     from: usize,
 ) -> Result<(), Unfit>
-    requires { HaveTurns (LeadsAlready before.now) checked.now.0 given.now }
+    requires near { AreNear checked.now.0 known.near.now }
+    requires turns { HaveTurns (LeadsAlready before.now) checked.now.0 known.turns.now }
     ensures { OnOk result (ReachesAll before.now checked.now.0 from) }
 {
-    let least = least_hops(alloc, checked.plan(), from, &[])?;
+    let least = least_in(alloc, checked, known.near, &[], from)?;
     for to in 0..checked.plan().nodes.len() {
-        judge_to(alloc, before, checked, given, &least, from, to)?;
+        judge_to(alloc, before, checked, known, &least, from, to)?;
     }
     Ok(())
 }
@@ -192,18 +215,19 @@ fn judge_to(
     alloc: Global,
     before: &Plan,
     checked: &Checked,
-    given: &[Vec<Option<usize>>],
+    known: Known,
     least: &[usize],
     from: usize,
     to: usize,
 ) -> Result<(), Unfit>
-    requires turns { HaveTurns (LeadsAlready before.now) checked.now.0 given.now }
+    requires near { AreNear checked.now.0 known.near.now }
+    requires turns { HaveTurns (LeadsAlready before.now) checked.now.0 known.turns.now }
     requires within { to < length checked.now.0.nodes.items }
     requires least { AreLeast [] checked.now.0 from least.now }
     ensures { OnOk result (ReachesBy (LeadsAlready before.now) checked.now.0 from to) }
 {
-    match given.get(to) {
-        Some(turns) => judge_pair(alloc, checked, turns, least, from, to),
+    match turns_at(known.turns, to) {
+        Some(turns) => judge_pair(alloc, checked, known.near, turns, least, from, to),
         None => Err(Unfit::Unreached { from, to }),
     }
 }

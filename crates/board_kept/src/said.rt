@@ -1,6 +1,6 @@
 //! What the values of a board say.
 ghost use Rattle.std.specs.Prelude.{◌≡◌, ◌↔◌, IfOk, IsTrue, Some, None, false, option_map};
-ghost use Rattle.toml.specs.Data.{at, get};
+ghost use Rattle.toml.specs.Data.{Items, at, get, as_array};
 ghost use Rattle.toml.specs.View.{view};
 ghost use Rattle.board_kept.specs.Said.{IsTomlOf, SaysText, SaysNumber, SaysOr, SaysNoneOr, IsListAt, item_at};
 
@@ -39,8 +39,17 @@ pub fn is_list_at(value: &Value, key: &str) -> bool
     ensures { IsTrue result → IsListAt key.now (view value.now) }
 {
     match value.get(key) {
-        Some(list) => list.as_array().is_some(),
+        Some(list) => is_list(list),
         None => true,
+    }
+}
+
+fn is_list(value: &Value) -> bool
+    ensures { IsTrue result → (items : Items) × (as_array (view value.now) ≡ Some items) }
+{
+    match value.as_array() {
+        Some(_) => true,
+        None => false,
     }
 }
 

@@ -7,5 +7,5 @@ use Rattle.board_kept.proofs.fit.turns_given.Given as goal
 abbrev pub invariant-loop-to : goal.invariant-loop-to
 invariant-loop-to l = record {
   counted : length l.given.items ≡ l.to;
-  turns : HaveTurns (GivesStep (view l.board) l.plan) l.plan l.given.items;
+  turns : HaveTurns (GivesStep (view l.board) l.checked.0) l.checked.0 l.given.items;
 }
