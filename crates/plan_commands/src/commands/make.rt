@@ -58,6 +58,11 @@ pub fn run_make_certified<B: Source, C: Sink, O: Sink, E: Sink>(
         (stream O.account output.old output.new) (stream E.account errors.old errors.new) }
     ensures silent { (result ≡ Yes) ⊎ (result ≡ Fault) → errors.new ≡ errors.old }
     ensures kept { result ≡ Fault → certificate.new ≡ certificate.old }
+    ensures unwritten { let boards = stream B.account board.old board.new in
+        let certificates = stream C.account certificate.old certificate.new in
+        let outputs = stream O.account output.old output.new in
+        result ≡ Unreadable → (output.new ≡ output.old) ⊎ Gives (MakesWithSo boards certificates) Unreadable outputs
+        ⊎ BreaksOff (IsSomeAnswer (MakesWithSo boards certificates)) outputs }
     ensures no_memory { result ≡ NoMemory → output.new ≡ output.old }
 {
     let answered = answer_certified(alloc, board, certificate);
