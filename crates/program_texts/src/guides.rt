@@ -448,8 +448,9 @@ Status 0: the text.
 
 const OF_SCHEMA: &str = r#"mctpplan schema plan|certificate|events|board
 
-Prints the JSON schema (draft 2020-12) of a plan, a certificate or a list of events. An editor that
-knows it completes the keys and marks most mistakes.
+Prints the JSON schema (draft 2020-12) of a plan, a certificate, a list of events or a board. An
+editor that knows it completes the keys and marks most mistakes. Editors of TOML take the schema of
+a board too.
 
 Status 0: the schema.
 
