@@ -5,3 +5,4 @@ pub mod Reaching
 pub mod Raising
 pub mod Turning
 pub mod SameLists
+pub mod Named

@@ -1,5 +1,5 @@
 -- One index more, and one that is behind the end.
-use Rattle.std.proofs.Common.{◌≡◌, ◌⊎◌, ℕ, ◌+◌, ◌<◌, ◌≤◌, List, Bool, true, false, Option, Some, None, IsTrue, IfSome, option_and_then, slice_get, string_bytes, refl, sym, subst, ◌∙◌, inl, inr, arith, length, codes}
+use Rattle.std.proofs.Common.{◌≡◌, ℕ, ◌+◌, ◌<◌, List, Bool, false, Option, Some, None, IsTrue, IfSome, option_and_then, slice_get, string_bytes, refl, sym, subst, ◌∙◌, inl, inr, arith, codes}
 use Rattle.std.proofs.lemmas.Bool.{cases_lt, cases_Bool, false≢true}
 use Rattle.std.proofs.lemmas.Option.{none-some}
 use Rattle.mctp_transport.specs.declared.address.Eid.{Eid}

@@ -1,12 +1,12 @@
 -- Who is reached where what is given leads on.
-use Rattle.std.proofs.Common.{◌≡◌, ◌⊎◌, ℕ, ◌+◌, ◌<◌, ◌≤◌, List, [], ◌∷◌, ◌++◌, Vec, length, Option, Some, None, IfSome, slice_get, subst, sym, ◌∙◌, ap, inl, inr, arith}
+use Rattle.std.proofs.Common.{◌≡◌, ℕ, ◌<◌, ◌≤◌, List, [], ◌∷◌, ◌++◌, Vec, length, Option, Some, None, IfSome, slice_get, subst, sym, ◌∙◌, inl, inr, arith}
 use Rattle.std.specs.declared.alloc.Global.{Global}
 use Rattle.std.proofs.lemmas.Option.{same_Some, none-some}
 use Rattle.mctp_transport.proofs.FirstIndexes.{get_cases}
 use Rattle.net_plan.specs.declared.plan.Plan.{Plan}
 use Rattle.toml.specs.Data.{Data}
 use Rattle.net_plan.specs.declared.nodes.Row.{Row}
-use Rattle.net_tables.specs.Routing.{Holds, eid_of, rows_of}
+use Rattle.net_tables.specs.Routing.{eid_of, rows_of}
 use Rattle.net_reached.specs.Wishes.{ComesTo}
 use Rattle.board_kept.specs.Ways.{AreLeast, NoneFewer, ReachesBy, ReachesTurning, TurnsTo}
 use Rattle.board_kept.specs.Made.{IsRowGiven, GivesStepAt}

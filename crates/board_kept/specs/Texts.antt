@@ -4,7 +4,6 @@ use Rattle.std.specs.Prelude.{None, option_map, unwrap_or, slice_get, string_byt
 use Rattle.std.specs.Fmt.{decimal}
 use Rattle.hex.specs.Hex.{encode_lower}
 use Rattle.net_plan.specs.declared.plan.Plan.{Plan}
-use Rattle.net_plan.specs.declared.nodes.Bus.{Bus}
 use Rattle.net_plan.specs.declared.nodes.Kind.{Kind}
 use Rattle.net_plan.specs.declared.nodes.Kind.TheVariants.{Bridge, Endpoint}
 use Rattle.net_plan.specs.declared.nodes.Port.{Port}

@@ -1,15 +1,18 @@
 //! Whether a record is given by the names of its fields.
-ghost use Rattle.std.specs.Prelude.{◌≡◌, ◌∷◌, [], ℕ, IfOk, IfSome, IsTrue, codes, decimal, string_bytes, option_map, option_and_then, slice_get, Some};
-ghost use Rattle.toml.specs.Data.{Data, at, as_str, get};
+ghost use Rattle.std.specs.Prelude.{◌≡◌, ◌⊎◌, ◌≢◌, ◌∷◌, ◌++◌, [], IfOk, IfSome, IsTrue, OnOk, codes, decimal, map, string_bytes, option_map, option_and_then, slice_get, Some, None};
+ghost use Rattle.toml.specs.Data.{as_str, get};
 ghost use Rattle.toml.specs.View.{view, table_view};
-ghost use Rattle.board_kept.specs.Fields.{word_of, NamesHolder, StandsForText, IsFieldValue, IsFieldGiven, IsMemberGiven, AreMembersGiven, AreFieldsGiven};
+ghost use Rattle.pdr_record.specs.RecordValues.{record_value};
+ghost use Rattle.record_fields.specs.Meanings.{named_of};
+ghost use Rattle.record_fields.specs.Named.{Named, named_fields};
+ghost use Rattle.record_fields.specs.Said.{Says};
+ghost use Rattle.board_kept.specs.Fields.{word_of, NamesHolder, StandsForText, IsSaidBy, value_at, AreNamed, AddsIfNamed, IsSaidOne, IsSaidAt, AreSaid, IsFieldGiven, IsMemberGiven, AreMembersGiven, IsRecordGiven, AreFieldsGiven};
 ghost use Rattle.board_kept.specs.Kept.{AreBytesKept};
-ghost use Rattle.record_fields.specs.Said.{IsRecordOfWords};
 
-use crate::said::has_value;
-use mctp_transport::Eid;
+use mctp_transport::{Eid, Wire};
 use net_plan::{Node, Plan};
-use record_fields::is_record_of;
+use pdr_record::Record;
+use record_fields::{NamedField, is_type, named_fields, says};
 use std::alloc::{AllocError, Global};
 use toml::{Table, Value};
 
@@ -48,22 +51,46 @@ fn are_fields_of(
     ensures { IfOk result (λ answer. IsTrue answer → AreFieldsGiven plan.now kind.now bytes.now (view given.now)) }
 {
     match given.as_table() {
-        Some(table) => are_members_given(alloc, plan, kind, bytes, table),
+        Some(table) => is_record_given(alloc, plan, kind, bytes, table),
         None => Ok(false),
     }
 }
 
-fn are_members_given(
+fn is_record_given(
     alloc: Global,
     plan: &Plan,
     kind: &str,
     bytes: &[u8],
     table: &Table,
 ) -> Result<bool, AllocError>
-    ensures { IfOk result (λ answer. IsTrue answer → AreMembersGiven plan.now kind.now bytes.now (table_view table.now)) }
+    ensures { IfOk result (λ answer. IsTrue answer → IsRecordGiven plan.now kind.now bytes.now (table_view table.now)) }
+{
+    match Record::read(bytes) {
+        Ok(record) => Ok(
+            is_type(kind, record.body.record_type()) && are_given(alloc, plan, &record, table)?,
+        ),
+        Err(_) => Ok(false),
+    }
+}
+
+/// Whether each member of the table but `type` and `next` is a field of the record.
+fn are_given(alloc: Global, plan: &Plan, whole: &Record, table: &Table) -> Result<bool, AllocError>
+    ensures { IfOk result (λ answer. IsTrue answer → AreMembersGiven plan.now (named_fields (record_value whole.now)) (table_view table.now)) }
+{
+    let fields = named_fields(alloc, whole)?;
+    are_members_given(alloc, plan, &fields, table)
+}
+
+fn are_members_given(
+    alloc: Global,
+    plan: &Plan,
+    fields: &[NamedField],
+    table: &Table,
+) -> Result<bool, AllocError>
+    ensures { IfOk result (λ answer. IsTrue answer → AreMembersGiven plan.now (map named_of fields.now) (table_view table.now)) }
 {
     for (name, value) in table.iter() {
-        if !is_member_given(alloc, plan, kind, bytes, name.as_str(), value)? {
+        if !is_member_given(alloc, plan, fields, name.as_str(), value)? {
             return Ok(false);
         }
     }
@@ -73,93 +100,176 @@ fn are_members_given(
 fn is_member_given(
     alloc: Global,
     plan: &Plan,
-    kind: &str,
-    bytes: &[u8],
+    fields: &[NamedField],
     name: &str,
     value: &Value,
 ) -> Result<bool, AllocError>
-    ensures { IfOk result (λ answer. IsTrue answer → IsMemberGiven plan.now kind.now bytes.now name.now (view value.now)) }
+    ensures { IfOk result (λ answer. IsTrue answer → IsMemberGiven plan.now (map named_of fields.now) name.now (view value.now)) }
 {
     if name == "type" || name == "next" {
         return Ok(true);
     }
-    match value.as_array() {
-        Some(_) => Ok(are_values_given(alloc, plan, kind, bytes, name, value)?),
-        None => is_field_value(alloc, plan, kind, bytes, name, value),
+    Ok(is_field_given(alloc, plan, fields, name, value)?)
+}
+
+/// Whether the fields of the name hold what the value stands for, or the values of a list, one after another.
+fn is_field_given(
+    alloc: Global,
+    plan: &Plan,
+    fields: &[NamedField],
+    name: &str,
+    value: &Value,
+) -> Result<bool, AllocError>
+    ensures { IfOk result (λ answer. IsTrue answer → IsFieldGiven plan.now (map named_of fields.now) name.now (view value.now)) }
+{
+    let own = fields_of(alloc, fields, name)?;
+    are_said(alloc, plan, name, &own, value)
+}
+
+/// The fields that have the name, in their order.
+fn fields_of<'a>(
+    alloc: Global,
+    fields: &[NamedField<'a>],
+    name: &str,
+) -> Result<Vec<NamedField<'a>>, AllocError>
+    ensures { IfOk result (λ own. AreNamed name.now (map named_of fields.now) (map named_of own.items)) }
+{
+    let mut own = Vec::new(alloc);
+    for index in 0..fields.len() {
+        add_at(&mut own, fields, index, name)?;
+    }
+    Ok(own)
+}
+
+/// Adds the field at an index, if it has the name.
+fn add_at<'a>(
+    own: &mut Vec<NamedField<'a>>,
+    fields: &[NamedField<'a>],
+    index: usize,
+    name: &str,
+) -> Result<(), AllocError>
+    ensures { OnOk result ((field : Named) → slice_get (map named_of fields.now) index ≡ Some field → AddsIfNamed name.now field (map named_of own.old.items) (map named_of own.new.items)) }
+{
+    match field_at(fields, index) {
+        Some(field) => add_if_named(own, &field, name),
+        None => Ok(()),
     }
 }
 
-/// The most values of a field.
-const MOST_VALUES: usize = 256;
+fn add_if_named<'a>(
+    own: &mut Vec<NamedField<'a>>,
+    field: &NamedField<'a>,
+    name: &str,
+) -> Result<(), AllocError>
+    ensures { OnOk result (AddsIfNamed name.now (named_of field.now) (map named_of own.old.items) (map named_of own.new.items)) }
+{
+    if field.name == name {
+        return push_field(own, field);
+    }
+    Ok(())
+}
 
-/// Whether the record has a field of the name for each value of a list.
-fn are_values_given(
+fn push_field<'a>(own: &mut Vec<NamedField<'a>>, field: &NamedField<'a>) -> Result<(), AllocError>
+    ensures { OnOk result (map named_of own.new.items ≡ map named_of own.old.items ++ named_of field.now ∷ []) }
+{
+    own.push(*field)?;
+    Ok(())
+}
+
+/// Whether the fields hold, one after another, what the values stand for.
+fn are_said(
     alloc: Global,
     plan: &Plan,
-    kind: &str,
-    bytes: &[u8],
     name: &str,
-    list: &Value,
+    own: &[NamedField],
+    value: &Value,
 ) -> Result<bool, AllocError>
-    ensures { IfOk result (λ answer. IsTrue answer → (i : ℕ) (e : Data) → at i (view list.now) ≡ Some e
-        → IsFieldValue plan.now kind.now bytes.now name.now e) }
+    ensures { IfOk result (λ answer. IsTrue answer → AreSaid plan.now name.now (map named_of own.now) (view value.now)) }
 {
-    for index in 0..MOST_VALUES {
-        if !is_value_at(alloc, plan, kind, bytes, name, list, index)? {
+    for index in 0..own.len() {
+        if !is_said_at(alloc, plan, name, own, value, index)? {
             return Ok(false);
         }
     }
-    Ok(!has_value(list, MOST_VALUES))
+    Ok(has_no_value(value, own.len()))
 }
 
-fn is_value_at(
+fn is_said_at(
     alloc: Global,
     plan: &Plan,
-    kind: &str,
-    bytes: &[u8],
     name: &str,
-    list: &Value,
+    own: &[NamedField],
+    value: &Value,
     index: usize,
 ) -> Result<bool, AllocError>
-    ensures { IfOk result (λ answer. IsTrue answer → (e : Data) → at index (view list.now) ≡ Some e
-        → IsFieldValue plan.now kind.now bytes.now name.now e) }
+    ensures { IfOk result (λ answer. IsTrue answer → IsSaidAt plan.now name.now (map named_of own.now) (view value.now) index) }
 {
-    match list.get(index) {
-        Some(value) => Ok(is_field_value(alloc, plan, kind, bytes, name, value)?),
+    match field_at(own, index) {
+        Some(field) => Ok(is_said_one(alloc, plan, name, &field, value, index)?),
         None => Ok(true),
     }
 }
 
-/// Whether the record has a field of the name that holds what the value stands for.
-fn is_field_value(
+/// Whether the value at an index stands for what the field holds.
+fn is_said_one(
     alloc: Global,
     plan: &Plan,
-    kind: &str,
-    bytes: &[u8],
     name: &str,
+    field: &NamedField,
     value: &Value,
+    index: usize,
 ) -> Result<bool, AllocError>
-    ensures { IfOk result (λ answer. IsTrue answer → IsFieldValue plan.now kind.now bytes.now name.now (view value.now)) }
+    ensures { IfOk result (λ answer. IsTrue answer → IsSaidOne plan.now name.now (named_of field.now) (view value.now) index) }
 {
-    match text_of(alloc, plan, name, value)? {
-        Some(text) => says_field(alloc, kind, bytes, name, &text),
+    match value_at(value, index) {
+        Some(one) => Ok(is_said_by(alloc, plan, name, field, one)?),
         None => Ok(false),
     }
 }
 
-/// Whether the record has a field of the name that holds what the text says.
-fn says_field(
+fn field_at<'a>(own: &[NamedField<'a>], index: usize) -> Option<NamedField<'a>>
+    ensures { option_map named_of result ≡ slice_get (map named_of own.now) index }
+{
+    own.get(index).copied()
+}
+
+/// A value of a list; of another value itself, at 0.
+fn value_at<'v>(value: &'v Value, index: usize) -> Option<&'v Value>
+    ensures { option_map (λ v. view v.now) result ≡ value_at index (view value.now) }
+{
+    if value.is_array() {
+        return value.get(index);
+    }
+    if index == 0 { Some(value) } else { None }
+}
+
+fn has_no_value(value: &Value, index: usize) -> bool
+    ensures { IsTrue result → value_at index (view value.now) ≡ None }
+{
+    value_at(value, index).is_none()
+}
+
+/// Whether the value stands for what the field of the name holds.
+fn is_said_by(
     alloc: Global,
-    kind: &str,
-    bytes: &[u8],
+    plan: &Plan,
     name: &str,
-    text: &str,
+    field: &NamedField,
+    value: &Value,
 ) -> Result<bool, AllocError>
-    ensures { IfOk result (λ answer. IsTrue answer → IsRecordOfWords kind.now (word_of name.now text.now ∷ []) bytes.now) }
+    ensures { IfOk result (λ answer. IsTrue answer → IsSaidBy plan.now name.now (named_of field.now) (view value.now)) }
+{
+    match text_of(alloc, plan, name, value)? {
+        Some(text) => says_word(alloc, name, &text, field),
+        None => Ok(false),
+    }
+}
+
+fn says_word(alloc: Global, name: &str, text: &str, field: &NamedField) -> Result<bool, AllocError>
+    ensures { IfOk result (λ answer. IsTrue answer → Says (word_of name.now text.now) (named_of field.now)) }
 {
     let word = format!(in alloc; "{name}={text}")?;
-    let words = vec![in alloc; word]?;
-    is_record_of(alloc, kind, &words, bytes)
+    says(alloc, &word, field)
 }
 
 /// What a value stands for at a field of the name, where it is a number or a text that does.

@@ -60,13 +60,6 @@ pub fn has_item(value: &Value, key: &str, index: usize) -> bool
     item(value, key, index).is_some()
 }
 
-/// Whether anything stands at an index of a list.
-pub fn has_value(list: &Value, index: usize) -> bool
-    ensures { result ≡ false → at index (view list.now) ≡ None }
-{
-    list.get(index).is_some()
-}
-
 /// Whether the value is this text.
 pub fn is_text(value: &Value, text: &str) -> bool
     ensures { IsTrue result ↔ SaysText (Some (view value.now)) text.now }

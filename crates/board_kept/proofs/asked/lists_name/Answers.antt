@@ -1,4 +1,4 @@
-use Rattle.std.proofs.Common.{◌≡◌, codes, arith}
+use Rattle.std.proofs.Common.{codes, arith}
 use Rattle.toml.specs.View.{view}
 use Rattle.board_kept.specs.Said.{SaysText, item_at}
 use Rattle.board_kept.proofs.More.{one_more, denied, among_first}

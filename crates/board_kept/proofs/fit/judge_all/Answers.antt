@@ -1,4 +1,3 @@
-use Rattle.std.proofs.Common.{rules}
 use Rattle.toml.specs.View.{view}
 use Rattle.board_kept.specs.Made.{ReachesAllAsked}
 use Rattle.board_kept.proofs.More.{one_more}

@@ -1,4 +1,4 @@
-use Rattle.std.proofs.Common.{rules, subst}
+use Rattle.std.proofs.Common.{subst}
 use Rattle.board_kept.specs.Rowed.{IsSameButRows, AreRowsOfAllKept}
 use Rattle.board_kept.proofs.rowed.is_kept.Goals as goal
 

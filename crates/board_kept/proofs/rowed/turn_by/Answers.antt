@@ -1,4 +1,4 @@
-use Rattle.std.proofs.Common.{rules, refl, sym}
+use Rattle.std.proofs.Common.{refl, sym}
 use Rattle.board_kept.proofs.rowed.turn_by.Goals as goal
 
 pub returns-then-covers : goal.returns-then-covers

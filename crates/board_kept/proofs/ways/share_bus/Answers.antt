@@ -1,4 +1,4 @@
-use Rattle.std.proofs.Common.{◌≡◌, refl}
+use Rattle.std.proofs.Common.{refl}
 use Rattle.board_kept.specs.Ways.{IsPortOnBusOf}
 use Rattle.board_kept.proofs.More.{one_more, denied}
 use Rattle.board_kept.proofs.Reaching.{none_shared}
