@@ -5,11 +5,11 @@ ghost use Rattle.std.specs.Prelude.{◌≡◌};
 
 use net_json::Counted;
 use plan_commands::{
-    FileAtPath, PlanQuestion, Question, Refused, ShownKind, Status, Subcommand, WalkScript,
-    WordQuestion, hint_node, hint_nodes, hint_record, hint_words, parse_command, refuse,
-    run_certified, run_certify_move, run_expect, run_explain, run_explain_certified, run_known,
-    run_move, run_planned, run_require, run_rollout, run_script, run_show, run_worded, simulate,
-    simulate_move,
+    FileAtPath, FileToWrite, PlanQuestion, Question, Refused, ShownKind, Status, Subcommand,
+    WalkScript, WordQuestion, hint_node, hint_nodes, hint_record, hint_words, parse_command,
+    refuse, run_certified, run_certify_move, run_expect, run_explain, run_explain_certified,
+    run_known, run_make, run_make_certified, run_move, run_planned, run_require, run_rollout,
+    run_script, run_show, run_worded, simulate, simulate_move,
 };
 use std::env;
 use std::io::IsTerminal;
@@ -67,6 +67,14 @@ fn run_command<'a>(rt: &'a HostRuntime, command: Subcommand<'a>) -> Status {
             certificate,
             wanted,
         } => require(rt, plan, certificate, wanted),
+        Subcommand::Make {
+            board,
+            certificate: None,
+        } => make(rt, board),
+        Subcommand::Make {
+            board,
+            certificate: Some(certificate),
+        } => make_certified(rt, board, certificate),
         Subcommand::Sim {
             plan,
             certificate,
@@ -175,6 +183,35 @@ fn require<'a>(
         &mut output,
         &mut errors,
     )
+}
+
+/// Makes a plan of a board.
+fn make<'a>(rt: &'a HostRuntime, board: &'a str) -> Status {
+    let mut board = file(rt, board);
+    let mut output = Counted::new(rt.stdout());
+    let mut errors = Counted::new(rt.stderr());
+    run_make(rt.alloc(), &mut board, &mut output, &mut errors)
+}
+
+/// Makes a plan of a board, and writes its certificate to a file. Where that fails, standard error tells the path and the
+/// system's reason.
+fn make_certified<'a>(rt: &'a HostRuntime, board: &'a str, path: &'a str) -> Status {
+    let alloc = rt.alloc();
+    let mut board = file(rt, board);
+    let mut certificate = Counted::new(FileToWrite::new(rt, path));
+    let mut output = Counted::new(rt.stdout());
+    let mut errors = Counted::new(rt.stderr());
+    let status = run_make_certified(
+        alloc,
+        &mut board,
+        &mut certificate,
+        &mut output,
+        &mut errors,
+    );
+    certificate
+        .inner()
+        .tell_failure(alloc, &mut Counted::new(rt.stderr()));
+    status
 }
 
 /// Plays events in the network of a plan.

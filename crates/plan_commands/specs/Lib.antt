@@ -27,3 +27,4 @@ pub mod Moving
 pub mod MoveCertifying
 pub mod Rollouts
 pub mod MoveSimulating
+pub mod Making

@@ -37,6 +37,11 @@ pub enum Subcommand<'a> {
         certificate: &'a str,
         wanted: &'a str,
     },
+    /// Which plan is made of the board in a file, and into which file is its certificate written?
+    Make {
+        board: &'a str,
+        certificate: Option<&'a str>,
+    },
     /// What comes of the events in a file?
     Sim {
         plan: &'a str,
@@ -125,7 +130,9 @@ fn worded(list: &[String]) -> Option<Subcommand<'_>> {
 }
 
 /// The name of each command, the names of its arguments, and those of the arguments that may be left out.
-const COMMANDS: [(&str, &[&str], &[&str]); 24] = [
+const COMMANDS: [(&str, &[&str], &[&str]); 26] = [
+    ("make", &["board"], &[]),
+    ("rows", &["plan"], &[]),
     ("check", &["plan", "certificate"], &[]),
     ("certify", &["plan"], &[]),
     ("assign", &["plan", "certificate"], &[]),
@@ -160,8 +167,9 @@ const COMMANDS: [(&str, &[&str], &[&str]); 24] = [
 const ALL: &str = "all";
 
 /// The options of commands, and what each means where no value follows it, if it may stand alone.
-const OPTIONS: [(&str, &str, Option<&str>); 3] = [
+const OPTIONS: [(&str, &str, Option<&str>); 4] = [
     ("draw", "rows", Some(ALL)),
+    ("make", "certificate", None),
     ("script", "lose", None),
     ("script", "repeat", None),
 ];
@@ -220,6 +228,8 @@ fn option<'a>(alloc: Global, id: &'a str, alone: Option<&'a str>) -> Arg<'a> {
 fn chosen<'a>(matches: &ArgMatches<'a>) -> Option<Subcommand<'a>> {
     let (name, arguments) = matches.subcommand()?;
     match name {
+        "make" => making(arguments),
+        "rows" => planned(arguments, PlanQuestion::Rows),
         "check" => certified(arguments, Question::Check),
         "certify" => planned(arguments, PlanQuestion::Certify),
         "assign" => certified(arguments, Question::Assign),
@@ -268,6 +278,17 @@ fn requiring<'a>(arguments: &ArgMatches<'a>) -> Option<Subcommand<'a>> {
         plan: arguments.get_str("plan")?,
         certificate: arguments.get_str("certificate")?,
         wanted: arguments.get_str("wanted")?,
+    })
+}
+
+fn making<'a>(arguments: &ArgMatches<'a>) -> Option<Subcommand<'a>> {
+    let certificate = arguments.get_str("certificate");
+    if certificate == Some("-") {
+        return None;
+    }
+    Some(Subcommand::Make {
+        board: arguments.get_str("board")?,
+        certificate,
     })
 }
 

@@ -1,7 +1,10 @@
 //! What is said of the commands. `tools/made` writes this file from docs/COMMANDS.md.
 
 /// The commands, a line each with its words.
-pub const GUIDE: &str = r#"check PLAN CERT              whether the certificate fits the plan
+pub const GUIDE: &str = r#"make BOARD [--certificate FILE]
+                             the plan that is made of a board, which is a short TOML text
+rows PLAN                    the plan with rows by which all its nodes reach each other
+check PLAN CERT              whether the certificate fits the plan
 certify PLAN                 the certificate of the plan, or why it has none
 move OLD NEW CERT            whether nodes may go over from the old plan's rows to the new one's
 certifymove OLD NEW          the certificate of a move from the old plan's rows to the new one's
@@ -28,7 +31,7 @@ show record HEX              what the bytes of a platform descriptor record are
 describe HEX..               every field of a record by its name, with the standard's words
 record KIND FIELD=VALUE..    the bytes of a record, from its fields
 code CODE                    what a code, as C08 or N03, means, and what to do
-schema plan|certificate|events
+schema plan|certificate|events|board
                              the JSON schema of such a text, for an editor
 guide [COMMAND]              this list, or more on one command
 version                      which version this is, and which formats it reads
@@ -43,6 +46,8 @@ proved with rattle-kit-13f logic dac8208d650f15bf
 /// What is said of a command, if it is one.
 pub fn guide_to(command: &str) -> Option<&'static str> {
     match command {
+        "make" => Some(OF_MAKE),
+        "rows" => Some(OF_ROWS),
         "check" => Some(OF_CHECK),
         "certify" => Some(OF_CERTIFY),
         "move" => Some(OF_MOVE),
@@ -72,6 +77,42 @@ pub fn guide_to(command: &str) -> Option<&'static str> {
         _ => None,
     }
 }
+
+const OF_MAKE: &str = r#"mctpplan make BOARD [--certificate FILE]
+
+Prints a plan that is made of what an engineer decides: the buses, the nodes on them, who owns whom.
+What the board leaves out is found, as endpoint IDs, pools, rows and the bytes of records; what it
+gives is kept. The plan is judged before it is printed: it has a certificate, all that the board
+gives is in it, and each node reaches those that it is to reach. docs/BOARD.md says what may stand
+in a board.
+
+With --certificate the certificate that certify makes of the plan is written to FILE, before the
+plan is printed. Where no plan is made, FILE is left as it is.
+
+Status 0: the plan.
+Status 1: why no plan can be made.
+Status 2: where the board can't be read, with what stands there and what may.
+
+  $ mctpplan make examples/board/riser.toml --certificate certificate.json > plan.json
+  $ mctpplan check plan.json certificate.json
+  yes
+"#;
+
+const OF_ROWS: &str = r#"mctpplan rows PLAN
+
+Prints the plan with rows along ways of the fewest hops over buses and bridges, so that each node
+reaches every other. Rows that it has are kept, and what is made fills what they leave. The plan is
+judged before it is printed, as that of make is: it has a certificate, it differs from the given one
+in rows alone, and each node reaches every other.
+
+Status 0: the plan.
+Status 1: why it can't be made.
+
+  $ mctpplan rows examples/questions/plan-without-rows.json > plan.json
+  $ mctpplan certify plan.json > certificate.json
+  $ mctpplan reach plan.json certificate.json | tail -n 1
+  pairs 12 reached 12 one-way 0
+"#;
 
 const OF_CHECK: &str = r#"mctpplan check PLAN CERT
 
@@ -452,10 +493,11 @@ Status 0: the text.
   Hint: a packet has at least one payload byte.
 "#;
 
-const OF_SCHEMA: &str = r#"mctpplan schema plan|certificate|events
+const OF_SCHEMA: &str = r#"mctpplan schema plan|certificate|events|board
 
-Prints the JSON schema (draft 2020-12) of a plan, a certificate or a list of events. An editor that
-knows it completes the keys and marks most mistakes.
+Prints the JSON schema (draft 2020-12) of a plan, a certificate, a list of events or a board. An
+editor that knows it completes the keys and marks most mistakes. Editors of TOML take the schema of
+a board too.
 
 Status 0: the schema.
 
