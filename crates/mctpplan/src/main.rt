@@ -6,9 +6,9 @@ ghost use Rattle.std.specs.Prelude.{◌≡◌};
 use net_json::Counted;
 use plan_commands::{
     FileAtPath, PlanQuestion, Question, Refused, ShownKind, Status, Subcommand, WordQuestion,
-    hint_nodes, hint_words, parse_command, refuse, run_certified, run_certify_move, run_expect, run_explain,
-    run_explain_certified, run_known, run_move, run_planned, run_require, run_show, run_worded,
-    simulate, simulate_move,
+    hint_nodes, hint_words, parse_command, refuse, run_certified, run_certify_move, run_expect,
+    run_explain, run_explain_certified, run_fix, run_known, run_move, run_planned, run_require,
+    run_show, run_worded, simulate, simulate_move,
 };
 use std::env;
 use std::io::IsTerminal;
@@ -55,6 +55,7 @@ fn run_command<'a>(rt: &'a HostRuntime, command: Subcommand<'a>) -> Status {
             plan,
             certificate: None,
         } => explain(rt, plan),
+        Subcommand::Fix { plan } => fix(rt, plan),
         Subcommand::Require {
             plan,
             certificate,
@@ -276,6 +277,18 @@ fn explain<'a>(rt: &'a HostRuntime, name: &'a str) -> Status {
     let mut output = Counted::new(rt.stdout());
     let mut errors = Counted::new(rt.stderr());
     let status = run_explain(alloc, name, &mut plan, &mut output, &mut errors);
+    plan.inner()
+        .tell_failure(alloc, &mut Counted::new(rt.stderr()));
+    status
+}
+
+/// Prints a plan with edits made, until a certificate fits it. Of a file that can't be opened or read it says the same.
+fn fix<'a>(rt: &'a HostRuntime, name: &'a str) -> Status {
+    let alloc = rt.alloc();
+    let mut plan = file(rt, name);
+    let mut output = Counted::new(rt.stdout());
+    let mut errors = Counted::new(rt.stderr());
+    let status = run_fix(alloc, &mut plan, &mut output, &mut errors);
     plan.inner()
         .tell_failure(alloc, &mut Counted::new(rt.stderr()));
     status

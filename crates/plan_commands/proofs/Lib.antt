@@ -19,3 +19,4 @@ mod UnreadTexts
 mod GivenTexts
 mod Explained
 mod Required
+mod Mended

@@ -24,3 +24,4 @@ pub mod Expecting
 pub mod Moving
 pub mod MoveCertifying
 pub mod MoveSimulating
+pub mod Fixing
