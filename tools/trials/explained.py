@@ -1,9 +1,11 @@
-"""The edits that explain proposes of broken plans: each does what is said of it.
+"""The edits that explain proposes of broken plans, and what fix makes of these: each does what is said of it.
 
 Each plan of examples/ that has a certificate is broken at each number, name, row and record, in some ways each; of all
 these 500 are tried, evenly chosen. explain has to end with the status and the first line of certify. Each edit is made in
-the plan's JSON, as its line says, and certify has to say of that what stands behind `then:`. A line tells how many of the
-broken plans have an edit after which certify answers a certificate. The words choose among the plans.
+the plan's JSON, as its line says, and certify has to say of that what stands behind `then:`. fix has to print the plan
+with just the edits that it tells: with status 0 certify has a certificate of it, and with status 1 it says of it what is
+printed. A line tells how many of the broken plans have an edit after which certify answers a certificate, and of how many
+fix prints a plan. The words choose among the plans.
 """
 import copy
 import json
@@ -133,6 +135,21 @@ def wrong_of(trial, text):
     return None, sum(lines[at + 1] == "then: yes" for at in edits)
 
 
+def wrong_of_fix(trial, text):
+    """What is wrong with what fix makes of a plan, and whether it prints a plan."""
+    status, output, error = trial.run(["fix", trial.file("plan.json", text)])
+    plan = text
+    for line in error.decode().splitlines():
+        verb, pointer, _, value = EDIT.fullmatch(line).groups()
+        plan = edited(plan, verb, pointer, value)
+    if status == 0 and json.loads(output) != json.loads(plan):
+        return f"fix changes what it doesn't tell: {error.decode()}", True
+    says = certified(trial, output.decode() if status == 0 else plan)
+    if says != ("yes" if status == 0 else output.decode().strip()) or status > 1:
+        return f"fix ends with {status}, and certify says {says}: {error.decode()}", False
+    return None, status == 0
+
+
 def try_all(trial):
     texts = [*broken_plans(trial)]
     chosen = texts[:: max(1, len(texts) // WANTED)][:WANTED]
@@ -140,10 +157,14 @@ def try_all(trial):
     def tried(text):
         try:
             wrong, count = wrong_of(trial, text)
+            if not wrong and count is not None:
+                wrong, is_fixed = wrong_of_fix(trial, text)
+                count = count, is_fixed
         except (ValueError, IndexError, KeyError) as why:
-            wrong, count = f"{type(why).__name__} {why}", 0
+            wrong, count = f"{type(why).__name__} {why}", None
         trial.note(not wrong, f"{wrong}\n    {text}")
-        return count
+        return count if isinstance(count, tuple) else None
 
     counts = [it for it in each(tried, chosen) if it is not None]
-    print(f"explained: of {len(counts)} plans with a fault {sum(map(bool, counts))} have an edit that takes all away")
+    edits, fixed = (sum(map(bool, its)) for its in zip(*counts))
+    print(f"explained: of {len(counts)} plans with a fault {edits} have an edit that takes all away, and fix mends {fixed}")

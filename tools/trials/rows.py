@@ -68,7 +68,26 @@ class Case:
         came = f"{output[-400:]}{error}status {status}"
         if row.wanted == ["read"]:
             return [(row, came)] if error or status > 1 else []
-        return [] if wanted_of(row, self.scene.words) == (output, error, status) else [(row, came)]
+        wanted = fixed_of(row, self.texts) if self.scene.words[0] == "fix" else wanted_of(row, self.scene.words)
+        return [] if wanted == (output, error, status) else [(row, came)]
+
+
+def fixed_of(row, texts):
+    """The same of `fix`: the edits on standard error, and the given text with lines that are gone and lines that came."""
+    (text,) = texts.values()
+    edits = "".join(f"{it}\n" for it in row.wanted if it.startswith("Edit: "))
+    if "status 1" in row.wanted or any(it.startswith("unreadable ") for it in row.wanted):
+        printed, _, status = wanted_of(row, ["explain"])
+        return printed.replace(edits, ""), edits, status or 2
+    lines, at = text.decode().split("\n"), 0
+    for change in row.wanted:
+        if change.startswith("-"):
+            at = lines.index(change[1:], at)
+            del lines[at]
+        elif change.startswith("+"):
+            lines.insert(at, change[1:])
+            at += 1
+    return "\n".join(lines), edits, 0
 
 
 def wanted_of(row, words):
@@ -183,6 +202,8 @@ def texts_of(scene, row):
         elif key in ("new", "new list"):
             new = several(value) if key == "new list" else value.encode()
             texts[name] = changed(texts[name], old, new, row.number)
+        elif line == "as it is":
+            continue
         elif key in GIVES:
             texts[name] = texts[name].replace(b"*", GIVES[key](value))
         else:

@@ -110,6 +110,7 @@ def commands():
         ("draw", [[plan], [loop], [plan, certificate], [loop, "--rows"], [loop, "--rows", "16"]]),
         ("explain", [[plan], [loop], [row], [plan, certificate]]),
         ("faults", [[plan], [loop], [row], [plan, certificate]]),
+        ("fix", [[plan], [loop], [row]]),
         ("lint", [[plan], [TOP / "examples/questions/plan-without-rows.json"]]),
         ("move", [[left, right, ranks]]),
         ("certifymove", [[left, right], [MOVE / "to-left.json", MOVE / "to-right.json"]]),

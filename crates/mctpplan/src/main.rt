@@ -8,8 +8,8 @@ use plan_commands::{
     FileAtPath, FileToWrite, PlanQuestion, Question, Refused, ShownKind, Status, Subcommand,
     WalkScript, WordQuestion, hint_node, hint_nodes, hint_record, hint_words, parse_command,
     refuse, run_certified, run_certify_move, run_expect, run_explain, run_explain_certified,
-    run_known, run_make, run_make_certified, run_move, run_planned, run_require, run_rollout,
-    run_script, run_show, run_worded, simulate, simulate_move,
+    run_fix, run_known, run_make, run_make_certified, run_move, run_planned, run_require,
+    run_rollout, run_script, run_show, run_worded, simulate, simulate_move,
 };
 use std::env;
 use std::io::IsTerminal;
@@ -62,6 +62,7 @@ fn run_command<'a>(rt: &'a HostRuntime, command: Subcommand<'a>) -> Status {
             plan,
             certificate: None,
         } => explain(rt, plan),
+        Subcommand::Fix { plan } => fix(rt, plan),
         Subcommand::Require {
             plan,
             certificate,
@@ -383,6 +384,18 @@ fn explain<'a>(rt: &'a HostRuntime, name: &'a str) -> Status {
     let mut output = Counted::new(rt.stdout());
     let mut errors = Counted::new(rt.stderr());
     let status = run_explain(alloc, name, &mut plan, &mut output, &mut errors);
+    plan.inner()
+        .tell_failure(alloc, &mut Counted::new(rt.stderr()));
+    status
+}
+
+/// Prints a plan with edits made, until a certificate fits it. Of a file that can't be opened or read it says the same.
+fn fix<'a>(rt: &'a HostRuntime, name: &'a str) -> Status {
+    let alloc = rt.alloc();
+    let mut plan = file(rt, name);
+    let mut output = Counted::new(rt.stdout());
+    let mut errors = Counted::new(rt.stderr());
+    let status = run_fix(alloc, &mut plan, &mut output, &mut errors);
     plan.inner()
         .tell_failure(alloc, &mut Counted::new(rt.stderr()));
     status

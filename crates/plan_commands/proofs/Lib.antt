@@ -21,3 +21,4 @@ mod UnreadTexts
 mod GivenTexts
 mod Explained
 mod Required
+mod Mended

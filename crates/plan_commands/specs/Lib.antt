@@ -28,3 +28,4 @@ pub mod MoveCertifying
 pub mod Rollouts
 pub mod MoveSimulating
 pub mod Making
+pub mod Fixing

@@ -31,6 +31,10 @@ pub enum Subcommand<'a> {
         plan: &'a str,
         certificate: Option<&'a str>,
     },
+    /// How does the plan in a file stand once edits are made that take away what rules certificates out?
+    Fix {
+        plan: &'a str,
+    },
     /// Do the nodes of the plan in one file, certified by another, reach whom a text wants them to reach?
     Require {
         plan: &'a str,
@@ -130,7 +134,7 @@ fn worded(list: &[String]) -> Option<Subcommand<'_>> {
 }
 
 /// The name of each command, the names of its arguments, and those of the arguments that may be left out.
-const COMMANDS: [(&str, &[&str], &[&str]); 26] = [
+const COMMANDS: [(&str, &[&str], &[&str]); 27] = [
     ("make", &["board"], &[]),
     ("rows", &["plan"], &[]),
     ("check", &["plan", "certificate"], &[]),
@@ -155,6 +159,7 @@ const COMMANDS: [(&str, &[&str], &[&str]); 26] = [
     ("draw", &["plan"], &["certificate"]),
     ("explain", &["plan"], &["certificate"]),
     ("faults", &["plan"], &["certificate"]),
+    ("fix", &["plan"], &[]),
     ("lint", &["plan"], &[]),
     ("show", &["kind", "hex"], &[]),
     ("code", &["code"], &[]),
@@ -248,6 +253,7 @@ fn chosen<'a>(matches: &ArgMatches<'a>) -> Option<Subcommand<'a>> {
         "draw" => drawing(arguments),
         "explain" => explaining(arguments),
         "faults" => listing(arguments),
+        "fix" => fixing(arguments),
         "lint" => planned(arguments, PlanQuestion::Lint),
         "show" => showing(arguments),
         "code" => known(text_of(arguments.get_str("code")?)),
@@ -421,6 +427,12 @@ fn explaining<'a>(arguments: &ArgMatches<'a>) -> Option<Subcommand<'a>> {
     Some(Subcommand::Explain {
         plan: arguments.get_str("plan")?,
         certificate: arguments.get_str("certificate"),
+    })
+}
+
+fn fixing<'a>(arguments: &ArgMatches<'a>) -> Option<Subcommand<'a>> {
+    Some(Subcommand::Fix {
+        plan: arguments.get_str("plan")?,
     })
 }
 

@@ -9,6 +9,7 @@ pub mod draw;
 pub mod expect;
 pub mod explain;
 pub mod faults;
+pub mod fix;
 pub mod gathered;
 pub mod inputs;
 pub mod known;

@@ -16,6 +16,7 @@ pub use commands::draw::DrawnRows;
 pub use commands::expect::run_expect;
 pub use commands::explain::certified::run_explain_certified;
 pub use commands::explain::run_explain;
+pub use commands::fix::run_fix;
 pub use commands::known::run_known;
 pub use commands::make::{run_make, run_make_certified};
 pub use commands::moving::run_move;

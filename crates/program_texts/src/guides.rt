@@ -25,6 +25,7 @@ draw PLAN [CERT] [--rows [EID]]
                              the planned network, or where its rows lead, as a drawing for Graphviz
 explain PLAN [CERT]          what certify says of the plan, or check of both, and why
 faults PLAN [CERT]           every fault of the plan, or of both, and how many they are
+fix PLAN                     the plan with edits made, until it has a certificate
 lint PLAN                    what is lawful in the plan and still looks wrong, or clean
 show packet HEX              what the bytes of a packet are
 show record HEX              what the bytes of a platform descriptor record are
@@ -66,6 +67,7 @@ pub fn guide_to(command: &str) -> Option<&'static str> {
         "draw" => Some(OF_DRAW),
         "explain" => Some(OF_EXPLAIN),
         "faults" => Some(OF_FAULTS),
+        "fix" => Some(OF_FIX),
         "lint" => Some(OF_LINT),
         "show" => Some(OF_SHOW),
         "describe" => Some(OF_DESCRIBE),
@@ -412,6 +414,33 @@ Status 0: yes.
 Status 1: the faults.
 
   $ mctpplan faults examples/riser/plan.json
+  yes
+"#;
+
+const OF_FIX: &str = r#"mctpplan fix PLAN
+
+Prints the text of the plan with the edits made that explain proposes: the first one of what certify
+prints, then the first one of what is left, and so on until the plan has a certificate. Each edit is
+a line on standard error, as explain has it. Nothing else of the plan is changed, and of its text
+nothing but the values that the edits name: layout and the order of the keys stay. A plan that has a
+certificate is printed as it is.
+
+Where something is left that no edit takes away, or after a thousand edits, no text is printed, but
+the line that certify prints of what is left. A plan that has a certificate needn't be the one that
+was meant: read the edits before you take it.
+
+Status 0: the plan's text. The plan has a certificate.
+Status 1: what is left.
+Status 2: here also why a text can't be read, as explain says it.
+
+  $ mctpplan fix examples/explained/c08-peer.json > fixed.json
+  Edit: set /nodes/1/pool of switch to { "first": 11, "size": 21 }
+  $ diff examples/explained/c08-peer.json fixed.json
+  24c24
+  <       "pool": { "first": 10, "size": 22 },
+  ---
+  >       "pool": { "first": 11, "size": 21 },
+  $ mctpplan certify fixed.json | mctpplan check fixed.json -
   yes
 "#;
 

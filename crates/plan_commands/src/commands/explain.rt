@@ -11,7 +11,7 @@ ghost use Rattle.plan_commands.specs.Told.{Gives, IsSomeAnswer, Ends};
 ghost use Rattle.plan_commands.specs.UnreadTexts.{IsTextOf};
 
 pub mod certified;
-mod unread;
+pub mod unread;
 
 use crate::commands::answer::{Answer, YES, tell};
 use crate::commands::inputs::{PlanText, plan_or_text};
