@@ -1,5 +1,6 @@
 -- Records that a board gives by the names of their fields.
-use Rattle.std.specs.Prelude.{◌≡◌, ◌≢◌, ◌⊎◌, ℕ, ℤ, nat_eq, if◌then◌else◌, List, [], ◌∷◌, ◌++◌, codes, length, Option, Some}
+use Rattle.std.specs.Prelude.{◌≡◌, ◌≢◌, ◌⊎◌, ℕ, ℤ, nat_eq, if◌then◌else◌}
+use Rattle.std.specs.Prelude.{List, [], ◌∷◌, ◌++◌, codes, length, Option, Some}
 use Rattle.std.specs.Prelude.{None, is_some, slice_get, string_bytes, ⊤}
 use Rattle.std.specs.Fmt.{decimal, signed_decimal}
 use Rattle.toml.specs.Data.{Data, Members, no_members, member, table, at, as_str, as_integer, as_array}

@@ -110,7 +110,7 @@ pub fn parse_command<'a>(alloc: Global, list: &'a [String]) -> Result<Subcommand
     if let Some(command) = worded(list) {
         return Ok(command);
     }
-    let matches = grammar(alloc)?.try_get_matches_from(list)?;
+    let matches = grammar(alloc, list.get(1))?.try_get_matches_from(list)?;
     chosen(&matches).ok_or(Refused::Usage)
 }
 
@@ -189,11 +189,14 @@ pub fn command_names(alloc: Global) -> Result<Vec<&'static str>, AllocError> {
     Ok(names)
 }
 
-/// The words of each command.
-fn grammar<'a>(alloc: Global) -> Result<clap::Command<'a>, AllocError> {
+/// The words of the command of this name, if there is one. No other one could stand in its place, and making them all
+/// would cost more than checking a small plan.
+fn grammar<'a>(alloc: Global, named: Option<&String>) -> Result<clap::Command<'a>, AllocError> {
     let mut grammar = clap::Command::new(alloc, "mctpplan").subcommand_required(true);
     for (name, required, optional) in COMMANDS {
-        grammar = grammar.subcommand(with_arguments(alloc, name, required, optional)?)?;
+        if named.is_some_and(|word| word.as_str() == name) {
+            grammar = grammar.subcommand(with_arguments(alloc, name, required, optional)?)?;
+        }
     }
     Ok(grammar)
 }
