@@ -27,6 +27,7 @@ first_unread why befores afters h =
     also input.Plan cause h = inl h
     also input.Certificate cause h = h
     also input.Events cause h = h
+    also input.Lines cause h = h
 
 -- the plan after was not read
 pub second_unread : (before : Plan) (why : Refused) (befores afters : Stream) → GavePlan befores before → IsPlanUnread why afters → ArePlansUnread why befores afters
@@ -37,3 +38,4 @@ second_unread before why befores afters gave h =
     also input.Plan cause h = inr (before, gave, h)
     also input.Certificate cause h = h
     also input.Events cause h = h
+    also input.Lines cause h = h
