@@ -5,10 +5,10 @@ ghost use Rattle.std.specs.Prelude.{◌≡◌};
 
 use net_json::Counted;
 use plan_commands::{
-    FileAtPath, PlanQuestion, Question, Refused, ShownKind, Status, Subcommand, WalkScript, WordQuestion,
-    hint_node, hint_nodes, hint_record, hint_words, parse_command, refuse, run_certified, run_certify_move, run_expect, run_explain,
-    run_explain_certified, run_known, run_move, run_planned, run_require, run_script, run_show, run_worded,
-    simulate, simulate_move,
+    FileAtPath, PlanQuestion, Question, Refused, ShownKind, Status, Subcommand, WalkScript,
+    WordQuestion, hint_node, hint_nodes, hint_record, hint_words, parse_command, refuse,
+    run_certified, run_certify_move, run_expect, run_explain, run_explain_certified, run_known,
+    run_move, run_planned, run_require, run_script, run_show, run_worded, simulate, simulate_move,
 };
 use std::env;
 use std::io::IsTerminal;
@@ -232,7 +232,12 @@ fn write_script<'a>(
     );
     if status == Status::Unreadable && plan != "-" && rt.stderr().is_terminal() {
         let mut plan = file(rt, plan);
-        hint_node(rt.alloc(), script.node, &mut plan, &mut Counted::new(rt.stderr()));
+        hint_node(
+            rt.alloc(),
+            script.node,
+            &mut plan,
+            &mut Counted::new(rt.stderr()),
+        );
     }
     status
 }

@@ -143,8 +143,7 @@ AreOfWalkFrom first events = (rest : List Event) × (events ≡ first ∷ rest) 
 
 pub of_walk_more : (first : Event) (events more : List Event) (e : Event) → AreOfWalkFrom first events → more ≡ events ++ e ∷ [] → IsOfWalk (event_value e) → AreOfWalkFrom first more
 of_walk_more first events more e (rest, is, all) grown one =
-    let A : List WalkedEvent → Type 0 = All IsOfWalk in
-    (
+    let A : List WalkedEvent → Type 0 = All IsOfWalk in (
       rest ++ e ∷ [],
       grown ∙ ap (λ es. es ++ e ∷ []) is,
       subst A (sym (map-append event_value rest (e ∷ []))) (All-push IsOfWalk (map event_value rest) (event_value e) all one),

@@ -39,7 +39,15 @@ pub fn hint_node<P: Source, E: Sink>(alloc: Global, name: &str, plan: &mut P, er
     requires plan { HasRoom (P.account plan.old) }
     requires errors { HasRoom (E.account errors.old) }
 {
-    hint_nodes(alloc, &Question::Trace { from: name, to: name }, plan, errors);
+    hint_nodes(
+        alloc,
+        &Question::Trace {
+            from: name,
+            to: name,
+        },
+        plan,
+        errors,
+    );
 }
 
 /// Says which name that a question has is none of the plan's, and which is the nearest.
@@ -121,12 +129,7 @@ fn wrong_argument(alloc: Global, command: &str, words: &[String]) -> Result<Stri
 }
 
 /// The first of these arguments of `script` that is wrong, where one is.
-fn script_hint(
-    alloc: Global,
-    what: &str,
-    eid: &str,
-    count: &str,
-) -> Result<String, AllocError> {
+fn script_hint(alloc: Global, what: &str, eid: &str, count: &str) -> Result<String, AllocError> {
     if what != "walk" {
         return format!(in alloc; "the word is walk, and not {what}\n");
     }
@@ -198,9 +201,11 @@ fn node_hint(alloc: Global, plan: &Plan, name: &str) -> Result<String, AllocErro
 fn near_name(alloc: Global, name: &str, names: &[&str]) -> Result<Option<usize>, AllocError> {
     match nearest_name(alloc, name, names)? {
         Some(index) => Ok(Some(index)),
-        None => Ok(names
-            .iter()
-            .position(|other| has_swapped(name.as_bytes(), other.as_bytes()))),
+        None => Ok(
+            names
+                .iter()
+                .position(|other| has_swapped(name.as_bytes(), other.as_bytes())),
+        ),
     }
 }
 

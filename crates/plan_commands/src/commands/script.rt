@@ -261,11 +261,13 @@ fn is_done(plan: &Plan, eid: Eid, last: &Option<Outcome>) -> bool
     ensures { MatchBool result (IsDone plan.now eid.value (option_map outcome_value last.now)) (¬ IsDone plan.now eid.value (option_map outcome_value last.now)) }
 {
     match last {
-        Some(Outcome::Collected {
-            walker: 1,
-            records,
-            standing: Standing::Done,
-        }) => has_records(plan, eid, *records),
+        Some(
+            Outcome::Collected {
+                walker: 1,
+                records,
+                standing: Standing::Done,
+            },
+        ) => has_records(plan, eid, *records),
         _ => false,
     }
 }

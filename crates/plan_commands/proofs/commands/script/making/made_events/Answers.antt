@@ -28,8 +28,7 @@ loop-count-init c =
     let walk : Event = event.Walk c.args.node script.eid c.new-2.result c.bytes.result in
     let one : c.push.new.self.items ≡ walk ∷ [] = c.in_ok-push.ensures.items ∙ ap (λ es. es ++ walk ∷ []) c.new-events.ensures.items in
     let planned = planned_by _ plan c.plan.result.now cert c.certificate.result.now c.in_ok-termini.ensures c.plan.ensures.plan c.certificate.ensures.certificate in
-    let checked = c.in_ok-network.ensures.checked in
-    (
+    let checked = c.in_ok-network.ensures.checked in (
       walk,
       begins_walk c.args.node script.eid.value _ _ _ _ c.new-2.ensures c.bytes.ensures,
       of_walk_first walk c.push.new.self.items one,
@@ -45,8 +44,7 @@ loop-count-preserved c =
     let cert = c.args.checked.1 in
     let (walk, is, of, played, same, many) = c.loop-count.invariant in
     let event = c.in_ok-event.event in
-    let pushed = c.in_ok-push-2.ensures.items in
-    (
+    let pushed = c.in_ok-push-2.ensures.items in (
       walk,
       is,
       of_walk_more walk c.loop-count.events.items c.push-in-loop-count.new.self.items event of pushed c.in_ok-event.ensures,
