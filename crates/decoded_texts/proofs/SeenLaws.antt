@@ -1,5 +1,6 @@
 -- One entry more.
 use Rattle.std.proofs.Common.{◌≡◌, ◌≢◌, ◌⊎◌, ℕ, ◌<◌, ◌+◌, ◌==◌, Bool, true, false, List, [], ◌∷◌, ◌++◌, length, arith, refl, ap, sym, ◌∙◌, subst, get_or, set, cond, eqb, inl, inr}
+use Rattle.std.specs.Prelude.{Option, Result, Ok, Err, IfOk}
 use Rattle.std.proofs.lemmas.List.{append-nil, get_or-set_same, get_or-set_other, length-set}
 use Rattle.std.proofs.lemmas.Bool.{cases_Bool}
 use Rattle.std.proofs.lemmas.Bool.Decides.{nat_tests}
@@ -8,8 +9,10 @@ use Rattle.mctp_transport.specs.declared.assembler.Assembler.{Assembler}
 use Rattle.mctp_transport.specs.Frames.{Frame}
 use Rattle.mctp_transport.specs.Hearing.{Answer}
 use Rattle.mctp_transport.specs.Histories.{History, Arrived, after}
+use Rattle.bus_captures.specs.declared.capture.Direction.{Direction}
 use Rattle.decoded_texts.specs.Decoding.{AreSeen, None, More}
-use Rattle.decoded_texts.specs.Seen.{Seen, Fed, NoPacket, Told, Other, IsSeen, IsToldAs, history_to}
+use Rattle.decoded_texts.specs.Messages.{IsSaid}
+use Rattle.decoded_texts.specs.Seen.{Seen, Fed, NoPacket, Told, Other, IsSeen, IsToldAs, history_to, told_line}
 use Rattle.decoded_texts.specs.Stations.{HasBeenGiven, AreGiven, IsFedAt}
 use Rattle.decoded_texts.specs.Steps.{Sees, IsStep}
 
@@ -106,3 +109,10 @@ pub one_more : (entries : List EntryValue) (old new : List Assembler) (lines tol
     → HasSeen entries old lines → number ≡ length entries + 1 → IsStep old new number e told → HasSeen (entries ++ e ∷ []) new (lines ++ told)
 one_more entries old new lines told e number before is step =
     added entries old new lines told e number before is step.seen step.sees step.told
+
+-- a line of a message, and behind it what the message says
+pub told_if : {T E : Type 0} (text_of : T → List ℕ) (number : ℕ) (way : Option Direction) (message line said : List ℕ) (result : Result T E)
+    → IfOk result (λ t. text_of t ≡ line ++ said) → line ≡ told_line number way message → IsSaid message said
+    → IfOk result (λ t. IsToldAs number (Told way message) (text_of t))
+told_if text_of number way message line said (Ok t) is told says = (said, says, is ∙ ap (λ l. l ++ said) told)
+told_if text_of number way message line said (Err e) is told says = is
