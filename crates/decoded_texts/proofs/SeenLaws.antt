@@ -1,15 +1,22 @@
 -- One entry more.
-use Rattle.std.proofs.Common.{◌≡◌, ◌≢◌, ◌⊎◌, ℕ, ◌<◌, ◌+◌, ◌==◌, Bool, true, false, List, [], ◌∷◌, ◌++◌, length, arith, refl, ap, sym, ◌∙◌, subst, get_or, set, cond, eqb, inl, inr}
+use Rattle.std.proofs.Common.{◌≡◌, ◌≢◌, ◌⊎◌, ℕ, ◌<◌, ◌+◌, ◌==◌, Bool, true, false, List, [], ◌∷◌, ◌++◌, length, arith, refl, ap, sym, ◌∙◌, subst, get_or, set, cond, eqb, inl, inr, map, take}
 use Rattle.std.specs.Prelude.{Option, Result, Ok, Err, IfOk}
-use Rattle.std.proofs.lemmas.List.{append-nil, get_or-set_same, get_or-set_other, length-set}
+use Rattle.std.proofs.lemmas.List.{append-nil, get_or-set_same, get_or-set_other, length-set, take_more, map-append, length-map, length-take-le}
 use Rattle.std.proofs.lemmas.Bool.{cases_Bool}
 use Rattle.std.proofs.lemmas.Bool.Decides.{nat_tests}
-use Rattle.bus_captures.specs.Values.{EntryValue}
+use Rattle.bus_captures.specs.Values.{EntryValue, entry_value}
+use Rattle.bus_captures.specs.declared.capture.Entry.{Entry}
+use Rattle.mctp_transport.specs.declared.packet_error.PacketError.TheVariants as packet
+use Rattle.mctp_transport.specs.Refusals as refusals
 use Rattle.mctp_transport.specs.declared.assembler.Assembler.{Assembler}
 use Rattle.mctp_transport.specs.Frames.{Frame}
 use Rattle.mctp_transport.specs.Hearing.{Answer}
 use Rattle.mctp_transport.specs.Histories.{History, Arrived, after}
 use Rattle.bus_captures.specs.declared.capture.Direction.{Direction}
+use Rattle.bus_captures.specs.declared.capture.Kind.TheVariants as kind
+use Rattle.mctp_transport.specs.declared.packet_error.PacketError.{PacketError}
+use Rattle.mctp_transport.specs.Frames.{Spelled}
+use Rattle.decoded_texts.specs.Seen.{IsNoPacketFor}
 use Rattle.decoded_texts.specs.Decoding.{AreSeen, None, More}
 use Rattle.decoded_texts.specs.Messages.{IsSaid}
 use Rattle.decoded_texts.specs.Seen.{Seen, Fed, NoPacket, Told, Other, IsSeen, IsToldAs, history_to, told_line}
@@ -116,3 +123,50 @@ pub told_if : {T E : Type 0} (text_of : T → List ℕ) (number : ℕ) (way : Op
     → IfOk result (λ t. IsToldAs number (Told way message) (text_of t))
 told_if text_of number way message line said (Ok t) is told says = (said, says, is ∙ ap (λ l. l ++ said) told)
 told_if text_of number way message line said (Err e) is told says = is
+
+-- ---- what one entry changes, where its lines come
+
+pub fed_step : {T E : Type 0} (text_of : T → List ℕ) (old new : List Assembler) (number : ℕ) (e : EntryValue) (p : Frame) (answer : Answer) (result : Result T E)
+    → e.kind ≡ kind.Packet → Spelled 64 p e.bytes → IsFedAt old new p answer → IfOk result (λ t. IsToldAs number (Fed p answer) (text_of t))
+    → IfOk result (λ t. IsStep old new number e (text_of t))
+fed_step text_of old new number e p answer (Ok t) is spelled fed told = record { seen = Fed p answer; sees = (is, spelled, fed); told = told; }
+fed_step text_of old new number e p answer (Err x) is spelled fed told = told
+
+pub refused_step : {T E : Type 0} (text_of : T → List ℕ) (old : List Assembler) (number : ℕ) (e : EntryValue) (why : PacketError) (result : Result T E)
+    → e.kind ≡ kind.Packet → IsNoPacketFor why e.bytes → IfOk result (λ t. IsToldAs number (NoPacket why) (text_of t))
+    → IfOk result (λ t. IsStep old old number e (text_of t))
+refused_step text_of old number e why (Ok t) is refused told = record { seen = NoPacket why; sees = (is, refused, refl); told = told; }
+refused_step text_of old number e why (Err x) is refused told = told
+
+pub told_step : {T E : Type 0} (text_of : T → List ℕ) (old : List Assembler) (number : ℕ) (e : EntryValue) (result : Result T E)
+    → e.kind ≡ kind.Message → IfOk result (λ t. IsToldAs number (Told e.direction e.bytes) (text_of t)) → IfOk result (λ t. IsStep old old number e (text_of t))
+told_step text_of old number e (Ok t) is told = record { seen = Told e.direction e.bytes; sees = (is, refl, refl, refl); told = told; }
+told_step text_of old number e (Err x) is told = told
+
+pub other_step : {T E : Type 0} (text_of : T → List ℕ) (old : List Assembler) (number protocol : ℕ) (e : EntryValue) (result : Result T E)
+    → e.kind ≡ kind.Other protocol → IfOk result (λ t. IsToldAs number (Other protocol) (text_of t)) → IfOk result (λ t. IsStep old old number e (text_of t))
+other_step text_of old number protocol e (Ok t) is told = record { seen = Other protocol; sees = (is, refl); told = told; }
+other_step text_of old number protocol e (Err x) is told = told
+
+pub no_packet_for : {T : Type 0} (why : PacketError) (bytes : List ℕ) (result : Result T PacketError) → result ≡ Err why
+    → (result ≡ Err packet.Short → refusals.IsShort bytes) → (result ≡ Err packet.Empty → ¬ refusals.IsShort bytes × refusals.IsEmpty bytes)
+    → (result ≡ Err packet.Long → refusals.IsLong 64 bytes)
+    → (result ≡ Err packet.Version → ¬ refusals.IsShort bytes × ¬ refusals.IsEmpty bytes × ¬ refusals.IsLong 64 bytes × refusals.HasOtherVersion bytes)
+    → IsNoPacketFor why bytes
+no_packet_for packet.Short bytes result is short empty long version = short is
+no_packet_for packet.Empty bytes result is short empty long version = empty is
+no_packet_for packet.Long bytes result is short empty long version = long is
+no_packet_for packet.Version bytes result is short empty long version = version is
+
+-- the next entry of a list
+pub next_seen : (items : List Entry) (i : ℕ) (item : Entry) (old new : List Assembler) (text told all : List ℕ) → i < length items → item ≡ get_or items i item
+    → HasSeen (map entry_value (take i items)) old text → IsStep old new (i + 1) (entry_value item) told → all ≡ text ++ told
+    → HasSeen (map entry_value (take (i + 1) items)) new all
+next_seen items i item old new text told all within is before step joined =
+    let same : take (i + 1) items ≡ take i items ++ item ∷ [] = take_more items i item within ∙ ap (λ x. take i items ++ x ∷ []) (sym is) in
+    let mapped : map entry_value (take (i + 1) items) ≡ map entry_value (take i items) ++ entry_value item ∷ [] =
+        ap (λ es. map entry_value es) same ∙ map-append entry_value (take i items) (item ∷ []) in
+    let many : length (map entry_value (take i items)) ≡ i = length-map (take i items) entry_value ∙ length-take-le i items (omega (arith, within)) in
+    let number : i + 1 ≡ length (map entry_value (take i items)) + 1 = ap (λ n. n + 1) (sym many) in
+    let more = one_more (map entry_value (take i items)) old new text told (entry_value item) (i + 1) before number step in
+    subst (λ es. HasSeen es new all) (sym mapped) (subst (λ t. HasSeen (map entry_value (take i items) ++ entry_value item ∷ []) new t) (sym joined) more)
