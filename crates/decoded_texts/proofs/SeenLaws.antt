@@ -129,23 +129,23 @@ told_if text_of number way message line said (Err e) is told says = is
 pub fed_step : {T E : Type 0} (text_of : T → List ℕ) (old new : List Assembler) (number : ℕ) (e : EntryValue) (p : Frame) (answer : Answer) (result : Result T E)
     → e.kind ≡ kind.Packet → Spelled 64 p e.bytes → IsFedAt old new p answer → IfOk result (λ t. IsToldAs number (Fed p answer) (text_of t))
     → IfOk result (λ t. IsStep old new number e (text_of t))
-fed_step text_of old new number e p answer (Ok t) is spelled fed told = record { seen = Fed p answer; sees = (is, spelled, fed); told = told; }
+fed_step text_of old new number e p answer (Ok t) is spelled fed told = record { seen = Fed p answer; sees = (is, spelled, fed); told = told }
 fed_step text_of old new number e p answer (Err x) is spelled fed told = told
 
 pub refused_step : {T E : Type 0} (text_of : T → List ℕ) (old : List Assembler) (number : ℕ) (e : EntryValue) (why : PacketError) (result : Result T E)
     → e.kind ≡ kind.Packet → IsNoPacketFor why e.bytes → IfOk result (λ t. IsToldAs number (NoPacket why) (text_of t))
     → IfOk result (λ t. IsStep old old number e (text_of t))
-refused_step text_of old number e why (Ok t) is refused told = record { seen = NoPacket why; sees = (is, refused, refl); told = told; }
+refused_step text_of old number e why (Ok t) is refused told = record { seen = NoPacket why; sees = (is, refused, refl); told = told }
 refused_step text_of old number e why (Err x) is refused told = told
 
 pub told_step : {T E : Type 0} (text_of : T → List ℕ) (old : List Assembler) (number : ℕ) (e : EntryValue) (result : Result T E)
     → e.kind ≡ kind.Message → IfOk result (λ t. IsToldAs number (Told e.direction e.bytes) (text_of t)) → IfOk result (λ t. IsStep old old number e (text_of t))
-told_step text_of old number e (Ok t) is told = record { seen = Told e.direction e.bytes; sees = (is, refl, refl, refl); told = told; }
+told_step text_of old number e (Ok t) is told = record { seen = Told e.direction e.bytes; sees = (is, refl, refl, refl); told = told }
 told_step text_of old number e (Err x) is told = told
 
 pub other_step : {T E : Type 0} (text_of : T → List ℕ) (old : List Assembler) (number protocol : ℕ) (e : EntryValue) (result : Result T E)
     → e.kind ≡ kind.Other protocol → IfOk result (λ t. IsToldAs number (Other protocol) (text_of t)) → IfOk result (λ t. IsStep old old number e (text_of t))
-other_step text_of old number protocol e (Ok t) is told = record { seen = Other protocol; sees = (is, refl); told = told; }
+other_step text_of old number protocol e (Ok t) is told = record { seen = Other protocol; sees = (is, refl); told = told }
 other_step text_of old number protocol e (Err x) is told = told
 
 pub no_packet_for : {T : Type 0} (why : PacketError) (bytes : List ℕ) (result : Result T PacketError) → result ≡ Err why
@@ -165,7 +165,7 @@ pub next_seen : (items : List Entry) (i : ℕ) (item : Entry) (old new : List As
 next_seen items i item old new text told all within is before step joined =
     let same : take (i + 1) items ≡ take i items ++ item ∷ [] = take_more items i item within ∙ ap (λ x. take i items ++ x ∷ []) (sym is) in
     let mapped : map entry_value (take (i + 1) items) ≡ map entry_value (take i items) ++ entry_value item ∷ [] =
-        ap (λ es. map entry_value es) same ∙ map-append entry_value (take i items) (item ∷ []) in
+    ap (λ es. map entry_value es) same ∙ map-append entry_value (take i items) (item ∷ []) in
     let many : length (map entry_value (take i items)) ≡ i = length-map (take i items) entry_value ∙ length-take-le i items (omega (arith, within)) in
     let number : i + 1 ≡ length (map entry_value (take i items)) + 1 = ap (λ n. n + 1) (sym many) in
     let more = one_more (map entry_value (take i items)) old new text told (entry_value item) (i + 1) before number step in

@@ -16,16 +16,16 @@ fed_at : (old new : List Assembler) (p : Frame) (answer : Answer) (before fed : 
     → ((h : History) → StandsFor before h → StandsFor fed (after h (Arrived p))) → IsFedAt old new p answer
 fed_at old new p answer before fed within there others slots limit hears stands =
     let same : (x : Assembler) → slice_index_or old p.destination x ≡ before =
-        λ x. get_or_default old p.destination x before within ∙ sym there in
+    λ x. get_or_default old p.destination x before within ∙ sym there in
     let as_before : (x : Assembler) (h : History) → HasBeenGiven (slice_index_or old p.destination x) h → HasBeenGiven before h =
-        λ x h given. subst (λ (a : Assembler). HasBeenGiven a h) (same x) given in
+    λ x h given. subst (λ (a : Assembler). HasBeenGiven a h) (same x) given in
     record {
       fed = fed;
       others = others;
       hears = λ x h given.
           let was = as_before x h given in
           subst (λ (n : ℕ). HearsOnly n 4096 h p answer) was.1
-              (subst (λ (n : ℕ). HearsOnly (assembler_slots before) n h p answer) was.2 (hears h was.0));
+          (subst (λ (n : ℕ). HearsOnly (assembler_slots before) n h p answer) was.2 (hears h was.0));
       given = λ x h given.
           let was = as_before x h given in
           (stands h was.0, slots ∙ was.1, limit ∙ was.2);

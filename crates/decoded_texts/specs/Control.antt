@@ -3,8 +3,10 @@ use Rattle.std.specs.Prelude.{◌≡◌, ◌⊎◌, ℕ, List, ◌++◌, length,
 use Rattle.std.specs.Fmt.{decimal}
 use Rattle.mctp_transport.specs.Frames.{bit}
 use Rattle.mctp_control.specs.Headers.{HeaderValue}
-use Rattle.mctp_control.specs.Requests.{RequestValue, CommandValue, SetsEid, GetsEid, AllocatesEids, GetsEntries, SpellsRequest}
-use Rattle.mctp_control.specs.Responses.{ResponseValue, AnswerValue, EidSet, EidTold, PoolTold, EntriesTold, Failed, SpellsResponse}
+use Rattle.mctp_control.specs.Requests.{RequestValue, SpellsRequest}
+use Rattle.mctp_control.specs.Requests.{CommandValue, SetsEid, GetsEid, AllocatesEids, GetsEntries}
+use Rattle.mctp_control.specs.Responses.{ResponseValue, SpellsResponse}
+use Rattle.mctp_control.specs.Responses.{AnswerValue, EidSet, EidTold, PoolTold, EntriesTold, Failed}
 
 -- what is asked, by its fields
 abbrev pub command_words : CommandValue → List ℕ
@@ -33,12 +35,13 @@ answer_words (Failed command code) = codes "command " ++ (decimal command ++ (co
 
 abbrev pub request_line : RequestValue → List ℕ
 request_line r =
-    codes "control request instance " ++ (decimal r.header.instance ++ (codes " datagram " ++ (decimal (bit r.header.datagram)
-    ++ (codes " " ++ (command_words r.command ++ codes "\n")))))
+    codes "control request instance " ++ (decimal r.header.instance ++ (codes " datagram "
+    ++ (decimal (bit r.header.datagram) ++ (codes " " ++ (command_words r.command ++ codes "\n")))))
 
 abbrev pub response_line : ResponseValue → List ℕ
 response_line r =
-    codes "control response instance " ++ (decimal r.header.instance ++ (codes " " ++ (answer_words r.answer ++ codes "\n")))
+    codes "control response instance " ++ (decimal r.header.instance
+    ++ (codes " " ++ (answer_words r.answer ++ codes "\n")))
 
 -- the text tells the control message that the bytes are
 abbrev pub IsRequestText : List ℕ → List ℕ → Type 0

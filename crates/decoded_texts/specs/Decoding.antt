@@ -29,7 +29,8 @@ abbrev pub end_line : ℕ → End → List ℕ
 end_line count end.Whole = codes "entries " ++ (decimal count ++ codes "\n")
 end_line count end.Full = codes "entries " ++ (decimal count ++ codes " of more\n")
 end_line count (end.Broken place why) =
-    codes "entries " ++ (decimal count ++ (codes " broken " ++ (decimal place ++ (codes " " ++ (fault_word why ++ codes "\n")))))
+    codes "entries " ++ (decimal count ++ (codes " broken " ++ (decimal place
+    ++ (codes " " ++ (fault_word why ++ codes "\n")))))
 
 -- the text tells what became of the entries, and how reading them ended
 abbrev pub IsDecoded : List EntryValue → End → List ℕ → Type 0

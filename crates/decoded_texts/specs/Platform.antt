@@ -9,7 +9,8 @@ use Rattle.pldm_message.specs.declared.kind.MessageKind.{MessageKind}
 use Rattle.pldm_message.specs.declared.kind.MessageKind.TheVariants as kind
 use Rattle.pldm_message.specs.Headers.{HeaderValue, BeginsWith}
 use Rattle.pldm_message.specs.Messages.{RequestMessage, AnswerMessage}
-use Rattle.pldm_message.specs.Pdrs.{PartRequest, Part, IsGetPdrRequest, get_pdr_request_bytes, IsGetPdrAnswer, get_pdr_answer_bytes}
+use Rattle.pldm_message.specs.Pdrs.{PartRequest, IsGetPdrRequest, get_pdr_request_bytes}
+use Rattle.pldm_message.specs.Pdrs.{Part, IsGetPdrAnswer, get_pdr_answer_bytes}
 
 -- where a part of a record is asked for
 abbrev pub place_words : PartRequest → List ℕ
@@ -25,7 +26,8 @@ part_request_line m =
 
 abbrev pub part_words : Part → List ℕ
 part_words p =
-    codes "next " ++ (decimal p.next ++ (codes " transfer " ++ (decimal p.transfer ++ (codes " flag " ++ decimal p.flag))))
+    codes "next " ++ (decimal p.next ++ (codes " transfer " ++ (decimal p.transfer
+    ++ (codes " flag " ++ decimal p.flag))))
 
 -- a part of a record, by its fields
 abbrev pub part_line : ℕ → Part → List ℕ
@@ -55,7 +57,8 @@ IsOutcomeText instance (Err code) text = text ≡ failed_line instance code
 -- the text tells the request, or the answer, that the bytes are
 abbrev pub IsPartRequestText : List ℕ → List ℕ → Type 0
 IsPartRequestText message text =
-    (m : RequestMessage PartRequest) × Spells IsGetPdrRequest get_pdr_request_bytes m message × (text ≡ part_request_line m)
+    (m : RequestMessage PartRequest) × Spells IsGetPdrRequest get_pdr_request_bytes m message
+    × (text ≡ part_request_line m)
 
 abbrev pub IsPartAnswerText : List ℕ → List ℕ → Type 0
 IsPartAnswerText message text =
@@ -77,8 +80,9 @@ kind_word kind.Response = codes "response"
 -- a message by its header, and its data in hex
 abbrev pub header_line : HeaderValue → List ℕ → List ℕ
 header_line h rest =
-    codes "pldm " ++ (kind_word h.kind ++ (codes " instance " ++ (decimal h.instance ++ (codes " type " ++ (decimal h.pldm_type
-    ++ (codes " command " ++ (decimal h.command ++ (codes " data " ++ (encode_lower rest ++ codes "\n")))))))))
+    codes "pldm " ++ (kind_word h.kind ++ (codes " instance " ++ (decimal h.instance ++ (codes " type "
+    ++ (decimal h.pldm_type ++ (codes " command " ++ (decimal h.command ++ (codes " data "
+    ++ (encode_lower rest ++ codes "\n")))))))))
 
 -- the text tells the header with which the bytes begin, and in hex what stands behind it
 abbrev pub IsHeaderText : List ℕ → List ℕ → Type 0

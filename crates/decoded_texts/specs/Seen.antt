@@ -79,4 +79,5 @@ IsToldAs number (Fed p answer) lines =
 IsToldAs number (NoPacket why) lines = lines ≡ decimal number ++ (codes " " ++ refused_bytes (refusals.code_of why))
 IsToldAs number (Told way message) lines =
     (said : List ℕ) × IsSaid message said × (lines ≡ told_line number way message ++ said)
-IsToldAs number (Other protocol) lines = lines ≡ decimal number ++ (codes " protocol " ++ (decimal protocol ++ codes "\n"))
+IsToldAs number (Other protocol) lines =
+    lines ≡ decimal number ++ (codes " protocol " ++ (decimal protocol ++ codes "\n"))

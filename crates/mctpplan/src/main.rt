@@ -6,9 +6,9 @@ ghost use Rattle.std.specs.Prelude.{◌≡◌};
 use net_json::Counted;
 use plan_commands::{
     FileAtPath, PlanQuestion, Question, Refused, ShownKind, Status, Subcommand, WordQuestion,
-    hint_nodes, hint_words, parse_command, refuse, run_certified, run_certify_move, run_decode, run_expect,
-    run_explain, run_explain_certified, run_known, run_move, run_planned, run_require, run_show, run_worded,
-    simulate, simulate_move,
+    hint_nodes, hint_words, parse_command, refuse, run_certified, run_certify_move, run_decode,
+    run_expect, run_explain, run_explain_certified, run_known, run_move, run_planned, run_require,
+    run_show, run_worded, simulate, simulate_move,
 };
 use std::env;
 use std::io::IsTerminal;
