@@ -42,4 +42,4 @@ abbrev pub DecodesSo : Stream → Status → List ℕ → Type 0
 DecodesSo source ended text =
     Gave 16777216 source.before.bytes source.after.bytes (λ bytes. IsDecodedSo bytes ended text)
     ⊎ ((ended ≡ status.Unreadable)
-        × ((why : TextFault) × IsNotGiven why source × (not_given why ≡ Some text)))
+    × ((why : TextFault) × IsNotGiven why source × (not_given why ≡ Some text)))
