@@ -3,7 +3,7 @@
 
 # tools/made writes these commands
 _mctpplan_commands='make rows check certify move certifymove rollout assign sim expect script simmove walk reach matrix
-require trace draw explain faults fix lint show describe record code schema guide version'
+require trace draw explain faults fix lint show decode describe record code schema guide version'
 
 # tools/made writes these codes
 _mctpplan_codes='A01 A02 A03 A04 A05 B01 B02 B03 B10 B11 B12 C01 C02 C03 C04 C05 C06 C07 C08 C09 C10 C11 C12 C13 C14

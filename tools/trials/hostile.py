@@ -2,8 +2,8 @@
 
 What is wanted is told from the texts: that a text that is cut off is no JSON (J01), that one of more than 16,777,216 bytes
 is too long (J08), that a plan of format 2 with the unit 64 has the answers of the same plan of format 1, and so on. Each
-run has a limit of processor time and of memory. The words choose among outputs, beginnings, bytes, escapes, limits, sizes
-and formats.
+run has a limit of processor time and of memory. The words choose among outputs, beginnings, bytes, escapes, limits, sizes,
+formats and captures.
 """
 import itertools
 import json
@@ -216,6 +216,56 @@ def try_formats(trial):
                 expect(trial, f"{command} {plans[0].name} in format 2", [command, *given, *others], wanted)
 
 
+def cut_file(capture, length):
+    """How many records this beginning of a capture file of the lowest byte first has, how it ends, and the status."""
+    if length < 4:
+        return 0, *((b"", 0) if length == 0 else (b" broken 1 line", 2))
+    if length < 24:
+        return 0, b" broken 0 header", 2
+    count, at = 0, 24
+    while at + 16 <= length and (end := at + 16 + int.from_bytes(capture[at + 8 : at + 12], "little")) <= length:
+        count, at = count + 1, end
+    return count, *((b"", 0) if at == length else (b" broken %d record" % (count + 1), 2))
+
+
+def try_captures(trial):
+    """Each capture cut at each length, and with each byte 00 and ff: a last line and a status, and nothing is lost."""
+    for path in sorted((TOP / "examples/captures").glob("riser.*")) + [TOP / "examples/captures/nic.log"]:
+        capture, is_file = path.read_bytes(), path.suffix == ".pcap"
+        status, output, error = trial.run(["decode", path])
+        trial.note((status, error) == (0, b""), f"{path.name} itself is refused")
+        # (what stands before the line of the next entry, by how many entries there are)
+        numbered = [it.start() for it in re.finditer(rb"(?m)^[0-9]", output)] + [output.index(b"entries ")]
+
+        def ended(what, changed):
+            got = trial.run(["decode", trial.file("capture", changed)])
+            last = re.search(rb"(?:^|\n)entries ([0-9]+)((?: broken [0-9]+ [a-z-]+)?)\n$", got[1])
+            is_right = last and got[0] == (2 if last[2] else 0) and got[2] == b""
+            trial.note(is_right, f"{path.name}, {what}: {got}")
+            return got, last
+
+        def row(length):
+            got, last = ended(f"{length} bytes", capture[:length])
+            if is_file:
+                count, why, wanted = cut_file(capture, length)
+                wanted = (wanted, output[: numbered[count]] + b"entries %d%s\n" % (count, why), b"")
+                trial.note(got == wanted, f"{path.name}, {length} bytes: wanted {wanted}, got {got}")
+            elif last:
+                # (the last line may be cut within an entry)
+                told = got[1][: numbered[count_before(capture[:length])]]
+                trial.note(output.startswith(told), f"{path.name}, {length} bytes: {got}")
+            if length < len(capture):
+                for byte in (0, 255):
+                    ended(f"byte {length} is {byte}", capture[:length] + bytes([byte]) + capture[length + 1 :])
+
+        each(row, range(len(capture) + 1))
+
+
+def count_before(text):
+    """How many entries the whole lines of a text capture are."""
+    return sum(bool(line.split(b"#")[0].strip()) for line in text.split(b"\n")[:-1])
+
+
 def walked_handles(plan, certificate):
     """The handles of the first node's records by place."""
     records = json.loads(plan)["nodes"][0]["terminus"]["records"]
@@ -228,6 +278,6 @@ def try_all(trial):
     # (with checks of each access a program reserves all addresses, and is slow)
     limits = "ulimit -t 600" if trial.is_unproved else f"ulimit -t {SECONDS}; ulimit -v {MOST_MEMORY // 1000}"
     trial.program = ["sh", "-c", f'{limits}; exec "$@"', "sh", *trial.program]
-    for part in (try_outputs, try_beginnings, try_bytes, try_escapes, try_limits, try_sizes, try_formats):
+    for part in (try_outputs, try_beginnings, try_bytes, try_escapes, try_limits, try_sizes, try_formats, try_captures):
         if trial.has(part.__name__):
             part(trial)

@@ -117,6 +117,7 @@ def commands():
         ("rollout", [[left, right], [MOVE / "to-left.json", MOVE / "to-right.json"]]),
         ("simmove", [[left, right, ranks, MOVE / "events.json"]]),
         ("show", [["packet", "010a08cb01800002"], ["packet", "010a08"], ["record", record]]),
+        ("decode", [[TOP / "examples/captures/riser.pcap"], [TOP / "examples/captures/nic.log"]]),
         ("describe", [[record]]),
         ("record", [["terminus-locator", "handle=1", "tid=20", "eid=37"]]),
         ("code", [["C08"]]),

@@ -7,9 +7,9 @@ use net_json::Counted;
 use plan_commands::{
     FileAtPath, FileToWrite, PlanQuestion, Question, Refused, ShownKind, Status, Subcommand,
     WalkScript, WordQuestion, hint_node, hint_nodes, hint_record, hint_words, parse_command,
-    refuse, run_certified, run_certify_move, run_expect, run_explain, run_explain_certified,
-    run_fix, run_known, run_make, run_make_certified, run_move, run_planned, run_require,
-    run_rollout, run_script, run_show, run_worded, simulate, simulate_move,
+    refuse, run_certified, run_certify_move, run_decode, run_expect, run_explain,
+    run_explain_certified, run_fix, run_known, run_make, run_make_certified, run_move, run_planned,
+    run_require, run_rollout, run_script, run_show, run_worded, simulate, simulate_move,
 };
 use std::env;
 use std::io::IsTerminal;
@@ -108,6 +108,7 @@ fn run_command<'a>(rt: &'a HostRuntime, command: Subcommand<'a>) -> Status {
         Subcommand::Known { text } => tell(rt, text),
         Subcommand::Worded { question, words } => say(rt, question, words),
         Subcommand::Show { kind, hex } => show(rt, kind, hex),
+        Subcommand::Decode { capture } => decode(rt, capture),
     }
 }
 
@@ -375,6 +376,14 @@ fn show(rt: &HostRuntime, kind: ShownKind, hex: &str) -> Status {
     let mut output = Counted::new(rt.stdout());
     let mut errors = Counted::new(rt.stderr());
     run_show(rt.alloc(), kind, hex, &mut output, &mut errors)
+}
+
+/// Tells what became of each entry of a capture.
+fn decode<'a>(rt: &'a HostRuntime, capture: &'a str) -> Status {
+    let mut capture = file(rt, capture);
+    let mut output = Counted::new(rt.stdout());
+    let mut errors = Counted::new(rt.stderr());
+    run_decode(rt.alloc(), &mut capture, &mut output, &mut errors)
 }
 
 /// Explains a plan. Where its file can't be opened or read, standard error tells the path and the system's reason.

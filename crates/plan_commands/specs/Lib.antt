@@ -15,6 +15,7 @@ pub mod Linting
 pub mod FaultListing
 pub mod UnreadTexts
 pub mod Explaining
+pub mod Decoding
 pub mod Drawing
 pub mod Planned
 pub mod Requiring

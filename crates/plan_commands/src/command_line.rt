@@ -103,6 +103,10 @@ pub enum Subcommand<'a> {
         kind: ShownKind,
         hex: &'a str,
     },
+    /// What became of each entry of the capture in a file, and what do its messages say?
+    Decode {
+        capture: &'a str,
+    },
 }
 
 /// The command that a list of words stands for. The first word is the program's name.
@@ -134,7 +138,7 @@ fn worded(list: &[String]) -> Option<Subcommand<'_>> {
 }
 
 /// The name of each command, the names of its arguments, and those of the arguments that may be left out.
-const COMMANDS: [(&str, &[&str], &[&str]); 27] = [
+const COMMANDS: [(&str, &[&str], &[&str]); 28] = [
     ("make", &["board"], &[]),
     ("rows", &["plan"], &[]),
     ("check", &["plan", "certificate"], &[]),
@@ -162,6 +166,7 @@ const COMMANDS: [(&str, &[&str], &[&str]); 27] = [
     ("fix", &["plan"], &[]),
     ("lint", &["plan"], &[]),
     ("show", &["kind", "hex"], &[]),
+    ("decode", &["capture"], &[]),
     ("code", &["code"], &[]),
     ("schema", &["kind"], &[]),
     ("guide", &[], &["command"]),
@@ -259,6 +264,7 @@ fn chosen<'a>(matches: &ArgMatches<'a>) -> Option<Subcommand<'a>> {
         "fix" => fixing(arguments),
         "lint" => planned(arguments, PlanQuestion::Lint),
         "show" => showing(arguments),
+        "decode" => decoding(arguments),
         "code" => known(text_of(arguments.get_str("code")?)),
         "schema" => known(schema_of(arguments.get_str("kind")?)),
         "guide" => guiding(arguments),
@@ -443,6 +449,12 @@ fn showing<'a>(arguments: &ArgMatches<'a>) -> Option<Subcommand<'a>> {
     Some(Subcommand::Show {
         kind: kind_of(arguments.get_str("kind")?)?,
         hex: arguments.get_str("hex")?,
+    })
+}
+
+fn decoding<'a>(arguments: &ArgMatches<'a>) -> Option<Subcommand<'a>> {
+    Some(Subcommand::Decode {
+        capture: arguments.get_str("capture")?,
     })
 }
 

@@ -5,6 +5,7 @@ pub mod assign;
 pub mod certified;
 pub mod certify;
 pub mod certify_move;
+pub mod decode;
 pub mod draw;
 pub mod expect;
 pub mod explain;

@@ -12,6 +12,7 @@ pub use command_line::{Subcommand, parse_command};
 pub use commands::answer::refuse;
 pub use commands::certified::{Question, run_certified};
 pub use commands::certify_move::run_certify_move;
+pub use commands::decode::run_decode;
 pub use commands::draw::DrawnRows;
 pub use commands::expect::run_expect;
 pub use commands::explain::certified::run_explain_certified;

@@ -29,6 +29,7 @@ fix PLAN                     the plan with edits made, until it has a certificat
 lint PLAN                    what is lawful in the plan and still looks wrong, or clean
 show packet HEX              what the bytes of a packet are
 show record HEX              what the bytes of a platform descriptor record are
+decode CAPTURE               what was captured of a bus: each packet, and what its message says
 describe HEX..               every field of a record by its name, with the standard's words
 record KIND FIELD=VALUE..    the bytes of a record, from its fields
 code CODE                    what a code, as C08 or N03, means, and what to do
@@ -70,6 +71,7 @@ pub fn guide_to(command: &str) -> Option<&'static str> {
         "fix" => Some(OF_FIX),
         "lint" => Some(OF_LINT),
         "show" => Some(OF_SHOW),
+        "decode" => Some(OF_DECODE),
         "describe" => Some(OF_DESCRIBE),
         "record" => Some(OF_RECORD),
         "code" => Some(OF_CODE),
@@ -476,6 +478,24 @@ Status 1: why the bytes are no record, D01 to D06.
   $ mctpplan show record 01000000010100000900010001010000010110
   record handle 1 type 1 change 0 length 9
   terminus 1 validity 1 tid 1 container 0 locator 1 value 10
+"#;
+
+const OF_DECODE: &str = r#"mctpplan decode CAPTURE
+
+Reads a capture file (pcap) or a text of hex lines, and prints a line for each entry with its
+number: the packet, and whether it is held, dropped or ends a message. Behind the last packet of a
+message stands what the message says. Packets to one destination are joined as its assembler would,
+16 messages at a time.
+
+Status 0: the entries.
+Status 2: also where the capture can't be read to its end. What stands before is told.
+
+  $ mctpplan decode examples/captures/nic.log
+  1 sent message 01800002
+  pldm request instance 0 type 0 command 2 data 
+  2 received message 010000020001
+  pldm response instance 0 type 0 command 2 data 0001
+  entries 2
 "#;
 
 const OF_DESCRIBE: &str = r#"mctpplan describe HEX..

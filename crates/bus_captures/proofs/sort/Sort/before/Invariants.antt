@@ -1,0 +1,6 @@
+use Rattle.std.proofs.Common.{◌≡◌, ℕ, ◌<◌, get_or, false}
+use Rattle.bus_captures.specs.Sorts.{is_of}
+use Rattle.bus_captures.proofs.sort.Sort.before.Given as goal
+
+abbrev pub invariant-loop-i : goal.invariant-loop-i
+invariant-loop-i l = (k : ℕ) → k < l.i → is_of l.self (get_or l.text k 0) ≡ false

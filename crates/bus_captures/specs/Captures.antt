@@ -1,0 +1,59 @@
+-- Which entries a capture has, by all of its bytes.
+use Rattle.std.specs.Prelude.{◌≡◌, ◌⊎◌, ℕ, ◌+◌, List, [], ◌∷◌, ◌++◌, length, map}
+use Rattle.std.specs.List.{slice_split}
+use Rattle.bus_captures.specs.declared.capture.Capture.{Capture}
+use Rattle.bus_captures.specs.declared.capture.CaptureFault.TheVariants as fault
+use Rattle.bus_captures.specs.declared.capture.End.{End}
+use Rattle.bus_captures.specs.declared.capture.End.TheVariants as end
+use Rattle.bus_captures.specs.declared.format.Order.{Order}
+use Rattle.bus_captures.specs.declared.format.TimeUnit.{TimeUnit}
+use Rattle.bus_captures.specs.Files.{magic, IsFile}
+use Rattle.bus_captures.specs.Lines.{IsNothing, IsEntryLine, IsBad}
+use Rattle.bus_captures.specs.Numbers.{number_bytes}
+use Rattle.bus_captures.specs.declared.sort.Sort.TheVariants as sort
+use Rattle.bus_captures.specs.Sorts.{is_of}
+use Rattle.bus_captures.specs.Values.{EntryValue, entry_value}
+
+-- the lines of a text: what stands between line ends
+abbrev pub lines_of : List ℕ → List (List ℕ)
+lines_of text = slice_split (is_of sort.LineEnd) text
+
+-- the lines are these entries, in their order; some of the lines are nothing
+abbrev pub AreEntries : List (List ℕ) → List EntryValue → Type 0
+AreEntries [] entries = entries ≡ []
+AreEntries (line ∷ lines) entries =
+    (IsNothing line × AreEntries lines entries)
+    ⊎ ((e : EntryValue) × (more : List EntryValue) × IsEntryLine line e × (entries ≡ e ∷ more) × AreEntries lines more)
+
+-- how reading ends behind so many lines with so many entries, where these lines are left
+abbrev pub EndsText : ℕ → ℕ → List (List ℕ) → End → Type 0
+EndsText lines entries left end.Whole = left ≡ []
+EndsText lines entries left end.Full =
+    (entries ≡ 100000)
+    × ((line : List ℕ) × (more : List (List ℕ)) × (e : EntryValue) × (left ≡ line ∷ more) × IsEntryLine line e)
+EndsText lines entries left (end.Broken place why) =
+    (place ≡ lines + 1) × (why ≡ fault.Line)
+    × ((line : List ℕ) × (more : List (List ℕ)) × (left ≡ line ∷ more) × IsBad line)
+
+-- The text's lines are the entries, up to those that are left.
+pub record IsText (text : List ℕ) (entries : List EntryValue) (how : End) : Type 0 where
+  pub done : List (List ℕ)
+  pub left : List (List ℕ)
+  pub spelled : lines_of text ≡ done ++ left
+  pub each : AreEntries done entries
+  pub ends : EndsText (length done) (length entries) left how
+
+-- the bytes begin as a capture file does, and so go on
+abbrev pub BeginsFile : Order → TimeUnit → List ℕ → List ℕ → Type 0
+BeginsFile order unit bytes behind = bytes ≡ number_bytes order (magic unit) ++ behind
+
+-- the bytes are these entries, and reading them ends so: a capture file by its first four bytes, or else a text
+abbrev pub IsCapture : List ℕ → List EntryValue → End → Type 0
+IsCapture bytes entries how =
+    ((order : Order) × (unit : TimeUnit) × (behind : List ℕ) × BeginsFile order unit bytes behind
+    × IsFile order unit behind entries how)
+    ⊎ (((order : Order) (unit : TimeUnit) (behind : List ℕ) → ¬ BeginsFile order unit bytes behind)
+    × IsText bytes entries how)
+
+abbrev pub IsCaptureOf : List ℕ → Capture → Type 0
+IsCaptureOf bytes capture = IsCapture bytes (map entry_value capture.entries.items) capture.end

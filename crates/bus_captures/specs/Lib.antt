@@ -1,0 +1,12 @@
+pub mod Values
+pub mod Numbers
+pub mod Links
+pub mod Files
+pub mod Records
+pub mod Sorts
+pub mod Hex
+pub mod Fronts
+pub mod Lines
+pub mod LineValues
+pub mod Adding
+pub mod Captures

@@ -1,0 +1,41 @@
+-- What a record holds of the bus, by its link type (tcpdump.org, "Link-layer header types").
+use Rattle.std.specs.Prelude.{ℕ, ◌==◌, List, drop, slice_index, Option, None, Some, if◌then◌else◌}
+use Rattle.byteorder.specs.Endian.{big_number}
+use Rattle.bus_captures.specs.declared.capture.Direction.{Direction}
+use Rattle.bus_captures.specs.declared.capture.Direction.TheVariants as direction
+use Rattle.bus_captures.specs.declared.capture.Kind.{Kind}
+use Rattle.bus_captures.specs.declared.capture.Kind.TheVariants as kind
+use Rattle.bus_captures.specs.declared.link.Link.{Link}
+use Rattle.bus_captures.specs.declared.link.Link.TheVariants as link
+
+-- the number of a link type in a file's header
+abbrev pub link_number : Link → ℕ
+link_number link.Raw = 147
+link_number link.Cooked = 113
+link_number link.CookedAgain = 276
+
+-- how many bytes stand before the packet
+abbrev pub link_length : Link → ℕ
+link_length link.Raw = 0
+link_length link.Cooked = 16
+link_length link.CookedAgain = 20
+
+-- what the capturing side sent has the packet type 4
+abbrev pub sent_or_received : ℕ → Direction
+sent_or_received packet_type = if packet_type == 4 then direction.Sent else direction.Received
+
+-- MCTP has the protocol number 0x00FA
+abbrev pub kind_of : ℕ → Kind
+kind_of protocol = if protocol == 250 then kind.Packet else kind.Other protocol
+
+-- A cooked record has its packet type at byte 0 and its protocol at byte 14. One of the second version has its protocol
+-- at byte 0 and its packet type at byte 10.
+abbrev pub direction_of : Link → List ℕ → Option Direction
+direction_of link.Raw bytes = None
+direction_of link.Cooked bytes = Some (sent_or_received (big_number 2 bytes))
+direction_of link.CookedAgain bytes = Some (sent_or_received (slice_index bytes 10))
+
+abbrev pub kind_in : Link → List ℕ → Kind
+kind_in link.Raw bytes = kind.Packet
+kind_in link.Cooked bytes = kind_of (big_number 2 (drop 14 bytes))
+kind_in link.CookedAgain bytes = kind_of (big_number 2 bytes)

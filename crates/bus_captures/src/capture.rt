@@ -1,0 +1,97 @@
+//! What a capture holds.
+ghost use Rattle.std.specs.Prelude.{◌≡◌};
+
+use std::error::Error;
+use std::fmt;
+
+/// The most entries that are read of a capture.
+pub const MAX_ENTRIES: usize = 100_000;
+
+/// When an entry was captured.
+#[derive(Clone, Copy, Debug, PartialEq, Eq)]
+pub enum Time<'a> {
+    /// The capture doesn't say.
+    Unknown,
+    /// As a text writes it: digits, a point, digits.
+    Written(&'a [u8]),
+    /// Seconds, and nanoseconds behind them, from where the file counts.
+    At { seconds: u32, nanoseconds: u64 },
+}
+
+/// Which way an entry went, as the capturing side saw it.
+#[derive(Clone, Copy, Debug, PartialEq, Eq)]
+pub enum Direction {
+    Sent,
+    Received,
+}
+
+/// What the bytes of an entry are.
+#[derive(Clone, Copy, Debug, PartialEq, Eq)]
+pub enum Kind {
+    /// A packet of MCTP, its header of four bytes first.
+    Packet,
+    /// A message of MCTP, its message type first. Which packets it came in isn't known.
+    Message,
+    /// Something of another protocol, by its number (an EtherType).
+    Other(u16),
+}
+
+/// One thing that was captured.
+#[derive(Debug, Drop)]
+pub struct Entry<'a> {
+    pub time: Time<'a>,
+    pub direction: Option<Direction>,
+    pub kind: Kind,
+    pub bytes: Vec<u8>,
+}
+
+/// Why a capture can't be read on.
+#[derive(Clone, Copy, Debug, PartialEq, Eq)]
+pub enum CaptureFault {
+    /// A file ends within its header of 24 bytes.
+    Header,
+    /// A file's link type is none of 113 and 276 (Linux cooked captures) and 147 (raw packets).
+    Link,
+    /// A file ends within a record, or the record's length is wrong.
+    Record,
+    /// Only a part of what went over the bus was kept, or more than went over it.
+    Cut,
+    /// A record is shorter than the header of its link type.
+    LinkHeader,
+    /// A line of a text has something else than bytes in hex.
+    Line,
+}
+
+impl fmt::Display for CaptureFault {
+    fn fmt<W: fmt::Write>(&self, f: &mut fmt::Formatter<W>) -> fmt::Result {
+        f.write_str(match self {
+            CaptureFault::Header => "the file ends within its header",
+            CaptureFault::Link => "the link type is not 113, 147 or 276",
+            CaptureFault::Record => "the file ends within a record",
+            CaptureFault::Cut => "the captured length is not the packet's length",
+            CaptureFault::LinkHeader => "the record is shorter than its link header",
+            CaptureFault::Line => "the line is not hex",
+        })
+    }
+}
+
+impl Error for CaptureFault {}
+
+/// How reading a capture ended.
+#[derive(Clone, Copy, Debug, PartialEq, Eq)]
+pub enum End {
+    /// All of it was read.
+    Whole,
+    /// More follows than `MAX_ENTRIES`, and isn't read.
+    Full,
+    /// At a record of a file, or at a line of a text, counted from 1; at 0 stands a file's header. What stands before it
+    /// was read.
+    Broken { place: u64, fault: CaptureFault },
+}
+
+/// The entries of a capture, in their order, and how reading it ended.
+#[derive(Debug, Drop)]
+pub struct Capture<'a> {
+    pub entries: Vec<Entry<'a>>,
+    pub end: End,
+}

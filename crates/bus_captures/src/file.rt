@@ -1,0 +1,112 @@
+//! Capture files: a header and records (libpcap's format, version 2.4).
+ghost use Rattle.std.specs.Prelude.{◌≡◌, ◌≤◌, [], length, map, IfOk, OnOk, MatchResult};
+ghost use Rattle.bus_captures.specs.Files.{IsBody, IsEntryOf, HasNoHeader, HasHeader, IsFile};
+ghost use Rattle.bus_captures.specs.Values.{entry_value, Adds};
+ghost use Rattle.bus_captures.specs.Links.{link_length};
+ghost use Rattle.bus_captures.specs.Records.{record_value};
+
+use crate::capture::{Capture, CaptureFault, End, Entry, MAX_ENTRIES};
+use crate::format::{Order, TimeUnit, split_number};
+use crate::link::Link;
+use crate::record::{Record, entry_of, next_record};
+use std::alloc::{AllocError, Global};
+
+/// How many bytes of the header are passed over.
+const AHEAD: usize = 16;
+
+/// The entries of the file whose first four bytes say this and are followed by these bytes.
+pub fn read_file<'a>(
+    alloc: Global,
+    order: Order,
+    unit: TimeUnit,
+    bytes: &'a [u8],
+) -> Result<Capture<'a>, AllocError>
+    ensures { IfOk result (λ capture. IsFile order unit bytes.now (map entry_value capture.entries.items) capture.end) }
+{
+    match split_header(order, bytes) {
+        Ok((link, body)) => read_body(alloc, order, unit, link, body),
+        Err(fault) => Ok(Capture {
+            entries: Vec::new(alloc),
+            end: End::Broken { place: 0, fault },
+        }),
+    }
+}
+
+/// The link type of a file, and the bytes behind its header.
+fn split_header(order: Order, bytes: &[u8]) -> Result<(Link, &[u8]), CaptureFault>
+    ensures { MatchResult result (λ r. HasHeader order bytes.now r.0 r.1.now) (λ fault. HasNoHeader order bytes.now fault) }
+{
+    if bytes.len() < AHEAD + 4 {
+        return Err(CaptureFault::Header);
+    }
+    let (_ahead, behind) = bytes.split_at(AHEAD);
+    let Some((number, body)) = split_number(order, behind) else {
+        return Err(CaptureFault::Header);
+    };
+    match Link::of(number) {
+        Some(link) => Ok((link, body)),
+        None => Err(CaptureFault::Link),
+    }
+}
+
+/// The entries of a file's records.
+fn read_body<'a>(
+    alloc: Global,
+    order: Order,
+    unit: TimeUnit,
+    link: Link,
+    bytes: &'a [u8],
+) -> Result<Capture<'a>, AllocError>
+    ensures { IfOk result (λ capture. IsBody order unit link bytes.now (map entry_value capture.entries.items) capture.end) }
+{
+    let mut entries = Vec::new(alloc);
+    let end = add_entries(alloc, order, unit, link, bytes, &mut entries)?;
+    Ok(Capture { entries, end })
+}
+
+/// Adds the entries of a file's records, and says how reading them ended.
+fn add_entries<'a>(
+    alloc: Global,
+    order: Order,
+    unit: TimeUnit,
+    link: Link,
+    bytes: &[u8],
+    entries: &mut Vec<Entry<'a>>,
+) -> Result<End, AllocError>
+    requires { entries.old.items ≡ [] }
+    ensures { IfOk result (λ how. IsBody order unit link bytes.now (map entry_value entries.new.items) how) }
+{
+    let mut left = bytes;
+    while !left.is_empty() {
+        if entries.len() == MAX_ENTRIES {
+            return Ok(End::Full);
+        }
+        let (record, rest) = match next_record(order, link, left) {
+            Ok(found) => found,
+            Err(fault) => {
+                let place = entries.len() as u64 + 1;
+                return Ok(End::Broken { place, fault });
+            }
+        };
+        add_entry(alloc, unit, link, &record, entries)?;
+        left = rest;
+    }
+    Ok(End::Whole)
+}
+
+/// Adds what was captured in a record.
+fn add_entry<'a>(
+    alloc: Global,
+    unit: TimeUnit,
+    link: Link,
+    kept: &Record,
+    entries: &mut Vec<Entry<'a>>,
+) -> Result<(), AllocError>
+    requires whole { length kept.now.bytes.now ≡ kept.now.original }
+    requires long { link_length link ≤ length kept.now.bytes.now }
+    ensures { OnOk result (Adds (IsEntryOf unit link (record_value kept.now)) entries.old.items entries.new.items) }
+{
+    let entry = entry_of(alloc, unit, link, kept)?;
+    entries.push(entry)?;
+    Ok(())
+}

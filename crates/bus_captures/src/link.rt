@@ -1,0 +1,95 @@
+//! What stands before the packet in a record of a capture file.
+ghost use Rattle.std.specs.Prelude.{◌≡◌, ◌≢◌, ◌≤◌, length, drop, MatchOption};
+ghost use Rattle.bus_captures.specs.Links.{link_number, link_length, sent_or_received, kind_of, direction_of, kind_in};
+ghost use Rattle.bus_captures.specs.declared.link.Link.{Link};
+
+use crate::capture::{Direction, Kind};
+use byteorder::{BigEndian, ByteOrder};
+
+/// The link types that are read (tcpdump.org, "Link-layer header types").
+#[derive(Clone, Copy, Debug, PartialEq, Eq)]
+pub enum Link {
+    /// 147: the packet alone.
+    Raw,
+    /// 113, LINKTYPE_LINUX_SLL: 16 bytes of Linux before the packet.
+    Cooked,
+    /// 276, LINKTYPE_LINUX_SLL2: 20 bytes of Linux before the packet.
+    CookedAgain,
+}
+
+/// The protocol number of MCTP (Linux, ETH_P_MCTP).
+const MCTP: u16 = 0x00fa;
+
+/// The packet type of what the capturing side sent (Linux, PACKET_OUTGOING).
+const OUTGOING: u16 = 4;
+
+impl Link {
+    /// The link type of this number.
+    pub fn of(number: u32) -> Option<Link>
+        ensures { MatchOption result ((link : Link) → number ≢ link_number link) (λ link. number ≡ link_number link) }
+    {
+        match number {
+            147 => Some(Link::Raw),
+            113 => Some(Link::Cooked),
+            276 => Some(Link::CookedAgain),
+            _ => None,
+        }
+    }
+
+    /// How many bytes stand before the packet.
+    pub fn length(self) -> usize
+        ensures { result ≡ link_length self }
+    {
+        match self {
+            Link::Raw => 0,
+            Link::Cooked => 16,
+            Link::CookedAgain => 20,
+        }
+    }
+
+    /// Which way the bytes of a record went.
+    pub fn direction(self, bytes: &[u8]) -> Option<Direction>
+        requires { link_length self ≤ length bytes.now }
+        ensures { result ≡ direction_of self bytes.now }
+    {
+        match self {
+            Link::Raw => None,
+            Link::Cooked => Some(sent_or_received(BigEndian::read_u16(bytes))),
+            Link::CookedAgain => Some(sent_or_received(u16::from(bytes[10]))),
+        }
+    }
+
+    /// What the bytes of a record are.
+    pub fn kind(self, bytes: &[u8]) -> Kind
+        requires { link_length self ≤ length bytes.now }
+        ensures { result ≡ kind_in self bytes.now }
+    {
+        match self {
+            Link::Raw => Kind::Packet,
+            Link::Cooked => kind_of(BigEndian::read_u16(&bytes[14..])),
+            Link::CookedAgain => kind_of(BigEndian::read_u16(bytes)),
+        }
+    }
+}
+
+/// Which way what has this packet type went.
+fn sent_or_received(packet_type: u16) -> Direction
+    ensures { result ≡ sent_or_received packet_type }
+{
+    if packet_type == OUTGOING {
+        Direction::Sent
+    } else {
+        Direction::Received
+    }
+}
+
+/// What is of this protocol.
+fn kind_of(protocol: u16) -> Kind
+    ensures { result ≡ kind_of protocol }
+{
+    if protocol == MCTP {
+        Kind::Packet
+    } else {
+        Kind::Other(protocol)
+    }
+}

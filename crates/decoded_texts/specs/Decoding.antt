@@ -1,0 +1,41 @@
+-- What is said of a whole capture.
+use Rattle.std.specs.Prelude.{◌≡◌, ℕ, ◌+◌, List, [], ◌∷◌, ◌++◌, length, map, codes}
+use Rattle.std.specs.Fmt.{decimal}
+use Rattle.bus_captures.specs.Values.{EntryValue, entry_value}
+use Rattle.bus_captures.specs.declared.capture.Capture.{Capture}
+use Rattle.bus_captures.specs.declared.capture.CaptureFault.{CaptureFault}
+use Rattle.bus_captures.specs.declared.capture.CaptureFault.TheVariants as fault
+use Rattle.bus_captures.specs.declared.capture.End.{End}
+use Rattle.bus_captures.specs.declared.capture.End.TheVariants as end
+use Rattle.decoded_texts.specs.Seen.{Seen, IsSeen, IsToldAs}
+
+-- These became of the entries, one after the other, and these are the lines of it. Entries are numbered from 1.
+pub data AreSeen : List EntryValue → List Seen → List ℕ → Type 0 where
+  None : AreSeen [] [] []
+  More : (entries : List EntryValue) (seen : List Seen) (lines : List ℕ) (e : EntryValue) (s : Seen) (told : List ℕ)
+      → AreSeen entries seen lines → IsSeen seen e s → IsToldAs (length entries + 1) s told
+      → AreSeen (entries ++ e ∷ []) (seen ++ s ∷ []) (lines ++ told)
+
+abbrev pub fault_word : CaptureFault → List ℕ
+fault_word fault.Header = codes "header"
+fault_word fault.Link = codes "link"
+fault_word fault.Record = codes "record"
+fault_word fault.Cut = codes "cut"
+fault_word fault.LinkHeader = codes "link-header"
+fault_word fault.Line = codes "line"
+
+-- how many entries there are, and why there aren't more
+abbrev pub end_line : ℕ → End → List ℕ
+end_line count end.Whole = codes "entries " ++ (decimal count ++ codes "\n")
+end_line count end.Full = codes "entries " ++ (decimal count ++ codes " of more\n")
+end_line count (end.Broken place why) =
+    codes "entries " ++ (decimal count ++ (codes " broken " ++ (decimal place
+    ++ (codes " " ++ (fault_word why ++ codes "\n")))))
+
+-- the text tells what became of the entries, and how reading them ended
+abbrev pub IsDecoded : List EntryValue → End → List ℕ → Type 0
+IsDecoded entries how text =
+    (seen : List Seen) × (lines : List ℕ) × AreSeen entries seen lines × (text ≡ lines ++ end_line (length entries) how)
+
+abbrev pub IsDecodedCapture : Capture → List ℕ → Type 0
+IsDecodedCapture capture text = IsDecoded (map entry_value capture.entries.items) capture.end text

@@ -1,0 +1,8 @@
+pub mod Heard
+pub mod Stations
+pub mod Control
+pub mod Platform
+pub mod Messages
+pub mod Seen
+pub mod Steps
+pub mod Decoding

@@ -1,0 +1,52 @@
+//! All lines of a capture.
+ghost use Rattle.std.specs.Prelude.{◌≡◌, ◌+◌, IfOk, string_bytes, map, length};
+ghost use Rattle.decoded_texts.specs.Decoding.{fault_word, end_line, IsDecodedCapture};
+
+use crate::assembling::idle_assemblers;
+use crate::entries::entry_lines;
+use bus_captures::{Capture, CaptureFault, End};
+use std::alloc::{AllocError, Global};
+
+/// For each entry of a capture a line with its number and what became of it, and behind it what its message says; and
+/// last how many entries there are and how reading them ended.
+///
+/// The packets to one destination are joined by an assembler of 16 slots for messages of at most 4096 bytes.
+pub fn decoded_lines(alloc: Global, capture: &Capture) -> Result<String, AllocError>
+    ensures { IfOk result (λ text. IsDecodedCapture capture.now (string_bytes text)) }
+{
+    let mut assemblers = idle_assemblers(alloc)?;
+    let mut text = String::new(alloc);
+    for (i, entry) in capture.entries.iter().enumerate() {
+        let lines = entry_lines(alloc, &mut assemblers, i + 1, entry)?;
+        text.push_str(&lines)?;
+    }
+    let end = end_line(alloc, capture.entries.len(), capture.end)?;
+    text.push_str(&end)?;
+    Ok(text)
+}
+
+fn end_line(alloc: Global, count: usize, end: End) -> Result<String, AllocError>
+    ensures { IfOk result (λ line. string_bytes line ≡ end_line count end) }
+{
+    match end {
+        End::Whole => format!(in alloc; "entries {count}\n"),
+        End::Full => format!(in alloc; "entries {count} of more\n"),
+        End::Broken { place, fault } => {
+            let word = fault_word(fault);
+            format!(in alloc; "entries {count} broken {place} {word}\n")
+        }
+    }
+}
+
+fn fault_word(fault: CaptureFault) -> &'static str
+    ensures { result.now ≡ fault_word fault }
+{
+    match fault {
+        CaptureFault::Header => "header",
+        CaptureFault::Link => "link",
+        CaptureFault::Record => "record",
+        CaptureFault::Cut => "cut",
+        CaptureFault::LinkHeader => "link-header",
+        CaptureFault::Line => "line",
+    }
+}

@@ -1,0 +1,11 @@
+//! What a capture of a bus says: for each entry what became of it and what its message says.
+#![tactic(auto)]
+
+mod assembling;
+mod control;
+mod decoding;
+mod entries;
+mod message;
+mod platform;
+
+pub use decoding::decoded_lines;
