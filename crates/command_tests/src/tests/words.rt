@@ -4,7 +4,7 @@ use std::alloc::{AllocError, Global};
 use std::test::Fail;
 
 /// Lists of words with bars between, the program's name first.
-const USAGE: [&str; 75] = [
+const USAGE: [&str; 89] = [
     "mctpplan",
     "mctpplan|",
     "mctpplan||a|b",
@@ -45,6 +45,20 @@ const USAGE: [&str; 75] = [
     "mctpplan|certifymove|a",
     "mctpplan|certifymove|a|b|c",
     "mctpplan|expect|a|b|c",
+    "mctpplan|make",
+    "mctpplan|make|a|b",
+    "mctpplan|make|a|--certificate",
+    "mctpplan|make|a|--certificate|-",
+    "mctpplan|rows|a|b",
+    "mctpplan|rollout|a",
+    "mctpplan|rollout|a|b|c",
+    "mctpplan|script|a|b|walk|nic|18",
+    "mctpplan|script|a|b|run|nic|18|16",
+    "mctpplan|script|a|b|walk|nic|7|16",
+    "mctpplan|fix",
+    "mctpplan|fix|a|b",
+    "mctpplan|decode",
+    "mctpplan|decode|a|b",
     "mctpplan|assign|a",
     "mctpplan|move|a|b",
     "mctpplan|move|a|b|c|d",
