@@ -6,6 +6,7 @@ two, four and eight times as large. tools/try crawls tries each, and bench/measu
 
 import json
 import random
+import struct
 
 import plans
 
@@ -170,8 +171,8 @@ def told(size):
     return riser([WALK] + [{"do": "collected", "walker": 1}] * size)
 
 
-def walkers(size):
-    """Walkers at 64 nodes, each with a terminus, one for each node, endpoint ID and tag."""
+def played_by_walkers(size, more):
+    """Walkers at 64 nodes, each with a terminus, one for each node, endpoint ID and tag, and the events `more` then."""
     terminus = {"tid": 1, "records": [{"handle": 1, "next": 0, "bytes": "0100000001c800000000"}]}
     nodes = [plans.node_at(place, "endpoint", [plans.port_on("b", place)], [], terminus) for place in range(64)]
     places = [{"node": node["name"], "places": [0]} for node in nodes]
@@ -181,8 +182,35 @@ def walkers(size):
     return {
         "plan.json": plan_of([plans.bus_named("b")], nodes),
         "certificate.json": certificate_of(places=places),
-        "events.json": text({"format": 3, "events": events}),
+        "events.json": text({"format": 3, "events": events + more}),
     }, ["sim", "plan.json", "certificate.json", "events.json"]
+
+
+def walkers(size):
+    return played_by_walkers(size, [])
+
+
+def messages_to_walkers(size):
+    """Messages that come at the node of the last walker, which they are for."""
+    node, eid, tag = (size - 1) // 512, 8 + (size - 1) // 8 % 64, (size - 1) % 8
+    packet = bytes([1, 8 + node, eid, 0xC0 + tag, 1, 0x80, 0, 2]).hex()
+    events = []
+    for flight in range(1, 1 + size):
+        events += [put(f"n{node}", packet), move(flight)]
+    return played_by_walkers(size, events)
+
+
+def sensor_with(handle, sensor_id):
+    """A state sensor's record."""
+    body = struct.pack("<5H3B", 0, sensor_id, 144, 0, 0, 0, 0, 1) + bytes([1, 0, 1, 6])
+    return {"handle": handle, "next": 0, "bytes": (struct.pack("<IBBHH", handle, 1, 4, 0, len(body)) + body).hex()}
+
+
+def sensors(size):
+    """A terminus of sensors, each with a sensor ID of its own, and no terminus locator."""
+    records = [sensor_with(1 + it, it * 7919 % 65_536) for it in range(size)]
+    node = plans.node_at(0, "endpoint", [plans.port_on("b", 0)], [], {"tid": 1, "records": records})
+    return {"plan.json": plan_of([plans.bus_named("b")], [node])}, ["lint", "plan.json"]
 
 
 ROWS = [
@@ -208,6 +236,6 @@ ROWS = [
     ("answers to requests that all wait", answers, 2_000),
     ("a walker that is told over and over", told, 2_000),
     ("walkers that begin", walkers, 512),
+    ("messages that come to walkers", messages_to_walkers, 512),
+    ("sensors of different IDs", sensors, 512),
 ]
-# Those that take longer than their length asks for, as bench/README.md says.
-SLOW = {"walkers that begin"}

@@ -2,8 +2,8 @@
 # Source it, or put it into /usr/share/bash-completion/completions/mctpplan.
 
 # tools/made writes these commands
-_mctpplan_commands='check certify move certifymove assign sim expect simmove walk reach matrix require trace draw
-explain faults fix lint show describe record code schema guide version'
+_mctpplan_commands='make rows check certify move certifymove rollout assign sim expect script simmove walk reach matrix
+require trace draw explain faults fix lint show describe record code schema guide version'
 
 # tools/made writes these codes
 _mctpplan_codes='A01 A02 A03 A04 A05 B01 B02 B03 B10 B11 B12 C01 C02 C03 C04 C05 C06 C07 C08 C09 C10 C11 C12 C13 C14
@@ -38,8 +38,8 @@ _mctpplan() {
         return
     fi
     case $command in
-        certify | lint) files=1 ;;
-        check | assign | walk | reach | matrix | require | trace | draw | explain | faults) files=2 ;;
+        certify | lint | rows) files=1 ;;
+        check | assign | walk | script | reach | matrix | require | trace | draw | explain | faults) files=2 ;;
         move | sim) files=3 ;;
         simmove) files=4 ;;
         expect) files=3 ;;
@@ -63,7 +63,7 @@ _mctpplan() {
             ;;
         schema)
             if [ "$place" -eq 2 ]; then
-                mapfile -t COMPREPLY < <(compgen -W 'plan certificate events' -- "$current")
+                mapfile -t COMPREPLY < <(compgen -W 'plan certificate events board' -- "$current")
             fi
             return
             ;;
@@ -76,6 +76,15 @@ _mctpplan() {
     esac
     if [[ $command == draw && $current == -* ]]; then
         mapfile -t COMPREPLY < <(compgen -W '--rows' -- "$current")
+    elif [[ $command == script && $current == -* ]]; then
+        mapfile -t COMPREPLY < <(compgen -W '--lose --repeat' -- "$current")
+    elif [[ $command == script && $place -eq 4 ]]; then
+        COMPREPLY=(walk)
+    elif [[ $command == make && $current == -* ]]; then
+        mapfile -t COMPREPLY < <(compgen -W '--certificate' -- "$current")
+    elif [[ $command == make ]]; then
+        compopt -o filenames 2>/dev/null
+        mapfile -t COMPREPLY < <(compgen -d -- "$current"; compgen -f -X '!*.@(toml|json)' -- "$current")
     elif [[ $command == expect && $place -eq 5 ]]; then
         compopt -o filenames 2>/dev/null
         mapfile -t COMPREPLY < <(compgen -f -- "$current")
@@ -85,7 +94,7 @@ _mctpplan() {
     elif [[ $command == require && $place -eq 4 ]]; then
         compopt -o filenames 2>/dev/null
         mapfile -t COMPREPLY < <(compgen -f -- "$current")
-    elif [[ $command == walk && $place -eq 4 || $command == trace && $place -le 5 ]]; then
+    elif [[ $command == walk && $place -eq 4 || $command == script && $place -eq 5 || $command == trace && $place -le 5 ]]; then
         plan=$(_mctpplan_unquoted "${COMP_WORDS[2]}")
         [ -f "$plan" ] || return
         # (compgen would run what stands in a name)

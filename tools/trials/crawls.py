@@ -49,7 +49,7 @@ def work_of(trial, made, size):
 def try_all(trial):
     def row(it):
         name, made, size = it
-        if not trial.has(name) or name in adversarial.SLOW:
+        if not trial.has(name):
             return
         few, least = work_of(trial, made, size)
         many, most = work_of(trial, made, 8 * size)

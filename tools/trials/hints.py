@@ -9,6 +9,7 @@ import pty
 from runner import RISER, TOP
 
 PLAN, CERTIFICATE = RISER / "plan.json", RISER / "certificate.json"
+SCRIPT = "mctpplan script PLAN CERT walk NODE EID COUNT [--lose N,N] [--repeat N,N]"
 # The words, the line of the refusal, and the hint.
 HINTS = [
     ([], "usage", ["mctpplan guide lists the commands"]),
@@ -29,6 +30,28 @@ HINTS = [
     (["trace", PLAN, CERTIFICATE, "host", "nics"], "unreadable node: J06", ["there is no node nics; the nearest is nic"]),
     (["walk", PLAN, CERTIFICATE, "Host", "16"], "unreadable node: J06", ["there is no node Host; the nearest is host"]),
     (["walk", PLAN, CERTIFICATE, "host", "16"], "unreadable node: J06", ["host has no terminus"]),
+    (["chekc", PLAN], "usage", ["there is no command chekc; the nearest is check"]),
+    (
+        ["script", PLAN, CERTIFICATE, "walk", "host", "7", "64"],
+        "usage",
+        [SCRIPT, "EID is a number of 8 to 254, and not 7", "mctpplan guide script tells more"],
+    ),
+    (
+        ["script", PLAN, CERTIFICATE, "walk", "host", "17", "64", "--lose", "x"],
+        "usage",
+        [SCRIPT, "behind --lose and --repeat stand numbers with commas between them", "mctpplan guide script tells more"],
+    ),
+    (["script", PLAN, CERTIFICATE, "walk", "hsot", "17", "64"], "unreadable node: J06", ["there is no node hsot; the nearest is host"]),
+    (
+        ["draw", PLAN, "--rows", "7"],
+        "usage",
+        ["mctpplan draw PLAN [CERT] [--rows [EID]]", "EID is a number of 8 to 254, and not 7", "mctpplan guide draw tells more"],
+    ),
+    (
+        ["record", "terminus-locator", "handle=x"],
+        "usage",
+        ["mctpplan record KIND FIELD=VALUE..", "terminus-locator can't have handle=x", "mctpplan guide record tells more"],
+    ),
     (["check", TOP / "README.md", CERTIFICATE], "unreadable plan: J01", []),
 ]
 

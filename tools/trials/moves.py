@@ -1,13 +1,18 @@
-"""Moves between random small plans: certifymove beside all states of switches, and the ranks beside all ways.
+"""Moves between random small plans: certifymove beside all states of switches, the ranks beside all ways, and rollout
+step by step.
 
 Of five bridges on one bus and an endpoint each goes by its old rows or by its new ones. What is for an endpoint ID can
 go round where some choice of switched nodes has a circle. certifymove has to print a certificate exactly where none has
 and no row leads what is held to a node without a row, with the lengths of the longest ways as ranks, and move has to
-accept it; or else the first loop, or the row. A word is the number of pairs (400 where none is given).
+accept it; or else the first loop, or the row. rollout has to say `any order` just there, the same line where one of the
+plans has no certificate by itself, and else steps: by each the nodes send as it says, each is a move that certifymove
+certifies and move accepts, and the last ends in the new plan. For some choice of node and endpoint ID there always is a
+next step, so it is never stuck. A word is the number of pairs (400 where none is given).
 """
 import itertools
 import json
 import random
+import re
 
 from runner import each
 
@@ -15,6 +20,7 @@ BRIDGES = "abcde"
 NAMES = [*BRIDGES, "x"]
 EIDS = [8, 9, 10, 11, 12, 13]
 PAIRS = 400
+PART = re.compile(r"step (\d+) rows of (\S+): (\d+)(?:-(\d+))? by (\S+)")
 
 
 def plan(tables):
@@ -112,15 +118,99 @@ def ranks_of(line):
             for e in range(part["first"], part["first"] + part["size"])}
 
 
+def is_accepted(trial, before, after):
+    """Whether certifymove has a certificate of the move, which move accepts."""
+    files = trial.file("old", plan(before)), trial.file("new", plan(after))
+    status, output, _ = trial.run(["certifymove", *files])
+    return status == 0 and trial.run(["move", *files, trial.file("certificate", output)])[1] == b"yes\n"
+
+
+def switched(tables, new, names):
+    """The tables once these nodes have their new rows; None where one of them has them before."""
+    nodes = [NAMES.index(name) for name in names]
+    if any(tables[at] == new[at] for at in nodes):
+        return None
+    return [new[at] if at in nodes else table for at, table in enumerate(tables)]
+
+
+def with_parts(tables, new, parts):
+    """The tables once nodes send these endpoint IDs by their new rows; None where a part tells another next node."""
+    tables = [dict(table) for table in tables]
+    for name, first, last, next_name in parts:
+        at = NAMES.index(name)
+        for e in range(first, last + 1):
+            to = new[at].get(e)
+            if next_name != ("-" if to is None else NAMES[to]) or tables[at].get(e) == to:
+                return None
+            tables[at].pop(e, None)
+            if to is not None:
+                tables[at][e] = to
+    return tables
+
+
+def steps_of(lines):
+    """For each step, in their order, the nodes that switch or the parts of rows; None where a line is no step."""
+    steps = {}
+    for line in lines:
+        found = PART.fullmatch(line)
+        if found:
+            number, name, first, last, next_name = found.groups()
+            steps.setdefault(int(number), []).append((name, int(first), int(last or first), next_name))
+            continue
+        words = line.split(" ")
+        if len(words) < 4 or words[0] != "step" or words[2] != "switch" or int(words[1]) in steps:
+            return None
+        steps[int(words[1])] = words[3:]
+    return [steps[number] for number in sorted(steps)] if sorted(steps) == [*range(1, len(steps) + 1)] else None
+
+
+def why_not_steps(trial, old, new, lines):
+    """What is wrong with the steps, if anything."""
+    steps = steps_of(lines)
+    if not steps:
+        return "no steps"
+    tables = old
+    for number, step in enumerate(steps, 1):
+        after = switched(tables, new, step) if isinstance(step[0], str) else with_parts(tables, new, step)
+        if after is None:
+            return f"step {number} tells what is not so"
+        if any(can_circle(tables, after, e) for e in (10, 13)) or not is_accepted(trial, tables, after):
+            return f"step {number} is no lawful move"
+        tables = after
+    return None if tables == new else "the last step doesn't end in the new plan"
+
+
+def try_rollout(trial, seed, old, new, want):
+    """Compares rollout with what certifymove is to print."""
+    files = trial.file("old", plan(old)), trial.file("new", plan(new))
+    status, output, error = trial.run(["rollout", *files])
+    lines = output.decode().splitlines()
+    alone = [wanted(side, side) for side in (old, new)]
+    if not isinstance(want, str):
+        wrong = None if (status, lines) == (0, ["any order"]) else "not any order"
+    elif any(isinstance(it, str) for it in alone):
+        wrong = None if (status, lines) == (1, [want]) else f"not {want}"
+    else:
+        wrong = f"status {status}" if status else why_not_steps(trial, old, new, lines)
+    trial.note(wrong is None and not error, f"pair {seed}: rollout: {lines}: {wrong}")
+
+
 def try_pair(trial, seed):
     chance = random.Random(seed)
     old, new = tables_by(chance), tables_by(chance)
     if chance.random() < 0.5:
         # (few nodes switch, so that more pairs have a certificate)
         new = [table if chance.random() < 0.3 else was for table, was in zip(new, old)]
+    want = wanted(old, new)
+    try_certificate(trial, seed, old, new, want)
+    try_rollout(trial, seed, old, new, want)
+
+
+def try_certificate(trial, seed, old, new, want):
+    """Compares what certifymove prints with what it is to print."""
     files = trial.file("old", plan(old)), trial.file("new", plan(new))
     status, output, error = trial.run(["certifymove", *files])
-    line, want = output.decode().rstrip("\n"), wanted(old, new)
+    line = output.decode().rstrip("\n")
     if isinstance(want, str):
         trial.note(status == 1 and line == want and not error, f"pair {seed}: {line}, and not {want}")
         return

@@ -94,8 +94,9 @@ def wanted_of(row, words):
     """What a row wants on standard output and on standard error, and its status."""
     errors = [it for it in row.wanted if it.startswith("unreadable ")]
     status = next((int(it.split()[1]) for it in row.wanted if it.startswith("status ")), 2 if errors else 0)
-    # (`explain` is asked why a text doesn't read, and answers on standard output; `require` does so of its wishes)
-    errors = [] if words[0] == "explain" else [it for it in errors if not it.startswith("unreadable wanted")]
+    # (`explain` is asked why a text doesn't read, and `make` why a board doesn't: they answer on standard output; `require`
+    # does so of its wishes)
+    errors = [] if words[0] in ("explain", "make") else [it for it in errors if not it.startswith("unreadable wanted")]
     lines = [it for it in row.wanted if it not in errors and not it.startswith("status ")]
     return "".join(f"{it}\n" for it in lines), "".join(f"{it}\n" for it in errors), status
 

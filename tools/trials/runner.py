@@ -96,6 +96,9 @@ def commands():
     for command, others in (
         ("check", [[plan, certificate], [loop, TOP / "examples/refused/loop-certificate.json"]]),
         ("certify", [[plan], [loop]]),
+        ("make", [[TOP / f"examples/board/{it}.toml"] for it in ("riser", "full", "misspelt")]),
+        ("make", [[TOP / "examples/board/riser.toml", "--certificate", "/dev/null"]]),
+        ("rows", [[TOP / "examples/questions/plan-without-rows.json"]]),
         ("assign", [[plan, certificate]]),
         ("sim", [[plan, certificate, RISER / it] for it in ("events-tid.json", "events-walk.json")]),
         ("expect", [[plan, certificate, RISER / "events-tid.json", RISER / "README.md"]]),
@@ -111,6 +114,7 @@ def commands():
         ("lint", [[plan], [TOP / "examples/questions/plan-without-rows.json"]]),
         ("move", [[left, right, ranks]]),
         ("certifymove", [[left, right], [MOVE / "to-left.json", MOVE / "to-right.json"]]),
+        ("rollout", [[left, right], [MOVE / "to-left.json", MOVE / "to-right.json"]]),
         ("simmove", [[left, right, ranks, MOVE / "events.json"]]),
         ("show", [["packet", "010a08cb01800002"], ["packet", "010a08"], ["record", record]]),
         ("describe", [[record]]),

@@ -6,6 +6,7 @@ python3-jsonschema), and says where that is missing.
 """
 import copy
 import json
+import tomllib
 
 from runner import TOP, kind_of
 
@@ -40,6 +41,22 @@ EVENTS = {
         {"do": "expire", "node": "a", "source": 8, "tag": 7, "owner": 1},
         {"do": "switch", "node": "a"},
         {"do": "walk", "node": "a", "eid": 9, "tag": 1, "count": 64},
+    ],
+}
+BOARD = {
+    "unit": 128,
+    "bus": [{"name": "b0", "binding": "smbus", "media": 4}],
+    "node": [
+        {
+            "name": "a",
+            "eid": 8,
+            "pool": "16-31",
+            "ports": ["b0 10"],
+            "reaches": ["a"],
+            "rows": ["16-31 via a port 0"],
+            "tid": 1,
+            "record": [{"type": "terminus-locator", "handle": 1, "eid": "a"}, {"hex": "00"}],
+        }
     ],
 }
 TAKEN_OUT = object()
@@ -94,10 +111,20 @@ WRONG = [
     ("events", ["events", 3, "flight"], 1),
     ("events", ["events", 4, "eid"], 7),
     ("events", ["events", 4, "count"], 7),
+    ("board", ["unit"], 63),
+    ("board", ["bus", 0, "binding"], "i2c"),
+    ("board", ["bus", 0, "binding"], TAKEN_OUT),
+    ("board", ["node", 0, "eid"], 7),
+    ("board", ["node", 0, "pool"], "16 to 31"),
+    ("board", ["node", 0, "ports", 0], "b0 1"),
+    ("board", ["node", 0, "rows", 0], "16 via nic"),
+    ("board", ["node", 0, "record", 0, "type"], "locator"),
+    ("board", ["node", 0, "record", 0, "type"], TAKEN_OUT),
+    ("board", ["node", 0, "knows"], ["nic"]),
 ]
 # Each begins with the name of its schema.
-RIGHT = {"plan": PLAN, "plan of format 2": PLAN_OF_FORMAT_2, "certificate": CERTIFICATE, "events": EVENTS}
-SCHEMAS = ["plan", "certificate", "events"]
+RIGHT = {"plan": PLAN, "plan of format 2": PLAN_OF_FORMAT_2, "certificate": CERTIFICATE, "events": EVENTS, "board": BOARD}
+SCHEMAS = ["plan", "certificate", "events", "board"]
 
 
 def changed(text, path, value):
@@ -119,6 +146,8 @@ def texts():
         yield f"the right {kind}", kind, text, True
     for path in sorted(TOP.glob("examples/*/*.json")):
         yield str(path.relative_to(TOP)), kind_of(path), json.loads(path.read_text()), True
+    for path in sorted(TOP.glob("examples/*/*.toml")):
+        yield str(path.relative_to(TOP)), "board", tomllib.loads(path.read_text()), True
     for kind, path, value in WRONG:
         shown = "taken out" if value is TAKEN_OUT else f"{value!r:.40}"
         yield f"{kind}: {'/'.join(map(str, path))}: {shown}", kind, changed(RIGHT[kind], path, value), False

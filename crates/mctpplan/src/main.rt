@@ -5,10 +5,11 @@ ghost use Rattle.std.specs.Prelude.{◌≡◌};
 
 use net_json::Counted;
 use plan_commands::{
-    FileAtPath, PlanQuestion, Question, Refused, ShownKind, Status, Subcommand, WordQuestion,
-    hint_nodes, hint_words, parse_command, refuse, run_certified, run_certify_move, run_expect,
-    run_explain, run_explain_certified, run_fix, run_known, run_move, run_planned, run_require,
-    run_show, run_worded, simulate, simulate_move,
+    FileAtPath, FileToWrite, PlanQuestion, Question, Refused, ShownKind, Status, Subcommand,
+    WalkScript, WordQuestion, hint_node, hint_nodes, hint_record, hint_words, parse_command,
+    refuse, run_certified, run_certify_move, run_expect, run_explain, run_explain_certified,
+    run_fix, run_known, run_make, run_make_certified, run_move, run_planned, run_require,
+    run_rollout, run_script, run_show, run_worded, simulate, simulate_move,
 };
 use std::env;
 use std::io::IsTerminal;
@@ -27,7 +28,13 @@ fn run(rt: &HostRuntime) -> Status {
         Err(refused) => return refuse(alloc, refused, &mut errors),
     };
     match parse_command(alloc, list.as_slice()) {
-        Ok(command) => run_command(rt, command),
+        Ok(command) => {
+            let status = run_command(rt, command);
+            if status == Status::Unreadable && rt.stderr().is_terminal() {
+                tell_record(rt, command, list.as_slice());
+            }
+            status
+        }
         Err(refused) => {
             let status = refuse(alloc, refused, &mut errors);
             if rt.stderr().is_terminal() {
@@ -61,6 +68,14 @@ fn run_command<'a>(rt: &'a HostRuntime, command: Subcommand<'a>) -> Status {
             certificate,
             wanted,
         } => require(rt, plan, certificate, wanted),
+        Subcommand::Make {
+            board,
+            certificate: None,
+        } => make(rt, board),
+        Subcommand::Make {
+            board,
+            certificate: Some(certificate),
+        } => make_certified(rt, board, certificate),
         Subcommand::Sim {
             plan,
             certificate,
@@ -72,12 +87,18 @@ fn run_command<'a>(rt: &'a HostRuntime, command: Subcommand<'a>) -> Status {
             events,
             lines,
         } => expect(rt, [plan, certificate, events, lines]),
+        Subcommand::Script {
+            script,
+            plan,
+            certificate,
+        } => write_script(rt, &script, plan, certificate),
         Subcommand::Move {
             before,
             after,
             certificate,
         } => check_move(rt, before, after, certificate),
         Subcommand::CertifyMove { before, after } => certify_move(rt, before, after),
+        Subcommand::Rollout { before, after } => roll_out(rt, before, after),
         Subcommand::SimMove {
             before,
             after,
@@ -87,6 +108,17 @@ fn run_command<'a>(rt: &'a HostRuntime, command: Subcommand<'a>) -> Status {
         Subcommand::Known { text } => tell(rt, text),
         Subcommand::Worded { question, words } => say(rt, question, words),
         Subcommand::Show { kind, hex } => show(rt, kind, hex),
+    }
+}
+
+/// Says at a terminal what is wrong with the words of a record.
+fn tell_record(rt: &HostRuntime, command: Subcommand, list: &[String]) {
+    if let Subcommand::Worded {
+        question: WordQuestion::Record,
+        ..
+    } = command
+    {
+        hint_record(rt.alloc(), list, &mut Counted::new(rt.stderr()));
     }
 }
 
@@ -154,6 +186,35 @@ fn require<'a>(
     )
 }
 
+/// Makes a plan of a board.
+fn make<'a>(rt: &'a HostRuntime, board: &'a str) -> Status {
+    let mut board = file(rt, board);
+    let mut output = Counted::new(rt.stdout());
+    let mut errors = Counted::new(rt.stderr());
+    run_make(rt.alloc(), &mut board, &mut output, &mut errors)
+}
+
+/// Makes a plan of a board, and writes its certificate to a file. Where that fails, standard error tells the path and the
+/// system's reason.
+fn make_certified<'a>(rt: &'a HostRuntime, board: &'a str, path: &'a str) -> Status {
+    let alloc = rt.alloc();
+    let mut board = file(rt, board);
+    let mut certificate = Counted::new(FileToWrite::new(rt, path));
+    let mut output = Counted::new(rt.stdout());
+    let mut errors = Counted::new(rt.stderr());
+    let status = run_make_certified(
+        alloc,
+        &mut board,
+        &mut certificate,
+        &mut output,
+        &mut errors,
+    );
+    certificate
+        .inner()
+        .tell_failure(alloc, &mut Counted::new(rt.stderr()));
+    status
+}
+
 /// Plays events in the network of a plan.
 fn play<'a>(rt: &'a HostRuntime, plan: &'a str, certificate: &'a str, events: &'a str) -> Status {
     let mut plan = file(rt, plan);
@@ -190,6 +251,37 @@ fn expect<'a>(rt: &'a HostRuntime, [plan, certificate, events, lines]: [&'a str;
     )
 }
 
+/// Makes the events of a walk over the network of a plan.
+fn write_script<'a>(
+    rt: &'a HostRuntime,
+    script: &WalkScript<'a>,
+    plan: &'a str,
+    certificate: &'a str,
+) -> Status {
+    let mut plan_file = file(rt, plan);
+    let mut certificate = file(rt, certificate);
+    let mut output = Counted::new(rt.stdout());
+    let mut errors = Counted::new(rt.stderr());
+    let status = run_script(
+        rt.alloc(),
+        script,
+        &mut plan_file,
+        &mut certificate,
+        &mut output,
+        &mut errors,
+    );
+    if status == Status::Unreadable && plan != "-" && rt.stderr().is_terminal() {
+        let mut plan = file(rt, plan);
+        hint_node(
+            rt.alloc(),
+            script.node,
+            &mut plan,
+            &mut Counted::new(rt.stderr()),
+        );
+    }
+    status
+}
+
 /// Checks a move from one plan to another.
 fn check_move<'a>(
     rt: &'a HostRuntime,
@@ -219,6 +311,21 @@ fn certify_move<'a>(rt: &'a HostRuntime, before: &'a str, after: &'a str) -> Sta
     let mut output = Counted::new(rt.stdout());
     let mut errors = Counted::new(rt.stderr());
     run_certify_move(
+        rt.alloc(),
+        &mut before,
+        &mut after,
+        &mut output,
+        &mut errors,
+    )
+}
+
+/// Tells the steps from the rows of one plan to those of another.
+fn roll_out<'a>(rt: &'a HostRuntime, before: &'a str, after: &'a str) -> Status {
+    let mut before = file(rt, before);
+    let mut after = file(rt, after);
+    let mut output = Counted::new(rt.stdout());
+    let mut errors = Counted::new(rt.stderr());
+    run_rollout(
         rt.alloc(),
         &mut before,
         &mut after,

@@ -3,11 +3,11 @@ pub mod Packets
 mod Tables
 mod Listing
 mod Exists
+mod FirstNoted
 mod Ascending
 mod Within
 mod Bounds
 mod Numbers
-mod SensorIds
 mod Walks
 mod FirstRows
 mod TopmostOwners

@@ -3,11 +3,12 @@ use Rattle.std.proofs.Common.{◌≡◌, ℕ, zero, suc, List, [], ◌∷◌, Op
 use Rattle.std.specs.Prelude.{◌↔◌, ◌≢◌, option_map, IsSomeAnd, Contains}
 use Rattle.std.proofs.lemmas.Option.{same_Some}
 use Rattle.pdr_record.specs.declared.sensor.Sensor.{Sensor}
-use Rattle.pdr_record.specs.Layouts.{SensorValue, EntityValue, TerminusValue, AssociationValue}
+use Rattle.pdr_record.specs.Layouts.{SensorValue, EntityValue, AssociationValue}
 use Rattle.pdr_record.specs.Records.{BodyValue}
 use Rattle.pdr_record.specs.Values.{sensor_value}
 use Rattle.net_questions.proofs.Exists.{of_only}
-use Rattle.net_questions.specs.Sensors.{HasBody, IsSensor, sensor_of}
+use Rattle.net_questions.specs.RecordIndexes.{handle_of}
+use Rattle.net_questions.specs.Sensors.{HasBody, IsSensor, IsLocatorOf, sensor_of}
 
 pub sensor_found : (bytes : List ℕ) (v : BodyValue) (r : Option Sensor) → HasBody bytes v → option_map sensor_value r ≡ sensor_of v
     → IfSome r (λ s. IsSensor bytes (sensor_value s))
@@ -24,6 +25,23 @@ sensor_alone bytes v (Some found) only is s (b, has, at) =
     let same : v ≡ b = only b has in
     same_Some (sensor_value found) s (is ∙ (ap sensor_of same ∙ at))
 
+-- the terminus handle of a locator's body
+pub handle_found : (bytes : List ℕ) (v : BodyValue) (r : Option ℕ) → HasBody bytes v → r ≡ handle_of v → IfSome r (IsLocatorOf bytes)
+handle_found bytes v None has is = tt
+handle_found bytes (BodyValue.Terminus t) (Some h) has is = (t, has, same_Some t.terminus_handle h (sym is))
+handle_found bytes (BodyValue.Numeric n) (Some h) has is = absurd (cc is)
+handle_found bytes (BodyValue.State s) (Some h) has is = absurd (cc is)
+handle_found bytes (BodyValue.Association a) (Some h) has is = absurd (cc is)
+handle_found bytes (BodyValue.Other number other) (Some h) has is = absurd (cc is)
+
+pub handle_alone : (bytes : List ℕ) (v : BodyValue) (r : Option ℕ) → ((b : BodyValue) → HasBody bytes b → v ≡ b) → r ≡ handle_of v
+    → (h : ℕ) → IsLocatorOf bytes h → IsSomeAnd r (λ found. found ≡ h)
+handle_alone bytes v None only is h (t, has, at) =
+    let none : None ≡ Some t.terminus_handle = is ∙ ap handle_of (only (BodyValue.Terminus t) has) in
+    absurd (cc none)
+handle_alone bytes v (Some found) only is h (t, has, at) =
+    same_Some found t.terminus_handle (is ∙ ap handle_of (only (BodyValue.Terminus t) has)) ∙ at
+
 -- of a body that is the only one of some bytes
 pub of_body : {A : Type 0} (bytes : List ℕ) (v : BodyValue) (f : A → BodyValue) (P : A → Type 0) (r : Bool) → HasBody bytes v
     → ((b : BodyValue) → HasBody bytes b → v ≡ b) → IsTrue r ↔ ((a : A) × (v ≡ f a) × P a) → IsTrue r ↔ ((a : A) × HasBody bytes (f a) × P a)
@@ -32,24 +50,12 @@ of_body bytes v f P r has only told = (
   λ (a, at, p). told.1 (a, only (f a) at, p),
 )
 
-terminus_in : BodyValue → Option TerminusValue
-terminus_in (BodyValue.Terminus t) = Some t
-terminus_in (BodyValue.Numeric n) = None
-terminus_in (BodyValue.State s) = None
-terminus_in (BodyValue.Association a) = None
-terminus_in (BodyValue.Other number bytes) = None
-
 association_in : BodyValue → Option AssociationValue
 association_in (BodyValue.Terminus t) = None
 association_in (BodyValue.Numeric n) = None
 association_in (BodyValue.State s) = None
 association_in (BodyValue.Association a) = Some a
 association_in (BodyValue.Other number bytes) = None
-
-pub of_terminus : (v : BodyValue) (t : TerminusValue) (P : TerminusValue → Type 0) (r : Bool) → v ≡ BodyValue.Terminus t → IsTrue r ↔ P t
-    → IsTrue r ↔ ((a : TerminusValue) × (v ≡ BodyValue.Terminus a) × P a)
-unfolding terminus_in
-of_terminus v t P r is told = of_only (λ a. v ≡ BodyValue.Terminus a) t P r is (λ a at. same_Some t a (ap terminus_in (sym is ∙ at))) told
 
 pub of_association : (v : BodyValue) (t : AssociationValue) (P : AssociationValue → Type 0) (r : Bool) → v ≡ BodyValue.Association t → IsTrue r ↔ P t
     → IsTrue r ↔ ((a : AssociationValue) × (v ≡ BodyValue.Association a) × P a)

@@ -5,4 +5,5 @@ pub mod Ports
 pub mod Lint
 pub mod Buses
 pub mod Sensors
+pub mod RecordIndexes
 pub mod Findings

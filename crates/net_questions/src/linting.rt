@@ -1,9 +1,11 @@
 //! All that is lawful in a plan and still looks wrong.
 ghost use Rattle.std.specs.Prelude.{◌<◌, ◌≡◌, ◌↔◌, [], ◌∷◌, IsTrue, IfOk, OnOk};
+ghost use Rattle.net_questions.specs.RecordIndexes.{AreRecordIndexes};
 ghost use Rattle.net_questions.specs.Findings.{IsSo, AreFindings, Adds, IsUnder, order_of, key_of, sites_of, items_of, others_of, other_items_of};
 
 use crate::code::{CODES, Code};
 use crate::finding::Finding;
+use crate::lints::record_index::{RecordIndex, record_indexes};
 use crate::lints::{
     buses, entities, handles, locators, ports, rows, sensors, termini, thresholds, ways,
 };
@@ -17,19 +19,26 @@ use std::alloc::{AllocError, Global};
 pub fn lint(alloc: Global, plan: &Plan) -> Result<Vec<Finding>, AllocError>
     ensures { IfOk result (λ findings. AreFindings plan.now findings.items) }
 {
+    let indexes = record_indexes(alloc, plan)?;
     let mut findings = Vec::new(alloc);
     for code in CODES {
-        add_of_code(&mut findings, plan, code)?;
+        add_of_code(&mut findings, plan, &indexes, code)?;
     }
     Ok(findings)
 }
 
 /// Adds what a code finds.
-fn add_of_code(findings: &mut Vec<Finding>, plan: &Plan, code: Code) -> Result<(), AllocError>
+fn add_of_code(
+    findings: &mut Vec<Finding>,
+    plan: &Plan,
+    indexes: &[RecordIndex],
+    code: Code,
+) -> Result<(), AllocError>
+    requires { AreRecordIndexes plan.now indexes.now }
     ensures { OnOk result (Adds (IsUnder plan.now (order_of code ∷ [])) findings.old.items findings.new.items) }
 {
     for site in 0..sites(plan, code) {
-        add_at_site(findings, plan, code, site)?;
+        add_at_site(findings, plan, indexes, code, site)?;
     }
     Ok(())
 }
@@ -38,13 +47,15 @@ fn add_of_code(findings: &mut Vec<Finding>, plan: &Plan, code: Code) -> Result<(
 fn add_at_site(
     findings: &mut Vec<Finding>,
     plan: &Plan,
+    indexes: &[RecordIndex],
     code: Code,
     site: usize,
 ) -> Result<(), AllocError>
+    requires { AreRecordIndexes plan.now indexes.now }
     ensures { OnOk result (Adds (IsUnder plan.now (order_of code ∷ site ∷ [])) findings.old.items findings.new.items) }
 {
     for item in 0..items(plan, code, site) {
-        add_at_item(findings, plan, code, site, item)?;
+        add_at_item(findings, plan, indexes, code, site, item)?;
     }
     Ok(())
 }
@@ -53,15 +64,17 @@ fn add_at_site(
 fn add_at_item(
     findings: &mut Vec<Finding>,
     plan: &Plan,
+    indexes: &[RecordIndex],
     code: Code,
     site: usize,
     item: usize,
 ) -> Result<(), AllocError>
-    requires { item < items_of plan.now code site }
+    requires item { item < items_of plan.now code site }
+    requires indexes { AreRecordIndexes plan.now indexes.now }
     ensures { OnOk result (Adds (IsUnder plan.now (order_of code ∷ site ∷ item ∷ [])) findings.old.items findings.new.items) }
 {
     for other in 0..others(plan, code) {
-        add_between(findings, plan, code, site, item, other)?;
+        add_between(findings, plan, indexes, code, site, item, other)?;
     }
     Ok(())
 }
@@ -70,6 +83,7 @@ fn add_at_item(
 fn add_between(
     findings: &mut Vec<Finding>,
     plan: &Plan,
+    indexes: &[RecordIndex],
     code: Code,
     site: usize,
     item: usize,
@@ -77,20 +91,27 @@ fn add_between(
 ) -> Result<(), AllocError>
     requires item { item < items_of plan.now code site }
     requires other { other < others_of plan.now code }
+    requires indexes { AreRecordIndexes plan.now indexes.now }
     ensures { OnOk result (Adds (IsUnder plan.now (order_of code ∷ site ∷ item ∷ other ∷ [])) findings.old.items findings.new.items) }
 {
     for other_item in 0..other_items(plan, code, other) {
         let finding = finding_at(plan, code, site, item, other, other_item);
-        add_if_so(findings, plan, finding)?;
+        add_if_so(findings, plan, indexes, finding)?;
     }
     Ok(())
 }
 
 /// Adds what may be found, if it is so.
-fn add_if_so(findings: &mut Vec<Finding>, plan: &Plan, finding: Finding) -> Result<(), AllocError>
+fn add_if_so(
+    findings: &mut Vec<Finding>,
+    plan: &Plan,
+    indexes: &[RecordIndex],
+    finding: Finding,
+) -> Result<(), AllocError>
+    requires { AreRecordIndexes plan.now indexes.now }
     ensures { OnOk result (Adds (IsUnder plan.now (key_of finding)) findings.old.items findings.new.items) }
 {
-    if is_so(plan, finding) {
+    if is_so(plan, indexes, finding) {
         findings.push(finding)?;
         return Ok(());
     }
@@ -226,7 +247,8 @@ fn finding_at(
 }
 
 /// Whether the finding is so.
-fn is_so(plan: &Plan, finding: Finding) -> bool
+fn is_so(plan: &Plan, indexes: &[RecordIndex], finding: Finding) -> bool
+    requires { AreRecordIndexes plan.now indexes.now }
     ensures { IsTrue result ↔ IsSo plan.now finding }
 {
     match finding {
@@ -239,7 +261,9 @@ fn is_so(plan: &Plan, finding: Finding) -> bool
         Finding::MissingAddress { node, port } => ports::lacks_address(plan, node, port),
         Finding::SharedTid { node, other } => termini::share_tid(plan, node, other),
         Finding::MissingLocator { node } => locators::lacks_locator(plan, node),
-        Finding::SharedSensorId { node, record } => sensors::shares_sensor_id(plan, node, record),
+        Finding::SharedSensorId { node, record } => {
+            sensors::shares_sensor_id(plan, indexes, node, record)
+        }
         Finding::OwnerHasNoWay { node, owner } => ways::has_no_way_from_owner(plan, node, owner),
         Finding::NoWayToOwner { node, owner } => ways::has_no_way_to_owner(plan, node, owner),
         Finding::IdleRow { node, row } => rows::has_idle_row(plan, node, row),
@@ -257,7 +281,7 @@ fn is_so(plan: &Plan, finding: Finding) -> bool
             thresholds::has_crossed_thresholds(plan, node, record)
         }
         Finding::UnknownTerminusHandle { node, record } => {
-            handles::names_no_terminus(plan, node, record)
+            handles::names_no_terminus(plan, indexes, node, record)
         }
         Finding::UncontainedEntity { node, record } => {
             entities::measures_uncontained(plan, node, record)

@@ -5,6 +5,7 @@ pub mod entities;
 pub mod handles;
 pub mod locators;
 pub mod ports;
+pub mod record_index;
 pub mod rows;
 pub mod sensors;
 pub mod termini;

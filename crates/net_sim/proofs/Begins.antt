@@ -9,9 +9,9 @@ use Rattle.net_runs.specs.Events.{N01, N02, N03, N04, N05, N06, N07}
 use Rattle.net_runs.specs.Walkers.{WalkerValue, WalkedState, BeginWalk, Begun, WalkRefusal, Also, N08, N09, N10, N11, N12, N13, IsThere, IsWalkRefused, IsFirstWalkRefusal, walk_refusal_number, with_walker, fresh_walker, five_packets}
 use Rattle.net_sim.specs.declared.network_walker.NetworkWalker.{NetworkWalker}
 use Rattle.net_sim.specs.NetworkWalkers.{walker_value, IsAt}
-use Rattle.net_sim.specs.WalkedStanding.{NetworkValue, StandsForWalked, WalkedPlays}
+use Rattle.net_sim.specs.WalkedStanding.{NetworkValue, StandsForWalked, WalkedPlays, WalkedWants}
 use Rattle.net_sim.proofs.Finding.{walker_place, mapped_there}
-use Rattle.net_sim.proofs.Walking.{walker_begins}
+use Rattle.net_sim.proofs.Walking.{walker_begins, walkers_stay}
 
 -- a walker among those of the network is one of the state's, and conversely
 module _ (v : NetworkValue) (w : WalkedState) (s : StandsForWalked v w) (walkers : List NetworkWalker) (are : v.walkers ≡ map walker_value walkers) (node eid tag : ℕ) where
@@ -120,3 +120,7 @@ module _ (tables : Tables) (v : NetworkValue) (node eid tag count : ℕ)
         ),
         walker_begins v v.traffic w w.network s s.network ws x more,
       )
+
+  -- memory ran out before it began
+  pub begin_wants : (ws : List WalkerValue) → ws ≡ v.walkers → WalkedWants tables v (BeginWalk node eid tag count) (record { traffic = v.traffic; walkers = ws })
+  begin_wants ws same w s = (walkers_stay v v.traffic w w.network s s.network ws same, may w s)

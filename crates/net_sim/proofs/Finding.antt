@@ -1,33 +1,12 @@
--- What a search through a list found, and the walkers of a network by number.
-use Rattle.std.proofs.Common.{◌≡◌, ◌⊎◌, ◌↔◌, ℕ, zero, suc, ◌+◌, ◌-◌, ◌<◌, Bool, true, false, IsTrue, MatchBool, MatchOption, List, length, map, All, Option, Some, None, refl, sym, ◌∙◌, ap, subst, inl, inr, arith}
-use Rattle.std.specs.Prelude.{slice_get, option_map, Any}
-use Rattle.std.specs.List.{AllWithin, HoldsAt}
-use Rattle.std.proofs.lemmas.List.Elements.{All-from_all_within}
-use Rattle.std.proofs.lemmas.Option.{slice_get_cases, slice_get-map, slice_get_past, get_or_from_slice_get, none-some, same_Some}
+-- Elements of a list that is mapped, and the walkers of a network by number.
+use Rattle.std.proofs.Common.{◌≡◌, ◌⊎◌, ℕ, zero, suc, ◌+◌, ◌-◌, ◌<◌, List, length, map, Some, None, sym, ◌∙◌, ap, inl, inr, arith}
+use Rattle.std.specs.Prelude.{slice_get, option_map}
+use Rattle.std.proofs.lemmas.Option.{slice_get_cases, slice_get-map, slice_get_past, none-some, same_Some}
 use Rattle.net_plan.specs.declared.plan.Plan.{Plan}
 use Rattle.net_plan.specs.declared.nodes.Node.{Node}
 use Rattle.net_tables.specs.Routing.{Holds}
 use Rattle.net_runs.specs.Walkers.{WalkerValue, WalkedState}
 use Rattle.net_sim.specs.WalkedStanding.{NetworkValue, StandsForWalked}
-
-module _ {X : Type 0} (P : X → Type 0) (xs : List X) where
-  -- the element at a place at which P holds
-  some_there : (i : ℕ) → i < length xs → HoldsAt P xs i → (x : X) × (slice_get xs i ≡ Some x) × P x
-  some_there i within holds = elim (slice_get_cases xs i).1 [
-    | inl there ↦ (there.0, there.2, subst P there.3 (holds there.0))
-    | inr past ↦ absurd (omega (arith, within, past.0))
-  ]
-
-  pub tells_any : (r : Bool) → MatchBool r ((k : ℕ) × (k < length xs) × HoldsAt P xs k) (AllWithin (λ x. ¬ P x) xs 0 (length xs)) → IsTrue r ↔ Any P xs
-  tells_any true (k, within, holds) =
-      let (x, there, p) = some_there k within holds in
-      (λ told. (k, x, within, get_or_from_slice_get xs k x x there, p), λ any. refl)
-  tells_any false none = (λ told. absurd (let e : false ≡ true = told in cc), λ (k, x, within, is, p). absurd (none k x (omega arith) within (subst P (sym is) p)))
-
-  pub tells_place : (r : Option ℕ) → MatchOption r (AllWithin (λ x. ¬ P x) xs 0 (length xs)) (λ i. (i < length xs) × HoldsAt P xs i × AllWithin (λ x. ¬ P x) xs 0 i)
-      → MatchOption r (All (λ x. ¬ P x) xs) (λ i. (x : X) × (slice_get xs i ≡ Some x) × P x)
-  tells_place None none = All-from_all_within (λ x. ¬ P x) xs none
-  tells_place (Some i) (within, holds, before) = some_there i within holds
 
 -- an element of a list that is mapped
 pub mapped_there : {X Y : Type 0} (f : X → Y) (xs : List X) (i : ℕ) (y : Y) → slice_get (map f xs) i ≡ Some y → (x : X) × (slice_get xs i ≡ Some x) × (f x ≡ y)

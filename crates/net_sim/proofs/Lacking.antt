@@ -1,7 +1,6 @@
 -- Where memory is wanted, room was lacking.
-use Rattle.std.proofs.Common.{◌≡◌, ◌⊎◌, ℕ, List, Option, Some, Result, Ok, Err, true, false, inl, inr, sym, subst}
+use Rattle.std.proofs.Common.{◌≡◌, ◌⊎◌, ℕ, Some, Result, Ok, Err, inl, inr, subst}
 use Rattle.std.specs.Prelude.{slice_get, OnErr, IsErr}
-use Rattle.net_sim.specs.declared.terminus_queue.TerminusQueue.{TerminusQueue}
 use Rattle.net_sim.specs.declared.traffic.Traffic.{Traffic}
 use Rattle.net_sim.specs.Traffics.{HasRoomAt}
 

@@ -37,6 +37,7 @@ mod Arriving
 mod Walking
 mod Requesting
 mod Finding
+mod Noting
 mod Telling
 mod Asks
 mod Begins

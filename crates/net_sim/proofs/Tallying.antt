@@ -1,6 +1,6 @@
 -- What the counters tell after a push, a write and a sweep.
-use Rattle.std.proofs.Common.{◌≡◌, ◌≢◌, ◌↔◌, ℕ, zero, suc, ◌+◌, ◌-◌, ◌<◌, ◌≤◌, List, [], ◌∷◌, ◌++◌, length, get_or, All, Bool, true, false, cond, Option, Some, None, option_map, is_some, is_none, refl, sym, ap, ◌∙◌, subst, arith, true≢false}
-use Rattle.std.specs.Prelude.{slice_set, IfSome, ◌^◌, ◌==◌, if◌then◌else◌}
+use Rattle.std.proofs.Common.{◌≡◌, ◌≢◌, ℕ, zero, suc, ◌+◌, ◌-◌, ◌<◌, ◌≤◌, List, [], ◌∷◌, ◌++◌, length, get_or, All, Bool, true, false, cond, Option, Some, None, option_map, is_some, is_none, refl, sym, ap, ◌∙◌, arith, true≢false}
+use Rattle.std.specs.Prelude.{slice_set, IfSome, ◌^◌, if◌then◌else◌}
 use Rattle.std.specs.List.{count_by, filter}
 use Rattle.std.proofs.lemmas.Bool.Decides.{Decides-eqb}
 use Rattle.std.proofs.lemmas.List.Sums.{count_by-le-length, sum_by-cons, sum_by_push, sum_by-set}
@@ -13,7 +13,7 @@ use Rattle.net_runs.specs.States as state
 use Rattle.net_sim.specs.FlightValues.{flight_value}
 use Rattle.net_sim.specs.Flights.{gone_on}
 use Rattle.net_sim.specs.KeyCounts.{count_of, are_these}
-use Rattle.net_sim.specs.Settling.{IsTo, IsNotTo, goes_to}
+use Rattle.net_sim.specs.Settling.{IsNotTo, goes_to}
 use Rattle.net_sim.specs.Tallies.{IsTally, slot_goes_to, AreTallied, waits_under, AreCounted}
 use Rattle.net_sim.specs.declared.flights.Flight.{Flight}
 use Rattle.net_sim.specs.declared.flights.Slot.{Slot}

@@ -41,6 +41,11 @@ pub record HasTakenMessage (old : WalkerValue) (message : List ℕ) (result : Re
 abbrev pub IsAt : (node eid tag : ℕ) → WalkerValue → Type 0
 IsAt node eid tag walker = (walker.node ≡ node) × (walker.eid ≡ eid) × (walker.tag ≡ tag)
 
+-- such a walker stands at this index
+abbrev pub StandsAt : (node eid tag : ℕ) → List NetworkWalker → ℕ → Type 0
+StandsAt node eid tag walkers index =
+    (walker : NetworkWalker) × (slice_get walkers index ≡ Some walker) × IsAt node eid tag (walker_value walker)
+
 -- one message more can be taken without growing
 abbrev pub IsReady : NetworkWalker → Type 0
 IsReady w = HasRoom w.walker

@@ -305,7 +305,7 @@ fn leave(counts: &mut KeyCounts, flight: &Option<Flight>)
 }
 
 /// Whether two keys are the same.
-pub fn is_same_key(key: Key, other: Key) -> bool
+fn is_same_key(key: Key, other: Key) -> bool
     ensures { IsTrue result ↔ (key_value key ≡ key_value other) }
 {
     key == other

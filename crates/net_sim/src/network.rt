@@ -2,6 +2,7 @@
 ghost use Rattle.std.specs.Prelude.{◌≡◌, ◌∷◌, ◌<◌, [], All, MatchResult, MatchOption, IfOk, OnErr, take, length, map, None, Some, false, true};
 ghost use Rattle.net_sim.specs.NetworkWalkers.{walker_value};
 ghost use Rattle.net_sim.specs.Traffics.{traffic_checked};
+ghost use Rattle.net_sim.specs.WalkerIndexes.{AreNoted};
 
 mod laws;
 mod playing;
@@ -10,6 +11,7 @@ use crate::accepted::Accepted;
 use crate::network_walker::NetworkWalker;
 use crate::outcome::Outcome;
 use crate::traffic::Traffic;
+use crate::walker_index::WalkerIndex;
 pub use laws::requests_come_as_sent;
 use net_check::{Checked, CheckedMove};
 use net_plan::Event;
@@ -34,6 +36,9 @@ pub struct Network<'a, T = Box<dyn Terminus>> {
     alloc: Global,
     traffic: Traffic<'a, T>,
     walkers: Vec<NetworkWalker>,
+    /// Where each of them stands among them, so that no search is needed.
+    index: WalkerIndex,
+    ghost noted: { AreNoted index walkers.items },
     ghost placed: { All (λ walker. (walker_value walker).node < length (traffic_checked traffic).0.plan.nodes.items) walkers.items },
 }
 
@@ -102,10 +107,12 @@ impl<'a, T: Terminus> Network<'a, T> {
     {
         let traffic = Traffic::start(alloc, accepted, termini)?;
         let walkers = Vec::new(alloc);
+        let index = WalkerIndex::new(alloc);
         Ok(Network {
             alloc,
             traffic,
             walkers,
+            index,
         })
     }
 

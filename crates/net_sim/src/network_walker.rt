@@ -6,7 +6,6 @@ ghost use Rattle.pdr_repository.specs.WalkerStates.{state_of};
 ghost use Rattle.mctp_transport.specs.Packets.{key_value};
 ghost use Rattle.net_runs.specs.Walkers.{fresh_walker, asking_key, answering_key, ended_after};
 
-use crate::flights::is_same_key;
 use crate::standing::Standing;
 use mctp_transport::{Eid, Key, Tag};
 use pdr_repository::{MAX_RECORDS, Step, WalkFault, Walker};
@@ -36,7 +35,7 @@ pub struct NetworkWalker {
 impl NetworkWalker {
     ghost use Rattle.net_runs.specs.Walkers.{IsOver, standing_of};
     ghost use Rattle.net_sim.specs.Outcomes.{standing_value};
-    ghost use Rattle.net_sim.specs.NetworkWalkers.{walker_value, IsReady, Listens, TellsRequest, HasTakenMessage};
+    ghost use Rattle.net_sim.specs.NetworkWalkers.{walker_value, IsReady, TellsRequest, HasTakenMessage};
 
     /// A walker that has asked nothing yet, for parts of at most `count` bytes, 8 to 4079.
     pub fn new(
@@ -81,13 +80,6 @@ impl NetworkWalker {
         ensures { result.value ≡ (walker_value self.now).eid }
     {
         self.eid
-    }
-
-    /// Whether a message that comes at this node under this key is for it.
-    pub fn listens(&self, node: usize, key: Key) -> bool
-        ensures { IsTrue result ↔ Listens node (key_value key) (walker_value self.now) }
-    {
-        self.node == node && is_same_key(self.answering_key(), key)
     }
 
     /// Whether its walk is done or has failed.

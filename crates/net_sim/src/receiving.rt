@@ -1,5 +1,5 @@
 //! A packet that has come to its node, and the room that this takes.
-ghost use Rattle.std.specs.Prelude.{◌≡◌, ◌≤◌, [], vec_capacity, true, IfOk, OnErr};
+ghost use Rattle.std.specs.Prelude.{◌≡◌, ◌≤◌, [], length, vec_capacity, true, IfOk, OnErr};
 ghost use Rattle.mctp_transport.specs.Histories.{History, Arrived, after};
 ghost use Rattle.mctp_transport.specs.Hearing.{Hears};
 ghost use Rattle.mctp_transport.specs.Assembly.{StandsFor, assembler_slots, assembler_limit};
@@ -32,8 +32,23 @@ pub fn room_for_message(alloc: Global, header: Header) -> Result<Vec<u8>, AllocE
     }
 }
 
-/// Feeds a packet to an assembler. A message that comes is copied into the room.
-pub fn feed(assembler: &mut Assembler, packet: &KeptPacket, mut room: Vec<u8>) -> Receipt
+/// A message in memory of its own length or, where that is refused, in the room.
+pub fn kept(alloc: Global, message: &[u8], mut room: Vec<u8>) -> Vec<u8>
+    requires { room.items ≡ [] }
+    ensures { length message.now ≤ vec_capacity room → result.items ≡ message.now }
+{
+    match Vec::from_slice(alloc, message) {
+        Ok(own) => own,
+        Err(_) => {
+            let _ = room.extend_from_slice(message);
+            room.shrink_to_fit();
+            room
+        }
+    }
+}
+
+/// Feeds a packet to an assembler. A message that comes is kept, in the room at worst.
+pub fn feed(alloc: Global, assembler: &mut Assembler, packet: &KeptPacket, room: Vec<u8>) -> Receipt
     requires empty { room.items ≡ [] }
     requires room { HasRoomAfter packet.now.header room }
     requires limit { assembler_limit assembler.old ≤ 4096 }
@@ -45,11 +60,7 @@ pub fn feed(assembler: &mut Assembler, packet: &KeptPacket, mut room: Vec<u8>) -
         → StandsFor assembler.new (after h (Arrived (kept_frame packet.now))) }
 {
     match assembler.feed(packet.view()) {
-        Fed::Whole(message) => {
-            let _ = room.extend_from_slice(message);
-            room.shrink_to_fit();
-            Receipt::Whole(room)
-        }
+        Fed::Whole(message) => Receipt::Whole(kept(alloc, message, room)),
         Fed::Held => Receipt::Held,
         Fed::Dropped(why) => Receipt::Dropped(why),
     }

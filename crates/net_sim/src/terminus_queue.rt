@@ -7,6 +7,7 @@ ghost use Rattle.net_sim.specs.TerminusQueues.{queue_state, with_message, HasRoo
 ghost use Rattle.net_sim.specs.Settling.{NoneWaits};
 ghost use Rattle.pdr_repository.specs.Answers.{Answers, answer_of};
 
+use crate::receiving::kept;
 use crate::refusal::Refusal;
 use crate::waiting::{Waiting, WaitingMessages};
 use arrayvec::ArrayVec;
@@ -73,16 +74,15 @@ impl<T: Terminus> TerminusQueue<T> {
         self.waiting.reserve()
     }
 
-    /// Lets a message wait, which is copied into the room.
-    pub fn wait(&mut self, key: Key, bytes: &[u8], mut room: Vec<u8>)
+    /// Lets a message wait, which is kept, in the room at worst.
+    pub fn wait(&mut self, alloc: Global, key: Key, bytes: &[u8], room: Vec<u8>)
         requires room { deque_len self.old.waiting.messages < deque_capacity self.old.waiting.messages }
         requires empty { room.items ≡ [] }
         ensures { length bytes.now ≤ vec_capacity room → queue_state T.tid T.records self.new
             ≡ with_waiting (queue_state T.tid T.records self.old) (record { key = key_value key; bytes = bytes.now }) }
     {
-        let _ = room.extend_from_slice(bytes);
-        room.shrink_to_fit();
-        self.waiting.push(Waiting { key, bytes: room });
+        let bytes = kept(alloc, bytes, room);
+        self.waiting.push(Waiting { key, bytes });
     }
 }
 
@@ -139,8 +139,9 @@ pub fn reserve_at<T: Terminus>(queue: &mut Option<TerminusQueue<T>>) -> Result<(
     }
 }
 
-/// Lets a message whose source owns the tag wait, where there is a terminus. It is copied into the room.
+/// Lets a message whose source owns the tag wait, where there is a terminus. It is kept, in the room at worst.
 pub fn wait_at<T: Terminus>(
+    alloc: Global,
     queue: &mut Option<TerminusQueue<T>>,
     key: Key,
     bytes: &[u8],
@@ -155,6 +156,6 @@ pub fn wait_at<T: Terminus>(
     if key.owner
         && let Some(queue) = queue
     {
-        queue.wait(key, bytes, room);
+        queue.wait(alloc, key, bytes, room);
     }
 }

@@ -7,10 +7,12 @@ mod Repositories
 mod Waiting
 mod Simulated
 mod Expected
+mod Scripted
 mod Naming
 mod Moved
 mod MovePlayed
 mod MoveCertified
+mod RolledOut
 mod Playing
 mod Ends
 mod FaultListed

@@ -21,7 +21,11 @@ pub mod Requiring
 pub mod Certified
 pub mod Simulating
 pub mod Expecting
+pub mod ScriptTexts
+pub mod Scripting
 pub mod Moving
 pub mod MoveCertifying
+pub mod Rollouts
 pub mod MoveSimulating
 pub mod Fixing
+pub mod Making

@@ -10,6 +10,7 @@ use Rattle.plan_commands.specs.Certifying.{Certifies}
 use Rattle.plan_commands.specs.Drawing.{IsPlanDrawing}
 use Rattle.plan_commands.specs.FaultListing.{IsListed}
 use Rattle.plan_commands.specs.Linting.{IsLinted}
+use Rattle.plan_commands.specs.Making.{IsRowed}
 
 -- the lines answer the question about the plan, which stands in this text, in a run that ends so
 abbrev pub IsSaidOf : PlanQuestion → List ℕ → Plan → Status → List ℕ → Type 0
@@ -17,6 +18,7 @@ IsSaidOf question.Certify text plan ended lines = Certifies plan ended lines
 IsSaidOf (question.Draw rows) text plan ended lines = (ended ≡ status.Yes) × IsPlanDrawing rows plan lines
 IsSaidOf (question.Faults name) text plan ended lines = IsListed name.now text plan ended lines
 IsSaidOf question.Lint text plan ended lines = IsLinted plan ended lines
+IsSaidOf question.Rows text plan ended lines = IsRowed plan ended lines
 
 -- so they do of the plan that was given
 abbrev pub SaysSo : PlanQuestion → Stream → Status → List ℕ → Type 0

@@ -2,6 +2,7 @@
 use crate::commands::certified::Question;
 use crate::commands::draw::DrawnRows;
 use crate::commands::planned::PlanQuestion;
+use crate::commands::script::{Flights, WalkScript};
 use crate::commands::show::ShownKind;
 use crate::commands::trace::eid_of_word;
 use crate::commands::walk::PartSize;
@@ -40,6 +41,11 @@ pub enum Subcommand<'a> {
         certificate: &'a str,
         wanted: &'a str,
     },
+    /// Which plan is made of the board in a file, and into which file is its certificate written?
+    Make {
+        board: &'a str,
+        certificate: Option<&'a str>,
+    },
     /// What comes of the events in a file?
     Sim {
         plan: &'a str,
@@ -53,6 +59,12 @@ pub enum Subcommand<'a> {
         events: &'a str,
         lines: &'a str,
     },
+    /// Which events are a walk over the network?
+    Script {
+        script: WalkScript<'a>,
+        plan: &'a str,
+        certificate: &'a str,
+    },
     /// May the nodes of the plan in one file go over, in any order, to the rows of the plan in another, by one
     /// certificate?
     Move {
@@ -62,6 +74,11 @@ pub enum Subcommand<'a> {
     },
     /// What is the certificate of such a move, or why has it none?
     CertifyMove {
+        before: &'a str,
+        after: &'a str,
+    },
+    /// By which steps do the nodes get from the rows of one plan to those of another?
+    Rollout {
         before: &'a str,
         after: &'a str,
     },
@@ -117,7 +134,9 @@ fn worded(list: &[String]) -> Option<Subcommand<'_>> {
 }
 
 /// The name of each command, the names of its arguments, and those of the arguments that may be left out.
-const COMMANDS: [(&str, &[&str], &[&str]); 23] = [
+const COMMANDS: [(&str, &[&str], &[&str]); 27] = [
+    ("make", &["board"], &[]),
+    ("rows", &["plan"], &[]),
     ("check", &["plan", "certificate"], &[]),
     ("certify", &["plan"], &[]),
     ("assign", &["plan", "certificate"], &[]),
@@ -125,8 +144,14 @@ const COMMANDS: [(&str, &[&str], &[&str]); 23] = [
     ("expect", &["plan", "certificate", "events", "lines"], &[]),
     ("move", &["old", "new", "certificate"], &[]),
     ("certifymove", &["old", "new"], &[]),
+    ("rollout", &["old", "new"], &[]),
     ("simmove", &["old", "new", "certificate", "events"], &[]),
     ("walk", &["plan", "certificate", "node", "count"], &[]),
+    (
+        "script",
+        &["plan", "certificate", "what", "node", "eid", "count"],
+        &[],
+    ),
     ("reach", &["plan", "certificate"], &[]),
     ("matrix", &["plan", "certificate"], &[]),
     ("require", &["plan", "certificate", "wanted"], &[]),
@@ -147,7 +172,12 @@ const COMMANDS: [(&str, &[&str], &[&str]); 23] = [
 const ALL: &str = "all";
 
 /// The options of commands, and what each means where no value follows it, if it may stand alone.
-const OPTIONS: [(&str, &str, Option<&str>); 1] = [("draw", "rows", Some(ALL))];
+const OPTIONS: [(&str, &str, Option<&str>); 4] = [
+    ("draw", "rows", Some(ALL)),
+    ("make", "certificate", None),
+    ("script", "lose", None),
+    ("script", "repeat", None),
+];
 
 /// The names of all commands.
 pub fn command_names(alloc: Global) -> Result<Vec<&'static str>, AllocError> {
@@ -203,6 +233,8 @@ fn option<'a>(alloc: Global, id: &'a str, alone: Option<&'a str>) -> Arg<'a> {
 fn chosen<'a>(matches: &ArgMatches<'a>) -> Option<Subcommand<'a>> {
     let (name, arguments) = matches.subcommand()?;
     match name {
+        "make" => making(arguments),
+        "rows" => planned(arguments, PlanQuestion::Rows),
         "check" => certified(arguments, Question::Check),
         "certify" => planned(arguments, PlanQuestion::Certify),
         "assign" => certified(arguments, Question::Assign),
@@ -210,8 +242,10 @@ fn chosen<'a>(matches: &ArgMatches<'a>) -> Option<Subcommand<'a>> {
         "expect" => expecting(arguments),
         "move" => moving(arguments),
         "certifymove" => certifying_move(arguments),
+        "rollout" => rolling_out(arguments),
         "simmove" => playing_moves(arguments),
         "walk" => walking(arguments),
+        "script" => scripting(arguments),
         "reach" => certified(arguments, Question::Reach),
         "matrix" => certified(arguments, Question::Matrix),
         "require" => requiring(arguments),
@@ -253,6 +287,17 @@ fn requiring<'a>(arguments: &ArgMatches<'a>) -> Option<Subcommand<'a>> {
     })
 }
 
+fn making<'a>(arguments: &ArgMatches<'a>) -> Option<Subcommand<'a>> {
+    let certificate = arguments.get_str("certificate");
+    if certificate == Some("-") {
+        return None;
+    }
+    Some(Subcommand::Make {
+        board: arguments.get_str("board")?,
+        certificate,
+    })
+}
+
 fn playing<'a>(arguments: &ArgMatches<'a>) -> Option<Subcommand<'a>> {
     Some(Subcommand::Sim {
         plan: arguments.get_str("plan")?,
@@ -285,6 +330,13 @@ fn certifying_move<'a>(arguments: &ArgMatches<'a>) -> Option<Subcommand<'a>> {
     })
 }
 
+fn rolling_out<'a>(arguments: &ArgMatches<'a>) -> Option<Subcommand<'a>> {
+    Some(Subcommand::Rollout {
+        before: arguments.get_str("old")?,
+        after: arguments.get_str("new")?,
+    })
+}
+
 fn playing_moves<'a>(arguments: &ArgMatches<'a>) -> Option<Subcommand<'a>> {
     Some(Subcommand::SimMove {
         before: arguments.get_str("old")?,
@@ -298,6 +350,32 @@ fn walking<'a>(arguments: &ArgMatches<'a>) -> Option<Subcommand<'a>> {
     let node = arguments.get_str("node")?;
     let part = part_size_of(arguments.get_str("count")?)?;
     certified(arguments, Question::Walk { node, part })
+}
+
+fn scripting<'a>(arguments: &ArgMatches<'a>) -> Option<Subcommand<'a>> {
+    if arguments.get_str("what")? != "walk" {
+        return None;
+    }
+    let script = WalkScript {
+        node: arguments.get_str("node")?,
+        eid: eid_of_word(arguments.get_str("eid")?)?,
+        part: part_size_of(arguments.get_str("count")?)?,
+        lost: flights(arguments.get_str("lose"))?,
+        repeated: flights(arguments.get_str("repeat"))?,
+    };
+    Some(Subcommand::Script {
+        script,
+        plan: arguments.get_str("plan")?,
+        certificate: arguments.get_str("certificate")?,
+    })
+}
+
+/// The flights that an option names.
+fn flights(word: Option<&str>) -> Option<Flights<'_>> {
+    match word {
+        Some(word) => Flights::of(word),
+        None => Some(Flights::NONE),
+    }
 }
 
 fn tracing<'a>(arguments: &ArgMatches<'a>) -> Option<Subcommand<'a>> {
@@ -374,7 +452,7 @@ fn kind_of(word: &str) -> Option<ShownKind> {
 }
 
 /// The number of bytes that a word of ASCII digits gives, if a part of a record can have so many.
-fn part_size_of(word: &str) -> Option<PartSize> {
+pub fn part_size_of(word: &str) -> Option<PartSize> {
     if !word.bytes().all(|digit| digit.is_ascii_digit()) {
         return None;
     }

@@ -1,5 +1,5 @@
-//! Files that are opened only once they are read.
-ghost use Rattle.std.specs.Io.{ReadsAtMost};
+//! Files that are opened only once they are read or written.
+ghost use Rattle.std.specs.Io.{ReadsAtMost, WritesAtMost};
 ghost use Rattle.std.specs.Io.KnownBytes.{ReadConsumes};
 ghost use Rattle.std.specs.Option.{option_and_then};
 ghost use Rattle.either.specs.Either.{either};
@@ -9,7 +9,7 @@ use either::Either;
 use net_json::{Sink, write_whole};
 use std::alloc::Global;
 use std::fs::File;
-use std::io::{self, Input, Read};
+use std::io::{self, Input, Read, Write};
 use std::rt::Files;
 
 /// The path that stands for standard input.
@@ -41,13 +41,19 @@ impl<'a, R: Files + Input> FileAtPath<'a, R> {
     pub fn tell_failure<E: Sink>(&self, alloc: Global, errors: &mut E)
         requires { HasRoom (E.account errors.old) }
     {
-        let Some(failure) = self.failure else {
-            return;
-        };
-        let path = self.path;
-        if let Ok(line) = format!(in alloc; "{path}: {failure}\n") {
-            let _ = write_whole(errors, line.as_bytes());
-        }
+        tell_failure_of(alloc, self.path, self.failure, errors);
+    }
+}
+
+/// Tells a path and the system's reason why a file could not be opened, read or written, if that is so.
+fn tell_failure_of<E: Sink>(alloc: Global, path: &str, failure: Option<io::Error>, errors: &mut E)
+    requires { HasRoom (E.account errors.old) }
+{
+    let Some(failure) = failure else {
+        return;
+    };
+    if let Ok(line) = format!(in alloc; "{path}: {failure}\n") {
+        let _ = write_whole(errors, line.as_bytes());
     }
 }
 
@@ -85,4 +91,61 @@ fn open<R: Files + Input>(rt: &R, path: &str) -> io::Result<Either<R::File, R::R
         return Ok(Either::Right(rt.reader()));
     }
     Ok(Either::Left(File::open(rt, path)?))
+}
+
+/// The file at a path, made or emptied at its first write. Where it can't be, that write fails.
+#[derive(Drop)]
+pub struct FileToWrite<'a, R: Files> {
+    rt: &'a R,
+    path: &'a str,
+    opened: Option<R::File>,
+    failure: Option<io::Error>,
+}
+
+impl<'a, R: Files> FileToWrite<'a, R> {
+    /// The file at this path. Nothing is opened yet.
+    pub fn new(rt: &'a R, path: &'a str) -> FileToWrite<'a, R> {
+        FileToWrite {
+            rt,
+            path,
+            opened: None,
+            failure: None,
+        }
+    }
+
+    /// Tells the file's path and the system's reason, where it could not be made or a write failed. Want of memory for that
+    /// line and a sink that fails are passed over.
+    pub fn tell_failure<E: Sink>(&self, alloc: Global, errors: &mut E)
+        requires { HasRoom (E.account errors.old) }
+    {
+        tell_failure_of(alloc, self.path, self.failure, errors);
+    }
+}
+
+impl<R: Files> Write for FileToWrite<'_, R> {
+    fn write(&mut self, buf: &[u8]) -> io::Result<usize> {
+        let written = write_opened(self, buf);
+        if let Err(error) = written {
+            self.failure = Some(error);
+        }
+        written
+    }
+
+    // Nothing is kept back.
+    fn flush(&mut self) -> io::Result<()> {
+        Ok(())
+    }
+}
+
+/// Writes to a file, which is made or emptied first where it isn't open yet.
+fn write_opened<R: Files>(file: &mut FileToWrite<'_, R>, buf: &[u8]) -> io::Result<usize>
+    ensures { WritesAtMost result buf.now }
+{
+    let mut opened = match file.opened.take() {
+        Some(opened) => opened,
+        None => File::create(file.rt, file.path)?,
+    };
+    let written = opened.write(buf);
+    file.opened = Some(opened);
+    written
 }

@@ -2,9 +2,10 @@
 //! over.
 ghost use Rattle.net_json.specs.Stream.{HasRoom};
 
-use crate::command_line::command_names;
+use crate::command_line::{command_names, part_size_of};
 use crate::commands::certified::Question;
 use crate::commands::naming::first_named;
+use crate::commands::trace::eid_of_word;
 use crate::commands::walk::named_terminus;
 use net_json::{Sink, Source, read_plan, write_whole};
 use net_plan::Plan;
@@ -20,6 +21,33 @@ pub fn hint_words<E: Sink>(alloc: Global, words: &[String], errors: &mut E)
     if let Ok(text) = words_hint(alloc, words) {
         let _ = write_whole(errors, text.as_bytes());
     }
+}
+
+/// Says what is wrong with the words of a record, if anything is.
+pub fn hint_record<E: Sink>(alloc: Global, words: &[String], errors: &mut E)
+    requires { HasRoom (E.account errors.old) }
+{
+    if let [_, _, kind, said @ ..] = words {
+        if made_record(alloc, kind, said).is_err() {
+            hint_words(alloc, words, errors);
+        }
+    }
+}
+
+/// Says that a name is none of the plan's, if it is none, and which is the nearest.
+pub fn hint_node<P: Source, E: Sink>(alloc: Global, name: &str, plan: &mut P, errors: &mut E)
+    requires plan { HasRoom (P.account plan.old) }
+    requires errors { HasRoom (E.account errors.old) }
+{
+    hint_nodes(
+        alloc,
+        &Question::Trace {
+            from: name,
+            to: name,
+        },
+        plan,
+        errors,
+    );
 }
 
 /// Says which name that a question has is none of the plan's, and which is the nearest.
@@ -57,7 +85,7 @@ fn first_line_of_guide(command: &str) -> Option<&'static str> {
 
 /// What is said of a command that isn't there.
 fn command_hint(alloc: Global, command: &str) -> Result<String, AllocError> {
-    match nearest_name(alloc, command, &command_names(alloc)?)? {
+    match near_name(alloc, command, &command_names(alloc)?)? {
         Some(index) => named_hint(alloc, command, index),
         None => format!(in alloc;
             "there is no command {command}; mctpplan guide lists the commands\n"
@@ -85,9 +113,9 @@ fn arguments_hint(
 /// The line of the argument that is wrong, where it can be told.
 fn wrong_argument(alloc: Global, command: &str, words: &[String]) -> Result<String, AllocError> {
     match (command, words) {
-        ("walk", [_, _, _, _, _, count]) => {
-            format!(in alloc; "COUNT is a number of 8 to 4079, and not {count}\n")
-        }
+        ("walk", [_, _, _, _, _, count]) => count_hint(alloc, count),
+        ("script", [_, _, _, _, what, _, eid, count, ..]) => script_hint(alloc, what, eid, count),
+        ("draw", [.., option, eid]) if option.as_str() == "--rows" => eid_hint(alloc, eid),
         ("code", [_, _, code]) if text_of(code).is_none() => {
             format!(in alloc; "there is no code {code}\n")
         }
@@ -98,6 +126,28 @@ fn wrong_argument(alloc: Global, command: &str, words: &[String]) -> Result<Stri
         ("record", [_, _, kind, said @ ..]) => wrong_word(alloc, kind, said),
         _ => Ok(String::new(alloc)),
     }
+}
+
+/// The first of these arguments of `script` that is wrong, where one is.
+fn script_hint(alloc: Global, what: &str, eid: &str, count: &str) -> Result<String, AllocError> {
+    if what != "walk" {
+        return format!(in alloc; "the word is walk, and not {what}\n");
+    }
+    if eid_of_word(eid).is_none() {
+        return eid_hint(alloc, eid);
+    }
+    if part_size_of(count).is_none() {
+        return count_hint(alloc, count);
+    }
+    "behind --lose and --repeat stand numbers with commas between them\n".to_string(alloc)
+}
+
+fn eid_hint(alloc: Global, eid: &str) -> Result<String, AllocError> {
+    format!(in alloc; "EID is a number of 8 to 254, and not {eid}\n")
+}
+
+fn count_hint(alloc: Global, count: &str) -> Result<String, AllocError> {
+    format!(in alloc; "COUNT is a number of 8 to 4079, and not {count}\n")
 }
 
 /// The first word that a record can't have, where there is one.
@@ -141,9 +191,34 @@ fn trace_hint(alloc: Global, plan: &Plan, from: &str, to: &str) -> Result<String
 /// What is said of a node that isn't there.
 fn node_hint(alloc: Global, plan: &Plan, name: &str) -> Result<String, AllocError> {
     let names = node_names(alloc, plan)?;
-    match nearest_name(alloc, name, &names)? {
+    match near_name(alloc, name, &names)? {
         Some(index) => nearest_hint(alloc, name, names.get(index).copied().unwrap_or("-")),
         None => format!(in alloc; "there is no node {name}\n"),
+    }
+}
+
+/// The index of a name that is close to this one, or in which two letters have changed places.
+fn near_name(alloc: Global, name: &str, names: &[&str]) -> Result<Option<usize>, AllocError> {
+    match nearest_name(alloc, name, names)? {
+        Some(index) => Ok(Some(index)),
+        None => Ok(
+            names
+                .iter()
+                .position(|other| has_swapped(name.as_bytes(), other.as_bytes())),
+        ),
+    }
+}
+
+/// Whether two letters beside one another have changed places.
+fn has_swapped(name: &[u8], other: &[u8]) -> bool {
+    let Some(at) = name.iter().zip(other).position(|(one, two)| one != two) else {
+        return false;
+    };
+    match (name.get(at..), other.get(at..)) {
+        (Some([first, second, rest @ ..]), Some([one, two, end @ ..])) => {
+            first == two && second == one && rest == end
+        }
+        _ => false,
     }
 }
 

@@ -4,3 +4,4 @@ mod Chains
 mod Differing
 mod RowDrawn
 mod ObstacleLines
+mod StepLines

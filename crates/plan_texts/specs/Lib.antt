@@ -7,6 +7,7 @@ pub mod Explanations
 pub mod CertificateSubjects
 pub mod SummaryLines
 pub mod MoveLines
+pub mod MoveSteps
 pub mod FindingLines
 pub mod PairLines
 pub mod AssignmentLines

@@ -31,6 +31,7 @@ pub use explanations::{cause_lines, index_for, obstacle_lines};
 pub use findings::lint_lines;
 pub use lookups::number_text;
 use mctp_transport::Eid;
+pub use moves::steps::rollout_lines;
 pub use moves::{move_error_line, move_obstacle_line};
 use net_plan::Plan;
 use net_rules::{CertifyError, ChainFault, Fault};

@@ -2,6 +2,8 @@
 ghost use Rattle.std.specs.Prelude.{◌≡◌, Some, IfOk, string_bytes};
 ghost use Rattle.plan_texts.specs.MoveLines.{name_of_some, difference_text, move_fault_text, move_error_text, move_obstacle_text, old_obstacle_text, old_loop_text, mixed_loop_text, sides_text, side_word};
 
+pub mod steps;
+
 use super::{OrDash, name_or_dash, names_after_spaces, obstacle_line};
 use mctp_transport::Eid;
 use net_plan::Plan;
@@ -124,7 +126,7 @@ fn difference_line(alloc: Global, before: &Plan, node: Option<usize>) -> Result<
 }
 
 /// The name of the node at an index, or a dash where no index is given.
-fn name_of_some(plan: &Plan, node: Option<usize>) -> &str
+pub fn name_of_some(plan: &Plan, node: Option<usize>) -> &str
     ensures { result.now ≡ name_of_some plan.now node }
 {
     match node {

@@ -1,14 +1,20 @@
 //! What is said of the commands. `tools/made` writes this file from docs/COMMANDS.md.
 
 /// The commands, a line each with its words.
-pub const GUIDE: &str = r#"check PLAN CERT              whether the certificate fits the plan
+pub const GUIDE: &str = r#"make BOARD [--certificate FILE]
+                             the plan that is made of a board, which is a short TOML text
+rows PLAN                    the plan with rows by which all its nodes reach each other
+check PLAN CERT              whether the certificate fits the plan
 certify PLAN                 the certificate of the plan, or why it has none
 move OLD NEW CERT            whether nodes may go over from the old plan's rows to the new one's
 certifymove OLD NEW          the certificate of a move from the old plan's rows to the new one's
+rollout OLD NEW              the steps from the old plan's rows to the new one's, each a move
 assign PLAN CERT             the requests that give the nodes their endpoint IDs and pools
 sim PLAN CERT EVENTS         what comes of events in the planned network
 expect PLAN CERT EVENTS LINES
                              whether sim prints these lines, or the first one that differs
+script PLAN CERT walk NODE EID COUNT [--lose N,N] [--repeat N,N]
+                             the events of a whole walk over the network, made as it runs
 simmove OLD NEW CERT EVENTS  the same while nodes go over to new rows
 walk PLAN CERT NODE COUNT    the records that a walk over a node's terminus collects
 reach PLAN CERT              who reaches whom, and in how many hops
@@ -26,7 +32,7 @@ show record HEX              what the bytes of a platform descriptor record are
 describe HEX..               every field of a record by its name, with the standard's words
 record KIND FIELD=VALUE..    the bytes of a record, from its fields
 code CODE                    what a code, as C08 or N03, means, and what to do
-schema plan|certificate|events
+schema plan|certificate|events|board
                              the JSON schema of such a text, for an editor
 guide [COMMAND]              this list, or more on one command
 version                      which version this is, and which formats it reads
@@ -41,13 +47,17 @@ proved with rattle-kit-13f logic dac8208d650f15bf
 /// What is said of a command, if it is one.
 pub fn guide_to(command: &str) -> Option<&'static str> {
     match command {
+        "make" => Some(OF_MAKE),
+        "rows" => Some(OF_ROWS),
         "check" => Some(OF_CHECK),
         "certify" => Some(OF_CERTIFY),
         "move" => Some(OF_MOVE),
         "certifymove" => Some(OF_CERTIFYMOVE),
+        "rollout" => Some(OF_ROLLOUT),
         "assign" => Some(OF_ASSIGN),
         "sim" => Some(OF_SIM),
         "expect" => Some(OF_EXPECT),
+        "script" => Some(OF_SCRIPT),
         "simmove" => Some(OF_SIMMOVE),
         "walk" => Some(OF_WALK),
         "reach" => Some(OF_REACH),
@@ -69,6 +79,42 @@ pub fn guide_to(command: &str) -> Option<&'static str> {
         _ => None,
     }
 }
+
+const OF_MAKE: &str = r#"mctpplan make BOARD [--certificate FILE]
+
+Prints a plan that is made of what an engineer decides: the buses, the nodes on them, who owns whom.
+What the board leaves out is found, as endpoint IDs, pools, rows and the bytes of records; what it
+gives is kept. The plan is judged before it is printed: it has a certificate, all that the board
+gives is in it, and each node reaches those that it is to reach. docs/BOARD.md says what may stand
+in a board.
+
+With --certificate the certificate that certify makes of the plan is written to FILE, before the
+plan is printed. Where no plan is made, FILE is left as it is.
+
+Status 0: the plan.
+Status 1: why no plan can be made.
+Status 2: where the board can't be read, with what stands there and what may.
+
+  $ mctpplan make examples/board/riser.toml --certificate certificate.json > plan.json
+  $ mctpplan check plan.json certificate.json
+  yes
+"#;
+
+const OF_ROWS: &str = r#"mctpplan rows PLAN
+
+Prints the plan with rows along ways of the fewest hops over buses and bridges, so that each node
+reaches every other. Rows that it has are kept, and what is made fills what they leave. The plan is
+judged before it is printed, as that of make is: it has a certificate, it differs from the given one
+in rows alone, and each node reaches every other.
+
+Status 0: the plan.
+Status 1: why it can't be made.
+
+  $ mctpplan rows examples/questions/plan-without-rows.json > plan.json
+  $ mctpplan certify plan.json > certificate.json
+  $ mctpplan reach plan.json certificate.json | tail -n 1
+  pairs 12 reached 12 one-way 0
+"#;
 
 const OF_CHECK: &str = r#"mctpplan check PLAN CERT
 
@@ -120,6 +166,26 @@ Status 1: why there is none.
   loop eid 17 nodes left right left by new old
 "#;
 
+const OF_ROLLOUT: &str = r#"mctpplan rollout OLD NEW
+
+Prints any order where one certificate serves for the whole move. Else it prints steps. Each is a
+move with a certificate of its own, so that its nodes may go over in any order, and it is finished
+before the next one begins. In step 1 switch A B these nodes take all their new rows. In step 1 rows
+of A: 10-12 by B node A sends what is for these endpoint IDs to B, as its new rows do, and all else
+as before; by - stands where no new row is for them. A step of parts has a line for each. The last
+step ends in the new plan. That the steps are the fewest is not promised.
+
+Status 0: any order, or the steps.
+Status 1: what certifymove says, where a plan has no certificate by itself, or where they differ in
+more than rows.
+Status 1: the steps as far as they go, stuck, and what stands in the way of the move from there to
+the new plan.
+
+  $ mctpplan rollout examples/move/to-left.json examples/move/to-right.json
+  step 1 switch host right
+  step 2 switch left
+"#;
+
 const OF_ASSIGN: &str = r#"mctpplan assign PLAN CERT
 
 Prints the control messages by which the nodes get their endpoint IDs and pools, in the order in
@@ -166,6 +232,28 @@ Status 1: the first line that differs.
   line 3 differs
   expected: 3 moved 1 to ssd hops 3
   came: 3 moved 1 to ssd hops 2
+"#;
+
+const OF_SCRIPT: &str = r#"mctpplan script PLAN CERT walk NODE EID COUNT [--lose N,N] [--repeat N,N]
+
+Prints events, as sim plays them, of a walk in which NODE reads the records of the terminus with
+endpoint ID EID, by requests of COUNT bytes each, 8 to 4079. They are made as the network plays
+them, request by request: packets move hop by hop, and where a packet is lost, the request is put in
+again. The packets with the numbers behind --lose are lost, and those behind --repeat come twice.
+Packets are numbered from 1, in the order in which they are put in, copies too.
+
+Before the events are printed they are read from their text and played once more: the last one,
+collected, tells that the walk is done, with all records. Where the walk doesn't go on, the line of
+sim is printed that tells why. A list has at most 100,000 events; where that is not enough, the line
+of the last one is printed.
+
+Status 0: the events.
+Status 1: where the walk doesn't go on; or a fault of the plan or the certificate.
+
+  $ mctpplan script examples/riser/plan.json examples/riser/certificate.json walk host 17 64 \
+      --lose 1 > events.json
+  $ mctpplan sim examples/riser/plan.json examples/riser/certificate.json events.json | tail -n 1
+  12 collected 1 records 1 done
 "#;
 
 const OF_SIMMOVE: &str = r#"mctpplan simmove OLD NEW CERT EVENTS
@@ -434,10 +522,11 @@ Status 0: the text.
   Hint: a packet has at least one payload byte.
 "#;
 
-const OF_SCHEMA: &str = r#"mctpplan schema plan|certificate|events
+const OF_SCHEMA: &str = r#"mctpplan schema plan|certificate|events|board
 
-Prints the JSON schema (draft 2020-12) of a plan, a certificate or a list of events. An editor that
-knows it completes the keys and marks most mistakes.
+Prints the JSON schema (draft 2020-12) of a plan, a certificate, a list of events or a board. An
+editor that knows it completes the keys and marks most mistakes. Editors of TOML take the schema of
+a board too.
 
 Status 0: the schema.
 

@@ -6,6 +6,7 @@ pub fn schema_of(kind: &str) -> Option<&'static str> {
         "plan" => Some(PLAN),
         "certificate" => Some(CERTIFICATE),
         "events" => Some(EVENTS),
+        "board" => Some(BOARD),
         _ => None,
     }
 }
@@ -812,6 +813,83 @@ const EVENTS: &str = r##"{
         "walker"
       ],
       "additionalProperties": false
+    }
+  }
+}
+"##;
+
+const BOARD: &str = r##"{
+  "$schema": "https://json-schema.org/draft/2020-12/schema",
+  "title": "A board, of which mctpplan makes a plan",
+  "type": "object",
+  "additionalProperties": false,
+  "properties": {
+    "unit": { "description": "The transmission unit in bytes.", "type": "integer", "minimum": 64, "maximum": 1024, "default": 64 },
+    "bus": { "type": "array", "maxItems": 64, "items": { "$ref": "#/$defs/bus" } },
+    "node": { "type": "array", "maxItems": 64, "items": { "$ref": "#/$defs/node" } }
+  },
+  "$defs": {
+    "name": { "type": "string", "pattern": "^[A-Za-z0-9._-]{1,32}$" },
+    "bus": {
+      "type": "object",
+      "additionalProperties": false,
+      "required": ["name", "binding"],
+      "properties": {
+        "name": { "$ref": "#/$defs/name" },
+        "binding": {
+          "description": "The physical transport binding (DSP0239).",
+          "oneOf": [
+            { "enum": ["smbus", "pcie", "usb", "kcs", "serial", "i3c"] },
+            { "type": "integer", "minimum": 0, "maximum": 255 }
+          ]
+        },
+        "media": { "description": "The physical medium (DSP0239).", "type": "integer", "minimum": 0, "maximum": 255, "default": 0 }
+      }
+    },
+    "node": {
+      "type": "object",
+      "additionalProperties": false,
+      "required": ["name"],
+      "properties": {
+        "name": { "$ref": "#/$defs/name" },
+        "kind": { "enum": ["bridge", "endpoint"] },
+        "eid": { "description": "The endpoint ID. Left out: the least that is free in the owner's pool.", "type": "integer", "minimum": 8, "maximum": 254 },
+        "owner": { "$ref": "#/$defs/name" },
+        "pool": {
+          "description": "Endpoint IDs, as 16-31, or how many they are.",
+          "oneOf": [
+            { "type": "string", "pattern": "^[0-9]{1,3}(-[0-9]{1,3})?$" },
+            { "type": "integer", "minimum": 1, "maximum": 247 }
+          ]
+        },
+        "ports": {
+          "description": "Each port is a bus and an address in lower-case hex, as i2c0 1d.",
+          "type": "array",
+          "maxItems": 32,
+          "items": { "type": "string", "pattern": "^[A-Za-z0-9._-]{1,32}( ([0-9a-f]{2}){1,8})?$" }
+        },
+        "reaches": { "description": "Left out: every node and every pool.", "type": "array", "maxItems": 64, "items": { "$ref": "#/$defs/name" } },
+        "rows": {
+          "description": "Rows of your own, as 16-31 via switch port 0.",
+          "type": "array",
+          "maxItems": 256,
+          "items": { "type": "string", "pattern": "^[0-9]{1,3}(-[0-9]{1,3})? via [A-Za-z0-9._-]{1,32} port [0-9]{1,3}$" }
+        },
+        "tid": { "description": "The terminus ID.", "type": "integer", "minimum": 0, "maximum": 254 },
+        "record": { "type": "array", "maxItems": 4096, "items": { "$ref": "#/$defs/record" } }
+      }
+    },
+    "field": { "type": ["integer", "string"] },
+    "record": {
+      "type": "object",
+      "properties": {
+        "handle": { "type": "integer", "minimum": 0, "maximum": 4294967295 },
+        "next": { "type": "integer", "minimum": 0, "maximum": 4294967295 },
+        "hex": { "type": "string", "pattern": "^([0-9a-f]{2})*$" },
+        "type": { "enum": ["terminus-locator", "numeric-sensor", "state-sensor", "entity-association"] }
+      },
+      "oneOf": [{ "required": ["hex"] }, { "required": ["type"] }],
+      "additionalProperties": { "anyOf": [{ "$ref": "#/$defs/field" }, { "type": "array", "maxItems": 256, "items": { "$ref": "#/$defs/field" } }] }
     }
   }
 }

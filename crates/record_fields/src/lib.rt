@@ -15,4 +15,5 @@ mod words;
 pub use fields::named_fields;
 pub use held::{Held, NamedField};
 pub use made::{MakeError, made_record};
+pub use said::{is_record_of, is_type, says};
 pub use telling::description;

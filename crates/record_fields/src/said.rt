@@ -33,7 +33,7 @@ pub fn is_record_of(
 }
 
 /// Whether the word names this type.
-fn is_type(kind: &str, record_type: u8) -> bool
+pub fn is_type(kind: &str, record_type: u8) -> bool
     ensures { IsTrue result → IsTypeWord kind.now record_type }
 {
     match kind {
@@ -72,7 +72,7 @@ fn says_one(alloc: Global, word: &str, fields: &[NamedField]) -> Result<bool, Al
 }
 
 /// Whether the word says what the field holds.
-fn says(alloc: Global, word: &str, field: &NamedField) -> Result<bool, AllocError>
+pub fn says(alloc: Global, word: &str, field: &NamedField) -> Result<bool, AllocError>
     ensures { IfOk result (λ answer. IsTrue answer → Says word.now (named_of field.now)) }
 {
     if word.eq_ignore_ascii_case(&field_text(alloc, "=", field)?) {

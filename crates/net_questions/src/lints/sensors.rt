@@ -5,90 +5,51 @@ ghost use Rattle.pdr_record.specs.Layouts.{NumericValue, IsNumeric, width_of};
 ghost use Rattle.pdr_record.specs.Numbers.{size_code};
 ghost use Rattle.pdr_record.specs.NumericValues.{numeric_value};
 ghost use Rattle.net_questions.specs.Lint.{sensor_id_of, IsSensorRecord, HasEarlierSensor, RepeatsSensorId, SharesSensorId};
+ghost use Rattle.net_questions.specs.RecordIndexes.{AreRecordIndexes};
 ghost use Rattle.net_questions.specs.Lint.{number_of, flipped, position_of, IsOver, IsNumericSensor, HasEmptyRange, HasEmptyReadableRange};
 
+use super::record_index::{RecordIndex, has_earlier_sensor};
 use mctp_transport::Wire;
 use net_plan::{Plan, PlannedRecord};
-use net_tables::lookup::{record_at, records_at};
+use net_tables::lookup::record_at;
 use pdr_record::{Body, NumericSensor, SensorDataSize};
 
 /// Where the type stands in the common header of a record (DSP0248).
 const TYPE_AT: usize = 5;
 /// The type of a numeric sensor (DSP0248).
 const NUMERIC_SENSOR: u8 = 2;
-/// Where the two bytes of the sensor ID stand in a sensor's record (DSP0248), the lower one first.
-const SENSOR_ID_AT: usize = 12;
 
 /// Whether a node's record is a sensor's, and an earlier one is one of the same sensor ID.
-pub fn shares_sensor_id(plan: &Plan, node: usize, index: usize) -> bool
+pub fn shares_sensor_id(plan: &Plan, indexes: &[RecordIndex], node: usize, index: usize) -> bool
+    requires { AreRecordIndexes plan.now indexes.now }
     ensures { IsTrue result ↔ SharesSensorId plan.now node index }
 {
     match record_at(plan, node, index) {
-        Some(listed) => repeats_sensor_id(plan, node, index, &listed.bytes),
+        Some(listed) => repeats_sensor_id(plan, indexes, node, index, &listed.bytes),
         None => false,
     }
 }
 
 /// Whether the bytes are those of a sensor's record, and one of the node's records before `index` is one of the same
 /// sensor ID.
-fn repeats_sensor_id(plan: &Plan, node: usize, index: usize, bytes: &[u8]) -> bool
+fn repeats_sensor_id(
+    plan: &Plan,
+    indexes: &[RecordIndex],
+    node: usize,
+    index: usize,
+    bytes: &[u8],
+) -> bool
+    requires { AreRecordIndexes plan.now indexes.now }
     ensures { IsTrue result ↔ RepeatsSensorId plan.now node index bytes.now }
 {
     match sensor_id(bytes) {
-        Some(id) => has_earlier_sensor(plan, node, index, id),
+        Some(id) => has_earlier_sensor(plan, indexes, node, index, id),
         None => false,
     }
-}
-
-/// Whether one of the node's records before `index` is a sensor's with the sensor ID.
-fn has_earlier_sensor(plan: &Plan, node: usize, index: usize, id: u16) -> bool
-    ensures { IsTrue result ↔ HasEarlierSensor plan.now node index id }
-{
-    let records = records_at(plan, node);
-    for (earlier, listed) in records.iter().enumerate() {
-        if is_earlier_sensor(earlier, listed, index, id) {
-            return true;
-        }
-    }
-    false
-}
-
-/// Whether a record at this index stands before `index`, and is a sensor's with the sensor ID.
-fn is_earlier_sensor(earlier: usize, listed: &PlannedRecord, index: usize, id: u16) -> bool
-    ensures { IsTrue result ↔ (earlier < index) × IsSensorRecord listed.now.bytes.items id }
-{
-    earlier < index && is_sensor_record(&listed.bytes, id)
-}
-
-/// Whether the bytes are those of a sensor's record, with the sensor ID.
-#[tactic(auto, using(crate::proofs::SensorIds::id_bytes))]
-fn is_sensor_record(bytes: &[u8], id: u16) -> bool
-    ensures { IsTrue result ↔ IsSensorRecord bytes.now id }
-{
-    has_id_bytes(bytes, id) && reads_with_id(bytes, id)
-}
-
-/// Whether the bytes read as a sensor's record with the sensor ID.
-fn reads_with_id(bytes: &[u8], id: u16) -> bool
-    ensures { IsTrue result ↔ IsSensorRecord bytes.now id }
-{
-    match sensor_id(bytes) {
-        Some(found) => found == id,
-        None => false,
-    }
-}
-
-/// Whether the sensor ID stands where it would in a sensor's record. Most records need not be read after this.
-fn has_id_bytes(bytes: &[u8], id: u16) -> bool
-    ensures { IsTrue result ↔ (slice_get bytes.now 12 ≡ Some (id % 256)) × (slice_get bytes.now 13 ≡ Some (id / 256)) }
-{
-    let low = (id % 256) as u8;
-    let high = (id / 256) as u8;
-    bytes.get(SENSOR_ID_AT) == Some(&low) && bytes.get(SENSOR_ID_AT + 1) == Some(&high)
 }
 
 /// The sensor ID in the bytes, if they are those of a numeric or state sensor's record.
-fn sensor_id(bytes: &[u8]) -> Option<u16>
+pub fn sensor_id(bytes: &[u8]) -> Option<u16>
     ensures found { IfSome result (λ id. IsSensorRecord bytes.now id) }
     ensures all { (id : ℕ) → IsSensorRecord bytes.now id → IsSomeAnd result (λ found. found ≡ id) }
 {

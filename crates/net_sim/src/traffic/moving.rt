@@ -172,9 +172,15 @@ impl<'a, T: Terminus> Traffic<'a, T> {
     {
         let node = flight.node;
         let key = flight.packet.view().key();
-        match feed(&mut self.assemblers[node], &flight.packet, room.told) {
+        let receipt = feed(
+            self.alloc,
+            &mut self.assemblers[node],
+            &flight.packet,
+            room.told,
+        );
+        match receipt {
             Receipt::Whole(bytes) => {
-                wait_at(&mut self.queues[node], key, &bytes, room.kept);
+                wait_at(self.alloc, &mut self.queues[node], key, &bytes, room.kept);
                 Effect::Whole {
                     number,
                     node,

@@ -13,6 +13,7 @@ use crate::commands::draw::{DrawnRows, drawing_of_plan};
 use crate::commands::inputs::{PlanText, given_plan_text};
 use crate::commands::lint::findings_of_plan;
 use crate::commands::listing::faults_of_plan;
+use crate::commands::rows::rows_of_plan;
 use crate::refused::Refused;
 use crate::status::Status;
 use net_json::{Sink, Source};
@@ -30,6 +31,8 @@ pub enum PlanQuestion<'a> {
     Faults { name: &'a str },
     /// What in it is lawful and still looks wrong?
     Lint,
+    /// What is the plan with rows by which all its nodes reach each other?
+    Rows,
 }
 
 /// Answers a question about a plan on `output`. Where the plan can't be read, says so on `errors`.
@@ -84,5 +87,6 @@ fn answer_of_plan(
         PlanQuestion::Draw { rows } => drawing_of_plan(alloc, &given.plan, rows),
         PlanQuestion::Faults { name } => faults_of_plan(alloc, name, given),
         PlanQuestion::Lint => findings_of_plan(alloc, &given.plan),
+        PlanQuestion::Rows => rows_of_plan(alloc, &given.plan),
     }
 }

@@ -38,6 +38,13 @@ impl PartSize {
         }
         Some(PartSize { bytes })
     }
+
+    /// How many bytes a part has at most.
+    pub fn bytes(self) -> u16
+        ensures { result ≡ self.bytes }
+    {
+        self.bytes
+    }
 }
 
 /// What is told of a walk over the terminus of the node of this name, by parts of so many bytes.

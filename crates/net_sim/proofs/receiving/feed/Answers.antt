@@ -1,5 +1,4 @@
-use Rattle.std.proofs.Common.{◌≡◌, ◌≤◌, List, length, sym, ◌∙◌, ap, subst, arith}
-use Rattle.std.specs.Prelude.{true, vec_capacity}
+use Rattle.std.proofs.Common.{◌≡◌, sym, subst, arith}
 use Rattle.mctp_transport.specs.Frames.{Frame}
 use Rattle.mctp_transport.specs.Histories.{Comes, Arrived, after}
 use Rattle.mctp_transport.specs.Hearing.{IsDropped}
@@ -16,8 +15,7 @@ returns-in-Whole-clause-hears c h stands =
     let came : Comes slots limit (after h (Arrived (kept_frame c.args.packet.now))) message =
     subst (λ (p : Frame). Comes slots limit (after h (Arrived p)) message) c.view.ensures (c.in-Whole.ensures.hears h stands).hears in
     let room = c.requires.room (comes_ends slots limit h (kept_frame c.args.packet.now) message came) in
-    let ok = c.extend_from_slice.ensures.succeeds (omega (arith, came.fits, room, c.requires.limit, ap length c.requires.empty)) in
-    let same : c.shrink_to_fit.new.self.items ≡ message = grind (arith, c.shrink_to_fit.ensures.items, c.extend_from_slice.ensures.items, ok, c.requires.empty) in
+    let same : c.kept.result.items ≡ message = c.kept.ensures (omega (arith, came.fits, room, c.requires.limit)) in
     subst (Comes slots limit (after h (Arrived (kept_frame c.args.packet.now)))) (sym same) came
 
 pub returns-in-Dropped-clause-hears : goal.returns-in-Dropped-clause-hears

@@ -1,5 +1,5 @@
 //! A walk begins.
-ghost use Rattle.std.specs.Prelude.{◌≡◌, ◌↔◌, ◌≤◌, ◌<◌, length, option_map, Any, IsTrue, IfNone, MatchResult};
+ghost use Rattle.std.specs.Prelude.{◌≡◌, ◌↔◌, ◌≤◌, ◌<◌, length, option_map, Any, All, IsTrue, IfNone, MatchOption, MatchResult};
 
 use crate::network::Network;
 use crate::network_walker::NetworkWalker;
@@ -17,7 +17,7 @@ impl<'a, T: Terminus> Network<'a, T> {
     ghost use Rattle.net_runs.specs.Walkers.{WalkedState, BeginWalk};
     ghost use Rattle.net_sim.specs.Requests.{WhyNot};
     ghost use Rattle.net_sim.specs.Outcomes.{outcome_value, walk_refusal_value};
-    ghost use Rattle.net_sim.specs.NetworkWalkers.{walker_value, IsAt};
+    ghost use Rattle.net_sim.specs.NetworkWalkers.{walker_value, IsAt, StandsAt};
     ghost use Rattle.net_sim.specs.WalkedStanding.{StandsForWalked, WalkedPlays, WalkedWants};
     ghost use Rattle.net_sim.specs.Networks.{network_value, checked_of};
 
@@ -43,6 +43,7 @@ impl<'a, T: Terminus> Network<'a, T> {
         }
         self.walkers.reserve(1)?;
         let walker = NetworkWalker::new(self.alloc, node, eid, tag, count)?;
+        self.index.note(node, eid, tag, self.walkers.len())?;
         self.walkers.push_reserved(walker);
         Ok(Outcome::Begun {
             walker: self.walkers.len(),
@@ -55,6 +56,7 @@ impl<'a, T: Terminus> Network<'a, T> {
             → WhyNot (checked_of self.now).0.plan w (BeginWalk node eid.value tag.value count) (option_map walk_refusal_value result) }
         ensures node { IfNone result (node < length (checked_of self.now).0.plan.nodes.items) }
         ensures count { IfNone result ((8 ≤ count) × (count ≤ 4079)) }
+        ensures new { IfNone result (¬ Any (λ walker. IsAt node eid.value tag.value (walker_value walker)) self.now.walkers.items) }
     {
         if !self.traffic.has_node(node) {
             return Some(WalkRefusal::Shared(Refusal::NoNode));
@@ -75,8 +77,19 @@ impl<'a, T: Terminus> Network<'a, T> {
     fn has_walker(&self, node: usize, eid: Eid, tag: Tag) -> bool
         ensures { IsTrue result ↔ Any (λ walker. IsAt node eid.value tag.value (walker_value walker)) self.now.walkers.items }
     {
-        self.walkers
-            .iter()
-            .any(|walker| walker.is_at(node, eid, tag))
+        self.walker_at(node, eid, tag).is_some()
+    }
+
+    /// The index of the walker of this node, endpoint ID and tag, if there is one.
+    pub(super) fn walker_at(&self, node: usize, eid: Eid, tag: Tag) -> Option<usize>
+        ensures { MatchOption result (All (λ walker. ¬ IsAt node eid.value tag.value (walker_value walker)) self.now.walkers.items)
+            (λ index. StandsAt node eid.value tag.value self.now.walkers.items index) }
+    {
+        let index = self.index.find(node, eid, tag)?;
+        if self.walkers.get(index)?.is_at(node, eid, tag) {
+            Some(index)
+        } else {
+            None
+        }
     }
 }

@@ -71,9 +71,10 @@ impl<'a, T: Terminus> Network<'a, T> {
         ensures { MatchOption result (All (λ walker. ¬ Listens node (key_value key) (walker_value walker)) self.now.walkers.items)
             (λ index. ListensAt node (key_value key) self.now.walkers.items index) }
     {
-        self.walkers
-            .iter()
-            .position(|walker| walker.listens(node, key))
+        if key.owner {
+            return None;
+        }
+        self.walker_at(node, key.source, key.tag)
     }
 }
 

@@ -1,6 +1,5 @@
 -- The endpoint IDs that were passed are found.
-use Rattle.std.proofs.Common.{◌≡◌, ◌<◌, ℕ, length}
-use Rattle.mctp_transport.specs.declared.address.Eid.{Eid}
+use Rattle.std.proofs.Common.{◌≡◌, length}
 use Rattle.net_sim.proofs.Counting.{AreHinted}
 use Rattle.net_sim.proofs.key_counts.KnownEids.of.Given as goal
 

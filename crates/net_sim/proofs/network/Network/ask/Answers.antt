@@ -1,8 +1,10 @@
 use Rattle.std.proofs.Common.{◌≡◌, ◌<◌, length, map, Some, refl, sym, ◌∙◌, ap, subst, inl, inr, arith}
-use Rattle.std.specs.Prelude.{slice_get, option_map}
+use Rattle.std.specs.Prelude.{All, slice_get, slice_set, option_map}
 use Rattle.std.proofs.lemmas.List.{length-map, map-set}
 use Rattle.std.proofs.lemmas.Option.{slice_get_read, slice_get-map, same_Some}
 use Rattle.net_plan.specs.declared.plan.Plan.{Plan}
+use Rattle.net_plan.specs.declared.certificate.Certificate.{Certificate}
+use Rattle.net_tables.specs.TwoPlans.{Tables}
 use Rattle.net_sim.specs.declared.network_walker.NetworkWalker.{NetworkWalker}
 use Rattle.net_sim.specs.NetworkWalkers.{walker_value}
 use Rattle.net_sim.specs.Outcomes.{walk_refusal_value}
@@ -13,6 +15,7 @@ use Rattle.net_sim.proofs.Changes.{same_marks, same_stands}
 use Rattle.net_sim.proofs.Dealt.{all_at}
 use Rattle.net_sim.proofs.Finding.{no_walker, held_by}
 use Rattle.net_sim.proofs.Walking.{err_told}
+use Rattle.net_sim.proofs.Noting.{all_set, keeps_put, noted_set}
 use Rattle.net_sim.proofs.Asks.{puts_in, asks_none, asks_in_vain, ask_wants, asks}
 use Rattle.net_sim.proofs.network.Network.ask.Goals as goal
 
@@ -86,3 +89,29 @@ returns-in-None-clause-plays g c = λ w s.
     let again : slice_get items i ≡ Some y = slice_get_read items _ _ y refl place.1 c.index_mut.ensures.value in
     let may = subst (λ (z : NetworkWalker). MayAsk plan w.network (walker_value z)) (same_Some x y (sym there ∙ again)) (c.in_default-why_not_ask.ensures w.network s.network) in
     absurd (may.0 c.in-None.ensures.puts.0)
+
+-- the walker keeps its place
+pub invariant_of-self-2-clause-noted : goal.invariant_of-self-2-clause-noted
+invariant_of-self-2-clause-noted g c =
+    let now = c.args.self.now in
+    let items = now.walkers.items in
+    let y = c.index_mut.result.now in
+    let there : slice_get items c.in-Some.index ≡ Some y = slice_get_read items _ _ y refl c.in-Some.ensures.1 c.index_mut.ensures.value in
+    noted_set now.index items now.noted c.in-Some.index y c.put_request.new.walker there
+    (keeps_put _ _ _ _ _ (walker_value y) (walker_value c.put_request.new.walker) c.put_request.result c.put_request.ensures.puts)
+
+-- at a node of the plan
+pub invariant_of-self-2-clause-placed : goal.invariant_of-self-2-clause-placed
+invariant_of-self-2-clause-placed g c =
+    let now = c.args.self.now in
+    let items = now.walkers.items in
+    let count = length now.traffic.router.tables.plan.nodes.items in
+    let y = c.index_mut.result.now in
+    let next = c.put_request.new.walker in
+    let there : slice_get items c.in-Some.index ≡ Some y = slice_get_read items _ _ y refl c.in-Some.ensures.1 c.index_mut.ensures.value in
+    let P : NetworkWalker → Type 0 = λ z. z.node < count in
+    let kept = keeps_put _ _ _ _ _ (walker_value y) (walker_value next) c.put_request.result c.put_request.ensures.puts in
+    let same : c.put_request.new.traffic.router.tables ≡ now.traffic.router.tables =
+    ap (λ (t : Tables × Certificate). t.0) c.put_request.ensures.checked ∙ ap (λ (r : RouterValue). r.tables) c.reserve.ensures.router in
+    subst (λ (t : Tables). All (λ (z : NetworkWalker). z.node < length t.plan.nodes.items) (slice_set items c.in-Some.index next)) (sym same)
+    (all_set P items c.in-Some.index next c.in-Some.ensures.1 now.placed (subst (λ n. n < count) (sym kept.0) (all_at P items now.placed c.in-Some.index y there)))

@@ -16,8 +16,8 @@ returns-in-Held-clause-receives g c =
     let a = c.index_mut.result.now in
     let within : f.node < length now.assemblers.items = omega (arith, c.requires.node, now.assembled) in
     let here : slice_get now.assemblers.items f.node ≡ Some a = slice_get_read now.assemblers.items _ _ a refl within c.index_mut.ensures.value in
-    receives_held _ _ c.args.number f a c.feed.new.assembler (key_value c.key-key.result) (c.key-key.ensures ∙ ap key_of c.view.ensures) within here
-    c.feed.ensures.stands refl refl refl (as_sized a f.packet Held (now.sized f.node a here) c.in-Held.ensures.hears) refl
+    receives_held _ _ c.args.number f a c.feed-receipt.new.assembler (key_value c.key-key.result) (c.key-key.ensures ∙ ap key_of c.view.ensures) within here
+    c.feed-receipt.ensures.stands refl refl refl (as_sized a f.packet Held (now.sized f.node a here) c.in-Held.ensures.hears) refl
 
 pub returns-in-Dropped-clause-receives : goal.returns-in-Dropped-clause-receives
 returns-in-Dropped-clause-receives g c =
@@ -26,8 +26,8 @@ returns-in-Dropped-clause-receives g c =
     let a = c.index_mut.result.now in
     let within : f.node < length now.assemblers.items = omega (arith, c.requires.node, now.assembled) in
     let here : slice_get now.assemblers.items f.node ≡ Some a = slice_get_read now.assemblers.items _ _ a refl within c.index_mut.ensures.value in
-    receives_dropped _ _ c.args.number f a c.feed.new.assembler (key_value c.key-key.result) (c.key-key.ensures ∙ ap key_of c.view.ensures) within here
-    c.feed.ensures.stands refl refl refl c.in-Dropped.why (as_sized a f.packet (Dropped c.in-Dropped.why) (now.sized f.node a here) c.in-Dropped.ensures.hears) refl
+    receives_dropped _ _ c.args.number f a c.feed-receipt.new.assembler (key_value c.key-key.result) (c.key-key.ensures ∙ ap key_of c.view.ensures) within here
+    c.feed-receipt.ensures.stands refl refl refl c.in-Dropped.why (as_sized a f.packet (Dropped c.in-Dropped.why) (now.sized f.node a here) c.in-Dropped.ensures.hears) refl
 
 pub returns-in-Whole-clause-receives : goal.returns-in-Whole-clause-receives
 returns-in-Whole-clause-receives g c =
@@ -39,8 +39,8 @@ returns-in-Whole-clause-receives g c =
     let m = c.in-Whole.bytes.items in
     let key = key_value c.key-key.result in
     let message : WaitingMessage = record { key = key; bytes = m } in
-    receives_whole _ _ c.args.number f a c.feed.new.assembler key (c.key-key.ensures ∙ ap key_of c.view.ensures) within here
-    c.feed.ensures.stands refl refl refl m _ (as_sized a f.packet (Whole m) (now.sized f.node a here) c.in-Whole.ensures.hears)
+    receives_whole _ _ c.args.number f a c.feed-receipt.new.assembler key (c.key-key.ensures ∙ ap key_of c.view.ensures) within here
+    c.feed-receipt.ensures.stands refl refl refl m _ (as_sized a f.packet (Whole m) (now.sized f.node a here) c.in-Whole.ensures.hears)
     (short_map _ now.queues.items f.node (omega (arith, c.requires.node, now.queued)))
     (queue_there _ now.queues.items f.node c.index_mut-in-Whole.result.now
     (slice_get_read now.queues.items _ _ c.index_mut-in-Whole.result.now refl (omega (arith, c.requires.node, now.queued)) c.index_mut-in-Whole.ensures.value))

@@ -14,6 +14,7 @@ nothing_said question.Certify text plan lines h = h
 nothing_said (question.Draw rows) text plan lines (is, drawn) = absurd (cc)
 nothing_said (question.Faults name) text plan lines h = h
 nothing_said question.Lint text plan lines h = h
+nothing_said question.Rows text plan lines h = h
 
 pub returns-clause-tells : goal.returns-clause-tells
 returns-clause-tells g c =

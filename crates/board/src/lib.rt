@@ -1,0 +1,23 @@
+//! Boards: what an engineer says of a network in TOML, and the plan that is made of it.
+#![tactic(auto)]
+
+mod board;
+mod fault;
+mod given;
+mod given_plan;
+mod items;
+mod making;
+mod places;
+mod reading;
+mod record_words;
+mod writing;
+
+pub use board::{
+    Board, BoardBus, BoardNode, BoardPool, BoardPort, BoardRecord, BoardRow, FieldText, FieldWord,
+    RecordContent,
+};
+pub use fault::BoardError;
+pub use given_plan::board_of_plan;
+pub use making::{NoPlan, made_plan};
+pub use places::line_of_node;
+pub use reading::read_board;

@@ -1,0 +1,139 @@
+//! Making a plan of a board.
+mod eids;
+mod pools;
+mod records;
+mod rows;
+mod ways;
+
+use crate::board::{Board, BoardNode, BoardRow};
+use crate::writing::plan_text;
+use eids::choose_eids;
+use net_plan::Kind;
+use records::make_records;
+use rows::make_rows;
+use std::alloc::{AllocError, AllocFailed, Global};
+
+/// Why no plan is made of a board. Nodes are named by their indices.
+#[derive(Clone, Copy, Debug, PartialEq, Eq)]
+pub enum NoPlan {
+    /// The node is owned by itself, or round a circle.
+    OwnerLoop {
+        node: usize,
+    },
+    /// The node's owner has no pool.
+    NoPool {
+        node: usize,
+        owner: usize,
+    },
+    /// No endpoint ID of the owner's pool is left for the node; where nobody owns it, none of 8 to 254.
+    NoEid {
+        node: usize,
+        owner: Option<usize>,
+    },
+    /// No run of so many endpoint IDs of the owner's pool is left for the node's pool.
+    NoRun {
+        node: usize,
+        size: u8,
+        owner: Option<usize>,
+    },
+    /// No way over buses and bridges leads from the one node to the other.
+    NoWay {
+        from: usize,
+        to: usize,
+    },
+    /// The node would have more than 256 rows.
+    TooManyRows {
+        node: usize,
+    },
+    /// The record of the node names no field of its type, or gives what the field can't hold.
+    WrongRecord {
+        node: usize,
+        record: usize,
+    },
+    /// There is too little memory.
+    OutOfMemory,
+}
+
+impl From<AllocError> for NoPlan {
+    fn from(_error: AllocError) -> NoPlan {
+        NoPlan::OutOfMemory
+    }
+}
+
+impl<T: Drop> From<AllocFailed<T>> for NoPlan {
+    fn from(_error: AllocFailed<T>) -> NoPlan {
+        NoPlan::OutOfMemory
+    }
+}
+
+/// A pool: its first endpoint ID, and how many it has.
+#[derive(Clone, Copy, Debug, PartialEq, Eq)]
+pub struct MadePool {
+    pub first: u8,
+    pub size: u8,
+}
+
+/// What is chosen for a node.
+#[derive(Clone, Copy, Debug, PartialEq, Eq)]
+pub struct Chosen {
+    pub kind: Kind,
+    pub eid: u8,
+    pub pool: Option<MadePool>,
+}
+
+/// A record with its handles and its bytes in hex.
+#[derive(Debug, Drop)]
+pub struct MadeRecord {
+    pub handle: u32,
+    pub next: u32,
+    pub hex: String,
+}
+
+/// The text of a plan that is made of a board, or why none is made. Nothing of the plan is promised here.
+pub fn made_plan(alloc: Global, board: &Board) -> Result<String, NoPlan> {
+    let chosen = choose_eids(alloc, board)?;
+    let rows = make_rows(alloc, board, &chosen)?;
+    let records = make_records(alloc, board, &chosen)?;
+    Ok(plan_text(alloc, board, &chosen, &rows, &records)?)
+}
+
+/// Whether the node is a bridge: where the board doesn't say, one that has a pool, owns a node, or has rows and ports on
+/// two buses.
+pub fn kind_of(board: &Board, index: usize, node: &BoardNode) -> Kind {
+    if let Some(kind) = node.kind {
+        return kind;
+    }
+    let is_router = !node.rows.is_empty() && is_on_two_buses(node);
+    if node.pool.is_some() || is_router || owns_some(board, index) {
+        Kind::Bridge
+    } else {
+        Kind::Endpoint
+    }
+}
+
+fn owns_some(board: &Board, index: usize) -> bool {
+    board.nodes.iter().any(|other| other.owner == Some(index))
+}
+
+fn is_on_two_buses(node: &BoardNode) -> bool {
+    let Some(first) = node.ports.first() else {
+        return false;
+    };
+    let bus = first.bus;
+    node.ports.iter().any(|port| port.bus != bus)
+}
+
+/// A row that the board gives at a node for an endpoint ID.
+pub fn given_row(node: &BoardNode, eid: u8) -> Option<BoardRow> {
+    for row in &node.rows {
+        if covers(row.first, row.size, eid) {
+            return Some(*row);
+        }
+    }
+    None
+}
+
+/// Whether an endpoint ID is one of a run.
+pub fn covers(first: u8, size: u8, eid: u8) -> bool {
+    first <= eid && u16::from(eid) < u16::from(first) + u16::from(size)
+}

@@ -1,0 +1,161 @@
+//! Choosing endpoint IDs and pools.
+use super::pools::choose_pool;
+use super::{Chosen, MadePool, NoPlan, covers, kind_of};
+use crate::board::{Board, BoardPool};
+use std::alloc::Global;
+
+/// The first endpoint ID that can be assigned, and the last.
+pub const FIRST: u8 = 8;
+
+pub const LAST: u8 = 254;
+
+/// What is known of a node so far.
+#[derive(Clone, Copy)]
+pub struct Known {
+    pub eid: Option<u8>,
+    pub pool: Option<MadePool>,
+    /// How many owners stand above it.
+    pub level: usize,
+}
+
+/// The kind, the endpoint ID and the pool of each node: what is given, and what is free for the rest, owners before the
+/// nodes that they own.
+pub fn choose_eids(alloc: Global, board: &Board) -> Result<Vec<Chosen>, NoPlan> {
+    let mut known = Vec::new(alloc);
+    for index in 0..board.nodes.len() {
+        known.push(given_of(board, index)?)?;
+    }
+    for level in 0..board.nodes.len() {
+        choose_level(board, &mut known, level)?;
+    }
+    let mut chosen = Vec::new(alloc);
+    for (index, node) in board.nodes.iter().enumerate() {
+        let own = known_at(&known, index);
+        chosen.push(Chosen {
+            kind: kind_of(board, index, node),
+            eid: own.eid.unwrap_or(0),
+            pool: own.pool,
+        })?;
+    }
+    Ok(chosen)
+}
+
+pub fn known_at(known: &[Known], index: usize) -> Known {
+    match known.get(index) {
+        Some(own) => *own,
+        None => Known {
+            eid: None,
+            pool: None,
+            level: 0,
+        },
+    }
+}
+
+/// What the board gives of a node.
+fn given_of(board: &Board, index: usize) -> Result<Known, NoPlan> {
+    let level = level_of(board, index)?;
+    let Some(node) = board.nodes.get(index) else {
+        return Err(NoPlan::OutOfMemory);
+    };
+    let pool = match node.pool {
+        Some(BoardPool::Range { first, size }) => Some(MadePool { first, size }),
+        _ => None,
+    };
+    Ok(Known {
+        eid: node.eid,
+        pool,
+        level,
+    })
+}
+
+/// The owner of a node.
+pub fn owner_of(board: &Board, index: usize) -> Option<usize> {
+    board.nodes.get(index)?.owner
+}
+
+/// How many owners stand above a node.
+fn level_of(board: &Board, index: usize) -> Result<usize, NoPlan> {
+    let mut at = index;
+    for level in 0..board.nodes.len() {
+        match owner_of(board, at) {
+            Some(owner) => at = owner,
+            None => return Ok(level),
+        }
+    }
+    Err(NoPlan::OwnerLoop { node: index })
+}
+
+/// Chooses for the nodes of a level: first endpoint IDs, then pools.
+fn choose_level(board: &Board, known: &mut Vec<Known>, level: usize) -> Result<(), NoPlan> {
+    for index in 0..board.nodes.len() {
+        if known_at(known, index).level == level {
+            choose_eid(board, known, index)?;
+        }
+    }
+    for index in 0..board.nodes.len() {
+        if known_at(known, index).level == level {
+            choose_pool(board, known, index)?;
+        }
+    }
+    Ok(())
+}
+
+/// Chooses a node's endpoint ID, where none is given.
+fn choose_eid(board: &Board, known: &mut Vec<Known>, index: usize) -> Result<(), NoPlan> {
+    if known_at(known, index).eid.is_some() {
+        return Ok(());
+    }
+    let eid = free_eid(board, known, index)?;
+    if index < known.len() {
+        known[index].eid = Some(eid);
+    }
+    Ok(())
+}
+
+fn free_eid(board: &Board, known: &[Known], index: usize) -> Result<u8, NoPlan> {
+    let owner = owner_of(board, index);
+    let (first, last) = owned_range(known, index, owner)?;
+    for eid in first..=last {
+        if !is_held(known, eid) && !is_in_pool_beside(board, known, owner, eid) {
+            return Ok(eid);
+        }
+    }
+    Err(NoPlan::NoEid { node: index, owner })
+}
+
+/// The endpoint IDs that an owner gives to a node, from the first to the last.
+pub fn owned_range(known: &[Known], node: usize, owner: Option<usize>) -> Result<(u8, u8), NoPlan> {
+    let Some(owner) = owner else {
+        return Ok((FIRST, LAST));
+    };
+    match known_at(known, owner).pool {
+        Some(pool) => Ok((pool.first.max(FIRST), last_of(pool).min(LAST))),
+        None => Err(NoPlan::NoPool { node, owner }),
+    }
+}
+
+/// The last endpoint ID of a pool.
+pub fn last_of(pool: MadePool) -> u8 {
+    pool.first.saturating_add(pool.size.saturating_sub(1))
+}
+
+fn is_held(known: &[Known], eid: u8) -> bool {
+    known.iter().any(|other| other.eid == Some(eid))
+}
+
+/// Whether an endpoint ID is in the pool of a node of the same owner.
+fn is_in_pool_beside(board: &Board, known: &[Known], owner: Option<usize>, eid: u8) -> bool {
+    for (other, own) in known.iter().enumerate() {
+        if owner_of(board, other) == owner && is_in(own.pool, eid) {
+            return true;
+        }
+    }
+    false
+}
+
+pub fn is_in(pool: Option<MadePool>, eid: u8) -> bool {
+    match pool {
+        Some(pool) => covers(pool.first, pool.size, eid),
+        None => false,
+    }
+}

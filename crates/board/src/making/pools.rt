@@ -1,0 +1,99 @@
+//! Choosing pools of which the board gives the size alone.
+use super::eids::{Known, known_at, last_of, owned_range, owner_of};
+use super::{MadePool, NoPlan, covers};
+use crate::board::{Board, BoardPool};
+
+/// Chooses a node's pool, where the board gives its size alone.
+pub fn choose_pool(board: &Board, known: &mut Vec<Known>, index: usize) -> Result<(), NoPlan> {
+    let Some(node) = board.nodes.get(index) else {
+        return Ok(());
+    };
+    let Some(BoardPool::Size(size)) = node.pool else {
+        return Ok(());
+    };
+    let pool = free_run(board, known, index, size)?;
+    if index < known.len() {
+        known[index].pool = Some(pool);
+    }
+    Ok(())
+}
+
+/// The first run of so many endpoint IDs of the owner's pool that no other node holds or hands on, and that has all that
+/// are given below the node.
+fn free_run(board: &Board, known: &[Known], index: usize, size: u8) -> Result<MadePool, NoPlan> {
+    let owner = owner_of(board, index);
+    let (first, last) = owned_range(known, index, owner)?;
+    for start in first..=last {
+        let run = MadePool { first: start, size };
+        if u16::from(start) + u16::from(size) <= u16::from(last) + 1
+            && is_free(board, known, index, run)
+        {
+            return Ok(run);
+        }
+    }
+    Err(NoPlan::NoRun {
+        node: index,
+        size,
+        owner,
+    })
+}
+
+fn is_free(board: &Board, known: &[Known], index: usize, run: MadePool) -> bool {
+    let owner = owner_of(board, index);
+    for (other, own) in known.iter().enumerate() {
+        let is_apart = if is_below(board, other, index) {
+            has_all(run, own)
+        } else {
+            has_none(run, own, owner_of(board, other) == owner)
+        };
+        if !is_apart {
+            return false;
+        }
+    }
+    true
+}
+
+/// Whether the run has what is known of a node below.
+fn has_all(run: MadePool, own: &Known) -> bool {
+    let has_eid = match own.eid {
+        Some(eid) => covers(run.first, run.size, eid),
+        None => true,
+    };
+    let has_pool = match own.pool {
+        Some(pool) => {
+            covers(run.first, run.size, pool.first) && covers(run.first, run.size, last_of(pool))
+        }
+        None => true,
+    };
+    has_eid && has_pool
+}
+
+/// Whether the run has nothing of a node's own, and of its pool where that is of the same owner.
+fn has_none(run: MadePool, own: &Known, is_beside: bool) -> bool {
+    let has_eid = match own.eid {
+        Some(eid) => covers(run.first, run.size, eid),
+        None => false,
+    };
+    let has_pool = match own.pool {
+        Some(pool) => is_beside && overlap(run, pool),
+        None => false,
+    };
+    !has_eid && !has_pool
+}
+
+fn overlap(one: MadePool, other: MadePool) -> bool {
+    one.first <= last_of(other) && other.first <= last_of(one)
+}
+
+/// Whether a node stands below another, by owners.
+fn is_below(board: &Board, node: usize, above: usize) -> bool {
+    let mut at = node;
+    for _ in 0..board.nodes.len() {
+        match owner_of(board, at) {
+            Some(owner) if owner == above => return true,
+            Some(owner) => at = owner,
+            None => return false,
+        }
+    }
+    false
+}

@@ -1,0 +1,113 @@
+//! Making records: their handles, their chain and their bytes.
+use super::{Chosen, MadeRecord, NoPlan};
+use crate::board::{Board, BoardNode, BoardRecord, FieldText, FieldWord, RecordContent};
+use record_fields::{MakeError, made_record};
+use std::alloc::{AllocError, Global};
+
+/// The records of each node. Handles that are left out count from 1, and next handles that are left out follow the list.
+pub fn make_records(
+    alloc: Global,
+    board: &Board,
+    chosen: &[Chosen],
+) -> Result<Vec<Vec<MadeRecord>>, NoPlan> {
+    let mut all = Vec::new(alloc);
+    for (index, node) in board.nodes.iter().enumerate() {
+        all.push(records_of(alloc, chosen, index, node)?)?;
+    }
+    Ok(all)
+}
+
+fn records_of(
+    alloc: Global,
+    chosen: &[Chosen],
+    index: usize,
+    node: &BoardNode,
+) -> Result<Vec<MadeRecord>, NoPlan> {
+    let mut records = Vec::new(alloc);
+    for (place, record) in node.records.iter().enumerate() {
+        let next = match record.next {
+            Some(next) => next,
+            None => following(&node.records, place),
+        };
+        let handle = handle_of(record, place);
+        let hex = match bytes_of(alloc, chosen, record, handle)? {
+            Some(hex) => hex,
+            None => {
+                return Err(NoPlan::WrongRecord {
+                    node: index,
+                    record: place,
+                });
+            }
+        };
+        records.push(MadeRecord { handle, next, hex })?;
+    }
+    Ok(records)
+}
+
+/// The handle of the record that follows, 0 behind the last.
+fn following(records: &[BoardRecord], place: usize) -> u32 {
+    let next = place.saturating_add(1);
+    match records.get(next) {
+        Some(record) => handle_of(record, next),
+        None => 0,
+    }
+}
+
+fn handle_of(record: &BoardRecord, place: usize) -> u32 {
+    match record.handle {
+        Some(handle) => handle,
+        None => u32::try_from(place).unwrap_or(0).saturating_add(1),
+    }
+}
+
+/// The bytes of a record in hex; none where its fields are not those of its type.
+fn bytes_of(
+    alloc: Global,
+    chosen: &[Chosen],
+    record: &BoardRecord,
+    handle: u32,
+) -> Result<Option<String>, AllocError> {
+    match &record.content {
+        RecordContent::Hex(hex) => Ok(Some(hex.clone()?)),
+        RecordContent::Fields { kind, words } => {
+            let words = words_of(alloc, chosen, words, handle)?;
+            match made_record(alloc, kind.as_str(), &words) {
+                Ok(bytes) => Ok(Some(hex::encode(alloc, &bytes)?)),
+                Err(MakeError::Wrong) => Ok(None),
+                Err(MakeError::OutOfMemory) => Err(AllocError),
+            }
+        }
+    }
+}
+
+/// The words of a record's fields, the handle's first.
+fn words_of(
+    alloc: Global,
+    chosen: &[Chosen],
+    fields: &[FieldWord],
+    handle: u32,
+) -> Result<Vec<String>, AllocError> {
+    let mut words = Vec::new(alloc);
+    words.push(format!(in alloc; "handle={handle}")?)?;
+    for field in fields {
+        words.push(word_of(alloc, chosen, field)?)?;
+    }
+    Ok(words)
+}
+
+fn word_of(alloc: Global, chosen: &[Chosen], field: &FieldWord) -> Result<String, AllocError> {
+    let name = field.name.as_str();
+    match &field.text {
+        FieldText::Text(text) => {
+            let text = text.as_str();
+            format!(in alloc; "{name}={text}")
+        }
+        FieldText::EidOf(node) => {
+            let eid = match chosen.get(*node) {
+                Some(own) => own.eid,
+                None => 0,
+            };
+            format!(in alloc; "{name}={eid}")
+        }
+    }
+}

@@ -1,0 +1,255 @@
+//! Making rows along ways of the fewest hops.
+use super::eids::{FIRST, LAST, is_in};
+use super::ways::{Link, Step, is_bridge, links_of_all, steps_to};
+use super::{Chosen, NoPlan, given_row};
+use crate::board::{Board, BoardNode, BoardRow};
+use std::alloc::{AllocError, Global};
+
+/// The most rows of a node.
+const MOST_ROWS: usize = 256;
+
+/// The rows of each node: those that the board gives, and those that lead to the nodes that it is to reach.
+pub fn make_rows(
+    alloc: Global,
+    board: &Board,
+    chosen: &[Chosen],
+) -> Result<Vec<Vec<BoardRow>>, NoPlan> {
+    let links = links_of_all(alloc, board)?;
+    let mut rows = given_rows(alloc, board)?;
+    let mut last = None;
+    for eid in FIRST..=LAST {
+        if let Some(target) = target_of(board, chosen, eid) {
+            let ways = ways_to(alloc, board, chosen, &links, target, last.take())?;
+            add_rows(alloc, board, chosen, &ways, &mut rows)?;
+            last = Some(ways);
+        }
+    }
+    for node in 0..rows.len() {
+        sort_rows(&mut rows, node)?;
+    }
+    Ok(rows)
+}
+
+/// The rows that the board gives.
+fn given_rows(alloc: Global, board: &Board) -> Result<Vec<Vec<BoardRow>>, AllocError> {
+    let mut rows = Vec::new(alloc);
+    for node in &board.nodes {
+        rows.push(node.rows.clone()?)?;
+    }
+    Ok(rows)
+}
+
+fn sort_rows(rows: &mut Vec<Vec<BoardRow>>, node: usize) -> Result<(), NoPlan> {
+    if node >= rows.len() {
+        return Ok(());
+    }
+    rows[node].sort()?;
+    if rows[node].len() > MOST_ROWS {
+        return Err(NoPlan::TooManyRows { node });
+    }
+    Ok(())
+}
+
+/// An endpoint ID to which rows lead.
+#[derive(Clone, Copy)]
+struct Target {
+    eid: u8,
+    /// Who holds it, or else the bridge that hands it out.
+    node: usize,
+    is_held: bool,
+    /// Whether the board gives a row for it.
+    is_given: bool,
+}
+
+/// The ways to a target from each node.
+#[derive(Drop)]
+struct Ways {
+    target: Target,
+    steps: Vec<Option<Step>>,
+}
+
+fn target_of(board: &Board, chosen: &[Chosen], eid: u8) -> Option<Target> {
+    let is_given = board
+        .nodes
+        .iter()
+        .any(|node| given_row(node, eid).is_some());
+    if let Some(node) = holder_of(chosen, eid) {
+        return Some(Target {
+            eid,
+            node,
+            is_held: true,
+            is_given,
+        });
+    }
+    Some(Target {
+        eid,
+        node: innermost_of(chosen, eid)?,
+        is_held: false,
+        is_given,
+    })
+}
+
+fn holder_of(chosen: &[Chosen], eid: u8) -> Option<usize> {
+    for (index, own) in chosen.iter().enumerate() {
+        if own.eid == eid {
+            return Some(index);
+        }
+    }
+    None
+}
+
+/// The node with the smallest pool that has the endpoint ID.
+fn innermost_of(chosen: &[Chosen], eid: u8) -> Option<usize> {
+    let mut found = None;
+    let mut least = u8::MAX;
+    for (index, own) in chosen.iter().enumerate() {
+        if let Some(pool) = own.pool {
+            if is_in(own.pool, eid) && pool.size <= least {
+                least = pool.size;
+                found = Some(index);
+            }
+        }
+    }
+    found
+}
+
+/// The ways to a target. Those of the last one are the same where both lead to one node and no row is given for either.
+fn ways_to(
+    alloc: Global,
+    board: &Board,
+    chosen: &[Chosen],
+    links: &[Vec<Link>],
+    target: Target,
+    last: Option<Ways>,
+) -> Result<Ways, AllocError> {
+    if let Some(last) = last {
+        let is_same = last.target.node == target.node && !last.target.is_given;
+        if is_same && !target.is_given {
+            return Ok(Ways {
+                target,
+                steps: last.steps,
+            });
+        }
+    }
+    Ok(Ways {
+        target,
+        steps: steps_to(alloc, board, chosen, links, target.node, target.eid)?,
+    })
+}
+
+/// Adds the rows for a target at each node from which it is to be reached, and along the ways from there.
+fn add_rows(
+    alloc: Global,
+    board: &Board,
+    chosen: &[Chosen],
+    ways: &Ways,
+    rows: &mut Vec<Vec<BoardRow>>,
+) -> Result<(), NoPlan> {
+    let marked = marked_by(alloc, board, ways)?;
+    for (index, node) in board.nodes.iter().enumerate() {
+        if is_set(&marked, index) && given_row(node, ways.target.eid).is_none() {
+            add_row(chosen, ways, node, index, rows)?;
+        }
+    }
+    Ok(())
+}
+
+/// Which nodes send on what is for a target.
+fn marked_by(alloc: Global, board: &Board, ways: &Ways) -> Result<Vec<bool>, NoPlan> {
+    let mut marked = Vec::new(alloc);
+    for _ in &board.nodes {
+        marked.push(false)?;
+    }
+    for (index, node) in board.nodes.iter().enumerate() {
+        if index != ways.target.node && asks(node, ways.target) {
+            mark_way(ways, index, &mut marked)?;
+        }
+    }
+    Ok(marked)
+}
+
+/// Whether a target is to be reached from a node: the board asks for it, or gives a row for it there.
+fn asks(node: &BoardNode, target: Target) -> bool {
+    match &node.reaches {
+        None => true,
+        Some(nodes) => {
+            let is_asked = nodes.iter().any(|asked| *asked == target.node);
+            target.is_held && (is_asked || given_row(node, target.eid).is_some())
+        }
+    }
+}
+
+/// Marks the nodes on the way from a node to a target.
+fn mark_way(ways: &Ways, from: usize, marked: &mut Vec<bool>) -> Result<(), NoPlan> {
+    let mut at = from;
+    for _ in 0..ways.steps.len() {
+        if at == ways.target.node || is_set(marked, at) {
+            return Ok(());
+        }
+        let Some(Some(step)) = ways.steps.get(at) else {
+            return if ways.target.is_held {
+                Err(NoPlan::NoWay {
+                    from,
+                    to: ways.target.node,
+                })
+            } else {
+                Ok(())
+            };
+        };
+        if at < marked.len() {
+            marked[at] = true;
+        }
+        at = step.link.next;
+    }
+    Ok(())
+}
+
+fn is_set(marked: &[bool], index: usize) -> bool {
+    marked.get(index).copied() == Some(true)
+}
+
+/// Adds a row at a node for a target, or makes a row longer that was made for the endpoint ID before.
+fn add_row(
+    chosen: &[Chosen],
+    ways: &Ways,
+    node: &BoardNode,
+    index: usize,
+    rows: &mut Vec<Vec<BoardRow>>,
+) -> Result<(), AllocError> {
+    let Some(Some(step)) = ways.steps.get(index) else {
+        return Ok(());
+    };
+    if index >= rows.len() {
+        return Ok(());
+    }
+    let link = step.link;
+    let own = &mut rows[index];
+    if is_bridge(chosen, link.next) && lengthen(own, node.rows.len(), link, ways.target.eid) {
+        return Ok(());
+    }
+    own.push(BoardRow {
+        next: link.next,
+        first: ways.target.eid,
+        size: 1,
+        port: link.port,
+    })?;
+    Ok(())
+}
+
+/// Makes a row longer by an endpoint ID that comes next, behind those that are given, and tells whether there is one.
+fn lengthen(rows: &mut Vec<BoardRow>, given: usize, link: Link, eid: u8) -> bool {
+    for index in given..rows.len() {
+        let row = rows[index];
+        let end = end_of(row.first, row.size);
+        if row.next == link.next && row.port == link.port && end == u16::from(eid) {
+            rows[index].size = row.size.saturating_add(1);
+            return true;
+        }
+    }
+    false
+}
+
+/// The number after that of the last of some endpoint IDs.
+fn end_of(first: u8, size: u8) -> u16 {
+    u16::from(first) + u16::from(size)
+}

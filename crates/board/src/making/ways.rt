@@ -1,0 +1,188 @@
+//! Ways of the fewest hops over buses and bridges.
+use super::{Chosen, given_row};
+use crate::board::{Board, BoardNode};
+use net_plan::Kind;
+use std::alloc::{AllocError, Global};
+
+/// Where a node sends on: through a port, to a next node.
+#[derive(Clone, Copy, Debug, PartialEq, Eq, PartialOrd, Ord)]
+pub struct Link {
+    pub next: usize,
+    pub port: usize,
+}
+
+/// For each node, to whom it can send: in the order of the nodes, then of its ports.
+pub fn links_of_all(alloc: Global, board: &Board) -> Result<Vec<Vec<Link>>, AllocError> {
+    let mut all = Vec::new(alloc);
+    for (index, node) in board.nodes.iter().enumerate() {
+        all.push(links_of(alloc, board, index, node)?)?;
+    }
+    Ok(all)
+}
+
+fn links_of(
+    alloc: Global,
+    board: &Board,
+    index: usize,
+    node: &BoardNode,
+) -> Result<Vec<Link>, AllocError> {
+    let mut links = Vec::new(alloc);
+    for (next, other) in board.nodes.iter().enumerate() {
+        if next != index {
+            add_links(&mut links, node, next, other)?;
+        }
+    }
+    Ok(links)
+}
+
+fn add_links(
+    links: &mut Vec<Link>,
+    node: &BoardNode,
+    next: usize,
+    other: &BoardNode,
+) -> Result<(), AllocError> {
+    for (port, own) in node.ports.iter().enumerate() {
+        if is_on(other, own.bus) {
+            links.push(Link { next, port })?;
+        }
+    }
+    Ok(())
+}
+
+fn is_on(node: &BoardNode, bus: usize) -> bool {
+    node.ports.iter().any(|port| port.bus == bus)
+}
+
+/// How many hops a node is from a destination, and where it sends what is for it.
+#[derive(Clone, Copy, Debug)]
+pub struct Step {
+    pub hops: usize,
+    pub link: Link,
+}
+
+/// For each node, the way to a destination for an endpoint ID, of the fewest hops, ties by the order of the nodes and of
+/// the ports. A row that the board gives there is followed. None where no way leads there.
+pub fn steps_to(
+    alloc: Global,
+    board: &Board,
+    chosen: &[Chosen],
+    links: &[Vec<Link>],
+    destination: usize,
+    eid: u8,
+) -> Result<Vec<Option<Step>>, AllocError> {
+    let mut steps = Vec::new(alloc);
+    for node in 0..board.nodes.len() {
+        steps.push(first_step(node, destination))?;
+    }
+    for hops in 0..board.nodes.len() {
+        if !add_steps(board, chosen, links, destination, eid, hops, &mut steps) {
+            return Ok(steps);
+        }
+    }
+    Ok(steps)
+}
+
+fn first_step(node: usize, destination: usize) -> Option<Step> {
+    if node != destination {
+        return None;
+    }
+    Some(Step {
+        hops: 0,
+        link: Link {
+            next: destination,
+            port: 0,
+        },
+    })
+}
+
+/// Adds the nodes that are one hop further, and tells whether there are any.
+fn add_steps(
+    board: &Board,
+    chosen: &[Chosen],
+    links: &[Vec<Link>],
+    destination: usize,
+    eid: u8,
+    hops: usize,
+    steps: &mut Vec<Option<Step>>,
+) -> bool {
+    let mut are_some = false;
+    for (index, node) in board.nodes.iter().enumerate() {
+        if is_open(steps, index) {
+            let link = link_on(chosen, links, node, index, destination, eid, hops, steps);
+            if let Some(link) = link {
+                set_step(steps, index, hops, link);
+                are_some = true;
+            }
+        }
+    }
+    are_some
+}
+
+fn is_open(steps: &[Option<Step>], node: usize) -> bool {
+    match steps.get(node) {
+        Some(step) => step.is_none(),
+        None => false,
+    }
+}
+
+fn set_step(steps: &mut Vec<Option<Step>>, node: usize, hops: usize, link: Link) {
+    if node < steps.len() {
+        steps[node] = Some(Step {
+            hops: hops.saturating_add(1),
+            link,
+        });
+    }
+}
+
+/// By which link a node comes to one that is so many hops away and sends on.
+fn link_on(
+    chosen: &[Chosen],
+    links: &[Vec<Link>],
+    node: &BoardNode,
+    index: usize,
+    destination: usize,
+    eid: u8,
+    hops: usize,
+    steps: &[Option<Step>],
+) -> Option<Link> {
+    if let Some(row) = given_row(node, eid) {
+        let link = Link {
+            next: row.next,
+            port: row.port,
+        };
+        return if leads(chosen, link, destination, hops, steps) {
+            Some(link)
+        } else {
+            None
+        };
+    }
+    for link in links.get(index)? {
+        if leads(chosen, *link, destination, hops, steps) {
+            return Some(*link);
+        }
+    }
+    None
+}
+
+/// Whether the link leads to a node that is so many hops away, and sends on.
+fn leads(
+    chosen: &[Chosen],
+    link: Link,
+    destination: usize,
+    hops: usize,
+    steps: &[Option<Step>],
+) -> bool {
+    let is_there = match steps.get(link.next) {
+        Some(Some(step)) => step.hops == hops,
+        _ => false,
+    };
+    is_there && (link.next == destination || is_bridge(chosen, link.next))
+}
+
+/// Whether a node is a bridge.
+pub fn is_bridge(chosen: &[Chosen], node: usize) -> bool {
+    match chosen.get(node) {
+        Some(own) => own.kind == Kind::Bridge,
+        None => false,
+    }
+}

@@ -1,0 +1,348 @@
+//! Reading a board from its TOML text.
+use crate::board::{Board, BoardBus, BoardNode, BoardPool, BoardPort, BoardRow};
+use crate::fault::BoardError;
+use crate::given::Given;
+use crate::items::{index_of, read_eids, read_port, read_row};
+use crate::places::Place;
+use crate::record_words::read_records;
+use net_plan::{Kind, is_name};
+use std::alloc::Global;
+use toml::{Table, Value};
+
+/// The most buses, and the most nodes.
+const MOST: usize = 64;
+
+const A_NAME: &str = "a name of 1 to 32 letters, digits, '-', '_' or '.'";
+
+const A_NODE: &str = "the name of a node";
+
+const NODES: &str = "a list of at most 64 tables, each under [[node]],";
+
+const BUSES: &str = "a list of at most 64 tables, each under [[bus]],";
+
+/// The board that a text stands for, whose table this is.
+pub fn read_board<'v>(alloc: Global, text: &'v str, table: &'v Table) -> Result<Board, BoardError> {
+    let top = Given {
+        alloc,
+        text,
+        table,
+        place: Place {
+            table: None,
+            record: None,
+            key: "",
+            item: None,
+        },
+    };
+    top.check_keys(&["unit", "bus", "node"], "only unit, bus or node")?;
+    let unit = read_unit(&top)?;
+    let bus_values = top.list("bus", MOST, BUSES)?;
+    let node_values = top.list("node", MOST, NODES)?;
+    let buses = names_of(&top, "bus", bus_values)?;
+    let nodes = names_of(&top, "node", node_values)?;
+    let names = Names {
+        buses: buses.as_slice(),
+        nodes: nodes.as_slice(),
+    };
+    Ok(Board {
+        unit,
+        buses: read_buses(&top, bus_values)?,
+        nodes: read_nodes(&top, node_values, names)?,
+    })
+}
+
+/// The names of buses and of nodes, in their order.
+#[derive(Clone, Copy)]
+pub struct Names<'n, 'v> {
+    pub buses: &'n [&'v str],
+    pub nodes: &'n [&'v str],
+}
+
+fn read_unit(top: &Given) -> Result<u16, BoardError> {
+    let unit = top.number("unit", 64, 1024, "a number from 64 to 1024")?;
+    match unit {
+        Some(unit) => Ok(u16::try_from(unit).unwrap_or(64)),
+        None => Ok(64),
+    }
+}
+
+/// A table of a list of tables.
+fn table_at<'v>(
+    top: &Given<'v>,
+    list: &'static str,
+    index: usize,
+    value: &'v Value,
+) -> Result<Given<'v>, BoardError> {
+    match value {
+        Value::Table(table) => Ok(Given {
+            alloc: top.alloc,
+            text: top.text,
+            table,
+            place: Place {
+                table: Some((list, index)),
+                record: None,
+                key: "",
+                item: None,
+            },
+        }),
+        _ => Err(top.fault(list, Some(index), "a table")),
+    }
+}
+
+/// The names of the tables of a list, which differ.
+fn names_of<'v>(
+    top: &Given<'v>,
+    list: &'static str,
+    values: &'v [Value],
+) -> Result<Vec<&'v str>, BoardError> {
+    let mut names = Vec::new(top.alloc);
+    for (index, value) in values.iter().enumerate() {
+        let given = table_at(top, list, index, value)?;
+        let name = read_name(&given)?;
+        if index_of(&names, name).is_some() {
+            return Err(given.fault("name", None, "a name that no earlier table of the list has"));
+        }
+        names.push(name)?;
+    }
+    Ok(names)
+}
+
+fn read_name<'v>(given: &Given<'v>) -> Result<&'v str, BoardError> {
+    let name = given.needed_text("name", A_NAME)?;
+    if !is_name(name) {
+        return Err(given.fault("name", None, A_NAME));
+    }
+    Ok(name)
+}
+
+fn read_buses<'v>(top: &Given<'v>, values: &'v [Value]) -> Result<Vec<BoardBus>, BoardError> {
+    let mut buses = Vec::new(top.alloc);
+    for (index, value) in values.iter().enumerate() {
+        let given = table_at(top, "bus", index, value)?;
+        buses.push(read_bus(&given)?)?;
+    }
+    Ok(buses)
+}
+
+fn read_bus(given: &Given) -> Result<BoardBus, BoardError> {
+    given.check_keys(&["name", "binding", "media"], "only name, binding or media")?;
+    let name = read_name(given)?.to_string(given.alloc)?;
+    let binding = read_binding(given)?;
+    let media = given.byte("media", "a number from 0 to 255")?.unwrap_or(0);
+    Ok(BoardBus {
+        name,
+        binding,
+        media,
+    })
+}
+
+/// The number of a binding (DSP0239), or its word.
+fn read_binding(given: &Given) -> Result<u8, BoardError> {
+    let wanted = "smbus, pcie, usb, kcs, serial, i3c or a number from 0 to 255";
+    if let Some(Value::String(word)) = given.value("binding") {
+        return match word.as_str() {
+            "smbus" => Ok(1),
+            "pcie" => Ok(2),
+            "usb" => Ok(3),
+            "kcs" => Ok(4),
+            "serial" => Ok(5),
+            "i3c" => Ok(6),
+            _ => Err(given.fault("binding", None, wanted)),
+        };
+    }
+    match given.byte("binding", wanted)? {
+        Some(number) => Ok(number),
+        None => Err(given.fault("binding", None, wanted)),
+    }
+}
+
+fn read_nodes<'v>(
+    top: &Given<'v>,
+    values: &'v [Value],
+    names: Names,
+) -> Result<Vec<BoardNode>, BoardError> {
+    let mut nodes = Vec::new(top.alloc);
+    for (index, value) in values.iter().enumerate() {
+        let given = table_at(top, "node", index, value)?;
+        nodes.push(read_node(&given, names)?)?;
+    }
+    Ok(nodes)
+}
+
+fn read_node(given: &Given, names: Names) -> Result<BoardNode, BoardError> {
+    check_node_keys(given)?;
+    let name = read_name(given)?.to_string(given.alloc)?;
+    let kind = read_kind(given)?;
+    let eid = read_eid(given)?;
+    let owner = read_owner(given, names)?;
+    let pool = read_pool(given)?;
+    let ports = read_ports(given, names)?;
+    let reaches = read_reaches(given, names)?;
+    let rows = read_rows(given, names)?;
+    let tid = read_tid(given)?;
+    let records = read_records(given, names)?;
+    Ok(BoardNode {
+        name,
+        kind,
+        eid,
+        owner,
+        pool,
+        ports,
+        reaches,
+        rows,
+        tid,
+        records,
+    })
+}
+
+fn check_node_keys(given: &Given) -> Result<(), BoardError> {
+    given.check_keys(
+        &[
+            "name", "kind", "eid", "owner", "pool", "ports", "reaches", "rows", "tid", "record",
+        ],
+        "only name, kind, eid, owner, pool, ports, reaches, rows, tid or record",
+    )
+}
+
+fn read_kind(given: &Given) -> Result<Option<Kind>, BoardError> {
+    let wanted = "\"bridge\" or \"endpoint\"";
+    match given.text("kind", wanted)? {
+        None => Ok(None),
+        Some("bridge") => Ok(Some(Kind::Bridge)),
+        Some("endpoint") => Ok(Some(Kind::Endpoint)),
+        Some(_) => Err(given.fault("kind", None, wanted)),
+    }
+}
+
+fn read_eid(given: &Given) -> Result<Option<u8>, BoardError> {
+    match given.number("eid", 8, 254, "a number from 8 to 254")? {
+        Some(eid) => Ok(u8::try_from(eid).ok()),
+        None => Ok(None),
+    }
+}
+
+fn read_owner(given: &Given, names: Names) -> Result<Option<usize>, BoardError> {
+    let Some(name) = given.text("owner", A_NODE)? else {
+        return Ok(None);
+    };
+    match index_of(names.nodes, name) {
+        Some(node) => Ok(Some(node)),
+        None => Err(given.fault("owner", None, A_NODE)),
+    }
+}
+
+fn read_pool(given: &Given) -> Result<Option<BoardPool>, BoardError> {
+    let wanted = "a text as \"9-63\", or how many endpoint IDs it has, from 1 to 247,";
+    let Some(Value::String(text)) = given.value("pool") else {
+        let size = given.number("pool", 1, 247, wanted)?;
+        return Ok(size.map(|size| BoardPool::Size(u8::try_from(size).unwrap_or(1))));
+    };
+    match read_eids(text.as_str()) {
+        Some((first, size)) => Ok(Some(BoardPool::Range { first, size })),
+        None => Err(given.fault("pool", None, wanted)),
+    }
+}
+
+fn read_tid(given: &Given) -> Result<Option<u8>, BoardError> {
+    let wanted = "a number from 0 to 254";
+    match given.number("tid", 0, 254, wanted)? {
+        Some(tid) => Ok(u8::try_from(tid).ok()),
+        None => Ok(None),
+    }
+}
+
+/// The text at an index of a list.
+fn text_in<'v>(
+    given: &Given,
+    key: &str,
+    index: usize,
+    value: &'v Value,
+    wanted: &str,
+) -> Result<&'v str, BoardError> {
+    match value {
+        Value::String(text) => Ok(text.as_str()),
+        _ => Err(given.fault(key, Some(index), wanted)),
+    }
+}
+
+fn read_ports(given: &Given, names: Names) -> Result<Vec<BoardPort>, BoardError> {
+    let mut ports = Vec::new(given.alloc);
+    for (index, value) in given
+        .list("ports", 32, "a list of at most 32 ports")?
+        .iter()
+        .enumerate()
+    {
+        ports.push(read_one_port(given, names, index, value)?)?;
+    }
+    Ok(ports)
+}
+
+fn read_one_port(
+    given: &Given,
+    names: Names,
+    index: usize,
+    value: &Value,
+) -> Result<BoardPort, BoardError> {
+    let wanted = "a bus and an address in lower-case hex, as \"i2c0 1d\",";
+    let text = text_in(given, "ports", index, value, wanted)?;
+    match read_port(text, names.buses) {
+        Some((bus, address)) => Ok(BoardPort {
+            bus,
+            address: address.to_string(given.alloc)?,
+        }),
+        None => Err(given.fault("ports", Some(index), wanted)),
+    }
+}
+
+fn read_reaches(given: &Given, names: Names) -> Result<Option<Vec<usize>>, BoardError> {
+    if given.value("reaches").is_none() {
+        return Ok(None);
+    }
+    let mut nodes = Vec::new(given.alloc);
+    for (index, value) in given
+        .list("reaches", MOST, "a list of names")?
+        .iter()
+        .enumerate()
+    {
+        nodes.push(read_one_node(given, names, index, value)?)?;
+    }
+    Ok(Some(nodes))
+}
+
+fn read_one_node(
+    given: &Given,
+    names: Names,
+    index: usize,
+    value: &Value,
+) -> Result<usize, BoardError> {
+    let name = text_in(given, "reaches", index, value, A_NODE)?;
+    match index_of(names.nodes, name) {
+        Some(node) => Ok(node),
+        None => Err(given.fault("reaches", Some(index), A_NODE)),
+    }
+}
+
+fn read_rows(given: &Given, names: Names) -> Result<Vec<BoardRow>, BoardError> {
+    let mut rows = Vec::new(given.alloc);
+    for (index, value) in given
+        .list("rows", 256, "a list of at most 256 rows")?
+        .iter()
+        .enumerate()
+    {
+        rows.push(read_one_row(given, names, index, value)?)?;
+    }
+    Ok(rows)
+}
+
+fn read_one_row(
+    given: &Given,
+    names: Names,
+    index: usize,
+    value: &Value,
+) -> Result<BoardRow, BoardError> {
+    let wanted = "endpoint IDs, a node and a port, as \"16-31 via switch port 0\",";
+    let text = text_in(given, "rows", index, value, wanted)?;
+    match read_row(text, names.nodes) {
+        Some(row) => Ok(row),
+        None => Err(given.fault("rows", Some(index), wanted)),
+    }
+}

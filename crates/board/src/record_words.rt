@@ -1,0 +1,160 @@
+//! Reading records from a board: bytes in hex, or the fields of a record by their names.
+use crate::board::{BoardRecord, FieldText, FieldWord, RecordContent};
+use crate::fault::BoardError;
+use crate::given::Given;
+use crate::items::{index_of, is_lower_hex};
+use crate::places::Place;
+use crate::reading::Names;
+use std::alloc::Global;
+use toml::Value;
+
+/// The most records of a terminus.
+const MOST_RECORDS: usize = 4096;
+
+/// The most values of a field.
+const MOST_VALUES: usize = 256;
+
+const RECORDS: &str = "a list of at most 4096 tables, each under [[node.record]],";
+
+const A_TYPE: &str =
+    "\"terminus-locator\", \"numeric-sensor\", \"state-sensor\" or \"entity-association\"";
+
+const A_FIELD: &str = "a number, a text or a list of these";
+
+/// The records of a node.
+pub fn read_records(given: &Given, names: Names) -> Result<Vec<BoardRecord>, BoardError> {
+    let mut records = Vec::new(given.alloc);
+    for (index, value) in given
+        .list("record", MOST_RECORDS, RECORDS)?
+        .iter()
+        .enumerate()
+    {
+        records.push(read_record_at(given, names, index, value)?)?;
+    }
+    Ok(records)
+}
+
+fn read_record_at<'v>(
+    given: &Given<'v>,
+    names: Names,
+    index: usize,
+    value: &'v Value,
+) -> Result<BoardRecord, BoardError> {
+    let Value::Table(table) = value else {
+        return Err(given.fault("record", Some(index), "a table"));
+    };
+    let inner = Given {
+        alloc: given.alloc,
+        text: given.text,
+        table,
+        place: Place {
+            table: given.place.table,
+            record: Some(index),
+            key: "",
+            item: None,
+        },
+    };
+    read_record(&inner, names)
+}
+
+fn read_record(given: &Given, names: Names) -> Result<BoardRecord, BoardError> {
+    let handle = given.word("handle", "a number from 1 to 4294967295")?;
+    let next = given.word("next", "a number from 0 to 4294967295")?;
+    let content = match given.text("hex", "bytes in lower-case hex")? {
+        Some(hex) => read_hex(given, hex)?,
+        None => read_fields(given, names)?,
+    };
+    Ok(BoardRecord {
+        handle,
+        next,
+        content,
+    })
+}
+
+fn read_hex(given: &Given, hex: &str) -> Result<RecordContent, BoardError> {
+    given.check_keys(&["handle", "next", "hex"], "beside hex only handle or next")?;
+    if !is_lower_hex(hex) {
+        return Err(given.fault("hex", None, "bytes in lower-case hex"));
+    }
+    Ok(RecordContent::Hex(hex.to_string(given.alloc)?))
+}
+
+fn read_fields(given: &Given, names: Names) -> Result<RecordContent, BoardError> {
+    let kind = given.needed_text("type", A_TYPE)?;
+    let is_known = matches!(
+        kind,
+        "terminus-locator" | "numeric-sensor" | "state-sensor" | "entity-association"
+    );
+    if !is_known {
+        return Err(given.fault("type", None, A_TYPE));
+    }
+    Ok(RecordContent::Fields {
+        kind: kind.to_string(given.alloc)?,
+        words: read_words(given, names)?,
+    })
+}
+
+fn read_words(given: &Given, names: Names) -> Result<Vec<FieldWord>, BoardError> {
+    let mut words = Vec::new(given.alloc);
+    for (name, value) in given.table.iter() {
+        if !is_own_key(name.as_str()) {
+            add_words(&mut words, given, names, name.as_str(), value)?;
+        }
+    }
+    Ok(words)
+}
+
+/// Whether a key of a record is none of its fields. The handle is a field too, and is added later.
+fn is_own_key(key: &str) -> bool {
+    matches!(key, "type" | "next" | "handle")
+}
+
+fn add_words(
+    words: &mut Vec<FieldWord>,
+    given: &Given,
+    names: Names,
+    name: &str,
+    value: &Value,
+) -> Result<(), BoardError> {
+    let Value::Array(values) = value else {
+        words.push(read_word(given, names, name, value)?)?;
+        return Ok(());
+    };
+    if values.len() > MOST_VALUES {
+        return Err(given.fault(name, None, "a list of at most 256 values"));
+    }
+    for one in values {
+        words.push(read_word(given, names, name, one)?)?;
+    }
+    Ok(())
+}
+
+fn read_word(
+    given: &Given,
+    names: Names,
+    name: &str,
+    value: &Value,
+) -> Result<FieldWord, BoardError> {
+    let text = match value {
+        Value::Integer(number) => FieldText::Text(text_of(given.alloc, *number)?),
+        Value::String(said) if name == "eid" => read_eid(given, names, said.as_str())?,
+        Value::String(said) => FieldText::Text(said.as_str().to_string(given.alloc)?),
+        _ => return Err(given.fault(name, None, A_FIELD)),
+    };
+    Ok(FieldWord {
+        name: name.to_string(given.alloc)?,
+        text,
+    })
+}
+
+fn text_of(alloc: Global, number: i64) -> Result<String, BoardError> {
+    Ok(format!(in alloc; "{number}")?)
+}
+
+/// The node whose endpoint ID a field holds.
+fn read_eid(given: &Given, names: Names, said: &str) -> Result<FieldText, BoardError> {
+    match index_of(names.nodes, said) {
+        Some(node) => Ok(FieldText::EidOf(node)),
+        None => Err(given.fault("eid", None, "a number or the name of a node")),
+    }
+}

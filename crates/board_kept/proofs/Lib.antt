@@ -1,0 +1,8 @@
+pub mod Beyond
+pub mod More
+pub mod Members
+pub mod Reaching
+pub mod Raising
+pub mod Turning
+pub mod SameLists
+pub mod Named

@@ -1,0 +1,8 @@
+use Rattle.toml.specs.View.{view}
+use Rattle.board_kept.specs.Made.{ReachesAllAsked}
+use Rattle.board_kept.proofs.More.{one_more}
+use Rattle.board_kept.proofs.fit.judge_all.Goals as goal
+
+pub loop-from-preserved : goal.loop-from-preserved
+loop-from-preserved c = one_more (λ a. ReachesAllAsked (view c.args.board.now) c.args.checked.now.0 a) c.loop-from.from c.loop-from.invariant
+    c.in_ok-judge_from.ensures

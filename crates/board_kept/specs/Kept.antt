@@ -1,0 +1,148 @@
+-- Which plans keep all that a board gives.
+use Rattle.std.specs.Prelude.{◌≡◌, ◌⊎◌, ℕ, ◌+◌, List, codes, length, Option, Some, None, option_map, unwrap_or}
+use Rattle.std.specs.Prelude.{slice_get, string_bytes}
+use Rattle.hex.specs.Hex.{encode_lower}
+use Rattle.toml.specs.Data.{Data, get}
+use Rattle.net_plan.specs.declared.plan.Plan.{Plan}
+use Rattle.net_plan.specs.declared.nodes.Bus.{Bus}
+use Rattle.net_plan.specs.declared.nodes.Kind.{Kind}
+use Rattle.net_plan.specs.declared.nodes.Node.{Node}
+use Rattle.net_plan.specs.declared.nodes.Pool.{Pool}
+use Rattle.net_plan.specs.declared.nodes.Port.{Port}
+use Rattle.net_plan.specs.declared.nodes.Row.{Row}
+use Rattle.net_plan.specs.declared.terminus.PlannedRecord.{PlannedRecord}
+use Rattle.net_plan.specs.declared.terminus.PlannedTerminus.{PlannedTerminus}
+use Rattle.board_kept.specs.Said.{SaysText, SaysNumber, SaysOr, SaysNoneOr, item_at, IsListAt, HasOnlyKeys}
+use Rattle.board_kept.specs.Said.{AreItemsKept}
+use Rattle.board_kept.specs.Keys.{IsBoardKey, IsBusKey, IsNodeKey, IsHexKey}
+use Rattle.board_kept.specs.Texts.{binding_word, kind_word, node_name, eids_text, port_text, row_text}
+use Rattle.board_kept.specs.Fields.{AreFieldsGiven}
+
+-- the number of a binding, or its word
+abbrev pub SaysBinding : Option Data → ℕ → Type 0
+SaysBinding said n =
+    SaysNumber said n ⊎ ((word : List ℕ) × (binding_word n ≡ Some word) × SaysText said word)
+
+-- a bus: a medium that is left out is 0
+pub record IsBusKept (bus : Bus) (d : Data) : Type 0 where
+  pub keys : HasOnlyKeys IsBusKey d
+  pub name : SaysText (get (codes "name") d) (string_bytes bus.name.text)
+  pub binding : SaysBinding (get (codes "binding") d) bus.binding
+  pub media : SaysOr 0 (get (codes "media") d) bus.media
+
+-- the kind, if it stands there
+abbrev pub IsKindKept : Kind → Option Data → Type 0
+IsKindKept kind said = (said ≡ None) ⊎ SaysText said (kind_word kind)
+
+-- the owner by its name; nobody where nothing stands there
+abbrev pub IsOwnerKept : Plan → Option ℕ → Option Data → Type 0
+IsOwnerKept plan owner said = ((said ≡ None) × (owner ≡ None))
+    ⊎ ((m : ℕ) × (name : List ℕ) × (owner ≡ Some m) × (node_name plan m ≡ Some name) × SaysText said name)
+
+-- the endpoint IDs of a pool, or its size
+abbrev pub SaysPool : Pool → Option Data → Type 0
+SaysPool pool said = SaysText said (eids_text pool.first.value pool.size) ⊎ SaysNumber said pool.size
+
+-- a pool; none where nothing stands there
+abbrev pub IsPoolKept : Option Pool → Option Data → Type 0
+IsPoolKept pool said = ((said ≡ None) × (pool ≡ None))
+    ⊎ ((p : Pool) × (pool ≡ Some p) × SaysPool p said)
+
+-- a port by its bus and its address
+abbrev pub IsPortKept : Plan → Port → Data → Type 0
+IsPortKept plan port d = SaysText (Some d) (port_text plan port)
+
+-- one of the rows is what stands there
+abbrev pub IsAmongRows : Plan → List Row → Option Data → Type 0
+IsAmongRows plan rows said = (r : ℕ) × (row : Row) × (slice_get rows r ≡ Some row) × SaysText said (row_text plan row)
+
+-- nothing stands at the index of the list, or one of the rows
+abbrev pub IsRowKeptAt : Plan → List Row → Data → ℕ → Type 0
+IsRowKeptAt plan rows d i = (item_at (codes "rows") i d ≡ None) ⊎ IsAmongRows plan rows (item_at (codes "rows") i d)
+
+-- each row that stands in the list is one of these
+pub record AreRowsKept (plan : Plan) (rows : List Row) (d : Data) : Type 0 where
+  pub list : IsListAt (codes "rows") d
+  pub each : (i : ℕ) → IsRowKeptAt plan rows d i
+
+-- what stands there is a node's name
+abbrev pub NamesNode : Plan → Option Data → Type 0
+NamesNode plan said = (n : ℕ) × (name : List ℕ) × (node_name plan n ≡ Some name) × SaysText said name
+
+-- nothing stands at the index of the list, or a node's name
+abbrev pub IsNameAt : Plan → Data → ℕ → Type 0
+IsNameAt plan d i = (item_at (codes "reaches") i d ≡ None) ⊎ NamesNode plan (item_at (codes "reaches") i d)
+
+-- each name that stands in the list is a node's
+pub record AreNamesKept (plan : Plan) (d : Data) : Type 0 where
+  pub list : IsListAt (codes "reaches") d
+  pub each : (i : ℕ) → IsNameAt plan d i
+
+-- the handle of the record that follows, 0 behind the last
+abbrev pub next_handle : List PlannedRecord → ℕ → ℕ
+next_handle records j = unwrap_or (option_map (λ r. r.handle) (slice_get records (j + 1))) 0
+
+-- the bytes of a record, in hex with nothing but its handles beside it, or by its fields
+abbrev pub AreBytesKept : Plan → List ℕ → Data → Type 0
+AreBytesKept plan bytes d = (HasOnlyKeys IsHexKey d × SaysText (get (codes "hex") d) (encode_lower bytes))
+    ⊎ ((type : List ℕ) × SaysText (get (codes "type") d) type × AreFieldsGiven plan type bytes d)
+
+-- A record, and its place in the list: handles that are left out count from 1, and next handles that are left out
+-- follow the list.
+pub record IsRecordKept (plan : Plan) (records : List PlannedRecord) (j : ℕ) (r : PlannedRecord) (d : Data)
+    : Type 0 where
+  pub handle : SaysOr (j + 1) (get (codes "handle") d) r.handle
+  pub next : SaysOr (next_handle records j) (get (codes "next") d) r.next
+  pub bytes : AreBytesKept plan r.bytes.items d
+
+-- the record at an index, if there is one
+abbrev pub IsRecordKeptAt : Plan → List PlannedRecord → Data → ℕ → Type 0
+IsRecordKeptAt plan records d j = (r : PlannedRecord) → slice_get records j ≡ Some r
+    → (e : Data) × (item_at (codes "record") j d ≡ Some e) × IsRecordKept plan records j r e
+
+-- the records of a list
+pub record AreRecordsKept (plan : Plan) (records : List PlannedRecord) (d : Data) : Type 0 where
+  pub list : IsListAt (codes "record") d
+  pub each : (j : ℕ) → IsRecordKeptAt plan records d j
+  pub no_more : item_at (codes "record") (length records) d ≡ None
+
+-- a terminus: a terminus ID that is left out is 0
+pub record IsTerminusGiven (plan : Plan) (t : PlannedTerminus) (d : Data) : Type 0 where
+  pub tid : SaysOr 0 (get (codes "tid") d) t.tid
+  pub records : AreRecordsKept plan t.records.items d
+
+-- neither a terminus ID nor a record stands there
+pub record HasNoTerminus (d : Data) : Type 0 where
+  pub tid : get (codes "tid") d ≡ None
+  pub list : IsListAt (codes "record") d
+  pub record_is : item_at (codes "record") 0 d ≡ None
+
+-- a node has a terminus exactly where a terminus ID or a record stands there
+abbrev pub IsTerminusKept : Plan → Option PlannedTerminus → Data → Type 0
+IsTerminusKept plan terminus d = (HasNoTerminus d × (terminus ≡ None))
+    ⊎ ((t : PlannedTerminus) × (terminus ≡ Some t) × ¬ HasNoTerminus d × IsTerminusGiven plan t d)
+
+-- the name, the kind, the endpoint ID and the owner of a node
+pub record IsHeadKept (plan : Plan) (node : Node) (d : Data) : Type 0 where
+  pub name : SaysText (get (codes "name") d) (string_bytes node.name.text)
+  pub kind : IsKindKept node.kind (get (codes "kind") d)
+  pub eid : SaysNoneOr (get (codes "eid") d) node.eid.value
+  pub owner : IsOwnerKept plan node.owner (get (codes "owner") d)
+
+-- a node
+pub record IsNodeKept (plan : Plan) (node : Node) (d : Data) : Type 0 where
+  pub keys : HasOnlyKeys IsNodeKey d
+  pub head : IsHeadKept plan node d
+  pub pool : IsPoolKept node.pool (get (codes "pool") d)
+  pub ports : AreItemsKept (IsPortKept plan) node.ports.items (codes "ports") d
+  pub rows : AreRowsKept plan node.rows.items d
+  pub reaches : AreNamesKept plan d
+  pub terminus : IsTerminusKept plan node.terminus d
+
+-- All that the board gives is in the plan: the unit, the buses and the nodes in their order, and of each node what is
+-- given of it. Nothing else stands in the board's tables.
+pub record Keeps (board : Data) (plan : Plan) : Type 0 where
+  pub keys : HasOnlyKeys IsBoardKey board
+  pub unit : SaysOr 64 (get (codes "unit") board) plan.unit
+  pub buses : AreItemsKept IsBusKept plan.buses.items (codes "bus") board
+  pub nodes : AreItemsKept (IsNodeKept plan) plan.nodes.items (codes "node") board

@@ -1,0 +1,57 @@
+-- Which plans are another one with rows.
+use Rattle.std.specs.Prelude.{◌≡◌, ℕ, ◌<◌, Some, length, map, slice_get}
+use Rattle.net_plan.specs.NodeValues.{bus_value, row_value}
+use Rattle.net_plan.specs.declared.plan.Plan.{Plan}
+use Rattle.net_plan.specs.declared.certificate.Certificate.{Certificate}
+use Rattle.net_plan.specs.declared.nodes.Row.{Row}
+use Rattle.net_tables.specs.Routing.{Routes, rows_of}
+use Rattle.net_rules.specs.Rules.{Accepts}
+use Rattle.net_rules.specs.MoveRules.{but_rows}
+use Rattle.board_kept.specs.Ways.{ReachesBy}
+
+-- The transmission unit, the buses and the nodes are the same, these but for their rows.
+pub record IsSameButRows (before after : Plan) : Type 0 where
+  pub unit : before.unit ≡ after.unit
+  pub buses : map bus_value before.buses.items ≡ map bus_value after.buses.items
+  pub nodes : map but_rows before.nodes.items ≡ map but_rows after.nodes.items
+
+-- n has the row
+abbrev pub HasTheRow : Plan → ℕ → Row → Type 0
+HasTheRow plan n row =
+    (r : ℕ) × (own : Row) × (slice_get (rows_of plan n) r ≡ Some own) × (row_value own ≡ row_value row)
+
+-- the row of n at an index in the old plan, if there is one, is one of its rows in the new plan
+abbrev pub IsRowOfNodeKept : Plan → Plan → ℕ → ℕ → Type 0
+IsRowOfNodeKept before after n r = (row : Row) → slice_get (rows_of before n) r ≡ Some row → HasTheRow after n row
+
+-- so it is of each row of n
+abbrev pub AreRowsOfNodeKept : Plan → Plan → ℕ → Type 0
+AreRowsOfNodeKept before after n = (r : ℕ) → IsRowOfNodeKept before after n r
+
+-- and of each node
+abbrev pub AreRowsOfAllKept : Plan → Plan → Type 0
+AreRowsOfAllKept before after = (n : ℕ) → n < length before.nodes.items → AreRowsOfNodeKept before after n
+
+-- the old plan has a row of n for e that leads to k
+abbrev pub LeadsAlready : Plan → ℕ → ℕ → ℕ → Type 0
+LeadsAlready before e n k = Routes before n e k
+
+-- a reaches all nodes, after as few hops as the buses, the bridges and the old plan's rows allow
+abbrev pub ReachesAll : Plan → Plan → ℕ → Type 0
+ReachesAll before after a = (b : ℕ) → b < length after.nodes.items → ReachesBy (LeadsAlready before) after a b
+
+-- so it is of each node
+abbrev pub AllReachAll : Plan → Plan → Type 0
+AllReachAll before after = (a : ℕ) → a < length after.nodes.items → ReachesAll before after a
+
+-- Every rule holds of the new plan and the certificate, and it is the old one but for its rows, in which it has the old
+-- ones.
+pub record IsKeptIn (before after : Plan) (certificate : Certificate) : Type 0 where
+  pub accepted : Accepts after certificate
+  pub same : IsSameButRows before after
+  pub rows : AreRowsOfAllKept before after
+
+-- so it is, and all nodes of the new plan reach each other
+pub record IsRowedFrom (before after : Plan) (certificate : Certificate) : Type 0 where
+  pub kept : IsKeptIn before after certificate
+  pub reaches : AllReachAll before after

@@ -1,0 +1,96 @@
+//! Whether a plan keeps what a board says.
+ghost use Rattle.std.specs.Prelude.{◌≡◌, IfOk, IsTrue, codes};
+ghost use Rattle.toml.specs.Data.{get};
+ghost use Rattle.toml.specs.View.{view};
+ghost use Rattle.board_kept.specs.Said.{IsItemKept, AreItemsKept};
+ghost use Rattle.board_kept.specs.Kept.{SaysBinding, IsBusKept, IsNodeKept, Keeps};
+
+use crate::keys::{Level, has_only_keys};
+use crate::nodes::keeps_node;
+use crate::said::{is_list_at, item, says_number, says_or, says_text};
+use crate::texts::binding_word;
+use net_plan::{Bus, Plan};
+use std::alloc::{AllocError, Global};
+use toml::Value;
+
+/// Whether all that a board gives is in the plan.
+pub fn keeps(alloc: Global, board: &Value, plan: &Plan) -> Result<bool, AllocError>
+    ensures { IfOk result (λ answer. IsTrue answer → Keeps (view board.now) plan.now) }
+{
+    let head = has_only_keys(board, Level::Top)
+        && says_or(board, "unit", u32::from(plan.unit), 64)
+        && keeps_buses(board, &plan.buses);
+    Ok(keeps_nodes(alloc, board, plan)? && head)
+}
+
+fn keeps_buses(board: &Value, buses: &[Bus]) -> bool
+    ensures { IsTrue result → AreItemsKept IsBusKept buses.now (codes "bus") (view board.now) }
+{
+    for index in 0..buses.len() {
+        if !keeps_bus_at(board, buses, index) {
+            return false;
+        }
+    }
+    is_list_at(board, "bus") && item(board, "bus", buses.len()).is_none()
+}
+
+fn keeps_bus_at(board: &Value, buses: &[Bus], index: usize) -> bool
+    ensures { IsTrue result → IsItemKept IsBusKept buses.now (codes "bus") (view board.now) index }
+{
+    match buses.get(index) {
+        Some(bus) => match item(board, "bus", index) {
+            Some(said) => keeps_bus(said, bus),
+            None => false,
+        },
+        None => true,
+    }
+}
+
+fn keeps_bus(said: &Value, bus: &Bus) -> bool
+    ensures { IsTrue result → IsBusKept bus.now (view said.now) }
+{
+    has_only_keys(said, Level::OfBus)
+        && says_text(said, "name", bus.name.text.as_str())
+        && says_binding(said, bus.binding)
+        && says_or(said, "media", u32::from(bus.media), 0)
+}
+
+/// Whether the number of a binding stands there, or its word.
+fn says_binding(said: &Value, number: u8) -> bool
+    ensures { IsTrue result → SaysBinding (get (codes "binding") (view said.now)) number }
+{
+    match binding_word(number) {
+        Some(word) => {
+            says_number(said, "binding", u32::from(number)) || says_text(said, "binding", word)
+        }
+        None => says_number(said, "binding", u32::from(number)),
+    }
+}
+
+fn keeps_nodes(alloc: Global, board: &Value, plan: &Plan) -> Result<bool, AllocError>
+    ensures { IfOk result (λ answer. IsTrue answer → AreItemsKept (IsNodeKept plan.now) plan.now.nodes.items (codes "node") (view board.now)) }
+{
+    for index in 0..plan.nodes.len() {
+        if !keeps_node_at(alloc, board, plan, index)? {
+            return Ok(false);
+        }
+    }
+    Ok(is_list_at(board, "node") && item(board, "node", plan.nodes.len()).is_none())
+}
+
+fn keeps_node_at(
+    alloc: Global,
+    board: &Value,
+    plan: &Plan,
+    index: usize,
+) -> Result<bool, AllocError>
+    ensures { IfOk result (λ answer. IsTrue answer → IsItemKept (IsNodeKept plan.now) plan.now.nodes.items (codes "node") (view board.now) index) }
+{
+    match plan.nodes.get(index) {
+        Some(node) => match item(board, "node", index) {
+            Some(said) => keeps_node(alloc, plan, node, said),
+            None => Ok(false),
+        },
+        None => Ok(true),
+    }
+}

@@ -1,0 +1,86 @@
+//! How a board writes what stands in a plan.
+ghost use Rattle.std.specs.Prelude.{◌≡◌, IfOk, [], Some, None, option_map, unwrap_or, string_bytes};
+ghost use Rattle.board_kept.specs.Texts.{binding_word, kind_word, node_name, bus_name, eids_text, port_text, row_text};
+
+use mctp_transport::Eid;
+use net_plan::{Kind, Plan, Port, Row};
+use std::alloc::{AllocError, Global};
+
+/// The word of a physical transport binding identifier (DSP0239), where it has one.
+pub fn binding_word(number: u8) -> Option<&'static str>
+    ensures { option_map (λ word. word.now) result ≡ binding_word number }
+{
+    match number {
+        1 => Some("smbus"),
+        2 => Some("pcie"),
+        3 => Some("usb"),
+        4 => Some("kcs"),
+        5 => Some("serial"),
+        6 => Some("i3c"),
+        _ => None,
+    }
+}
+
+/// The word of a kind.
+pub fn kind_word(kind: Kind) -> &'static str
+    ensures { result.now ≡ kind_word kind }
+{
+    match kind {
+        Kind::Bridge => "bridge",
+        Kind::Endpoint => "endpoint",
+    }
+}
+
+/// The name of a node, none beyond the plan.
+pub fn node_name(plan: &Plan, node: usize) -> Option<&str>
+    ensures { option_map (λ name. name.now) result ≡ node_name plan.now node }
+{
+    match plan.nodes.get(node) {
+        Some(node) => Some(node.name.text.as_str()),
+        None => None,
+    }
+}
+
+/// The name of a bus, none beyond the plan.
+fn bus_name(plan: &Plan, bus: usize) -> Option<&str>
+    ensures { option_map (λ name. name.now) result ≡ bus_name plan.now bus }
+{
+    match plan.buses.get(bus) {
+        Some(bus) => Some(bus.name.text.as_str()),
+        None => None,
+    }
+}
+
+/// Endpoint IDs, one after another: the first and, where there are several, the last.
+pub fn eids_text(alloc: Global, first: Eid, size: u8) -> Result<String, AllocError>
+    ensures { IfOk result (λ text. string_bytes text ≡ eids_text first.value size) }
+{
+    let first = first.value;
+    if size == 1 {
+        return format!(in alloc; "{first}");
+    }
+    let last = (u16::from(first) + u16::from(size)).saturating_sub(1);
+    format!(in alloc; "{first}-{last}")
+}
+
+/// The bus of a port and, where it has one, its address in hex.
+pub fn port_text(alloc: Global, plan: &Plan, port: &Port) -> Result<String, AllocError>
+    ensures { IfOk result (λ text. string_bytes text ≡ port_text plan.now port.now) }
+{
+    let bus = bus_name(plan, port.bus).unwrap_or("");
+    if port.address.len() == 0 {
+        return format!(in alloc; "{bus}");
+    }
+    let address = hex::encode(alloc, port.address.as_slice())?;
+    format!(in alloc; "{bus} {address}")
+}
+
+/// A row: its endpoint IDs, the next node and the port.
+pub fn row_text(alloc: Global, plan: &Plan, row: &Row) -> Result<String, AllocError>
+    ensures { IfOk result (λ text. string_bytes text ≡ row_text plan.now row.now) }
+{
+    let eids = eids_text(alloc, row.first, row.size)?;
+    let next = node_name(plan, row.next).unwrap_or("");
+    let port = row.port;
+    format!(in alloc; "{eids} via {next} port {port}")
+}

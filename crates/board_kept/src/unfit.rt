@@ -1,0 +1,27 @@
+//! Why a checked plan is not fit.
+use std::alloc::{AllocError, AllocFailed};
+
+/// Why a checked plan is not fit for a board, or for the plan of which it was made. Nodes are named by their indices.
+#[derive(Clone, Copy, Debug, PartialEq, Eq)]
+pub enum Unfit {
+    /// Something that is given is not in the plan.
+    NotKept,
+    /// The one node is to reach the other, and it does not.
+    Unreached { from: usize, to: usize },
+    /// The node reaches one that it is to reach by a longer way than the buses, the bridges and what is given allow.
+    Longer { from: usize },
+    /// There is too little memory.
+    OutOfMemory,
+}
+
+impl From<AllocError> for Unfit {
+    fn from(_error: AllocError) -> Unfit {
+        Unfit::OutOfMemory
+    }
+}
+
+impl<T: Drop> From<AllocFailed<T>> for Unfit {
+    fn from(_error: AllocFailed<T>) -> Unfit {
+        Unfit::OutOfMemory
+    }
+}

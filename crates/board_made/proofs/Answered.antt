@@ -1,0 +1,50 @@
+-- What is answered for a board is answered to its text, and how lines are worded.
+use Rattle.std.proofs.Common.{◌≡◌, ◌≢◌, ℕ, List, ◌++◌, Some, Result, Ok, Err, inl, subst}
+use Rattle.std.specs.Prelude.{IfOk, codes}
+use Rattle.toml.specs.Data.{Data}
+use Rattle.net_plan.specs.declared.plan.Plan.{Plan}
+use Rattle.net_rules.specs.declared.certify_error.CertifyError.{CertifyError}
+use Rattle.net_rules.specs.declared.certify_error.CertifyError.TheVariants as error
+use Rattle.net_rules.specs.Certificates.{NamesObstacle, RulesOutCertificates}
+use Rattle.plan_texts.specs.Lines.{obstacle_text}
+use Rattle.board_kept.specs.Said.{IsTomlOf}
+use Rattle.board_made.specs.declared.answer.BoardAnswer.{BoardAnswer}
+use Rattle.board_made.specs.declared.answer.BoardAnswer.TheVariants.{Made, NoPlan, Unread}
+use Rattle.board_made.specs.Made.{TellsObstacle, IsReason, IsOtherReason, IsUnreadLine, IsAnswerTo, IsAnswerFor}
+
+pub answered : (text : List ℕ) (board : Data) (answer : BoardAnswer) → IsTomlOf text board → IsAnswerFor board answer → IsAnswerTo text answer
+answered text board (Made made) toml fit = record { board = board; toml = toml; fit = fit }
+answered text board (NoPlan reason) toml told = record { board = board; toml = toml; reason = told }
+answered text board (Unread line) toml worded = worded
+
+-- ---- lines
+
+pub other_worded : {A E : Type 0} (bytes : A → List ℕ) (words : List ℕ) (r : Result A E) → IfOk r (λ t. bytes t ≡ codes "no plan: no " ++ (words ++ codes "\n"))
+    → IfOk r (λ t. IsOtherReason (bytes t))
+other_worded bytes words (Ok t) written = (words, written)
+other_worded bytes words (Err e) written = tt
+
+pub unread_worded : {A E : Type 0} (bytes : A → List ℕ) (words : List ℕ) (r : Result A E) → IfOk r (λ t. bytes t ≡ codes "unreadable board: " ++ (words ++ codes "\n"))
+    → IfOk r (λ t. IsUnreadLine (bytes t))
+unread_worded bytes words (Ok t) written = (words, written)
+unread_worded bytes words (Err e) written = tt
+
+-- ---- obstacles
+
+-- want of memory has no text
+not_memory : (plan : Plan) (obstacle : CertifyError) (text : List ℕ) → obstacle_text plan obstacle ≡ Some text → obstacle ≢ error.OutOfMemory
+not_memory plan obstacle text told is =
+    let untold : obstacle_text plan error.OutOfMemory ≡ Some text = subst (λ o. obstacle_text plan o ≡ Some text) is told in
+    cc
+
+-- what rules certificates out of a plan of which something holds
+pub ruled_out : (IsGiven : Plan → Type 0) (plan : Plan) (obstacle : CertifyError) (text : List ℕ) → IsGiven plan → NamesObstacle plan obstacle
+    → RulesOutCertificates plan obstacle → TellsObstacle plan obstacle text → IsReason IsGiven text
+ruled_out IsGiven plan obstacle text given first none told = inl (record {
+  plan = plan;
+  obstacle = obstacle;
+  given = given;
+  first = first;
+  none = none (not_memory plan obstacle told.line told.worded);
+  told = told;
+})

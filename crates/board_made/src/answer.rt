@@ -1,0 +1,119 @@
+//! What is answered of the text of a board.
+ghost use Rattle.std.specs.Prelude.{IfOk, string_bytes};
+ghost use Rattle.toml.specs.View.{view};
+ghost use Rattle.board_kept.specs.Said.{IsTomlOf};
+ghost use Rattle.board_made.specs.Made.{IsAnswerTo, IsAnswerFor, IsUnreadLine};
+
+use crate::judged::judged;
+use crate::reasons::{no_plan_line, place_line, unread_line};
+use board::{Board, BoardError, made_plan, read_board};
+use board_kept::board_of_text;
+use std::alloc::{AllocError, Global};
+use toml::Value;
+
+/// What is answered of a board.
+#[derive(Debug, Drop)]
+pub enum BoardAnswer {
+    /// A plan, judged.
+    Made(MadePlan),
+    /// Why no plan can be made of it.
+    NoPlan(String),
+    /// Why it can't be read.
+    Unread(String),
+}
+
+/// The text of a plan that was made, and that of its certificate.
+#[derive(Debug, Drop)]
+pub struct MadePlan {
+    pub plan: String,
+    pub certificate: String,
+}
+
+/// The plan that is made of the text of a board, or why there is none.
+pub fn answer_board(alloc: Global, text: &[u8]) -> Result<BoardAnswer, AllocError>
+    ensures { IfOk result (λ answer. IsAnswerTo text.now answer) }
+{
+    match std::str::from_utf8(text) {
+        Ok(text) => answer_text(alloc, text),
+        Err(_) => Ok(BoardAnswer::Unread(unread_line(alloc, "the text is not UTF-8")?)),
+    }
+}
+
+fn answer_text(alloc: Global, text: &str) -> Result<BoardAnswer, AllocError>
+    ensures { IfOk result (λ answer. IsAnswerTo text.now answer) }
+{
+    match board_of_text(alloc, text) {
+        Ok(board) => Ok(answer_value(alloc, text, &board)?),
+        Err(error) => Ok(BoardAnswer::Unread(syntax_line(alloc, text, &error)?)),
+    }
+}
+
+/// Where the text is no TOML, and why. An error of memory has no place.
+fn syntax_line(alloc: Global, text: &str, error: &toml::de::Error) -> Result<String, AllocError>
+    ensures { IfOk result (λ line. IsUnreadLine (string_bytes line)) }
+{
+    let Some(span) = error.span() else {
+        return Err(AllocError);
+    };
+    let (line, column) = line_and_column(text, span.start);
+    place_line(alloc, line, column, error.message())
+}
+
+/// The line and the column, both from 1, of a byte of a text.
+fn line_and_column(text: &str, at: usize) -> (usize, usize) {
+    let mut line = 1usize;
+    let mut column = 1usize;
+    for byte in text.bytes().take(at) {
+        if byte == b'\n' {
+            line = line.saturating_add(1);
+            column = 1;
+        } else {
+            column = column.saturating_add(1);
+        }
+    }
+    (line, column)
+}
+
+/// The plan that is made of a board's table, or why there is none.
+fn answer_value(alloc: Global, text: &str, board: &Value) -> Result<BoardAnswer, AllocError>
+    ensures { IfOk result (λ answer. IsAnswerFor (view board.now) answer) }
+{
+    match read_value(alloc, text, board) {
+        Ok(given) => answer_given(alloc, text, board, &given),
+        Err(error) => Ok(BoardAnswer::Unread(error_line(alloc, error)?)),
+    }
+}
+
+fn read_value(alloc: Global, text: &str, board: &Value) -> Result<Board, BoardError> {
+    match board.as_table() {
+        Some(table) => read_board(alloc, text, table),
+        None => Err(BoardError::OutOfMemory),
+    }
+}
+
+fn error_line(alloc: Global, error: BoardError) -> Result<String, AllocError>
+    ensures { IfOk result (λ line. IsUnreadLine (string_bytes line)) }
+{
+    match error {
+        BoardError::Unread {
+            line,
+            column,
+            reason,
+        } => place_line(alloc, line, column, &reason),
+        BoardError::OutOfMemory => Err(AllocError),
+    }
+}
+
+fn answer_given(
+    alloc: Global,
+    text: &str,
+    board: &Value,
+    given: &Board,
+) -> Result<BoardAnswer, AllocError>
+    ensures { IfOk result (λ answer. IsAnswerFor (view board.now) answer) }
+{
+    match made_plan(alloc, given) {
+        Ok(made) => judged(alloc, text, board, made),
+        Err(why) => Ok(BoardAnswer::NoPlan(no_plan_line(alloc, Some(text), given, why)?)),
+    }
+}

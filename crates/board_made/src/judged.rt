@@ -1,0 +1,136 @@
+//! A plan that was made, judged before it is answered.
+ghost use Rattle.std.specs.Prelude.{◌≡◌, IfOk, IfSome, None, string_bytes};
+ghost use Rattle.toml.specs.View.{view};
+ghost use Rattle.net_plan.specs.CertificateValues.{certificate_value};
+ghost use Rattle.net_plan.specs.PlanValues.{plan_value};
+ghost use Rattle.net_plan.specs.WellFormed.{IsWellFormed};
+ghost use Rattle.net_json.specs.PlanText.{IsPlanOf};
+ghost use Rattle.net_json.specs.Texts.{StandsFor};
+ghost use Rattle.net_rules.specs.Certificates.{IsExact, NamesObstacle, RulesOutCertificates};
+ghost use Rattle.board_kept.specs.Kept.{Keeps};
+ghost use Rattle.board_kept.specs.Made.{IsFitFor};
+ghost use Rattle.board_made.specs.Made.{IsAnswerFor, IsCertificateText, IsOtherReason, IsReason};
+
+use crate::answer::{BoardAnswer, MadePlan};
+use crate::reasons::{lacking, obstacle_reason, other_reason, unfit_line};
+use board_kept::{judge, keeps};
+use net_check::{CertifyError, CheckError, certify, check};
+use net_json::{PlanError, plan_of_text, text_of_certificate};
+use net_plan::{Certificate, Plan};
+use std::alloc::{AllocError, Global};
+use toml::Value;
+
+/// The text of a plan, where it reads as one that is fit for a board, or why it isn't.
+pub fn judged(
+    alloc: Global,
+    text: &str,
+    board: &Value,
+    made: String,
+) -> Result<BoardAnswer, AllocError>
+    ensures { IfOk result (λ answer. IsAnswerFor (view board.now) answer) }
+{
+    match plan_of_text(alloc, made.as_str().as_bytes()) {
+        Ok(plan) => Ok(judged_plan(alloc, text, board, made, &plan)?),
+        Err(PlanError::OutOfMemory) => Err(AllocError),
+        Err(_) => Ok(BoardAnswer::NoPlan(other_reason(
+            alloc,
+            "text that was made reads as a plan",
+        )?)),
+    }
+}
+
+fn judged_plan(
+    alloc: Global,
+    text: &str,
+    board: &Value,
+    made: String,
+    plan: &Plan,
+) -> Result<BoardAnswer, AllocError>
+    requires { StandsFor IsPlanOf (string_bytes made) (plan_value plan.now) }
+    ensures { IfOk result (λ answer. IsAnswerFor (view board.now) answer) }
+{
+    match certify(alloc, plan) {
+        Ok(certificate) => Ok(judged_with(alloc, text, board, made, plan, &certificate)?),
+        Err(obstacle) => Ok(BoardAnswer::NoPlan(why_ruled_out(
+            alloc, text, board, plan, &obstacle,
+        )?)),
+    }
+}
+
+/// What rules certificates of a plan out, where the plan has all that the board gives.
+fn why_ruled_out(
+    alloc: Global,
+    text: &str,
+    board: &Value,
+    plan: &Plan,
+    obstacle: &CertifyError,
+) -> Result<String, AllocError>
+    requires names { NamesObstacle plan.now obstacle.now }
+    requires none { RulesOutCertificates plan.now obstacle.now }
+    ensures { IfOk result (λ reason. IsReason (Keeps (view board.now)) (string_bytes reason)) }
+{
+    if keeps(alloc, board, plan)? {
+        Ok(obstacle_reason(alloc, Some(text), plan, obstacle)?)
+    } else {
+        Ok(lacking(alloc)?)
+    }
+}
+
+fn judged_with(
+    alloc: Global,
+    text: &str,
+    board: &Value,
+    made: String,
+    plan: &Plan,
+    certificate: &Certificate,
+) -> Result<BoardAnswer, AllocError>
+    requires reads { StandsFor IsPlanOf (string_bytes made) (plan_value plan.now) }
+    requires exact { IsExact plan.now certificate.now }
+    requires well_formed { IsWellFormed (plan_value plan.now) (certificate_value certificate.now) }
+    ensures { IfOk result (λ answer. IsAnswerFor (view board.now) answer) }
+{
+    let certified = certified_text(alloc, plan, certificate)?;
+    match why_unfit(alloc, text, board, plan, certificate)? {
+        Some(reason) => Ok(BoardAnswer::NoPlan(reason)),
+        None => Ok(BoardAnswer::Made(MadePlan {
+            plan: made,
+            certificate: certified,
+        })),
+    }
+}
+
+fn certified_text(
+    alloc: Global,
+    plan: &Plan,
+    certificate: &Certificate,
+) -> Result<String, AllocError>
+    requires exact { IsExact plan.now certificate.now }
+    requires well_formed { IsWellFormed (plan_value plan.now) (certificate_value certificate.now) }
+    ensures { IfOk result (λ text. IsCertificateText plan.now certificate.now (string_bytes text)) }
+{
+    text_of_certificate(alloc, plan, certificate)
+}
+
+/// Why a plan with its certificate is not fit for a board; none where it is.
+fn why_unfit(
+    alloc: Global,
+    text: &str,
+    board: &Value,
+    plan: &Plan,
+    certificate: &Certificate,
+) -> Result<Option<String>, AllocError>
+    ensures fit { IfOk result (λ why. why ≡ None → IsFitFor (view board.now) plan.now certificate.now) }
+    ensures reason { IfOk result (λ why. IfSome why (λ reason. IsOtherReason (string_bytes reason))) }
+{
+    match check(alloc, plan, certificate) {
+        Ok(checked) => match judge(alloc, board, &checked) {
+            Ok(()) => Ok(None),
+            Err(unfit) => Ok(Some(unfit_line(alloc, Some(text), plan, unfit)?)),
+        },
+        Err(CheckError::Fault(_)) => Ok(Some(other_reason(
+            alloc,
+            "certificate that was made meets every rule",
+        )?)),
+        Err(CheckError::OutOfMemory) => Err(AllocError),
+    }
+}

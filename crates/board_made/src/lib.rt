@@ -1,0 +1,10 @@
+//! The plan that is made of a board's text, or a plan with rows, judged before it is answered, or why none is.
+#![tactic(auto)]
+
+mod answer;
+mod judged;
+mod reasons;
+mod rowed;
+
+pub use answer::{BoardAnswer, MadePlan, answer_board};
+pub use rowed::{RowsAnswer, answer_rows};

@@ -1,0 +1,122 @@
+//! A plan with rows, judged before it is answered.
+ghost use Rattle.std.specs.Prelude.{◌≡◌, IfOk, IfSome, None, string_bytes};
+ghost use Rattle.net_plan.specs.PlanValues.{plan_value};
+ghost use Rattle.net_json.specs.PlanText.{IsPlanOf};
+ghost use Rattle.net_json.specs.Texts.{StandsFor};
+ghost use Rattle.net_rules.specs.Certificates.{NamesObstacle, RulesOutCertificates};
+ghost use Rattle.board_kept.specs.Rowed.{IsRowedFrom};
+ghost use Rattle.board_made.specs.Made.{IsOtherReason};
+ghost use Rattle.board_made.specs.Rowed.{IsRowsAnswer, IsRowsReason};
+
+use crate::reasons::{lacking, no_plan_line, obstacle_reason, other_reason, unfit_line};
+use board::{board_of_plan, made_plan};
+use board_kept::{is_same_but_rows, judge_rows};
+use net_check::{CertifyError, CheckError, certify, check};
+use net_json::{PlanError, plan_of_text};
+use net_plan::{Certificate, Plan};
+use std::alloc::{AllocError, Global};
+
+/// What is answered of a plan that is to have rows.
+#[derive(Debug, Drop)]
+pub enum RowsAnswer {
+    /// The text of the plan with rows, judged.
+    Made(String),
+    /// Why no such plan can be made.
+    NoPlan(String),
+}
+
+/// A plan with rows by which all its nodes reach each other, or why there is none. It keeps the rows that it has.
+pub fn answer_rows(alloc: Global, before: &Plan) -> Result<RowsAnswer, AllocError>
+    ensures { IfOk result (λ answer. IsRowsAnswer before.now answer) }
+{
+    let board = board_of_plan(alloc, before)?;
+    match made_plan(alloc, &board) {
+        Ok(made) => judged(alloc, before, made),
+        Err(why) => Ok(RowsAnswer::NoPlan(no_plan_line(alloc, None, &board, why)?)),
+    }
+}
+
+fn judged(alloc: Global, before: &Plan, made: String) -> Result<RowsAnswer, AllocError>
+    ensures { IfOk result (λ answer. IsRowsAnswer before.now answer) }
+{
+    match plan_of_text(alloc, made.as_str().as_bytes()) {
+        Ok(plan) => Ok(judged_plan(alloc, before, made, &plan)?),
+        Err(PlanError::OutOfMemory) => Err(AllocError),
+        Err(_) => Ok(RowsAnswer::NoPlan(other_reason(
+            alloc,
+            "text that was made reads as a plan",
+        )?)),
+    }
+}
+
+fn judged_plan(
+    alloc: Global,
+    before: &Plan,
+    made: String,
+    plan: &Plan,
+) -> Result<RowsAnswer, AllocError>
+    requires { StandsFor IsPlanOf (string_bytes made) (plan_value plan.now) }
+    ensures { IfOk result (λ answer. IsRowsAnswer before.now answer) }
+{
+    match certify(alloc, plan) {
+        Ok(certificate) => Ok(judged_with(alloc, before, made, plan, &certificate)?),
+        Err(obstacle) => Ok(RowsAnswer::NoPlan(why_ruled_out(alloc, before, plan, &obstacle)?)),
+    }
+}
+
+/// What rules certificates of a plan out, where the plan is the given one but for its rows.
+fn why_ruled_out(
+    alloc: Global,
+    before: &Plan,
+    plan: &Plan,
+    obstacle: &CertifyError,
+) -> Result<String, AllocError>
+    requires names { NamesObstacle plan.now obstacle.now }
+    requires none { RulesOutCertificates plan.now obstacle.now }
+    ensures { IfOk result (λ reason. IsRowsReason before.now (string_bytes reason)) }
+{
+    if is_same_but_rows(before, plan) {
+        Ok(obstacle_reason(alloc, None, plan, obstacle)?)
+    } else {
+        Ok(lacking(alloc)?)
+    }
+}
+
+fn judged_with(
+    alloc: Global,
+    before: &Plan,
+    made: String,
+    plan: &Plan,
+    certificate: &Certificate,
+) -> Result<RowsAnswer, AllocError>
+    requires { StandsFor IsPlanOf (string_bytes made) (plan_value plan.now) }
+    ensures { IfOk result (λ answer. IsRowsAnswer before.now answer) }
+{
+    match why_unfit(alloc, before, plan, certificate)? {
+        Some(reason) => Ok(RowsAnswer::NoPlan(reason)),
+        None => Ok(RowsAnswer::Made(made)),
+    }
+}
+
+/// Why a plan with its certificate is not the given one with rows; none where it is.
+fn why_unfit(
+    alloc: Global,
+    before: &Plan,
+    plan: &Plan,
+    certificate: &Certificate,
+) -> Result<Option<String>, AllocError>
+    ensures rowed { IfOk result (λ why. why ≡ None → IsRowedFrom before.now plan.now certificate.now) }
+    ensures reason { IfOk result (λ why. IfSome why (λ reason. IsOtherReason (string_bytes reason))) }
+{
+    match check(alloc, plan, certificate) {
+        Ok(checked) => match judge_rows(alloc, before, &checked) {
+            Ok(()) => Ok(None),
+            Err(unfit) => Ok(Some(unfit_line(alloc, None, plan, unfit)?)),
+        },
+        Err(CheckError::Fault(_)) => Ok(Some(other_reason(
+            alloc,
+            "certificate that was made meets every rule",
+        )?)),
+        Err(CheckError::OutOfMemory) => Err(AllocError),
+    }
+}

@@ -1,0 +1,4 @@
+pub mod Items
+pub mod Sending
+pub mod Chains
+pub mod Made

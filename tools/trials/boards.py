@@ -1,0 +1,222 @@
+"""Random boards: each ends in a plan that is fit for it, or in a reason that is true.
+
+Boards are trees of bridges with endpoints, some with a second way, and with endpoint IDs, pools, rows and lists of whom to
+reach left out or given. Of a plan that make prints check has to say yes with the certificate that it writes, and what the
+board gives has to be in it; from each node packets have to come to all that it is to reach, by the rows, and in as few hops
+as the buses allow where no row is given for the endpoint ID. Of a reason is tried that no endpoint ID of the pool, no run
+of them or no way is left, or that a rule is named of a board that gives endpoint IDs, pools or rows. 2,000 boards are tried
+of the proved program, 200 of another; a word that is a number says how many, and `from N` with which to begin.
+"""
+import json
+import random
+import re
+
+from runner import each
+
+COUNT, FEW = 2_000, 200
+
+
+# ---- boards
+
+
+class Board:
+    """A board: its buses, and its nodes as dicts of what is given."""
+
+    def __init__(self, seed):
+        self.random = random.Random(seed)
+        self.buses, self.nodes = [], []
+        self.add("root", None, [self.bus()])
+        self.nodes[0]["pool"] = self.random.choice(["9-254", "9-63", "16-40"])
+        for number in range(self.random.randint(0, 4)):
+            self.add_bridge(f"b{number}")
+        for number in range(self.random.randint(1, 10)):
+            self.add_endpoint(f"e{number}")
+        for node in self.nodes:
+            self.vary(node)
+
+    def bus(self):
+        self.buses.append(f"bus{len(self.buses)}")
+        return self.buses[-1]
+
+    def add(self, name, owner, buses):
+        ports = [f"{bus} {len(self.nodes) + 16:02x}" for bus in buses]
+        self.nodes.append({"name": name, **({"owner": owner} if owner else {}), "ports": ports})
+        return self.nodes[-1]
+
+    def bridges(self):
+        return [it for it in self.nodes if "pool" in it]
+
+    def add_bridge(self, name):
+        above = self.random.choice(self.bridges())
+        node = self.add(name, above["name"], [self.random.choice(buses_of(above)), self.bus()])
+        if self.random.random() < 0.3:
+            node["ports"].append(f"{self.random.choice(self.buses)} 7{len(self.nodes)}")
+        node["pool"] = self.random.choice([2, 4, 8])
+
+    def add_endpoint(self, name):
+        above = self.random.choice(self.bridges())
+        self.add(name, above["name"], [self.random.choice(buses_of(above))])
+
+    def vary(self, node):
+        """Gives more of a node, now and then."""
+        names = [it["name"] for it in self.nodes]
+        if self.random.random() < 0.15:
+            node["reaches"] = self.random.sample(names, self.random.randint(0, min(4, len(names))))
+        if self.random.random() < 0.05:
+            node["eid"] = self.random.randint(8, 60)
+        if self.random.random() < 0.03 and node is not self.nodes[0]:
+            first = self.random.randint(9, 60)
+            node["rows"] = [f"{first} via {self.random.choice([it for it in names if it != node['name']])} port 0"]
+        if self.random.random() < 0.2:
+            node["tid"] = self.nodes.index(node) + 1
+            node["record"] = [{"type": "terminus-locator", "tid": node["tid"], "eid": node["name"]}]
+
+    def text(self):
+        lines = []
+        for name in self.buses:
+            lines += ["[[bus]]", f'name = "{name}"', 'binding = "smbus"', ""]
+        for node in self.nodes:
+            lines.append("[[node]]")
+            lines += [f"{key} = {json.dumps(value)}" for key, value in node.items() if key != "record"]
+            for record in node.get("record", []):
+                lines += ["[[node.record]]", *(f"{key} = {json.dumps(value)}" for key, value in record.items())]
+            lines.append("")
+        return "\n".join(lines)
+
+
+def buses_of(node):
+    return [it.split()[0] for it in node["ports"]]
+
+
+# ---- plans
+
+
+def hops_over(nodes, is_bridge, start):
+    """How few hops over buses lead from a node to each."""
+    hops, front = {start: 0}, [start]
+    while front:
+        after = []
+        for at in front:
+            if at != start and not is_bridge[at]:
+                continue
+            for to, node in enumerate(nodes):
+                if to not in hops and set(buses_of(nodes[at])) & set(buses_of(node)):
+                    hops[to] = hops[at] + 1
+                    after.append(to)
+        front = after
+    return hops
+
+
+def row_for(node, eid):
+    return next((it for it in node["rows"] if it["first"] <= eid < it["first"] + it["size"]), None)
+
+
+def row_text(row):
+    last = row["first"] + row["size"] - 1
+    eids = str(last) if row["size"] == 1 else f"{row['first']}-{last}"
+    return f"{eids} via {row['next']} port {row['port']}"
+
+
+def hops_by_rows(plan, start, eid):
+    """How many hops packets for an endpoint ID make from a node; none where they don't arrive."""
+    index = {it["name"]: at for at, it in enumerate(plan["nodes"])}
+    at, hops = start, 0
+    while plan["nodes"][at]["eid"] != eid:
+        node = plan["nodes"][at]
+        row = row_for(node, eid)
+        if not row or hops and node["kind"] != "bridge" or hops > 64:
+            return None
+        at, hops = index[row["next"]], hops + 1
+    return hops
+
+
+def lacks(board, plan):
+    """What of a board is not in its plan, as words."""
+    if [it["name"] for it in plan["buses"]] != board.buses or len(plan["nodes"]) != len(board.nodes):
+        return "buses or nodes"
+    for given, made in zip(board.nodes, plan["nodes"]):
+        ports = [f"{it['bus']} {it['address']}" for it in made["ports"]]
+        if (given["name"], given.get("owner"), given["ports"]) != (made["name"], made["owner"], ports):
+            return f"name, owner or ports of {given['name']}"
+        if given.get("eid", made["eid"]) != made["eid"] or set(given.get("rows", [])) - {*map(row_text, made["rows"])}:
+            return f"endpoint ID or rows of {given['name']}"
+        pool = made["pool"] and (f"{made['pool']['first']}-{made['pool']['first'] + made['pool']['size'] - 1}", made["pool"]["size"])
+        if ("pool" in given) != bool(pool) or pool and given["pool"] not in pool:
+            return f"pool of {given['name']}"
+        if ("record" in given) != bool(made["terminus"]):
+            return f"terminus of {given['name']}"
+    return None
+
+
+def wrong_of_plan(trial, board, text, certificate):
+    plan = json.loads(text)
+    if trial.run(["check", trial.file("plan.json", text), certificate])[1] != b"yes\n":
+        return "its certificate doesn't fit"
+    if wrong := lacks(board, plan):
+        return f"lacks {wrong}"
+    nodes, is_bridge = plan["nodes"], [it["kind"] == "bridge" for it in plan["nodes"]]
+    given = [it for node in board.nodes for it in node.get("rows", [])]
+    covered = {eid for it in given for eid in range(int(it.split()[0].split("-")[0]), int(it.split()[0].split("-")[-1]) + 1)}
+    for at, node in enumerate(board.nodes):
+        least = hops_over(board.nodes, is_bridge, at)
+        for to, other in enumerate(nodes):
+            if other["name"] in node.get("reaches", [other["name"]]):
+                hops = hops_by_rows(plan, at, other["eid"])
+                if hops is None or other["eid"] not in covered and hops != least[to]:
+                    return f"{node['name']} to {other['name']}: {hops} hops"
+    return None
+
+
+# ---- reasons
+
+
+def pool_of(board, name):
+    """The endpoint IDs of a pool that the board gives by its ends; none of another."""
+    pool = next(it for it in board.nodes if it["name"] == name).get("pool")
+    return set(range(int(pool.split("-")[0]), int(pool.split("-")[1]) + 1)) if isinstance(pool, str) else None
+
+
+def wrong_of_reason(board, reason):
+    gives_some = any({"eid", "rows"} & {*it} for it in board.nodes)
+    if found := re.match(r'no plan: no (\d+ )?endpoint IDs? of the pool of node "(\w+)"', reason):
+        # (at most so many are handed out from the pool, or the board gives some that are in the way)
+        owned = [it for it in board.nodes if it.get("owner") == found[2]]
+        wanted = len(owned) + sum(it["pool"] for it in owned if isinstance(it.get("pool"), int))
+        pool = pool_of(board, found[2])
+        size = len(pool) if pool else next(it for it in board.nodes if it["name"] == found[2])["pool"]
+        return None if wanted > size or gives_some else "there is room"
+    if found := re.match(r'no plan: no way over buses, bridges and given rows leads from node "(\w+)" .* to node "(\w+)"', reason):
+        names = [it["name"] for it in board.nodes]
+        bridges = ["pool" in it for it in board.nodes]
+        is_cut = names.index(found[2]) not in hops_over(board.nodes, bridges, names.index(found[1]))
+        return None if is_cut or gives_some else "there is a way"
+    return None if gives_some and reason.startswith("no plan: ") else "nothing that the board gives is against a plan"
+
+
+def wrong_of(trial, seed):
+    board = Board(seed)
+    certificate = trial.file("certificate.json", "")
+    status, output, error = trial.run(["make", trial.file("board.toml", board.text()), "--certificate", certificate])
+    if status == 0:
+        return wrong_of_plan(trial, board, output.decode(), certificate)
+    if status == 1:
+        return wrong_of_reason(board, output.decode())
+    return f"status {status}: {(output + error).decode()}"
+
+
+def try_all(trial):
+    words, first = [*trial.words], 0
+    if "from" in words:
+        at = words.index("from")
+        first = int(words[at + 1])
+        del words[at : at + 2]
+    count = int(words[0]) if words else FEW if trial.is_unproved or trial.given else COUNT
+
+    def tried(seed):
+        try:
+            wrong = wrong_of(trial, seed)
+        except (ValueError, IndexError, KeyError, TypeError) as why:
+            wrong = f"{type(why).__name__} {why}"
+        trial.note(not wrong, f"board {seed}: {wrong}")
+
+    each(tried, range(first, first + count))
