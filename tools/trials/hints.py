@@ -25,7 +25,7 @@ HINTS = [
     (
         ["schema", "plans"],
         "usage",
-        ["mctpplan schema plan|certificate|events", "plans is none of plan, certificate and events", "mctpplan guide schema tells more"],
+        ["mctpplan schema plan|certificate|events|board", "plans is none of plan, certificate, events and board", "mctpplan guide schema tells more"],
     ),
     (["trace", PLAN, CERTIFICATE, "host", "nics"], "unreadable node: J06", ["there is no node nics; the nearest is nic"]),
     (["walk", PLAN, CERTIFICATE, "Host", "16"], "unreadable node: J06", ["there is no node Host; the nearest is host"]),

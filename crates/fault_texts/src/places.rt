@@ -299,7 +299,11 @@ pub fn row_pointer(alloc: Global, node: usize, row: usize) -> Result<Vec<Pointer
 }
 
 /// The pointer to a record of a node's terminus.
-pub fn record_pointer(alloc: Global, node: usize, index: usize) -> Result<Vec<PointerStep>, AllocError>
+pub fn record_pointer(
+    alloc: Global,
+    node: usize,
+    index: usize,
+) -> Result<Vec<PointerStep>, AllocError>
     ensures { IfOk result (λ pointer. map step_value pointer.items ≡ record_pointer node index) }
 {
     [
