@@ -4,8 +4,8 @@ Boards are trees of bridges with endpoints, some with a second way, and with end
 reach left out or given. Of a plan that make prints check has to say yes with the certificate that it writes, and what the
 board gives has to be in it; from each node packets have to come to all that it is to reach, by the rows, and in as few hops
 as the buses allow where no row is given for the endpoint ID. Of a reason is tried that no endpoint ID of the pool, no run
-of them or no way is left, or that a rule is named of a board that gives endpoint IDs, pools or rows. 2,000 boards are tried
-of the proved program, 200 of another; a word that is a number says how many, and `from N` with which to begin.
+of them or no way is left, or that a rule is named of a board that gives endpoint IDs, pools or rows. 10,000 boards are
+tried of the proved program, 200 of another; a word that is a number says how many, and `from N` with which to begin.
 """
 import json
 import random
@@ -13,7 +13,7 @@ import re
 
 from runner import each
 
-COUNT, FEW = 2_000, 200
+COUNT, FEW = 10_000, 200
 
 
 # ---- boards
