@@ -96,7 +96,7 @@ def commands():
     for command, others in (
         ("check", [[plan, certificate], [loop, TOP / "examples/refused/loop-certificate.json"]]),
         ("certify", [[plan], [loop]]),
-        ("make", [[TOP / f"examples/board/{it}.toml"] for it in ("riser", "full", "misspelt")]),
+        ("make", [[TOP / f"examples/board/{it}.toml"] for it in ("riser", "full", "small")]),
         ("make", [[TOP / "examples/board/riser.toml", "--certificate", "/dev/null"]]),
         ("rows", [[TOP / "examples/questions/plan-without-rows.json"]]),
         ("assign", [[plan, certificate]]),

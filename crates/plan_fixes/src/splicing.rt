@@ -9,7 +9,7 @@ ghost use Rattle.plan_fixes.specs.Splices.{IsSpan, IsSpliced, changed_pointer};
 use fault_texts::{part_pointer, record_pointer, row_pointer};
 use json::{Scratch, Value};
 use net_explained::{Change, Edit};
-use net_json::{PointerStep, json_of};
+use net_json::{PlanError, PointerStep, json_of};
 use net_plan::Plan;
 use net_pointers::offset_of_pointer;
 use net_tables::lookup::rows_at;
@@ -92,6 +92,7 @@ fn span_in(
     let mut scratch = Scratch::new(alloc);
     match json_of(alloc, &text[from..to], &mut scratch) {
         Ok(_) => Ok(Some(Span { from, to })),
+        Err(PlanError::OutOfMemory) => Err(AllocError),
         Err(_) => Ok(None),
     }
 }
