@@ -166,5 +166,5 @@ def try_all(trial):
         return count if isinstance(count, tuple) else None
 
     counts = [it for it in each(tried, chosen) if it is not None]
-    edits, fixed = (sum(map(bool, its)) for its in zip(*counts))
+    edits, fixed = sum(bool(it) for it, _ in counts), sum(it for _, it in counts)
     print(f"explained: of {len(counts)} plans with a fault {edits} have an edit that takes all away, and fix mends {fixed}")

@@ -1,4 +1,6 @@
 //! Files that fail in mid-stream, outputs that fail, and events over a terminus that is given.
+ghost use Rattle.std.specs.Prelude.{◌≡◌};
+
 use super::narrow_outputs::narrow_output;
 use net_check::check;
 use net_json::{Counted, certificate_of_text, events_of_text, plan_of_text};
@@ -29,7 +31,9 @@ impl Read for Broken<'_> {
     }
 }
 
-fn source(text: &str, fails: bool) -> Counted<Broken<'_>> {
+fn source(text: &str, fails: bool) -> Counted<Broken<'_>>
+    ensures { result.failures ≡ 0 }
+{
     Counted::new(Broken {
         rest: text.as_bytes(),
         fails,

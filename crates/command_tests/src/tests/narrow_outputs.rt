@@ -1,4 +1,6 @@
 //! An output that fails once it is full.
+ghost use Rattle.std.specs.Prelude.{◌≡◌};
+
 use net_json::Counted;
 use std::alloc::Global;
 use std::io::{self, ErrorKind, Write};
@@ -29,7 +31,9 @@ impl Write for Narrow {
 }
 
 /// A sink with room for so many bytes.
-pub fn narrow_output(alloc: Global, room: usize) -> Counted<Narrow> {
+pub fn narrow_output(alloc: Global, room: usize) -> Counted<Narrow>
+    ensures { result.failures ≡ 0 }
+{
     Counted::new(Narrow {
         kept: Vec::new(alloc),
         room,
