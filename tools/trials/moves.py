@@ -224,4 +224,11 @@ def try_certificate(trial, seed, old, new, want):
 def try_all(trial):
     trial.program
     count = int(trial.words[0]) if trial.words else FEW if trial.is_unproved or trial.given else PAIRS
-    each(lambda seed: try_pair(trial, seed), range(count))
+
+    def tried(seed):
+        try:
+            try_pair(trial, seed)
+        except (ValueError, IndexError, KeyError, TypeError) as why:
+            trial.note(False, f"pair {seed}: {type(why).__name__} {why}")
+
+    each(tried, range(count))
