@@ -1,5 +1,5 @@
 -- Buses and nodes as plain lists and numbers.
-use Rattle.std.specs.Prelude.{ℕ, List, map, string_bytes, Option, option_map}
+use Rattle.std.specs.Prelude.{ℕ, List, [], map, string_bytes, Option, option_map}
 use Rattle.net_plan.specs.declared.name.Name.{Name}
 use Rattle.net_plan.specs.declared.nodes.Bus.{Bus}
 use Rattle.net_plan.specs.declared.nodes.Kind.{Kind}
@@ -91,3 +91,7 @@ node_value n = record {
   rows = map row_value n.rows.items;
   terminus = option_map terminus_value n.terminus;
 }
+
+-- a node as plain values, but for its rows
+abbrev pub but_rows : Node → NodeValue
+but_rows node = record (node_value node) { rows = [] }

@@ -15,7 +15,8 @@ use Rattle.net_plan.specs.declared.nodes.Row.{Row}
 use Rattle.net_plan.specs.NodeValues.{bus_value, row_value}
 use Rattle.net_tables.specs.Routing.{node_at, rows_of}
 use Rattle.net_plan.specs.declared.certificate.Certificate.{Certificate}
-use Rattle.net_rules.specs.MoveRules.{AcceptsMove, HaveSameFrame, IsSameNode, SameFrame, SameNode, but_rows}
+use Rattle.net_plan.specs.NodeValues.{but_rows}
+use Rattle.net_rules.specs.MoveRules.{AcceptsMove, HaveSameFrame, IsSameNode, SameFrame, SameNode}
 use Rattle.net_rules.specs.MoveObstacles.{DifferInRows}
 use Rattle.net_rollout.specs.declared.change.LastStep.{LastStep}
 use Rattle.net_rollout.specs.declared.change.Part.{Part}

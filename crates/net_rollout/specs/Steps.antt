@@ -15,7 +15,8 @@ use Rattle.net_rules.specs.declared.move_error.MoveError.TheVariants as error
 use Rattle.net_rules.specs.declared.move_obstacle.MoveObstacle.{MoveObstacle}
 use Rattle.net_rules.specs.declared.move_obstacle.MoveObstacle.TheVariants as obstacle
 use Rattle.net_rules.specs.MoveObstacles.{DifferInRows, HasNoMoveCertificate, IsExactForMove, NamesMoveObstacle}
-use Rattle.net_rules.specs.MoveRules.{AcceptsMove, but_rows}
+use Rattle.net_plan.specs.NodeValues.{but_rows}
+use Rattle.net_rules.specs.MoveRules.{AcceptsMove}
 use Rattle.net_rules.specs.Rules.{Accepts}
 use Rattle.net_rollout.specs.declared.change.Part.{Part}
 use Rattle.net_rollout.specs.declared.change.Change.{Change}

@@ -3,7 +3,7 @@ ghost use Rattle.std.specs.Prelude.{◌≡◌, ◌↔◌, ℕ, IfOk, IfSome, IsT
 ghost use Rattle.net_plan.specs.declared.plan.Plan.{Plan};
 ghost use Rattle.net_plan.specs.NodeValues.{bus_value, port_value, record_value, row_value, terminus_value, name_bytes};
 ghost use Rattle.net_tables.specs.Routing.{rows_of};
-ghost use Rattle.net_rules.specs.MoveRules.{but_rows};
+ghost use Rattle.net_plan.specs.NodeValues.{but_rows};
 ghost use Rattle.net_rollout.specs.Steps.{AreChanged, AreNodesAfter, AreTold, ChangesAs, GoAs, GoesAs, IsPartTold, IsTaken, IsTold, SendAs};
 
 use crate::change::{Change, Part};

@@ -14,7 +14,6 @@ mod RuleOrder
 mod FaultRuns
 mod LocatorLaws
 mod EntryLaws
-mod SameItems
 mod MoveSearches
 mod MoveOrder
 pub mod Ends

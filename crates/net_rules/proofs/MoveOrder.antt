@@ -15,7 +15,8 @@ use Rattle.net_tables.specs.Routing.{eid_number}
 use Rattle.net_rules.specs.HeldEids.{IsLedOn}
 use Rattle.net_rules.specs.Superfluous.{NeedsWhatItIsGiven, NeedsItsRank}
 use Rattle.net_tables.specs.TwoPlans.{Tables, moving}
-use Rattle.net_rules.specs.MoveRules.{Requirement, SameFrame, SameNode, Before, After, WayOnBefore, WayOnAfter, Given, HaveSameFrame, IsSameNode, but_rows, DemandsBefore, DemandsAfter, MoveDemands, AcceptsMove}
+use Rattle.net_plan.specs.NodeValues.{but_rows}
+use Rattle.net_rules.specs.MoveRules.{Requirement, SameFrame, SameNode, Before, After, WayOnBefore, WayOnAfter, Given, HaveSameFrame, IsSameNode, DemandsBefore, DemandsAfter, MoveDemands, AcceptsMove}
 use Rattle.net_rules.specs.MoveFaults.{MoveFaultSite, order_of_requirement, order_of_its_rule, MoveComesBefore, IsMoveMet, IsFirstMoveFault, required_before, required_after, required_of_both, move_site, IsFirstFaultOf, NamesFirstMoveFault}
 use Rattle.net_rules.specs.declared.move_error.MoveError.{MoveError}
 use Rattle.net_rules.specs.declared.move_error.MoveError.TheVariants.{Differ, Old, New, Both, OutOfMemory}
@@ -23,7 +24,7 @@ use Rattle.net_rules.specs.MoveObstacles.{DifferInRows, NamesDifference}
 use Rattle.net_rules.specs.MoveSearch.{IsFirstUnlike, NodeComesBefore, IsFirstByRules, IsFirstByNode}
 use Rattle.net_rules.proofs.Spots.{node_fails}
 use Rattle.net_rules.proofs.Beyond.{at_node}
-use Rattle.net_rules.proofs.SameItems.{same_beyond}
+use Rattle.net_plan.proofs.SameItems.{same_beyond}
 
 -- what is asked at a place of the order, of this rule where it is a rule of one plan
 abbrev pub asked_at : ℕ → Rule → Requirement

@@ -5,7 +5,8 @@ use Rattle.net_plan.specs.declared.plan.Plan.{Plan}
 use Rattle.net_plan.specs.declared.nodes.Node.{Node}
 use Rattle.net_plan.specs.NodeValues.{NodeValue}
 use Rattle.net_tables.specs.Routing.{node_at, eid_of}
-use Rattle.net_rules.specs.MoveRules.{but_rows, IsSameNode}
+use Rattle.net_plan.specs.NodeValues.{but_rows}
+use Rattle.net_rules.specs.MoveRules.{IsSameNode}
 use Rattle.net_rules.specs.MoveRanks.{HoldTheSame}
 
 pub same_eid : (before after : Plan) (n : ℕ) → IsSameNode before after n → eid_of before n ≡ eid_of after n

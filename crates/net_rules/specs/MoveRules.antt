@@ -1,20 +1,15 @@
 -- The rules of a move: two plans that differ in rows alone, and one certificate for both.
-use Rattle.std.specs.Prelude.{◌≡◌, ℕ, [], map, length, Option, option_map, ⊤}
+use Rattle.std.specs.Prelude.{◌≡◌, ℕ, map, length, Option, option_map, ⊤}
 use Rattle.net_rules.specs.declared.rule.Rule.{Rule}
 use Rattle.net_rules.specs.declared.rule.Rule.TheVariants.{C04, C05, C06, C10, C11, C16}
 use Rattle.net_plan.specs.declared.plan.Plan.{Plan}
-use Rattle.net_plan.specs.declared.nodes.Node.{Node}
 use Rattle.net_plan.specs.declared.certificate.Certificate.{Certificate}
-use Rattle.net_plan.specs.NodeValues.{NodeValue, bus_value, node_value}
+use Rattle.net_plan.specs.NodeValues.{bus_value, but_rows}
 use Rattle.net_tables.specs.Routing.{node_at}
 use Rattle.net_tables.specs.TwoPlans.{moving}
 use Rattle.net_rules.specs.HeldEids.{IsLedOn}
 use Rattle.net_rules.specs.Superfluous.{NeedsWhatItIsGiven, NeedsItsRank}
 use Rattle.net_rules.specs.Rules.{AtNode, AtNodeOrEid, AtRowEid, Demands}
-
--- a node as plain values, but for its rows
-abbrev pub but_rows : Node → NodeValue
-but_rows node = record (node_value node) { rows = [] }
 
 -- n is the same in both plans, but for its rows
 unfoldable pub IsSameNode : Plan → Plan → ℕ → Type 0

@@ -41,3 +41,5 @@ pub use move_error::MoveError;
 pub use move_fault::{MoveFault, MoveRule};
 pub use move_obstacle::MoveObstacle;
 pub use rule::Rule;
+pub use rules::frames::{first_unlike_node, have_same_frame};
+pub use rules::locators::{eid_locator, is_held_with_tid};

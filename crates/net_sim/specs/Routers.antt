@@ -11,7 +11,7 @@ use Rattle.net_plan.specs.declared.nodes.Row.{Row}
 use Rattle.net_plan.specs.declared.certificate.Certificate.{Certificate}
 use Rattle.net_tables.specs.Routing.{rows_of}
 use Rattle.net_tables.specs.Ranks.{rank}
-use Rattle.net_tables.specs.Tables.{AreRows, table_row}
+use Rattle.net_tables.specs.Tables.{AreTabled}
 use Rattle.net_tables.specs.TwoPlans.{Tables, rows_by}
 use Rattle.net_runs.specs.States.{Flight, destination}
 use Rattle.net_sim.specs.Accepted.{IsAccepted}
@@ -29,16 +29,6 @@ has_switched marks n = unwrap_or (slice_get marks n) false
 -- the rows that n goes by
 abbrev pub rows_in_force : RouterValue → ℕ → List Row
 rows_in_force router n = rows_by router.tables.plan router.tables.after (has_switched router.switched n) n
-
--- the rows of each node make a routing table
-abbrev pub HasLawfulRows : Plan → Type 0
-HasLawfulRows plan = (n : ℕ) (node : Node) → slice_get plan.nodes.items n ≡ Some node → AreRows node.rows.items
-
--- so many nodes of the plan have a table that routes as their rows do
-pub record AreTabled (plan : Plan) (count : ℕ) (tables : List (List bridge.TableRow)) : Type 0 where
-  pub as_many : length tables ≡ count
-  pub same : (n : ℕ) (table : List bridge.TableRow) → slice_get tables n ≡ Some table
-      → HasSameRoutes (map table_row (rows_of plan n)) table
 
 -- where there is a plan after, as many tables that route as its rows do; else none
 abbrev pub AreTabledAfter : Plan → Option Plan → List (List bridge.TableRow) → Type 0

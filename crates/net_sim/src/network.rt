@@ -13,6 +13,7 @@ use crate::outcome::Outcome;
 use crate::traffic::Traffic;
 use crate::walker_index::WalkerIndex;
 pub use laws::requests_come_as_sent;
+use mctp_transport::PacketView;
 use net_check::{Checked, CheckedMove};
 use net_plan::Event;
 use pdr_repository::Terminus;
@@ -44,7 +45,8 @@ pub struct Network<'a, T = Box<dyn Terminus>> {
 
 impl<'a, T: Terminus> Network<'a, T> {
     ghost use Rattle.net_tables.specs.TwoPlans.{one_plan, moving};
-    ghost use Rattle.net_runs.specs.States.{at_start, unit_of};
+    ghost use Rattle.mctp_transport.specs.Packets.{frame_of};
+    ghost use Rattle.net_runs.specs.States.{Flight, at_start, unit_of};
     ghost use Rattle.net_runs.specs.Walkers.{WalkerValue, WalkedState};
     ghost use Rattle.net_sim.specs.Accepted.{tables_of, certificate_of};
     ghost use Rattle.net_sim.specs.Outcomes.{outcome_value, event_value};
@@ -191,6 +193,16 @@ impl<'a, T: Terminus> Network<'a, T> {
             outcomes,
             stopped: false,
         })
+    }
+
+    /// The node where a flight is, and its packet. None where there is no flight of this number.
+    pub fn flight(&self, number: u32) -> Option<(usize, PacketView<'_>)>
+        ensures { (w : WalkedState) → StandsForWalked (network_value T.tid T.records self.now) w
+            → MatchOption result (w.network.flight number ≡ None)
+            (λ found. (f : Flight) × (w.network.flight number ≡ Some f) × (found.0 ≡ f.node) × (frame_of found.1 ≡ f.packet)) }
+    {
+        let flight = self.traffic.flight(number)?;
+        Some((flight.node, flight.packet.view()))
     }
 
     /// The records that the walker of this number has collected, by place. None where there is no such walker.

@@ -80,6 +80,13 @@ impl<'a, T: Terminus> Traffic<'a, T> {
         })
     }
 
+    /// The flight of this number.
+    pub fn flight(&self, number: u32) -> Option<&Flight>
+        ensures { option_map (λ f. flight_value f.now) result ≡ flight_at (slots_of self.now.flights) number }
+    {
+        self.flights.get(number)
+    }
+
     /// How many flight numbers are left.
     pub fn left(&self) -> usize
         ensures { result ≡ most_flights + 1 - length (slots_of self.now.flights) }

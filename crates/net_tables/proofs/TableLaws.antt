@@ -1,8 +1,8 @@
 -- A routing table of a node's rows sends what is for an EID where the rows send it, and that is one next node.
-use Rattle.std.proofs.Common.{◌≡◌, ℕ, ◌<◌, List, Some, None, length, map, take, get_or, refl, sym, ap, ◌∙◌, subst, arith, inl, inr}
+use Rattle.std.proofs.Common.{◌≡◌, ℕ, ◌+◌, ◌<◌, List, [], ◌∷◌, ◌++◌, Some, None, length, map, take, get_or, refl, sym, ap, ◌∙◌, subst, arith, inl, inr}
 use Rattle.std.specs.Prelude.{slice_get}
 use Rattle.std.proofs.lemmas.Bool.{cases_order}
-use Rattle.std.proofs.lemmas.List.{get_or-map, get_or-take, length-take, length-map}
+use Rattle.std.proofs.lemmas.List.{get_or-map, get_or-take, length-take, length-map, length_push}
 use Rattle.std.proofs.lemmas.Option.{slice_get_within, slice_get-get_or, get_or_from_slice_get, same_Some}
 use Rattle.mctp_bridge.specs.declared.row.Hop.{Hop}
 use Rattle.mctp_bridge.specs.declared.row.TableRow as bridge
@@ -14,8 +14,8 @@ use Rattle.net_plan.specs.declared.plan.Plan.{Plan}
 use Rattle.net_plan.specs.declared.nodes.Row.{Row}
 use Rattle.net_tables.specs.Rows.{AreApart, IsInRange, IsApartFromEarlier, RowsAreApart}
 use Rattle.net_tables.specs.Routing.{NamesFor, Covers, rows_of}
-use Rattle.net_tables.specs.Tables.{AreRows, table_row, SendsAs}
-use Rattle.net_tables.proofs.Elements.{element}
+use Rattle.net_tables.specs.Tables.{AreRows, AreTabled, AreTables, table_row, SendsAs}
+use Rattle.net_tables.proofs.Elements.{element, in_push}
 
 -- ---- the rows are lawful
 
@@ -93,6 +93,28 @@ sends_as rows copied table is same e None none = λ m names.
     let found = routed rows e m names in
     none found.0 ((same e found.0).0 (subst (λ rs. rule.Routes rs e found.0) (sym is) found.1))
 sends_as rows copied table is same e (Some hop) routes = named rows e hop (subst (λ rs. rule.Routes rs e hop) is ((same e hop).1 routes))
+
+-- ---- the tables of all nodes
+
+pub none_tabled : (plan : Plan) → AreTabled plan 0 []
+none_tabled plan = record { as_many = refl; same = λ n table is. absurd (cc) }
+
+pub more_tabled : (plan : Plan) (count : ℕ) (tables : List (List bridge.TableRow)) (table : List bridge.TableRow) → AreTabled plan count tables
+    → rule.HasSameRoutes (map table_row (rows_of plan count)) table → AreTabled plan (count + 1) (tables ++ table ∷ [])
+more_tabled plan count tables table before routes = record {
+  as_many = omega (arith, length_push tables table, before.as_many);
+  same = λ n other is. elim (in_push tables table n other is) [
+    | inl old ↦ before.same n other old
+    | inr (at, equal) ↦ (
+        let place : count ≡ n = omega (arith, at, before.as_many) in
+        subst (λ (t : List bridge.TableRow). rule.HasSameRoutes (map table_row (rows_of plan n)) t) equal
+        (subst (λ k. rule.HasSameRoutes (map table_row (rows_of plan k)) table) place routes))
+  ];
+}
+
+pub tabled_sends : (plan : Plan) (count : ℕ) (tables : List (List bridge.TableRow)) → AreTabled plan count tables → AreTables plan count tables
+tabled_sends plan count tables are =
+    (are.as_many, λ n table is. sends_as (rows_of plan n) (map table_row (rows_of plan n)) table refl (are.same n table is))
 
 -- two rows of a node that cover one EID name one next node
 pub same_next : (plan : Plan) (n e : ℕ) → RowsAreApart plan → (r q : ℕ) (row other : Row) → slice_get (rows_of plan n) r ≡ Some row → slice_get (rows_of plan n) q ≡ Some other

@@ -1,8 +1,8 @@
 -- The rows of a plan's nodes as routing tables, ready for look-ups.
-use Rattle.std.specs.Prelude.{◌≡◌, ℕ, List, length, slice_get, Option, Some, MatchOption}
+use Rattle.std.specs.Prelude.{◌≡◌, ℕ, List, length, map, slice_get, Option, Some, MatchOption}
 use Rattle.mctp_bridge.specs.declared.row.Hop.{Hop}
 use Rattle.mctp_bridge.specs.declared.row.TableRow as bridge
-use Rattle.mctp_bridge.specs.Rows.{IsNext}
+use Rattle.mctp_bridge.specs.Rows.{HasSameRoutes, IsNext}
 use Rattle.net_plan.specs.declared.plan.Plan.{Plan}
 use Rattle.net_plan.specs.declared.nodes.Row.{Row}
 use Rattle.net_tables.specs.Routing.{rows_of, OfItem, NamesFor}
@@ -15,6 +15,12 @@ AreRows rows = (r : ℕ) → OfItem rows r (λ row. IsApartFromEarlier rows r ro
 -- the same row in a routing table
 abbrev pub table_row : Row → bridge.TableRow
 table_row row = record { first = row.first; size = row.size; hop = record { port = row.port; next = row.next } }
+
+-- so many nodes of the plan have a table that routes as their rows do
+pub record AreTabled (plan : Plan) (count : ℕ) (tables : List (List bridge.TableRow)) : Type 0 where
+  pub as_many : length tables ≡ count
+  pub same : (n : ℕ) (table : List bridge.TableRow) → slice_get tables n ≡ Some table
+      → HasSameRoutes (map table_row (rows_of plan n)) table
 
 -- no row covers e; or one does, and names the next node of the hop
 abbrev pub IsHopOf : List Row → ℕ → Option Hop → Type 0

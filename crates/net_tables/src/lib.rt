@@ -3,5 +3,7 @@
 
 mod eid_run;
 pub mod lookup;
+mod node_tables;
 
 pub use eid_run::EidRun;
+pub use node_tables::routing_tables;

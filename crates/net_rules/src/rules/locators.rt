@@ -61,7 +61,7 @@ fn misleading_value(plan: &Plan, holders: &Holders<'_>, tid: u8, value: &[u8]) -
 }
 
 /// The locator that the bytes are, if they are those of a terminus locator that is valid and names an MCTP endpoint ID.
-pub(crate) fn eid_locator(bytes: &[u8]) -> Option<TerminusLocator<'_>>
+pub fn eid_locator(bytes: &[u8]) -> Option<TerminusLocator<'_>>
     ensures found { IfSome result (λ locator. IsEidLocator bytes.now locator.tid locator.locator_value.now) }
     ensures all { (tid : ℕ) (value : List ℕ) → IsEidLocator bytes.now tid value → IsSomeAnd result (λ locator. (locator.tid ≡ tid) × (locator.locator_value.now ≡ value)) }
 {
@@ -92,13 +92,13 @@ pub(crate) fn is_held_by_terminus(plan: &Plan, holders: &Holders<'_>, tid: u8, e
     ensures { IsTrue result ↔ IsHeldByTerminus plan.now tid eid.value }
 {
     match holders.first(eid) {
-        Some(holder) => has_tid(plan, holder, tid) || is_held_by_one_of_all(plan, tid, eid),
+        Some(holder) => has_tid(plan, holder, tid) || is_held_with_tid(plan, tid, eid),
         None => false,
     }
 }
 
 /// The same by a search through all nodes.
-fn is_held_by_one_of_all(plan: &Plan, tid: u8, eid: Eid) -> bool
+pub fn is_held_with_tid(plan: &Plan, tid: u8, eid: Eid) -> bool
     ensures { IsTrue result ↔ IsHeldByTerminus plan.now tid eid.value }
 {
     for node in 0..plan.nodes.len() {

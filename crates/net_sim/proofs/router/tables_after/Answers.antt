@@ -1,12 +1,15 @@
 use Rattle.std.proofs.Common.{length}
 use Rattle.std.proofs.lemmas.Result.{IfOk-weaker}
 use Rattle.net_sim.specs.Accepted.{tables_of, certificate_of}
-use Rattle.net_sim.specs.Routers.{AreTabled, AreTabledAfter}
+use Rattle.net_tables.specs.Tables.{AreTabled}
+use Rattle.net_sim.specs.Routers.{AreTabledAfter}
 use Rattle.net_sim.proofs.Tabled.{are_rows_after, tabled_after}
 use Rattle.net_sim.proofs.router.tables_after.Goals as goal
 
 pub routing_tables-requires : goal.routing_tables-requires
-routing_tables-requires c = are_rows_after (tables_of c.args.accepted.now).plan c.in-Some.after.now (certificate_of c.args.accepted.now) c.in-Some.ensures.accepted
+routing_tables-requires c =
+    let rows = are_rows_after (tables_of c.args.accepted.now).plan c.in-Some.after.now (certificate_of c.args.accepted.now) c.in-Some.ensures.accepted in
+    record { apart = rows.0; in_range = rows.1 }
 
 pub returns-in-Some : goal.returns-in-Some
 returns-in-Some c =

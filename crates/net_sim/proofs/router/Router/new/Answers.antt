@@ -1,15 +1,17 @@
 use Rattle.std.proofs.Common.{List, Bool, sym, ◌∙◌, ap, subst}
 use Rattle.net_plan.specs.declared.plan.Plan.{Plan}
 use Rattle.net_sim.specs.Accepted.{tables_of, certificate_of}
-use Rattle.net_sim.specs.Routers.{HasLawfulRows, has_switched}
+use Rattle.net_tables.specs.Rows.{RowsAreApart, RowsAreInRange}
+use Rattle.net_sim.specs.Routers.{has_switched}
 use Rattle.net_sim.proofs.Tabled.{are_rows_before, none_marked}
 use Rattle.net_sim.proofs.router.Router.new.Goals as goal
 
 pub routing_tables-requires : goal.routing_tables-requires
 routing_tables-requires c =
     let tables = tables_of c.args.accepted in
-    let P : Plan → Type 0 = HasLawfulRows in
-    subst P (sym c.plan.ensures.plan) (are_rows_before tables.plan tables.after (certificate_of c.args.accepted) c.plan.ensures.accepted)
+    let P : Plan → Type 0 = λ plan. RowsAreApart plan × RowsAreInRange plan in
+    let rows = subst P (sym c.plan.ensures.plan) (are_rows_before tables.plan tables.after (certificate_of c.args.accepted) c.plan.ensures.accepted) in
+    record { apart = rows.0; in_range = rows.1 }
 
 pub returns-clause-unswitched : goal.returns-clause-unswitched
 returns-clause-unswitched c = λ n.

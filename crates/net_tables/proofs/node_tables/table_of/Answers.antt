@@ -1,11 +1,13 @@
 use Rattle.std.proofs.Common.{List, subst, sym, ◌∙◌}
 use Rattle.mctp_bridge.specs.declared.row.TableRow as bridge
 use Rattle.mctp_bridge.specs.Rows as rule
-use Rattle.net_tables.proofs.TableLaws.{lawful_rows, no_fault, sends_as}
-use Rattle.net_rules.proofs.certifying.tables.table_of.Goals as goal
+use Rattle.net_tables.proofs.TableLaws.{lawful_rows, no_fault}
+use Rattle.net_tables.proofs.node_tables.table_of.Goals as goal
 
 pub returns-in-Ok : goal.returns-in-Ok
-returns-in-Ok c = sends_as c.args.rows.now c.deref.result.now c.in-Ok.table (c.deref.ensures.value ∙ c.in_ok-rows.ensures) c.in-Ok.ensures.routes
+returns-in-Ok c =
+    let P : List bridge.TableRow → Type 0 = λ copied. rule.HasSameRoutes copied c.in-Ok.table in
+    subst P (c.deref.ensures.value ∙ c.in_ok-rows.ensures) c.in-Ok.ensures.routes
 
 pub unreachable-requires : goal.unreachable-requires
 unreachable-requires c =

@@ -1,6 +1,6 @@
 use Rattle.std.proofs.Common.{refl, arith, below_more}
 use Rattle.net_rules.proofs.OtherSearches.{held_by, not_held_by}
-use Rattle.net_rules.proofs.rules.locators.is_held_by_one_of_all.Goals as goal
+use Rattle.net_rules.proofs.rules.locators.is_held_with_tid.Goals as goal
 
 pub returns-then-is_holder : goal.returns-then-is_holder
 returns-then-is_holder c =

@@ -1,0 +1,59 @@
+//! The rows of a plan's nodes as routing tables, ready for look-ups.
+ghost use Rattle.std.specs.Prelude.{◌≡◌, IfOk, length, map};
+ghost use Rattle.mctp_bridge.specs.Rows.{HasSameRoutes};
+ghost use Rattle.net_tables.specs.Rows.{RowsAreApart, RowsAreInRange};
+ghost use Rattle.net_tables.specs.Tables.{AreRows, AreTabled, table_row};
+
+use crate::lookup::rows_at;
+use mctp_bridge::{Hop, RangeTable, TableFault};
+use net_plan::{Plan, Row};
+use std::alloc::{AllocError, Global};
+
+/// The routing tables of the plan's nodes, in their order.
+pub fn routing_tables(alloc: Global, plan: &Plan) -> Result<Vec<RangeTable>, AllocError>
+    requires apart { RowsAreApart plan.now }
+    requires in_range { RowsAreInRange plan.now }
+    ensures { IfOk result (λ tables. AreTabled plan.now (length plan.now.nodes.items) tables.items) }
+{
+    let mut tables = Vec::new(alloc);
+    for node in 0..plan.nodes.len() {
+        tables.push(table_of(alloc, rows_at(plan, node))?)?;
+    }
+    Ok(tables)
+}
+
+/// The routing table of lawful rows.
+fn table_of(alloc: Global, rows: &[Row]) -> Result<RangeTable, AllocError>
+    requires { AreRows rows.now }
+    ensures { IfOk result (λ table. HasSameRoutes (map table_row rows.now) table) }
+{
+    let rows = table_rows(alloc, rows)?;
+    match RangeTable::build(alloc, &rows) {
+        Ok(table) => Ok(table),
+        Err(fault) => match fault {
+            TableFault::Memory => Err(AllocError),
+            _ => unreachable!(),
+        },
+    }
+}
+
+/// The rows as those of a routing table.
+fn table_rows(alloc: Global, rows: &[Row]) -> Result<Vec<mctp_bridge::TableRow>, AllocError>
+    ensures { IfOk result (λ copied. copied.items ≡ map table_row rows.now) }
+{
+    rows.iter().map(table_row).collect(alloc)
+}
+
+/// The row as one of a routing table.
+fn table_row(row: &Row) -> mctp_bridge::TableRow
+    ensures { result ≡ table_row row.now }
+{
+    mctp_bridge::TableRow {
+        first: row.first,
+        size: row.size,
+        hop: Hop {
+            port: row.port,
+            next: row.next,
+        },
+    }
+}
