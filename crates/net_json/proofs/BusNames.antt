@@ -2,11 +2,10 @@
 use Rattle.std.proofs.Common.{◌≡◌, ℕ, List, [], ◌∷◌, map, refl, ap}
 use Rattle.serde_json.specs.Data.{Data}
 use Rattle.net_json.specs.Trees.{Tree, view, items_view}
-use Rattle.net_json.specs.CertificateReading.{entries}
 use Rattle.net_json.specs.EventReading.{event}
 use Rattle.net_json.specs.Json.{list_within}
+use Rattle.net_json.specs.Made.{within_in, node_made, certificate_made}
 use Rattle.net_json.specs.Names.{index_among, text_at, each_text_at}
-use Rattle.net_json.specs.PlanReading.{node}
 use Rattle.net_plan.specs.PlanValues.{name_bytes, bus_value, bus_names, node_value, node_names}
 use Rattle.net_json.specs.declared.event_text.Format.{Format}
 use Rattle.net_plan.specs.declared.nodes.Bus.{Bus}
@@ -24,14 +23,14 @@ pub texts_of : (key : List ℕ) (vs : List Tree) → map (λ v. text_at key (vie
 texts_of key [] = refl
 texts_of key (v ∷ vs) = ap (λ rest. text_at key (view v) ∷ rest) (texts_of key vs)
 
--- nodes read by what finds the indices of these names
+-- nodes by what finds the indices of these names
 pub nodes_found : (buses names : List (List ℕ)) (find_bus find_node : List ℕ → ℕ) (d : Data) → ((q : List ℕ) → find_bus q ≡ index_among buses q) → ((q : List ℕ) → find_node q ≡ index_among names q)
-    → list_within 64 (node find_bus find_node) d ≡ list_within 64 (node (index_among buses) (index_among names)) d
-nodes_found buses names find_bus find_node d b n = λ i. list_within 64 (node (λ q. b q i) (λ q. n q i)) d
+    → within_in 64 (node_made find_bus find_node) d ≡ within_in 64 (node_made (index_among buses) (index_among names)) d
+nodes_found buses names find_bus find_node d b n = λ i. within_in 64 (node_made (λ q. b q i) (λ q. n q i)) d
 
--- entries read by what finds the indices of these names
-pub entries_found : (names : List (List ℕ)) (find : List ℕ → ℕ) (d : Data) → ((q : List ℕ) → find q ≡ index_among names q) → entries find d ≡ entries (index_among names) d
-entries_found names find d n = λ i. entries (λ q. n q i) d
+-- a certificate by what finds the indices of these names
+pub certificate_found : (names : List (List ℕ)) (find : List ℕ → ℕ) (d : Data) → ((q : List ℕ) → find q ≡ index_among names q) → certificate_made find d ≡ certificate_made (index_among names) d
+certificate_found names find d n = λ i. certificate_made (λ q. n q i) d
 
 -- events read by what finds the indices of these names
 pub events_found : (f : Format) (names : List (List ℕ)) (find : List ℕ → ℕ) (d : Data) → ((q : List ℕ) → find q ≡ index_among names q)

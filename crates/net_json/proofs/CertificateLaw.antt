@@ -1,53 +1,34 @@
 -- What is read of a certificate is what the relation tells.
-use Rattle.std.proofs.Common.{◌≡◌, ℕ, suc, ◌+◌, ◌≤◌, List, [], ◌∷◌, length, Bool, true, false, nat_le, nat_lt, ◌&&◌, Ok, refl, sym, ap, ◌∙◌, subst, true≢false, codes, arith}
+use Rattle.std.proofs.Common.{◌≡◌, ℕ, suc, ◌+◌, ◌≤◌, List, [], ◌∷◌, length, Bool, true, false, cond, nat_le, nat_lt, ◌&&◌, Some, None, Ok, refl, sym, ap, ◌∙◌, subst, true≢false, codes, arith}
 use Rattle.std.proofs.lemmas.Bool.{leb-true, le-leb}
 use Rattle.std.proofs.lemmas.List.Elements.{All-from_recursion, recursion_from_All}
 use Rattle.std.proofs.lemmas.List.Kept.{AllPairs-cons}
 use Rattle.std.specs.List.{AllByRecursion, list_all}
-use Rattle.serde_json.specs.Data.{Data}
-use Rattle.net_json.specs.Keys.{certificate_keys, level_keys, places_keys, ranks_keys, range_keys}
-use Rattle.net_json.specs.CertificateReading.{level, node_places, range, node_ranks, nodes_differ, ascends, entries, entries_differ, certificate}
-use Rattle.net_plan.specs.CertificateValues.{are_known}
-use Rattle.net_json.specs.CertificateText.{IsLevelOf, ArePlacesOf, IsRangeOf, AreRanksOf, IsCertificateOf}
-use Rattle.net_plan.specs.CertificateValues.{IsAscending}
+use Rattle.serde_json.specs.Data.{Data, Items, no_items, item}
+use Rattle.net_plan.specs.CertificateValues.{IsAscending, are_known}
 use Rattle.net_plan.specs.CertificateValues.{LevelValue, PlacesValue, RangeValue, NodeRanksValue, CertificateValue}
-use Rattle.net_json.specs.Json.{keyed, at_key, all_of, demand, reference, whole_number}
-use Rattle.net_json.specs.JsonWords.{At, IsListOf, IsNumberWithin}
-use Rattle.net_json.specs.Names.{index_among}
-use Rattle.net_json.specs.PlanReading.{byte}
 use Rattle.net_plan.specs.PlanValues.{PlanValue, node_names}
-use Rattle.net_json.specs.declared.error.ValueFault.TheVariants.{OutOfRange, UnknownName, Doubled}
-use Rattle.net_json.proofs.KeysLaw.{keys_sound, keys_whole}
+use Rattle.net_json.specs.CertificateReading.{nodes_differ, ascends, entries_differ, tested, certificate}
+use Rattle.net_json.specs.CertificateText.{IsLevelOf, ArePlacesOf, IsRangeOf, AreRanksOf, IsCertificateOf}
+use Rattle.net_json.specs.Finding.{range_end, first_fault, refused}
+use Rattle.net_json.specs.Fitting.{Fits}
+use Rattle.net_json.specs.Grammar.{a_list, Known}
+use Rattle.net_json.specs.Json.{at_key, demand}
+use Rattle.net_json.specs.JsonWords.{HasKeys, At, AreItems, IsListOf, IsNumber, IsNumberWithin, IsIndexOfName}
+use Rattle.net_json.specs.Keys.{certificate_keys, ranks_keys}
+use Rattle.net_json.specs.Made.{number_in, number_at, index_at, each_at, in_time, level_made, places_made, range_made, ranks_made, certificate_made}
+use Rattle.net_json.specs.Names.{index_among}
+use Rattle.net_json.specs.Reading.{then_with}
+use Rattle.net_json.specs.Tables.{a_number, a_node_name, a_level, a_node_places, a_range, a_node_ranks, a_certificate}
+use Rattle.net_json.specs.declared.error.ValueFault.TheVariants.{UnknownName, Doubled}
+use Rattle.net_json.specs.declared.shape.Named.TheVariants.{Nodes}
+use Rattle.net_json.proofs.Fitting.{none_fits, fits_none, forget, unrefused}
+use Rattle.net_json.proofs.Makes.{Made, MadeAt, number_makes, number_made, index_made, at_makes, list_makes, any_makes, one_there, one_back, both_true}
 use Rattle.net_json.proofs.OneEach.{at_tells, at_told}
-use Rattle.net_json.proofs.PlanLaw.{number_at, reference_at, format_sound, format_whole}
-use Rattle.net_json.proofs.Telling.{Tells, any, same_Ok, then_Ok, demanded, both, at_key_tells, all_tells, all_any_tells, number_tells}
+use Rattle.net_json.proofs.WordsLaw.{number_at as number_told}
+use Rattle.net_json.proofs.Telling.{Tells, any, same_Ok, then_Ok, demanded, both}
 
 -- ---- ranges
-
-range_sound : (d : Data) (v : RangeValue) → range d ≡ Ok v → IsRangeOf d v
-range_sound d v e =
-    let k = then_Ok (keyed range_keys d) _ v e in
-    let f = then_Ok (at_key (codes "first") byte d) _ v k.2 in
-    let r = then_Ok (at_key (codes "rank") (whole_number 1 255) d) _ v f.2 in
-    let s = then_Ok (at_key (codes "size") (whole_number 1 255) d) _ v r.2 in
-    let u = then_Ok (demand OutOfRange (nat_le (f.0 + s.0) 256)) _ v s.2 in
-    subst (IsRangeOf d) (same_Ok u.2) (record {
-      keys = keys_sound range_keys d k.0 k.1;
-      first = (number_at (codes "first") 0 255).sound d f.0 f.1 refl;
-      rank = (number_at (codes "rank") 1 255).sound d r.0 r.1 refl;
-      size = (number_at (codes "size") 1 255).sound d s.0 s.1 refl;
-      within = leb-true (f.0 + s.0) 256 (demanded OutOfRange (nat_le (f.0 + s.0) 256) u.0 u.1);
-    })
-
-range_whole : (d : Data) (v : RangeValue) → IsRangeOf d v → range d ≡ Ok v
-range_whole d v h =
-    let f = (number_at (codes "first") 0 255).whole d v.first h.first in
-    let r = (number_at (codes "rank") 1 255).whole d v.rank h.rank in
-    let s = (number_at (codes "size") 1 255).whole d v.size h.size in
-    rw (keys_whole range_keys d h.keys, f, r, s, le-leb (v.first + v.size) 256 h.within) refl
-
-ranges_at : Tells (at_key (codes "ranges") (all_of range)) any (At (codes "ranges") (IsListOf IsRangeOf))
-ranges_at = at_key_tells (codes "ranges") (all_of range) any (IsListOf IsRangeOf) (all_any_tells range IsRangeOf (record { sound = λ d v e pass. range_sound d v e; whole = range_whole; passes = λ d v h. refl }))
 
 later : (a b : ℕ) (rs : List RangeValue) → a ≤ b → AllByRecursion (λ r. b ≤ r.first) rs → AllByRecursion (λ r. a ≤ r.first) rs
 later a b [] h all = tt
@@ -77,136 +58,157 @@ all_low (r ∷ rs) = (omega arith, all_low rs)
 
 -- ---- entries
 
-both_true : (a b : Bool) → a ≡ true → b ≡ true → (a && b) ≡ true
-both_true a b p q = rw (p, q) refl
+-- a range with these numbers ends there
+pub ends : (d : Data) (f r s : ℕ) → At (codes "first") (IsNumberWithin 0 255) d f → At (codes "rank") (IsNumberWithin 1 255) d r → At (codes "size") (IsNumberWithin 1 255) d s → range_end d ≡ Ok (f + s)
+ends d f r s first rank size = rw ((number_told (codes "first") 0 255).whole d f first, (number_told (codes "rank") 1 255).whole d r rank, (number_told (codes "size") 1 255).whole d s size) refl
 
 module _ (nodes : List (List ℕ)) where
-  level_sound : (d : Data) (v : LevelValue) → level (index_among nodes) d ≡ Ok v → nat_lt v.node (length nodes) ≡ true → IsLevelOf nodes d v
-  level_sound d v e pass =
-      let k = then_Ok (keyed level_keys d) _ v e in
-      let l = then_Ok (at_key (codes "level") (whole_number 1 63) d) _ v k.2 in
-      let n = then_Ok (at_key (codes "node") (reference (index_among nodes)) d) _ v l.2 in
-      subst (IsLevelOf nodes d) (same_Ok n.2) (record {
-        keys = keys_sound level_keys d k.0 k.1;
-        level = (number_at (codes "level") 1 63).sound d l.0 l.1 refl;
-        node = (reference_at nodes (codes "node")).sound d n.0 n.1 (ap (λ x. nat_lt x.node (length nodes)) (same_Ok n.2) ∙ pass);
-      })
+  -- the names of the nodes
+  abbrev known : Known
+  known = record { buses = []; nodes = nodes }
 
-  level_whole : (d : Data) (v : LevelValue) → IsLevelOf nodes d v → level (index_among nodes) d ≡ Ok v
-  level_whole d v h =
-      let l = (number_at (codes "level") 1 63).whole d v.level h.level in
-      let n = (reference_at nodes (codes "node")).whole d v.node h.node in
-      rw (keys_whole level_keys d h.keys, l, n) refl
+  abbrev find : List ℕ → ℕ
+  find = index_among nodes
 
-  abbrev known_level : LevelValue → Bool
-  known_level l = nat_lt l.node (length nodes)
+  abbrev is_known : ℕ → Bool
+  is_known node = nat_lt node (length nodes)
 
-  levels_at : Tells (at_key (codes "levels") (all_of (level (index_among nodes)))) (list_all known_level) (At (codes "levels") (IsListOf (IsLevelOf nodes)))
-  levels_at = at_key_tells (codes "levels") (all_of (level (index_among nodes))) (list_all known_level) (IsListOf (IsLevelOf nodes))
-      (all_tells (level (index_among nodes)) known_level (IsLevelOf nodes) (record { sound = level_sound; whole = level_whole; passes = λ d v h. (reference_at nodes (codes "node")).passes d v.node h.node }))
+  first_at : MadeAt known (codes "first") (a_number 0 255) (number_at (codes "first") 0 255) any (IsNumberWithin 0 255)
+  first_at = number_made known (codes "first") 0 255
 
-  record_places_at : Tells (at_key (codes "places") (all_of (whole_number 0 4095))) any (At (codes "places") (IsListOf (IsNumberWithin 0 4095)))
-  record_places_at = at_key_tells (codes "places") (all_of (whole_number 0 4095)) any (IsListOf (IsNumberWithin 0 4095)) (all_any_tells (whole_number 0 4095) (IsNumberWithin 0 4095) (number_tells 0 4095))
+  rank_at : MadeAt known (codes "rank") (a_number 1 255) (number_at (codes "rank") 1 255) any (IsNumberWithin 1 255)
+  rank_at = number_made known (codes "rank") 1 255
 
-  places_sound : (d : Data) (v : PlacesValue) → node_places (index_among nodes) d ≡ Ok v → nat_lt v.node (length nodes) ≡ true → ArePlacesOf nodes d v
-  places_sound d v e pass =
-      let k = then_Ok (keyed places_keys d) _ v e in
-      let n = then_Ok (at_key (codes "node") (reference (index_among nodes)) d) _ v k.2 in
-      let p = then_Ok (at_key (codes "places") (all_of (whole_number 0 4095)) d) _ v n.2 in
-      subst (ArePlacesOf nodes d) (same_Ok p.2) (record {
-        keys = keys_sound places_keys d k.0 k.1;
-        node = (reference_at nodes (codes "node")).sound d n.0 n.1 (ap (λ x. nat_lt x.node (length nodes)) (same_Ok p.2) ∙ pass);
-        places = record_places_at.sound d p.0 p.1 refl;
-      })
+  size_at : MadeAt known (codes "size") (a_number 1 255) (number_at (codes "size") 1 255) any (IsNumberWithin 1 255)
+  size_at = number_made known (codes "size") 1 255
 
-  places_whole : (d : Data) (v : PlacesValue) → ArePlacesOf nodes d v → node_places (index_among nodes) d ≡ Ok v
-  places_whole d v h =
-      let n = (reference_at nodes (codes "node")).whole d v.node h.node in
-      let p = record_places_at.whole d v.places h.places in
-      rw (keys_whole places_keys d h.keys, n, p) refl
+  node_at : MadeAt known (codes "node") a_node_name (index_at (codes "node") find) is_known (IsIndexOfName nodes)
+  node_at = index_made known (codes "node") Nodes
 
-  abbrev known_places : PlacesValue → Bool
-  known_places p = nat_lt p.node (length nodes)
+  range_there : (d : Data) → Fits (Some known) a_range d → IsRangeOf d (range_made d)
+  range_there d h =
+      let f = number_at (codes "first") 0 255 d in
+      let s = number_at (codes "size") 1 255 d in
+      let first = first_at.there d h.1.0 in
+      let rank = rank_at.there d h.1.1.0 in
+      let size = size_at.there d h.1.1.1.0 in
+      let low : f + s ≤ 256 = h.2 (f + s) (ends d f (number_at (codes "rank") 1 255 d) s first rank size) in
+      let same : in_time f s ≡ f = ap (λ b. cond b f 0) (le-leb (f + s) 256 low) in
+      record {
+        keys = h.0;
+        first = subst (At (codes "first") (IsNumberWithin 0 255) d) (sym same) first;
+        rank = rank;
+        size = size;
+        within = subst (λ x. x + s ≤ 256) (sym same) low;
+      }
 
-  places_at : Tells (at_key (codes "places") (all_of (node_places (index_among nodes)))) (list_all known_places) (At (codes "places") (IsListOf (ArePlacesOf nodes)))
-  places_at = at_key_tells (codes "places") (all_of (node_places (index_among nodes))) (list_all known_places) (IsListOf (ArePlacesOf nodes))
-      (all_tells (node_places (index_among nodes)) known_places (ArePlacesOf nodes) (record { sound = places_sound; whole = places_whole; passes = λ d v h. (reference_at nodes (codes "node")).passes d v.node h.node }))
+  range_same : (d : Data) (r : RangeValue) → IsRangeOf d r → range_made d ≡ r
+  range_same d r h = rw (first_at.same d r.first h.first, rank_at.same d r.rank h.rank, size_at.same d r.size h.size, le-leb (r.first + r.size) 256 h.within) refl
 
-  abbrev good_ranks : NodeRanksValue → Bool
-  good_ranks r = nat_lt r.node (length nodes) && ascends 0 r.ranges
+  pub range_makes : Made known a_range range_made any IsRangeOf
+  range_makes = record {
+    there = range_there;
+    back = λ d r h. (h.keys, (first_at.back d r.first h.first, (rank_at.back d r.rank h.rank, (size_at.back d r.size h.size, tt))), λ end is. subst (λ x. x ≤ 256) (same_Ok (sym (ends d r.first r.rank r.size h.first h.rank h.size) ∙ is)) h.within);
+    same = range_same;
+    known = λ d h pass. h;
+    passes = λ d h. refl;
+  }
 
-  ranks_sound : (d : Data) (v : NodeRanksValue) → node_ranks (index_among nodes) d ≡ Ok v → good_ranks v ≡ true → AreRanksOf nodes d v
-  ranks_sound d v e pass =
-      let k = then_Ok (keyed ranks_keys d) _ v e in
-      let n = then_Ok (at_key (codes "node") (reference (index_among nodes)) d) _ v k.2 in
-      let r = then_Ok (at_key (codes "ranges") (all_of range) d) _ v n.2 in
-      let good = both (nat_lt n.0 (length nodes)) (ascends 0 r.0) (ap good_ranks (same_Ok r.2) ∙ pass) in
-      subst (AreRanksOf nodes d) (same_Ok r.2) (record {
-        keys = keys_sound ranks_keys d k.0 k.1;
-        node = (reference_at nodes (codes "node")).sound d n.0 n.1 good.0;
-        ranges = ranges_at.sound d r.0 r.1 refl;
-        ascending = (ascends_sound 0 r.0 good.1).1;
-      })
+  level_at : MadeAt known (codes "level") (a_number 1 63) (number_at (codes "level") 1 63) any (IsNumberWithin 1 63)
+  level_at = number_made known (codes "level") 1 63
 
-  ranks_whole : (d : Data) (v : NodeRanksValue) → AreRanksOf nodes d v → node_ranks (index_among nodes) d ≡ Ok v
-  ranks_whole d v h =
-      let n = (reference_at nodes (codes "node")).whole d v.node h.node in
-      let r = ranges_at.whole d v.ranges h.ranges in
-      rw (keys_whole ranks_keys d h.keys, n, r) refl
+  level_makes : Made known a_level (level_made find) (λ l. is_known l.node) (IsLevelOf nodes)
+  level_makes = record {
+    there = λ d h. record { keys = h.0; level = level_at.there d h.1.0; node = node_at.there d h.1.1.0 };
+    back = λ d l h. (h.keys, (level_at.back d l.level h.level, (node_at.back d l.node h.node, tt)), tt);
+    same = λ d l h. rw (level_at.same d l.level h.level, node_at.same d l.node h.node) refl;
+    known = λ d h pass. (h.0, (h.1.0, (node_at.known d h.1.1.0 pass, tt)), tt);
+    passes = λ d h. node_at.passes d h.1.1.0;
+  }
 
-  ranks_at : Tells (at_key (codes "ranks") (all_of (node_ranks (index_among nodes)))) (list_all good_ranks) (At (codes "ranks") (IsListOf (AreRanksOf nodes)))
-  ranks_at = at_key_tells (codes "ranks") (all_of (node_ranks (index_among nodes))) (list_all good_ranks) (IsListOf (AreRanksOf nodes))
-      (all_tells (node_ranks (index_among nodes)) good_ranks (AreRanksOf nodes) (record {
-        sound = ranks_sound;
-        whole = ranks_whole;
-        passes = λ d v h. both_true (nat_lt v.node (length nodes)) (ascends 0 v.ranges) ((reference_at nodes (codes "node")).passes d v.node h.node) (ascends_whole 0 v.ranges (all_low v.ranges) h.ascending);
-      }))
+  record_places_at : MadeAt known (codes "places") (a_list None (a_number 0 4095)) (each_at (codes "places") (number_in 0 4095)) any (IsListOf (IsNumberWithin 0 4095))
+  record_places_at = at_makes (codes "places") [] (any_makes (list_makes (number_makes known 0 4095)))
 
-  all_good : (rs : List NodeRanksValue) → list_all (λ r. nat_lt r.node (length nodes)) rs ≡ true → list_all (λ r. ascends 0 r.ranges) rs ≡ true → list_all good_ranks rs ≡ true
-  all_good [] known ascending = refl
-  all_good (r ∷ rs) known ascending =
-      let p = both (nat_lt r.node (length nodes)) (list_all (λ r. nat_lt r.node (length nodes)) rs) known in
-      let q = both (ascends 0 r.ranges) (list_all (λ r. ascends 0 r.ranges) rs) ascending in
-      rw (p.0, q.0) (all_good rs p.1 q.1)
+  places_makes : Made known a_node_places (places_made find) (λ p. is_known p.node) (ArePlacesOf nodes)
+  places_makes = record {
+    there = λ d h. record { keys = h.0; node = node_at.there d h.1.0; places = record_places_at.there d h.1.1.0 };
+    back = λ d p h. (h.keys, (node_at.back d p.node h.node, (record_places_at.back d p.places h.places, tt)), tt);
+    same = λ d p h. rw (node_at.same d p.node h.node, record_places_at.same d p.places h.places) refl;
+    known = λ d h pass. (h.0, (node_at.known d h.1.0 pass, (h.1.1.0, tt)), tt);
+    passes = λ d h. node_at.passes d h.1.0;
+  }
 
-  good_known : (rs : List NodeRanksValue) → list_all good_ranks rs ≡ true → (list_all (λ r. nat_lt r.node (length nodes)) rs ≡ true) × (list_all (λ r. ascends 0 r.ranges) rs ≡ true)
-  good_known [] good = (refl, refl)
-  good_known (r ∷ rs) good =
-      let p = both (good_ranks r) (list_all good_ranks rs) good in
-      let q = both (nat_lt r.node (length nodes)) (ascends 0 r.ranges) p.0 in
-      let rest = good_known rs p.1 in
-      (both_true (nat_lt r.node (length nodes)) (list_all (λ r. nat_lt r.node (length nodes)) rs) q.0 rest.0, both_true (ascends 0 r.ranges) (list_all (λ r. ascends 0 r.ranges) rs) q.1 rest.1)
+  -- the ranks of a node, whose ranges need not ascend
+  pub record AreRangesOf (d : Data) (r : NodeRanksValue) : Type 0 where
+    keys : HasKeys ranks_keys d
+    node : At (codes "node") (IsIndexOfName nodes) d r.node
+    ranges : At (codes "ranges") (IsListOf IsRangeOf) d r.ranges
+
+  ranges_at : MadeAt known (codes "ranges") (a_list None a_range) (each_at (codes "ranges") range_made) any (IsListOf IsRangeOf)
+  ranges_at = at_makes (codes "ranges") [] (any_makes (list_makes range_makes))
+
+  ranks_makes : Made known a_node_ranks (ranks_made find) (λ r. is_known r.node) AreRangesOf
+  ranks_makes = record {
+    there = λ d h. record { keys = h.0; node = node_at.there d h.1.0; ranges = ranges_at.there d h.1.1.0 };
+    back = λ d r h. (h.keys, (node_at.back d r.node h.node, (ranges_at.back d r.ranges h.ranges, tt)), tt);
+    same = λ d r h. rw (node_at.same d r.node h.node, ranges_at.same d r.ranges h.ranges) refl;
+    known = λ d h pass. (h.0, (node_at.known d h.1.0 pass, (h.1.1.0, tt)), tt);
+    passes = λ d h. node_at.passes d h.1.0;
+  }
 
   -- the three lists of a certificate of these nodes
-  record AreEntriesOf (d : Data) (c : CertificateValue) : Type 0 where
+  pub record AreEntriesOf (d : Data) (c : CertificateValue) : Type 0 where
+    keys : HasKeys certificate_keys d
+    format : At (codes "format") IsNumber d 1
     levels : At (codes "levels") (IsListOf (IsLevelOf nodes)) d c.levels
     places : At (codes "places") (IsListOf (ArePlacesOf nodes)) d c.places
-    ranks : At (codes "ranks") (IsListOf (AreRanksOf nodes)) d c.ranks
+    ranks : At (codes "ranks") (IsListOf AreRangesOf) d c.ranks
 
-  entries_sound : (d : Data) (c : CertificateValue) → entries (index_among nodes) d ≡ Ok c → are_known (length nodes) c ≡ true → list_all (λ r. ascends 0 r.ranges) c.ranks ≡ true → AreEntriesOf d c
-  unfolding entries
-  entries_sound d c e known ascending =
-      let l = then_Ok (at_key (codes "levels") (all_of (level (index_among nodes))) d) _ c e in
-      let p = then_Ok (at_key (codes "places") (all_of (node_places (index_among nodes))) d) _ c l.2 in
-      let r = then_Ok (at_key (codes "ranks") (all_of (node_ranks (index_among nodes))) d) _ c p.2 in
-      let made : CertificateValue = record { levels = l.0; places = p.0; ranks = r.0 } in
-      let same : made ≡ c = same_Ok r.2 in
-      let parts = both (list_all known_level l.0) (list_all known_places p.0 && list_all (λ r. nat_lt r.node (length nodes)) r.0) (ap (are_known (length nodes)) same ∙ known) in
-      let lists = both (list_all known_places p.0) (list_all (λ r. nat_lt r.node (length nodes)) r.0) parts.1 in
-      let good = all_good r.0 lists.1 (ap (λ x. list_all (λ r. ascends 0 r.ranges) x.ranks) same ∙ ascending) in
-      subst (AreEntriesOf d) same (record { levels = levels_at.sound d l.0 l.1 parts.0; places = places_at.sound d p.0 p.1 lists.0; ranks = ranks_at.sound d r.0 r.1 good })
+  levels_at : MadeAt known (codes "levels") (a_list None a_level) (each_at (codes "levels") (level_made find)) (list_all (λ l. is_known l.node)) (IsListOf (IsLevelOf nodes))
+  levels_at = at_makes (codes "levels") [] (list_makes level_makes)
 
-  entries_whole : (d : Data) (c : CertificateValue) → AreEntriesOf d c → entries (index_among nodes) d ≡ Ok c
-  unfolding entries
-  entries_whole d c h = rw (levels_at.whole d c.levels h.levels, places_at.whole d c.places h.places, ranks_at.whole d c.ranks h.ranks) refl
+  places_at : MadeAt known (codes "places") (a_list None a_node_places) (each_at (codes "places") (places_made find)) (list_all (λ p. is_known p.node)) (IsListOf (ArePlacesOf nodes))
+  places_at = at_makes (codes "places") [] (list_makes places_makes)
 
-  entries_known : (d : Data) (c : CertificateValue) → AreEntriesOf d c → are_known (length nodes) c ≡ true
-  entries_known d c h =
-      let ranks = (good_known c.ranks (ranks_at.passes d c.ranks h.ranks)).0 in
-      rw (levels_at.passes d c.levels h.levels, places_at.passes d c.places h.places, ranks) refl
+  ranks_at : MadeAt known (codes "ranks") (a_list None a_node_ranks) (each_at (codes "ranks") (ranks_made find)) (list_all (λ r. is_known r.node)) (IsListOf AreRangesOf)
+  ranks_at = at_makes (codes "ranks") [] (list_makes ranks_makes)
 
-  entries_ascend : (d : Data) (c : CertificateValue) → AreEntriesOf d c → list_all (λ r. ascends 0 r.ranges) c.ranks ≡ true
-  entries_ascend d c h = (good_known c.ranks (ranks_at.passes d c.ranks h.ranks)).1
+  pub entries_makes : Made known a_certificate (certificate_made find) (are_known (length nodes)) AreEntriesOf
+  entries_makes = record {
+    there = λ d h. record { keys = h.0; format = one_there (codes "format") 1 d h.1.0; levels = levels_at.there d h.1.1.0; places = places_at.there d h.1.1.1.0; ranks = ranks_at.there d h.1.1.1.1.0 };
+    back = λ d c h. (
+      h.keys,
+      (one_back (codes "format") 1 d h.format, (levels_at.back d c.levels h.levels, (places_at.back d c.places h.places, (ranks_at.back d c.ranks h.ranks, tt)))),
+      tt,
+    );
+    same = λ d c h. rw (levels_at.same d c.levels h.levels, places_at.same d c.places h.places, ranks_at.same d c.ranks h.ranks) refl;
+    known = λ d h pass.
+        let c = certificate_made find d in
+        let p = both (list_all (λ (l : LevelValue). is_known l.node) c.levels) (list_all (λ (p : PlacesValue). is_known p.node) c.places && list_all (λ (r : NodeRanksValue). is_known r.node) c.ranks) pass in
+        let q = both (list_all (λ (p : PlacesValue). is_known p.node) c.places) (list_all (λ (r : NodeRanksValue). is_known r.node) c.ranks) p.1 in
+        (h.0, (h.1.0, (levels_at.known d h.1.1.0 p.0, (places_at.known d h.1.1.1.0 q.0, (ranks_at.known d h.1.1.1.1.0 q.1, tt)))), tt);
+    passes = λ d h. rw (levels_at.passes d h.1.1.0, places_at.passes d h.1.1.1.0, ranks_at.passes d h.1.1.1.1.0) refl;
+  }
+
+  -- ---- ranges that ascend
+
+  ascending : (ds : Items) (rs : List NodeRanksValue) → list_all (λ r. ascends 0 r.ranges) rs ≡ true → AreItems AreRangesOf ds rs → AreItems (AreRanksOf nodes) ds rs
+  ascending no_items [] e h = tt
+  ascending no_items (r ∷ rs) e h = absurd h
+  ascending (item d ds) [] e h = absurd h
+  ascending (item d ds) (r ∷ rs) e h =
+      let p = both (ascends 0 r.ranges) (list_all (λ (r : NodeRanksValue). ascends 0 r.ranges) rs) e in
+      (record { keys = h.0.keys; node = h.0.node; ranges = h.0.ranges; ascending = (ascends_sound 0 r.ranges p.0).1 }, ascending ds rs p.1 h.1)
+
+  ascended : (ds : Items) (rs : List NodeRanksValue) → AreItems (AreRanksOf nodes) ds rs → (list_all (λ r. ascends 0 r.ranges) rs ≡ true) × AreItems AreRangesOf ds rs
+  ascended no_items [] h = (refl, tt)
+  ascended no_items (r ∷ rs) h = absurd h
+  ascended (item d ds) [] h = absurd h
+  ascended (item d ds) (r ∷ rs) h =
+      let rest = ascended ds rs h.1 in (
+        both_true (ascends 0 r.ranges) (list_all (λ (r : NodeRanksValue). ascends 0 r.ranges) rs) (ascends_whole 0 r.ranges (all_low r.ranges) h.0.ascending) rest.0,
+        (record { keys = h.0.keys; node = h.0.node; ranges = h.0.ranges }, rest.1),
+      )
 
 -- ---- certificates
 
@@ -214,37 +216,44 @@ certificate_sound : (p : PlanValue) (d : Data) (v : CertificateValue) → certif
 unfolding entries_differ
 certificate_sound p d v e =
     let nodes = node_names p.nodes in
-    let k = then_Ok (keyed certificate_keys d) _ v e in
-    let f = then_Ok (at_key (codes "format") (whole_number 1 1) d) _ v k.2 in
-    let c = then_Ok (entries (index_among nodes) d) _ v f.2 in
-    let u = then_Ok (entries_differ d) _ v c.2 in
-    let a = then_Ok (demand Doubled (list_all (λ r. ascends 0 r.ranges) c.0.ranks)) _ v u.2 in
-    let n = then_Ok (demand UnknownName (are_known (length nodes) c.0)) _ v a.2 in
-    let known = demanded UnknownName (are_known (length nodes) c.0) n.0 n.1 in
-    let ascending = demanded Doubled (list_all (λ r. ascends 0 r.ranges) c.0.ranks) a.0 a.1 in
-    let lists = entries_sound nodes d c.0 c.1 known ascending in
+    let c = certificate_made (index_among nodes) d in
+    let s = then_Ok (refused (first_fault None a_certificate d)) (λ _. then_with (entries_differ d) (λ _. tested (length nodes) c)) v e in
+    let u = then_Ok (entries_differ d) (λ _. tested (length nodes) c) v s.2 in
+    let a = then_Ok (demand Doubled (list_all (λ r. ascends 0 r.ranges) c.ranks)) (λ _. then_with (demand UnknownName (are_known (length nodes) c)) (λ _. Ok c)) v u.2 in
+    let n = then_Ok (demand UnknownName (are_known (length nodes) c)) (λ _. Ok c) v a.2 in
+    let loose : Fits None a_certificate d = none_fits None a_certificate d (unrefused (first_fault None a_certificate d) s.0 s.1) in
+    let strict = (entries_makes nodes).known d loose (demanded UnknownName (are_known (length nodes) c) n.0 n.1) in
+    let lists = (entries_makes nodes).there d strict in
+    let ranks : At (codes "ranks") (IsListOf (AreRanksOf nodes)) d c.ranks =
+    (lists.ranks.0, lists.ranks.1, (lists.ranks.2.0, lists.ranks.2.1, ascending nodes lists.ranks.2.0 c.ranks (demanded Doubled (list_all (λ r. ascends 0 r.ranges) c.ranks) a.0 a.1) lists.ranks.2.2)) in
     let l = then_Ok (at_key (codes "levels") nodes_differ d) _ u.0 u.1 in
     let q = then_Ok (at_key (codes "places") nodes_differ d) _ u.0 l.2 in
     subst (IsCertificateOf p d) (same_Ok n.2) (record {
-      keys = keys_sound certificate_keys d k.0 k.1;
-      format = format_sound d f.0 f.1;
+      keys = lists.keys;
+      format = lists.format;
       levels = lists.levels;
       places = lists.places;
-      ranks = lists.ranks;
-      one_level = at_tells (IsLevelOf nodes) (λ x. x.node) nodes (λ d x h. h.node) (codes "levels") d c.0.levels l.0 lists.levels l.1;
-      one_places = at_tells (ArePlacesOf nodes) (λ x. x.node) nodes (λ d x h. h.node) (codes "places") d c.0.places q.0 lists.places q.1;
-      one_ranks = at_tells (AreRanksOf nodes) (λ x. x.node) nodes (λ d x h. h.node) (codes "ranks") d c.0.ranks u.0 lists.ranks q.2;
+      ranks = ranks;
+      one_level = at_tells (IsLevelOf nodes) (λ x. x.node) nodes (λ d x h. h.node) (codes "levels") d c.levels l.0 lists.levels l.1;
+      one_places = at_tells (ArePlacesOf nodes) (λ x. x.node) nodes (λ d x h. h.node) (codes "places") d c.places q.0 lists.places q.1;
+      one_ranks = at_tells (AreRanksOf nodes) (λ x. x.node) nodes (λ d x h. h.node) (codes "ranks") d c.ranks u.0 ranks q.2;
     })
 
 certificate_whole : (p : PlanValue) (d : Data) (v : CertificateValue) → IsCertificateOf p d v → certificate (node_names p.nodes) d ≡ Ok v
 unfolding entries_differ
 certificate_whole p d v h =
     let nodes = node_names p.nodes in
-    let lists : AreEntriesOf nodes d v = record { levels = h.levels; places = h.places; ranks = h.ranks } in
+    let makes = entries_makes nodes in
+    let ranges = ascended nodes h.ranks.2.0 v.ranks h.ranks.2.2 in
+    let lists : AreEntriesOf nodes d v = record { keys = h.keys; format = h.format; levels = h.levels; places = h.places; ranks = (h.ranks.0, h.ranks.1, (h.ranks.2.0, h.ranks.2.1, ranges.1)) } in
+    let strict = makes.back d v lists in
+    let none : first_fault None a_certificate d ≡ None = fits_none None a_certificate d (forget (known nodes) a_certificate d strict) in
+    let same : certificate_made (index_among nodes) d ≡ v = makes.same d v lists in
+    let all : are_known (length nodes) v ≡ true = ap (are_known (length nodes)) (sym same) ∙ makes.passes d strict in
     let l = at_told (IsLevelOf nodes) (λ x. x.node) nodes (λ d x h. h.node) (codes "levels") d v.levels h.levels h.one_level in
     let q = at_told (ArePlacesOf nodes) (λ x. x.node) nodes (λ d x h. h.node) (codes "places") d v.places h.places h.one_places in
     let r = at_told (AreRanksOf nodes) (λ x. x.node) nodes (λ d x h. h.node) (codes "ranks") d v.ranks h.ranks h.one_ranks in
-    rw (keys_whole certificate_keys d h.keys, format_whole d h.format, entries_whole nodes d v lists, l, q, r, entries_ascend nodes d v lists, entries_known nodes d v lists) refl
+    rw (none, l, q, r) (ap (tested (length nodes)) same ∙ rw (ranges.0, all) refl)
 
 pub certificate_tells : (p : PlanValue) → Tells (certificate (node_names p.nodes)) any (IsCertificateOf p)
 certificate_tells p = record { sound = λ d v e pass. certificate_sound p d v e; whole = certificate_whole p; passes = λ d v h. refl }
@@ -252,10 +261,9 @@ certificate_tells p = record { sound = λ d v e pass. certificate_sound p d v e;
 -- a certificate that was read names only nodes of its plan
 pub read_known : (nodes : List (List ℕ)) (d : Data) (v : CertificateValue) → certificate nodes d ≡ Ok v → are_known (length nodes) v ≡ true
 read_known nodes d v e =
-    let k = then_Ok (keyed certificate_keys d) _ v e in
-    let f = then_Ok (at_key (codes "format") (whole_number 1 1) d) _ v k.2 in
-    let c = then_Ok (entries (index_among nodes) d) _ v f.2 in
-    let u = then_Ok (entries_differ d) _ v c.2 in
-    let a = then_Ok (demand Doubled (list_all (λ r. ascends 0 r.ranges) c.0.ranks)) _ v u.2 in
-    let n = then_Ok (demand UnknownName (are_known (length nodes) c.0)) _ v a.2 in
-    ap (are_known (length nodes)) (sym (same_Ok n.2)) ∙ demanded UnknownName (are_known (length nodes) c.0) n.0 n.1
+    let c = certificate_made (index_among nodes) d in
+    let s = then_Ok (refused (first_fault None a_certificate d)) _ v e in
+    let u = then_Ok (entries_differ d) _ v s.2 in
+    let a = then_Ok (demand Doubled (list_all (λ r. ascends 0 r.ranges) c.ranks)) _ v u.2 in
+    let n = then_Ok (demand UnknownName (are_known (length nodes) c)) _ v a.2 in
+    ap (are_known (length nodes)) (sym (same_Ok n.2)) ∙ demanded UnknownName (are_known (length nodes) c) n.0 n.1

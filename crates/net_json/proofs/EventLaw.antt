@@ -20,7 +20,7 @@ use Rattle.net_json.specs.declared.event_text.Format.TheVariants.{One, Two, Thre
 use Rattle.net_json.specs.declared.event_text.Verb.{Verb}
 use Rattle.net_json.specs.declared.event_text.Verb.TheVariants.{Put, Move, Lose, Expire, Answer, Switch, Walk, Ask, Collected}
 use Rattle.net_json.proofs.KeysLaw.{keys_sound, keys_whole}
-use Rattle.net_json.proofs.PlanLaw.{number_at, hex_at, reference_at}
+use Rattle.net_json.proofs.WordsLaw.{number_at, hex_at, reference_at}
 use Rattle.net_json.proofs.Telling.{Tells, any, no_value, same_Ok, then_Ok, demanded, at_key_tells, within_tells, number_tells, truth_tells}
 
 -- ---- the format

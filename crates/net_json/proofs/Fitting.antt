@@ -13,10 +13,10 @@ use Rattle.net_json.specs.Reading.{then_with}
 use Rattle.net_json.specs.declared.error.ValueFault.{ValueFault}
 use Rattle.net_json.specs.declared.error.ValueFault.TheVariants.{OutOfRange, OverLimit, UnknownName}
 use Rattle.net_json.proofs.KeysLaw.{keys_sound, keys_whole, among_Contains, Contains_among, or_true}
-use Rattle.net_json.proofs.PlanLaw.{name_tells, hex_tells, address_tells, kind_tells}
-use Rattle.net_json.proofs.Telling.{Tells, any, number_tells}
+use Rattle.net_json.proofs.WordsLaw.{name_tells, hex_tells, address_tells, kind_tells}
+use Rattle.net_json.proofs.Telling.{Tells, any, no_value, number_tells}
 use Rattle.net_json.specs.Finding.{fault_of, names_of, known_name, word_fault, is_within, short_list, unless_null, range_end, is_late, passes, own_fault}
-use Rattle.net_json.specs.Finding.{Step, key, index, Located, located, under, here, in_items, in_list, inside, in_fields, first_fault}
+use Rattle.net_json.specs.Finding.{Step, key, index, Located, located, under, here, in_items, in_list, inside, in_fields, first_fault, refused}
 use Rattle.net_json.specs.Fitting.{IsWord, EachIs, IsWithin, Passes, Fits, FieldsFit}
 use Rattle.net_json.specs.Grammar.{Grammar, plain, a_list, an_optional, an_object, Fields, no_fields, field, keys_of, Known}
 use Rattle.net_json.specs.declared.found.Found.{Found}
@@ -46,6 +46,11 @@ not_under s (Some l) e = absurd (none-some _ (sym e))
 pub no_fault : {A : Type 0} (r : Result A ValueFault) → fault_of r ≡ None → (a : A) × (r ≡ Ok a)
 no_fault (Ok a) e = (a, refl)
 no_fault (Err f) e = absurd (none-some f (sym e))
+
+-- a value that is not refused has no fault
+pub unrefused : (o : Option Located) (u : Unit {0}) → refused o ≡ Ok u → o ≡ None
+unrefused None u e = refl
+unrefused (Some l) u e = absurd (no_value e)
 
 -- ---- words
 
@@ -232,7 +237,7 @@ pub none_fits : (known : Option Known) (g : Grammar) (d : Data) → first_fault 
 none_fits known g d e = let p = parted known g d e in sound known g d p.0 p.1
 
 mutual
-  own_whole : (known : Option Known) (g : Grammar) (d : Data) → Fits known g d → own_fault known g d ≡ None
+  pub own_whole : (known : Option Known) (g : Grammar) (d : Data) → Fits known g d → own_fault known g d ≡ None
   own_whole known (plain w) d h = word_whole known w d h
   own_whole known (a_list most g) d h = ap (λ e. fault_of (short_list most e)) h.1 ∙ ap (λ b. fault_of (demand OverLimit b)) (within_whole most (items_count h.0) h.2)
   own_whole known (an_optional g) d (inl e) = ap (λ v. unless_null v (own_fault known g v)) e
@@ -257,6 +262,31 @@ mutual
 -- in a value of the grammar no fault is found
 pub fits_none : (known : Option Known) (g : Grammar) (d : Data) → Fits known g d → first_fault known g d ≡ None
 fits_none known g d h = joined known g d (own_whole known g d h) (inside_whole known g d h)
+
+-- a value whose names are known is one whatever they are the names of
+word_forget : (k : Known) (w : Word) (d : Data) → IsWord (Some k) w d → IsWord None w d
+word_forget k (word.Number least most) d h = h
+word_forget k word.Name d h = h
+word_forget k (word.Named names) d h = (h.0, h.1, tt)
+word_forget k word.Kind d h = h
+word_forget k word.Hex d h = h
+word_forget k word.Address d h = h
+
+each_forget : (P Q : Data → Type 0) → ((d : Data) → P d → Q d) → (ds : Items) → EachIs P ds → EachIs Q ds
+each_forget P Q h no_items each = tt
+each_forget P Q h (item d ds) each = (h d each.0, each_forget P Q h ds each.1)
+
+mutual
+  pub forget : (k : Known) (g : Grammar) (d : Data) → Fits (Some k) g d → Fits None g d
+  forget k (plain w) d h = word_forget k w d h
+  forget k (a_list most g) d h = (h.0, h.1, h.2, each_forget (λ e. Fits (Some k) g e) (λ e. Fits None g e) (λ e fits. forget k g e fits) h.0 h.3)
+  forget k (an_optional g) d (inl e) = inl e
+  forget k (an_optional g) d (inr h) = inr (forget k g d h)
+  forget k (an_object rule fs) d h = (h.0, forget_fields k fs d h.1, h.2)
+
+  forget_fields : (k : Known) (fs : Fields) (d : Data) → FieldsFit (Some k) fs d → FieldsFit None fs d
+  forget_fields k no_fields d h = tt
+  forget_fields k (field name g fs) d h = ((h.0.0, h.0.1, forget k g h.0.0 h.0.2), forget_fields k fs d h.1)
 
 found_or_fits : (known : Option Known) (g : Grammar) (d : Data) (o : Option Located) → o ≡ first_fault known g d → MatchOption o (Fits known g d) (λ _. ¬ Fits known g d)
 found_or_fits known g d None e = none_fits known g d (sym e)

@@ -24,7 +24,7 @@ use Rattle.net_json.specs.SingleKeys.{single, items_single, members_single}
 use Rattle.net_json.specs.Texts.{StandsFor}
 use Rattle.net_json.specs.Trees.{data_of, items_of, members_of, or_other, num_of, fits, items_fit, members_fit}
 use Rattle.net_json.proofs.KeysLaw.{among_Contains, any_false, not_false}
-use Rattle.net_json.proofs.PlanLaw.{first_index}
+use Rattle.net_json.proofs.WordsLaw.{first_index}
 use Rattle.net_json.proofs.Telling.{both}
 use Rattle.net_json.proofs.SingleKeys.{single_sound, whole_tree}
 use Rattle.net_json.proofs.Trees.{get_of, read_whole}

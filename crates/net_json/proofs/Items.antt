@@ -1,9 +1,10 @@
 -- The items of a list, as the reader goes through them.
-use Rattle.std.proofs.Common.{rules, ◌≡◌, ◌≤◌, nat_le, true, ℕ, suc, List, [], ◌∷◌, ◌++◌, length, Result, Ok, Err, refl, sym, ap, append_assoc}
+use Rattle.std.proofs.Common.{◌≡◌, nat_le, true, false, ℕ, suc, List, [], ◌∷◌, ◌++◌, length, Result, Ok, Err, refl, sym, ap, append_assoc}
 use Rattle.serde_json.specs.Data.{Data, array}
 use Rattle.net_json.specs.Trees.{Tree, view, items_view}
 use Rattle.net_json.specs.declared.error.ValueFault.{ValueFault}
-use Rattle.net_json.specs.Json.{each, items_count, all_of, list_within}
+use Rattle.net_json.specs.Json.{each, items_count}
+use Rattle.net_json.specs.Made.{each_made, within_in}
 use Rattle.net_json.specs.Reading.{then_with}
 
 pub items_count_of_view : (vs : List Tree) → items_count (items_view vs) ≡ length vs
@@ -25,8 +26,9 @@ pub each_fault : {A B : Type 0} (f : Data → Result A ValueFault) (v : Tree) (v
     → then_with (each f (items_view (v ∷ vs))) g ≡ Err fault
 each_fault f v vs fault g e = rw e refl
 
--- a bound that is no less than the length
-pub list_within-all : {A : Type 0} (f : Data → Result A ValueFault) (vs : List Tree) (most : ℕ) → length vs ≤ most → list_within most f (array (items_view vs)) ≡ all_of f (array (items_view vs))
-list_within-all f vs most few =
-    let fits : nat_le (length vs) most ≡ true = search (rules, few) in
-    rw (items_count_of_view vs, fits) refl
+-- a list that is not too long, and one that is
+pub few_made : {A : Type 0} (most : ℕ) (f : Data → A) (vs : List Tree) (d : Data) → d ≡ array (items_view vs) → nat_le (length vs) most ≡ true → each_made f (items_view vs) ≡ within_in most f d
+few_made most f vs d is few = rw (is, items_count_of_view vs, few) refl
+
+pub many_made : {A : Type 0} (most : ℕ) (f : Data → A) (vs : List Tree) (d : Data) → d ≡ array (items_view vs) → nat_le (length vs) most ≡ false → [] ≡ within_in most f d
+many_made most f vs d is many = rw (is, items_count_of_view vs, many) refl

@@ -6,6 +6,8 @@ pub mod BusNames
 pub mod ReadExactly
 pub mod Telling
 pub mod Differing
+pub mod WordsLaw
+pub mod Makes
 pub mod PlanLaw
 pub mod OneEach
 pub mod CertificateLaw

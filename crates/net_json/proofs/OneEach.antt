@@ -11,7 +11,7 @@ use Rattle.net_json.specs.Names.{index_among, names_differ, text_found, text_at,
 use Rattle.net_json.specs.Reading.{then_with}
 use Rattle.net_json.specs.declared.error.ValueFault.TheVariants.{Doubled}
 use Rattle.net_json.proofs.Differing.{differ_sound, differ_whole}
-use Rattle.net_json.proofs.PlanLaw.{first_only}
+use Rattle.net_json.proofs.WordsLaw.{first_only}
 use Rattle.net_json.proofs.Telling.{demanded}
 
 stands_at : (names : List (List ℕ)) (k : ℕ) (name : List ℕ) → slice_get names k ≡ Some name → get_or names k [] ≡ name

@@ -37,7 +37,7 @@ use Rattle.net_json.specs.declared.skeleton.PlacedParts.{PlacedParts}
 use Rattle.net_plan.specs.declared.terminus.PlannedTerminus.{PlannedTerminus}
 use Rattle.net_plan.specs.NameText.{is_name}
 use Rattle.net_plan.proofs.Placed.{passes}
-use Rattle.net_json.proofs.PlanLaw.{first_within}
+use Rattle.net_json.proofs.WordsLaw.{first_within}
 use Rattle.net_json.proofs.Gathered.{is_some_map, no_Some, same_Some, shown}
 use Rattle.net_json.proofs.Telling.{both}
 use Rattle.net_json.proofs.Trees.{get_of}

@@ -6,9 +6,8 @@ use Rattle.serde_json.specs.Data.{Num, Data, null, boolean, number, string, arra
 use Rattle.serde_json.specs.Find.{get, as_u64}
 use Rattle.net_json.specs.declared.error.ValueFault.{ValueFault}
 use Rattle.net_json.specs.declared.error.ValueFault.TheVariants.{OutOfRange, OverLimit}
-use Rattle.net_json.specs.Json.{each, items_count, all_of, list_within, optional, demand, found, at_key, whole_number, number_within, truth}
-use Rattle.net_json.specs.JsonWords.{At, AreItems, IsListOf, IsShortListOf, IsOptional, IsNumberWithin, IsTruth}
-use Rattle.net_plan.specs.Placed.{is_none_or}
+use Rattle.net_json.specs.Json.{each, items_count, list_within, demand, found, at_key, whole_number, number_within, truth}
+use Rattle.net_json.specs.JsonWords.{At, AreItems, IsShortListOf, IsNumberWithin, IsTruth}
 use Rattle.net_json.specs.Reading.{then_with}
 
 -- what f reads and passes the test is what R tells
@@ -55,14 +54,6 @@ at_key_tells key f test R t = record {
   passes = λ d x h. t.passes h.0 x h.2;
 }
 
-all_any : {A : Type 0} (xs : List A) → list_all any xs ≡ true
-all_any [] = refl
-all_any (x ∷ xs) = all_any xs
-
-none_or_any : {A : Type 0} (o : Option A) → is_none_or any o ≡ true
-none_or_any None = refl
-none_or_any (Some x) = refl
-
 module _ {A : Type 0} (f : Data → Result A ValueFault) (test : A → Bool) (R : Data → A → Type 0) (t : Tells f test R) where
   items_sound : (ds : Items) (xs : List A) → each f ds ≡ Ok xs → list_all test xs ≡ true → AreItems R ds xs
   items_sound no_items [] e pass = tt
@@ -93,17 +84,6 @@ module _ {A : Type 0} (f : Data → Result A ValueFault) (test : A → Bool) (R 
   items_length (item d ds) [] h = absurd h
   items_length (item d ds) (x ∷ xs) h = ap suc (items_length ds xs h.1)
 
-  all_sound : (d : Data) (xs : List A) → all_of f d ≡ Ok xs → list_all test xs ≡ true → IsListOf R d xs
-  all_sound (array ds) xs e pass = (ds, refl, items_sound ds xs e pass)
-  all_sound null xs e pass = absurd (no_value e)
-  all_sound (boolean b) xs e pass = absurd (no_value e)
-  all_sound (number n) xs e pass = absurd (no_value e)
-  all_sound (string s) xs e pass = absurd (no_value e)
-  all_sound (object ms) xs e pass = absurd (no_value e)
-
-  pub all_tells : Tells (all_of f) (list_all test) (IsListOf R)
-  all_tells = record { sound = all_sound; whole = λ d xs h. ap (all_of f) h.1 ∙ items_whole h.0 xs h.2; passes = λ d xs h. items_pass h.0 xs h.2 }
-
   within_sound : (most : ℕ) (d : Data) (xs : List A) → list_within most f d ≡ Ok xs → list_all test xs ≡ true → IsShortListOf most R d xs
   within_sound most (array ds) xs e pass = by (nat_le (items_count ds) most) refl e
     where
@@ -124,50 +104,6 @@ module _ {A : Type 0} (f : Data → Result A ValueFault) (test : A → Bool) (R 
         ap (list_within most f) h.0.1 ∙ ap (λ b. cond b (each f h.0.0) (Err OverLimit)) few ∙ items_whole h.0.0 xs h.0.2;
     passes = λ d xs h. items_pass h.0.0 xs h.0.2;
   }
-
-  some_sound : (d : Data) (x : Option A) → d ≢ null → then_with (f d) (λ a. Ok (Some a)) ≡ Ok x → is_none_or test x ≡ true → IsOptional R d x
-  some_sound d x some e pass =
-      let p = then_Ok (f d) (λ a. Ok (Some a)) x e in
-      let same : Some p.0 ≡ x = same_Ok p.2 in
-      subst (IsOptional R d) same (some, t.sound d p.0 p.1 (ap (is_none_or test) same ∙ pass))
-
-  optional_sound : (d : Data) (x : Option A) → optional f d ≡ Ok x → is_none_or test x ≡ true → IsOptional R d x
-  optional_sound null x e pass = subst (IsOptional R null) (same_Ok e) refl
-  optional_sound (boolean b) x e pass = some_sound (boolean b) x (λ h. cc) e pass
-  optional_sound (number n) x e pass = some_sound (number n) x (λ h. cc) e pass
-  optional_sound (string s) x e pass = some_sound (string s) x (λ h. cc) e pass
-  optional_sound (array ds) x e pass = some_sound (array ds) x (λ h. cc) e pass
-  optional_sound (object ms) x e pass = some_sound (object ms) x (λ h. cc) e pass
-
-  optional_some : (d : Data) → d ≢ null → optional f d ≡ then_with (f d) (λ a. Ok (Some a))
-  optional_some null some = absurd (some refl)
-  optional_some (boolean b) some = refl
-  optional_some (number n) some = refl
-  optional_some (string s) some = refl
-  optional_some (array ds) some = refl
-  optional_some (object ms) some = refl
-
-  optional_whole : (d : Data) (x : Option A) → IsOptional R d x → optional f d ≡ Ok x
-  optional_whole d None h = ap (optional f) h
-  optional_whole d (Some x) h = optional_some d h.0 ∙ ap (λ r. then_with r (λ a. Ok (Some a))) (t.whole d x h.1)
-
-  optional_passes : (d : Data) (x : Option A) → IsOptional R d x → is_none_or test x ≡ true
-  optional_passes d None h = refl
-  optional_passes d (Some x) h = t.passes d x h.1
-
-  pub optional_tells : Tells (optional f) (is_none_or test) (IsOptional R)
-  optional_tells = record { sound = optional_sound; whole = optional_whole; passes = optional_passes }
-
--- the same where any value passes
-module _ {A : Type 0} (f : Data → Result A ValueFault) (R : Data → A → Type 0) (t : Tells f any R) where
-  pub all_any_tells : Tells (all_of f) any (IsListOf R)
-  all_any_tells = let all = all_tells f any R t in record { sound = λ d xs e pass. all.sound d xs e (all_any xs); whole = all.whole; passes = λ d xs h. refl }
-
-  pub within_any_tells : (most : ℕ) → Tells (list_within most f) any (IsShortListOf most R)
-  within_any_tells most = let all = within_tells f any R t most in record { sound = λ d xs e pass. all.sound d xs e (all_any xs); whole = all.whole; passes = λ d xs h. refl }
-
-  pub optional_any_tells : Tells (optional f) any (IsOptional R)
-  optional_any_tells = let all = optional_tells f any R t in record { sound = λ d x e pass. all.sound d x e (none_or_any x); whole = all.whole; passes = λ d x h. refl }
 
 number_sound : (least most : ℕ) (n : Num) (x : ℕ) → number_within least most (as_u64 n) ≡ Ok x → IsNumberWithin least most (number n) x
 number_sound least most (unsigned m) x e = by (nat_le least m) (nat_le m most) refl refl e

@@ -6,7 +6,7 @@ use Rattle.serde_json.specs.Data.{Data, null, boolean, number, string, array, ob
 use Rattle.serde_json.specs.Find.{get}
 use Rattle.net_json.specs.Json.{demand, items_count, keyed, at_key, is_among}
 use Rattle.net_json.specs.Json.{name_text, hex_text, address_text, whole_number}
-use Rattle.net_json.specs.PlanReading.{kind_text}
+use Rattle.net_json.specs.Json.{kind_text}
 use Rattle.net_json.specs.Reading.{then_with}
 use Rattle.net_json.specs.declared.error.ValueFault.{ValueFault}
 use Rattle.net_json.specs.declared.error.ValueFault.TheVariants.{WrongKind, OverLimit, OutOfRange, UnknownName}
@@ -138,6 +138,11 @@ abbrev mutual
 -- the first fault of a value in the order of tests
 abbrev pub first_fault : Option Known → Grammar → Data → Option Located
 first_fault known g d = option_or (here g (own_fault known g d)) (inside known g d)
+
+-- the fault for which a value is refused
+abbrev pub refused : Option Located → Result ⊤ ValueFault
+refused None = Ok tt
+refused (Some l) = Err l.fault
 
 -- ---- as the program holds them
 

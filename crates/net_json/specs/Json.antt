@@ -1,5 +1,5 @@
 -- What a JSON value says, by functions: the value that it stands for, or its first fault in the order of tests.
-use Rattle.std.specs.Prelude.{ℕ, suc, ⊤, is_some, ◌&&◌, ◌||◌, List, [], ◌∷◌, length, Bool, true}
+use Rattle.std.specs.Prelude.{ℕ, suc, ⊤, codes, is_some, ◌&&◌, ◌||◌, List, [], ◌∷◌, length, Bool, true}
 use Rattle.std.specs.Prelude.{false, not, nat_le, if◌then◌else◌, Option, Some, None, Result, Ok, Err}
 use Rattle.std.specs.List.{list_any}
 use Rattle.std.specs.Str.{bytes_eq}
@@ -13,6 +13,8 @@ use Rattle.net_json.specs.Reading.{then_with}
 use Rattle.net_json.specs.declared.error.ValueFault.{ValueFault}
 use Rattle.net_json.specs.declared.error.ValueFault.TheVariants.{WrongKind, MissingKey, UnknownKey}
 use Rattle.net_json.specs.declared.error.ValueFault.TheVariants.{OutOfRange, BadHex, OverLimit}
+use Rattle.net_plan.specs.declared.nodes.Kind.{Kind}
+use Rattle.net_plan.specs.declared.nodes.Kind.TheVariants.{Bridge, Endpoint}
 
 -- each item, one after another
 abbrev pub each : {A : Type 0} → (Data → Result A ValueFault) → Items → Result (List A) ValueFault
@@ -23,20 +25,10 @@ abbrev pub items_count : Items → ℕ
 items_count no_items = 0
 items_count (item d ds) = suc (items_count ds)
 
--- a list, however long
-abbrev pub all_of : {A : Type 0} → (Data → Result A ValueFault) → Data → Result (List A) ValueFault
-all_of f (array ds) = each f ds
-all_of f _ = Err WrongKind
-
 -- a list of at most so many items
 abbrev pub list_within : {A : Type 0} → ℕ → (Data → Result A ValueFault) → Data → Result (List A) ValueFault
 list_within most f (array ds) = if nat_le (items_count ds) most then each f ds else Err OverLimit
 list_within most f _ = Err WrongKind
-
--- `null`, or what f reads
-abbrev pub optional : {A : Type 0} → (Data → Result A ValueFault) → Data → Result (Option A) ValueFault
-optional f null = Ok None
-optional f d = then_with (f d) (λ a. Ok (Some a))
 
 abbrev pub demand : ValueFault → Bool → Result ⊤ ValueFault
 demand fault true = Ok tt
@@ -116,3 +108,13 @@ abbrev pub address_text : Data → Result (List ℕ) ValueFault
 address_text d =
     then_with (hex_text d) (λ bytes.
     then_with (demand OverLimit (nat_le (length bytes) 8)) (λ _. Ok bytes))
+
+abbrev pub kind_of : List ℕ → Result Kind ValueFault
+kind_of s =
+    if bytes_eq s (codes "bridge") then Ok Bridge
+    else (if bytes_eq s (codes "endpoint") then Ok Endpoint else Err OutOfRange)
+
+-- the kind of a node
+abbrev pub kind_text : Data → Result Kind ValueFault
+kind_text (string s) = kind_of s
+kind_text _ = Err WrongKind

@@ -15,6 +15,7 @@ pub mod Tables
 pub mod Finding
 pub mod Fitting
 pub mod NameIndexes
+pub mod Made
 pub mod PlanReading
 pub mod CertificateReading
 pub mod EventReading

@@ -1,5 +1,5 @@
 -- Names in lists of JSON values, and their indices.
-use Rattle.std.specs.Prelude.{ℕ, suc, ◌&&◌, List, [], ◌∷◌, ◌++◌, Bool, true, not}
+use Rattle.std.specs.Prelude.{ℕ, suc, codes, ◌&&◌, List, [], ◌∷◌, ◌++◌, Bool, true, not}
 use Rattle.std.specs.Prelude.{if◌then◌else◌, Option, Some, None, option_map}
 use Rattle.std.specs.Str.{bytes_eq}
 use Rattle.serde_json.specs.Data.{Data, string, array, Items, no_items, item}
@@ -46,3 +46,12 @@ each_text_at key (item d ds) = text_at key d ∷ each_text_at key ds
 abbrev pub texts_at : List ℕ → Data → List (List ℕ)
 texts_at key (array ds) = each_text_at key ds
 texts_at key _ = []
+
+-- the names of the objects of a list, where there is one
+abbrev pub names_in : Option Data → List (List ℕ)
+names_in (Some d) = texts_at (codes "name") d
+names_in None = []
+
+-- the names in the list at a key
+abbrev pub names_at : List ℕ → Data → List (List ℕ)
+names_at key d = names_in (get key d)

@@ -1,113 +1,113 @@
 //! A certificate from its JSON value.
-ghost use Rattle.std.specs.Prelude.{◌≡◌, ◌≢◌, ◌&&◌, Ok, Err, MatchResult, ℕ, List, map, length, nat_lt, IsTrue, IfOk};
+ghost use Rattle.std.specs.Prelude.{◌≡◌, ◌≤◌, ◌+◌, ◌&&◌, ℕ, map, length, nat_lt, IfOk};
 ghost use Rattle.std.specs.List.{list_all};
 ghost use Rattle.net_json.specs.Trees.{view};
 ghost use Rattle.net_json.specs.declared.error.ValueFault.TheVariants.{Doubled, UnknownName};
 ghost use Rattle.net_json.specs.Reading.{IsReadOf};
-ghost use Rattle.net_json.specs.Json.{demand, whole_number};
+ghost use Rattle.net_json.specs.Json.{demand};
+ghost use Rattle.net_json.specs.Made.{number_in, level_made, places_made, in_time, range_made, ranks_made, certificate_made};
 ghost use Rattle.net_json.specs.Names.{index_among};
 ghost use Rattle.net_json.specs.NameIndexes.{find_in};
 ghost use Rattle.net_plan.specs.PlanValues.{node_value, node_names, plan_value};
-ghost use Rattle.net_json.specs.CertificateReading.{level, node_places, range, node_ranks, nodes_differ, ascends, entries, entries_differ, certificate};
+ghost use Rattle.net_json.specs.CertificateReading.{nodes_differ, ascends, entries_differ, certificate};
 ghost use Rattle.net_plan.specs.CertificateValues.{are_known};
 ghost use Rattle.net_plan.specs.CertificateValues.{LevelValue, PlacesValue, RangeValue, NodeRanksValue, level_value, places_value, range_value, node_ranks_value, certificate_value};
 
 use crate::error::ValueFault;
-use crate::json_value::{ReadItem, check_keys, demand, member, read_all, read_byte, read_number};
+use crate::json_value::{demand, member};
+use crate::make::{Make, check_shape, index_at, make_each_at, number_at, number_in};
 use crate::name_index::{NameIndex, names_differ};
 use crate::naming::{NodeName, TextAt};
-use crate::words::read_reference;
+use crate::tables::certificate_shape;
 use json::Value;
 use mctp_transport::Eid;
 use net_plan::{Certificate, Node, NodeLevel, NodePlaces, NodeRanks, Plan, RankRange, RecordPlace};
-use std::alloc::Global;
+use std::alloc::{AllocError, Global};
 
-/// Reads levels of nodes that this index finds.
+/// Makes levels of nodes that this index finds.
 #[derive(Clone, Copy)]
-struct LevelReader<'p, 't> {
+struct LevelMaker<'p, 't> {
     nodes: &'p NameIndex<'t>,
 }
 
-impl<'p, 't> ReadItem for LevelReader<'p, 't> {
+impl<'p, 't> Make for LevelMaker<'p, 't> {
     type Item = NodeLevel;
 
     ghost Meaning = { LevelValue };
 
     ghost meaning = { level_value };
 
-    ghost said = { λ s d. level (find_in s.nodes.now) d };
+    ghost made = { λ s d. level_made (find_in s.nodes.now) d };
 
-    fn read_item(&self, _alloc: Global, value: &Value) -> Result<NodeLevel, ValueFault> {
-        check_keys(value, &["level", "node"])?;
-        let level = read_number(member(value, "level")?, 1, 63)? as u8;
-        let node = read_reference(self.nodes, member(value, "node")?)?;
-        Ok(NodeLevel { level, node })
+    fn make(&self, _alloc: Global, value: &Value<'_>) -> Result<NodeLevel, AllocError> {
+        Ok(NodeLevel {
+            level: number_at(value, "level", 1, 63) as u8,
+            node: index_at(self.nodes, value, "node"),
+        })
     }
 }
 
-/// Reads places of records.
+/// Makes places of records.
 #[derive(Clone, Copy)]
-struct RecordPlaceReader;
+struct PlaceMaker;
 
-impl ReadItem for RecordPlaceReader {
+impl Make for PlaceMaker {
     type Item = RecordPlace;
 
     ghost Meaning = { ℕ };
 
     ghost meaning = { λ place. place.value };
 
-    ghost said = { λ _ d. whole_number 0 4095 d };
+    ghost made = { λ _ d. number_in 0 4095 d };
 
-    fn read_item(&self, _alloc: Global, value: &Value) -> Result<RecordPlace, ValueFault> {
-        let value = read_number(value, 0, 4095)? as u16;
-        Ok(RecordPlace { value })
+    fn make(&self, _alloc: Global, value: &Value<'_>) -> Result<RecordPlace, AllocError> {
+        Ok(RecordPlace {
+            value: number_in(value, 0, 4095) as u16,
+        })
     }
 }
 
-/// Reads the places of the records of nodes that this index finds.
+/// Makes the places of the records of nodes that this index finds.
 #[derive(Clone, Copy)]
-struct PlacesReader<'p, 't> {
+struct PlacesMaker<'p, 't> {
     nodes: &'p NameIndex<'t>,
 }
 
-impl<'p, 't> ReadItem for PlacesReader<'p, 't> {
+impl<'p, 't> Make for PlacesMaker<'p, 't> {
     type Item = NodePlaces;
 
     ghost Meaning = { PlacesValue };
 
     ghost meaning = { places_value };
 
-    ghost said = { λ s d. node_places (find_in s.nodes.now) d };
+    ghost made = { λ s d. places_made (find_in s.nodes.now) d };
 
-    fn read_item(&self, alloc: Global, value: &Value) -> Result<NodePlaces, ValueFault> {
-        check_keys(value, &["node", "places"])?;
-        let node = read_reference(self.nodes, member(value, "node")?)?;
-        let places = read_all(alloc, &RecordPlaceReader, member(value, "places")?)?;
-        Ok(NodePlaces { node, places })
+    fn make(&self, alloc: Global, value: &Value<'_>) -> Result<NodePlaces, AllocError> {
+        Ok(NodePlaces {
+            node: index_at(self.nodes, value, "node"),
+            places: make_each_at(alloc, &PlaceMaker, value, "places")?,
+        })
     }
 }
 
-/// Reads ranges of endpoint IDs of one rank.
+/// Makes ranges of endpoint IDs of one rank.
 #[derive(Clone, Copy)]
-struct RangeReader;
+struct RangeMaker;
 
-impl ReadItem for RangeReader {
+impl Make for RangeMaker {
     type Item = RankRange;
 
     ghost Meaning = { RangeValue };
 
     ghost meaning = { range_value };
 
-    ghost said = { λ _ d. range d };
+    ghost made = { λ _ d. range_made d };
 
-    fn read_item(&self, _alloc: Global, value: &Value) -> Result<RankRange, ValueFault> {
-        check_keys(value, &["first", "rank", "size"])?;
-        let first = read_byte(member(value, "first")?, 0)?;
-        let rank = read_byte(member(value, "rank")?, 1)?;
-        let size = read_byte(member(value, "size")?, 1)?;
-        if u16::from(first) + u16::from(size) > 256 {
-            return Err(ValueFault::OutOfRange);
-        }
+    fn make(&self, _alloc: Global, value: &Value<'_>) -> Result<RankRange, AllocError> {
+        let first = number_at(value, "first", 0, 255) as u8;
+        let rank = number_at(value, "rank", 1, 255) as u8;
+        let size = number_at(value, "size", 1, 255) as u8;
+        let first = in_time(first, size);
         Ok(RankRange {
             first: Eid::new(first),
             rank,
@@ -116,49 +116,57 @@ impl ReadItem for RangeReader {
     }
 }
 
-/// Reads the ranks of nodes that this index finds.
+/// The first endpoint ID of a range that has to end at 255 or before.
+fn in_time(first: u8, size: u8) -> u8
+    ensures made { result ≡ in_time first size }
+    ensures within { result + size ≤ 256 }
+{
+    if u16::from(first) + u16::from(size) <= 256 {
+        first
+    } else {
+        0
+    }
+}
+
+/// Makes the ranks of nodes that this index finds.
 #[derive(Clone, Copy)]
-struct RanksReader<'p, 't> {
+struct RanksMaker<'p, 't> {
     nodes: &'p NameIndex<'t>,
 }
 
-impl<'p, 't> ReadItem for RanksReader<'p, 't> {
+impl<'p, 't> Make for RanksMaker<'p, 't> {
     type Item = NodeRanks;
 
     ghost Meaning = { NodeRanksValue };
 
     ghost meaning = { node_ranks_value };
 
-    ghost said = { λ s d. node_ranks (find_in s.nodes.now) d };
+    ghost made = { λ s d. ranks_made (find_in s.nodes.now) d };
 
-    fn read_item(&self, alloc: Global, value: &Value) -> Result<NodeRanks, ValueFault> {
-        check_keys(value, &["node", "ranges"])?;
-        let node = read_reference(self.nodes, member(value, "node")?)?;
-        let ranges = read_all(alloc, &RangeReader, member(value, "ranges")?)?;
-        Ok(NodeRanks { node, ranges })
+    fn make(&self, alloc: Global, value: &Value<'_>) -> Result<NodeRanks, AllocError> {
+        Ok(NodeRanks {
+            node: index_at(self.nodes, value, "node"),
+            ranges: make_each_at(alloc, &RangeMaker, value, "ranges")?,
+        })
     }
 }
 
-/// The three lists, of nodes that this index finds.
-#[tactic(auto, unfolding(crate::specs::CertificateReading::entries))]
-fn read_entries(alloc: Global, nodes: &NameIndex, value: &Value) -> Result<Certificate, ValueFault>
-    ensures { IsReadOf certificate_value (entries (find_in nodes.now) (view value.now)) result }
+/// The certificate of nodes that this index finds.
+fn make_among(alloc: Global, nodes: &NameIndex, value: &Value) -> Result<Certificate, AllocError>
+    ensures { IfOk result (λ c. certificate_value c ≡ certificate_made (find_in nodes.now) (view value.now)) }
 {
-    let levels = read_all(alloc, &LevelReader { nodes }, member(value, "levels")?)?;
-    let places = read_all(alloc, &PlacesReader { nodes }, member(value, "places")?)?;
-    let ranks = read_all(alloc, &RanksReader { nodes }, member(value, "ranks")?)?;
     Ok(Certificate {
-        levels,
-        places,
-        ranks,
+        levels: make_each_at(alloc, &LevelMaker { nodes }, value, "levels")?,
+        places: make_each_at(alloc, &PlacesMaker { nodes }, value, "places")?,
+        ranks: make_each_at(alloc, &RanksMaker { nodes }, value, "ranks")?,
     })
 }
 
-/// The three lists, of these nodes.
-fn read_entries_of(alloc: Global, nodes: &[Node], value: &Value) -> Result<Certificate, ValueFault>
-    ensures { IsReadOf certificate_value (entries (index_among (node_names (map node_value nodes.now))) (view value.now)) result }
+/// The certificate of these nodes.
+fn make_certificate(alloc: Global, nodes: &[Node], value: &Value) -> Result<Certificate, AllocError>
+    ensures { IfOk result (λ c. certificate_value c ≡ certificate_made (index_among (node_names (map node_value nodes.now))) (view value.now)) }
 {
-    read_entries(alloc, &NameIndex::of(alloc, &NodeName, nodes)?, value)
+    make_among(alloc, &NameIndex::of(alloc, &NodeName, nodes)?, value)
 }
 
 /// That no two entries of a list name one node.
@@ -259,10 +267,9 @@ fn read_certificate_among(
 ) -> Result<Certificate, ValueFault>
     ensures { IsReadOf certificate_value (certificate (node_names (map node_value nodes.now)) (view value.now)) result }
 {
-    check_keys(value, &["format", "levels", "places", "ranks"])?;
-    read_number(member(value, "format")?, 1, 1)?;
-    let certificate = read_entries_of(alloc, nodes, value)?;
+    check_shape(alloc, certificate_shape(), value)?;
     check_entries_differ(alloc, value)?;
+    let certificate = make_certificate(alloc, nodes, value)?;
     check_ascending(certificate.ranks.as_slice())?;
     check_known(nodes.len(), &certificate)?;
     Ok(certificate)

@@ -6,7 +6,7 @@ ghost use Rattle.serde_json.specs.Data.{Data};
 ghost use Rattle.serde_json.specs.Find.{get};
 ghost use Rattle.net_json.specs.Trees.{view};
 ghost use Rattle.net_json.specs.Reading.{IsReadOf};
-ghost use Rattle.net_json.specs.Json.{at_key, list_within, all_of, optional, known_keys, given_keys, keyed, some_object, demand, found, whole_number, truth};
+ghost use Rattle.net_json.specs.Json.{at_key, list_within, known_keys, given_keys, keyed, some_object, demand, found, whole_number, truth};
 ghost use Rattle.net_json.specs.Names.{text_at};
 ghost use Rattle.net_json.specs.declared.error.ValueFault.{ValueFault};
 
@@ -56,68 +56,6 @@ where
         }
     }
     Ok(list)
-}
-
-/// A list, however long.
-pub fn read_all<R: ReadItem>(
-    alloc: Global,
-    reader: &R,
-    value: &Value,
-) -> Result<Vec<R::Item>, ValueFault>
-where
-    R::Item: Drop,
-    ensures { IsReadOf (λ v. map R.meaning v.items) (all_of (R.said reader.now) (view value.now)) result }
-{
-    let Value::Array(items) = value else {
-        return Err(ValueFault::WrongKind);
-    };
-    read_list(alloc, reader, value, items.len())
-}
-
-/// `null`, or an item.
-pub fn read_optional<R: ReadItem>(
-    alloc: Global,
-    reader: &R,
-    value: &Value,
-) -> Result<Option<R::Item>, ValueFault>
-where
-    R::Item: Drop,
-    ensures { IsReadOf (option_map R.meaning) (optional (R.said reader.now) (view value.now)) result }
-{
-    if let Value::Null = value {
-        return Ok(None);
-    }
-    Ok(Some(reader.read_item(alloc, value)?))
-}
-
-/// The list of at most so many items at a key.
-pub fn read_list_at<R: ReadItem>(
-    alloc: Global,
-    reader: &R,
-    value: &Value,
-    key: &str,
-    most: usize,
-) -> Result<Vec<R::Item>, ValueFault>
-where
-    R::Item: Drop,
-    ensures read { IsReadOf (λ v. map R.meaning v.items) (at_key key.now (list_within most (R.said reader.now)) (view value.now)) result }
-    ensures within { IfOk result (λ v. vec_len v ≤ most) }
-{
-    read_list(alloc, reader, member(value, key)?, most)
-}
-
-/// `null`, or an item, at a key.
-pub fn read_optional_at<R: ReadItem>(
-    alloc: Global,
-    reader: &R,
-    value: &Value,
-    key: &str,
-) -> Result<Option<R::Item>, ValueFault>
-where
-    R::Item: Drop,
-    ensures { IsReadOf (option_map R.meaning) (at_key key.now (optional (R.said reader.now)) (view value.now)) result }
-{
-    read_optional(alloc, reader, member(value, key)?)
 }
 
 /// A whole number between two bounds.

@@ -15,6 +15,7 @@ mod json_number;
 mod json_text;
 mod json_value;
 mod level_parts;
+mod make;
 mod name_index;
 mod naming;
 mod next_value;
@@ -41,7 +42,7 @@ mod writing;
 pub use error::{PlanError, ValueFault};
 pub use find::{find_fault, own_fault};
 pub use found::{Found, PointerStep};
-pub use json_value::{at, check_keys, read_number};
+pub use json_value::{at, check_keys, read_number, text_at};
 pub use plain_values::{byte_at, range_end};
 pub use plan_format::{PlanFormat, format_of};
 pub use reading::{

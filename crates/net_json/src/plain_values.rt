@@ -3,7 +3,7 @@ ghost use Rattle.std.specs.Prelude.{◌≡◌, ◌≢◌, ◌≤◌, Err, IfOk, 
 ghost use Rattle.std.specs.List.{list_any};
 ghost use Rattle.std.specs.Str.{bytes_eq};
 ghost use Rattle.net_json.specs.Json.{at_key, is_among, name_text, hex_text, address_text, whole_number};
-ghost use Rattle.net_json.specs.PlanReading.{kind_text};
+ghost use Rattle.net_json.specs.Json.{kind_text};
 ghost use Rattle.net_json.specs.Trees.{view};
 ghost use Rattle.net_json.specs.declared.error.ValueFault.TheVariants.{OutOfMemory};
 ghost use Rattle.net_json.specs.Finding.{fault_of, word_fault, known_name, names_of, range_end, passes};

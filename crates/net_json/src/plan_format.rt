@@ -1,12 +1,12 @@
 //! The formats of plans, and the transmission unit that each gives.
-ghost use Rattle.std.specs.Prelude.{◌≡◌, ◌≢◌, Ok, Err, MatchResult, ◌≤◌, is_ok, IfOk};
+ghost use Rattle.std.specs.Prelude.{◌≡◌, ◌≤◌, is_ok};
 ghost use Rattle.net_json.specs.Json.{whole_number};
-ghost use Rattle.net_json.specs.PlanReading.{plan_format, unit_by, unit};
-ghost use Rattle.net_json.specs.Reading.{IsReadOf};
+ghost use Rattle.net_json.specs.Made.{unit_made};
+ghost use Rattle.net_json.specs.PlanReading.{plan_format};
 ghost use Rattle.net_json.specs.Trees.{view};
 
-use crate::error::ValueFault;
-use crate::json_value::{at, check_keys, member, read_number};
+use crate::json_value::{at, read_number};
+use crate::make::number_at;
 use json::Value;
 use net_plan::{BASELINE_UNIT, LARGEST_UNIT};
 
@@ -17,14 +17,6 @@ pub enum PlanFormat {
     One,
     /// Its plans say their transmission unit.
     Two,
-}
-
-/// The transmission unit of a plan, of which the format, the keys and the unit itself are tested.
-pub fn read_unit(value: &Value) -> Result<u16, ValueFault>
-    ensures read { IsReadOf (λ n. n) (unit (view value.now)) result }
-    ensures bound { IfOk result (λ n. (64 ≤ n) × (n ≤ 1024)) }
-{
-    read_unit_by(format_of(value), value)
 }
 
 /// The format by whose tests a plan is read: 2 where it says so, else 1.
@@ -44,21 +36,20 @@ fn is_two(value: &Value) -> bool
     read_number(value, 2, 2).is_ok()
 }
 
-/// The transmission unit of a plan, by the tests of a format.
-fn read_unit_by(format: PlanFormat, value: &Value) -> Result<u16, ValueFault>
-    ensures read { IsReadOf (λ n. n) (unit_by format (view value.now)) result }
-    ensures bound { IfOk result (λ n. (64 ≤ n) × (n ≤ 1024)) }
+/// The transmission unit of a plan: in format 1 the baseline of 64 bytes, in format 2 the number at its key.
+pub fn unit_of(format: PlanFormat, value: &Value) -> u16
+    ensures made { result ≡ unit_made format (view value.now) }
+    ensures bound { (64 ≤ result) × (result ≤ 1024) }
 {
     match format {
-        PlanFormat::One => {
-            check_keys(value, &["format", "buses", "nodes"])?;
-            read_number(member(value, "format")?, 1, 1)?;
-            Ok(BASELINE_UNIT)
-        }
+        PlanFormat::One => BASELINE_UNIT,
         PlanFormat::Two => {
-            check_keys(value, &["format", "unit", "buses", "nodes"])?;
-            let unit = member(value, "unit")?;
-            Ok(read_number(unit, u64::from(BASELINE_UNIT), u64::from(LARGEST_UNIT))? as u16)
+            number_at(
+                value,
+                "unit",
+                u64::from(BASELINE_UNIT),
+                u64::from(LARGEST_UNIT),
+            ) as u16
         }
     }
 }

@@ -1,220 +1,250 @@
 //! A plan from its JSON value.
-ghost use Rattle.std.specs.Prelude.{◌≡◌, ◌≢◌, Ok, Err, MatchResult, IfOk, ℕ, List, map, length, ◌≤◌, vec_len};
+ghost use Rattle.std.specs.Prelude.{◌≡◌, ◌≤◌, ℕ, [], codes, map, length, vec_len, IfOk};
 ghost use Rattle.net_json.specs.Trees.{view};
 ghost use Rattle.net_json.specs.declared.error.ValueFault.TheVariants.{Doubled, UnknownName};
 ghost use Rattle.net_json.specs.Reading.{IsReadOf};
-ghost use Rattle.net_json.specs.Json.{demand, reference};
-ghost use Rattle.net_json.specs.Names.{names_differ};
+ghost use Rattle.net_json.specs.Json.{demand};
+ghost use Rattle.net_json.specs.Made.{index_in, address_in, made_at, within_in, kind_in, bus_made, port_made, row_made, pool_made, node_made, nodes_made};
+ghost use Rattle.net_json.specs.Names.{index_among, names_differ, texts_at};
 ghost use Rattle.net_plan.specs.Placed.{are_placed};
 ghost use Rattle.net_json.specs.NameIndexes.{find_in};
-ghost use Rattle.net_json.specs.PlanReading.{bus, port, row, pool, node, nodes_among, plan};
-ghost use Rattle.net_plan.specs.PlanValues.{BusValue, PortValue, RowValue, PoolValue, NodeValue, name_bytes, bus_value, bus_names, port_value, row_value, pool_value, node_value, plan_value};
+ghost use Rattle.net_json.specs.PlanReading.{plan};
+ghost use Rattle.net_plan.specs.declared.nodes.Kind.TheVariants.{Endpoint};
+ghost use Rattle.net_plan.specs.PlanValues.{BusValue, PortValue, RowValue, PoolValue, NodeValue, bus_value, bus_names, port_value, row_value, pool_value, node_value, plan_value};
 
 use crate::error::ValueFault;
-use crate::json_value::{
-    ReadItem, check_keys, demand, member, read_byte, read_list, read_list_at, read_number,
-    read_optional_at,
+use crate::json_value::{at, demand};
+use crate::make::{
+    Make, check_shape, index_at, index_in, make_each, make_optional_at, make_within_at, name_at,
+    number_at,
 };
 use crate::name_index::{NameIndex, names_differ};
 use crate::naming::{BusName, TextAt};
-use crate::plan_format::read_unit;
-use crate::terminus_text::TerminusReader;
-use crate::words::{read_address, read_kind, read_name, read_reference};
+use crate::plan_format::{format_of, unit_of};
+use crate::tables::plan_shape;
+use crate::terminus_text::TerminusMaker;
+use crate::words::{read_address, read_kind};
 use json::Value;
 use mctp_transport::Eid;
-use net_plan::{Bus, Node, Plan, Pool, Port, Row, are_placed};
-use std::alloc::Global;
+use net_plan::{Bus, Kind, Node, Plan, Pool, Port, Row, are_placed};
+use std::alloc::{AllocError, Global};
 
-/// Reads buses.
+/// Makes buses.
 #[derive(Clone, Copy)]
-struct BusReader;
+struct BusMaker;
 
-impl ReadItem for BusReader {
+impl Make for BusMaker {
     type Item = Bus;
 
     ghost Meaning = { BusValue };
 
     ghost meaning = { bus_value };
 
-    ghost said = { λ _ d. bus d };
+    ghost made = { λ _ d. bus_made d };
 
-    fn read_item(&self, alloc: Global, value: &Value) -> Result<Bus, ValueFault> {
-        check_keys(value, &["name", "binding", "media"])?;
-        let name = read_name(alloc, member(value, "name")?)?;
-        let binding = read_byte(member(value, "binding")?, 0)?;
-        let media = read_byte(member(value, "media")?, 0)?;
+    fn make(&self, alloc: Global, value: &Value<'_>) -> Result<Bus, AllocError> {
         Ok(Bus {
-            name,
-            binding,
-            media,
+            name: name_at(alloc, value)?,
+            binding: number_at(value, "binding", 0, 255) as u8,
+            media: number_at(value, "media", 0, 255) as u8,
         })
     }
 }
 
-/// Reads ports on buses that this index finds.
+/// Makes ports on buses that this index finds.
 #[derive(Clone, Copy)]
-struct PortReader<'p, 't> {
+struct PortMaker<'p, 't> {
     buses: &'p NameIndex<'t>,
 }
 
-impl<'p, 't> ReadItem for PortReader<'p, 't> {
+impl<'p, 't> Make for PortMaker<'p, 't> {
     type Item = Port;
 
     ghost Meaning = { PortValue };
 
     ghost meaning = { port_value };
 
-    ghost said = { λ s d. port (find_in s.buses.now) d };
+    ghost made = { λ s d. port_made (find_in s.buses.now) d };
 
-    fn read_item(&self, alloc: Global, value: &Value) -> Result<Port, ValueFault> {
-        check_keys(value, &["bus", "address"])?;
-        let bus = read_reference(self.buses, member(value, "bus")?)?;
-        let address = read_address(alloc, member(value, "address")?)?;
-        Ok(Port { bus, address })
+    fn make(&self, alloc: Global, value: &Value<'_>) -> Result<Port, AllocError> {
+        Ok(Port {
+            bus: index_at(self.buses, value, "bus"),
+            address: address_at(alloc, value)?,
+        })
     }
 }
 
-/// Reads rows whose next nodes have these places.
+/// The address of a port.
+fn address_at(alloc: Global, value: &Value<'_>) -> Result<Vec<u8>, AllocError>
+    ensures made { IfOk result (λ v. v.items ≡ made_at [] address_in (codes "address") (view value.now)) }
+    ensures short { IfOk result (λ v. vec_len v ≤ 8) }
+{
+    match at(value, "address") {
+        Some(stands) => address_in(alloc, stands),
+        None => Ok(Vec::new(alloc)),
+    }
+}
+
+fn address_in(alloc: Global, value: &Value<'_>) -> Result<Vec<u8>, AllocError>
+    ensures made { IfOk result (λ v. v.items ≡ address_in (view value.now)) }
+    ensures short { IfOk result (λ v. vec_len v ≤ 8) }
+{
+    match read_address(alloc, value) {
+        Ok(address) => Ok(address),
+        Err(ValueFault::OutOfMemory) => Err(AllocError),
+        Err(_) => Ok(Vec::new(alloc)),
+    }
+}
+
+/// Makes rows whose next nodes this index finds.
 #[derive(Clone, Copy)]
-struct RowReader<'p, 't> {
+struct RowMaker<'p, 't> {
     nodes: &'p NameIndex<'t>,
 }
 
-impl<'p, 't> ReadItem for RowReader<'p, 't> {
+impl<'p, 't> Make for RowMaker<'p, 't> {
     type Item = Row;
 
     ghost Meaning = { RowValue };
 
     ghost meaning = { row_value };
 
-    ghost said = { λ s d. row (find_in s.nodes.now) d };
+    ghost made = { λ s d. row_made (find_in s.nodes.now) d };
 
-    fn read_item(&self, _alloc: Global, value: &Value) -> Result<Row, ValueFault> {
-        check_keys(value, &["first", "size", "port", "next"])?;
-        let first = read_byte(member(value, "first")?, 0)?;
-        let size = read_byte(member(value, "size")?, 0)?;
-        let port = read_number(member(value, "port")?, 0, 31)? as u8;
-        let next = read_reference(self.nodes, member(value, "next")?)?;
+    fn make(&self, _alloc: Global, value: &Value<'_>) -> Result<Row, AllocError> {
         Ok(Row {
-            first: Eid::new(first),
-            size,
-            port,
-            next,
+            first: Eid::new(number_at(value, "first", 0, 255) as u8),
+            size: number_at(value, "size", 0, 255) as u8,
+            port: number_at(value, "port", 0, 31) as u8,
+            next: index_at(self.nodes, value, "next"),
         })
     }
 }
 
-/// Reads owners that this index finds.
+/// Makes owners that this index finds.
 #[derive(Clone, Copy)]
-struct OwnerReader<'p, 't> {
+struct OwnerMaker<'p, 't> {
     nodes: &'p NameIndex<'t>,
 }
 
-impl<'p, 't> ReadItem for OwnerReader<'p, 't> {
+impl<'p, 't> Make for OwnerMaker<'p, 't> {
     type Item = usize;
 
     ghost Meaning = { ℕ };
 
-    ghost meaning = { λ place. place };
+    ghost meaning = { λ index. index };
 
-    ghost said = { λ s d. reference (find_in s.nodes.now) d };
+    ghost made = { λ s d. index_in (find_in s.nodes.now) d };
 
-    fn read_item(&self, _alloc: Global, value: &Value) -> Result<usize, ValueFault> {
-        read_reference(self.nodes, value)
+    fn make(&self, _alloc: Global, value: &Value<'_>) -> Result<usize, AllocError> {
+        Ok(index_in(self.nodes, value))
     }
 }
 
-/// Reads EID pools.
+/// Makes EID pools.
 #[derive(Clone, Copy)]
-struct PoolReader;
+struct PoolMaker;
 
-impl ReadItem for PoolReader {
+impl Make for PoolMaker {
     type Item = Pool;
 
     ghost Meaning = { PoolValue };
 
     ghost meaning = { pool_value };
 
-    ghost said = { λ _ d. pool d };
+    ghost made = { λ _ d. pool_made d };
 
-    fn read_item(&self, _alloc: Global, value: &Value) -> Result<Pool, ValueFault> {
-        check_keys(value, &["first", "size"])?;
-        let first = read_byte(member(value, "first")?, 0)?;
-        let size = read_byte(member(value, "size")?, 0)?;
+    fn make(&self, _alloc: Global, value: &Value<'_>) -> Result<Pool, AllocError> {
         Ok(Pool {
-            first: Eid::new(first),
-            size,
+            first: Eid::new(number_at(value, "first", 0, 255) as u8),
+            size: number_at(value, "size", 0, 255) as u8,
         })
     }
 }
 
-/// Reads nodes among buses and nodes that this index finds.
+/// Makes nodes among buses and nodes that these indices find.
 #[derive(Drop)]
-struct NodeReader<'b, 'n> {
+struct NodeMaker<'b, 'n> {
     buses: NameIndex<'b>,
     nodes: NameIndex<'n>,
 }
 
-impl<'b, 'n> ReadItem for NodeReader<'b, 'n> {
+impl<'b, 'n> Make for NodeMaker<'b, 'n> {
     type Item = Node;
 
     ghost Meaning = { NodeValue };
 
     ghost meaning = { node_value };
 
-    ghost said = { λ s d. node (find_in s.buses) (find_in s.nodes) d };
+    ghost made = { λ s d. node_made (find_in s.buses) (find_in s.nodes) d };
 
-    fn read_item(&self, alloc: Global, value: &Value) -> Result<Node, ValueFault> {
-        check_keys(
-            value,
-            &[
-                "name", "kind", "eid", "owner", "pool", "ports", "rows", "terminus",
-            ],
-        )?;
-        let name = read_name(alloc, member(value, "name")?)?;
-        let kind = read_kind(member(value, "kind")?)?;
-        let eid = read_byte(member(value, "eid")?, 0)?;
-        let owner = OwnerReader { nodes: &self.nodes };
-        let owner = read_optional_at(alloc, &owner, value, "owner")?;
-        let pool = read_optional_at(alloc, &PoolReader, value, "pool")?;
-        let ports = PortReader { buses: &self.buses };
-        let ports = read_list_at(alloc, &ports, value, "ports", 32)?;
-        let rows = RowReader { nodes: &self.nodes };
-        let rows = read_list_at(alloc, &rows, value, "rows", 256)?;
-        let terminus = read_optional_at(alloc, &TerminusReader, value, "terminus")?;
+    fn make(&self, alloc: Global, value: &Value<'_>) -> Result<Node, AllocError> {
+        let buses = &self.buses;
+        let nodes = &self.nodes;
         Ok(Node {
-            name,
-            kind,
-            eid: Eid::new(eid),
-            owner,
-            pool,
-            ports,
-            rows,
-            terminus,
+            name: name_at(alloc, value)?,
+            kind: kind_at(value),
+            eid: Eid::new(number_at(value, "eid", 0, 255) as u8),
+            owner: make_optional_at(alloc, &OwnerMaker { nodes }, value, "owner")?,
+            pool: make_optional_at(alloc, &PoolMaker, value, "pool")?,
+            ports: make_within_at(alloc, &PortMaker { buses }, value, "ports", 32)?,
+            rows: make_within_at(alloc, &RowMaker { nodes }, value, "rows", 256)?,
+            terminus: make_optional_at(alloc, &TerminusMaker, value, "terminus")?,
         })
+    }
+}
+
+/// The kind of a node.
+fn kind_at(value: &Value<'_>) -> Kind
+    ensures { result ≡ made_at Endpoint kind_in (codes "kind") (view value.now) }
+{
+    match at(value, "kind") {
+        Some(stands) => kind_in(stands),
+        None => Kind::Endpoint,
+    }
+}
+
+fn kind_in(value: &Value<'_>) -> Kind
+    ensures { result ≡ kind_in (view value.now) }
+{
+    match read_kind(value) {
+        Ok(kind) => kind,
+        Err(_) => Kind::Endpoint,
     }
 }
 
 /// The most nodes of a plan.
 const MOST_NODES: usize = 64;
 
-/// The nodes of a list, among buses. No name is looked at where there are too many.
-#[tactic(auto, unfolding(crate::specs::PlanReading::nodes_among))]
-fn read_nodes(alloc: Global, buses: &[Bus], value: &Value) -> Result<Vec<Node>, ValueFault>
-    ensures read { IsReadOf (λ v. map node_value v.items) (nodes_among (bus_names (map bus_value buses.now)) (view value.now)) result }
+/// The nodes of a plan, among its buses.
+fn make_nodes(alloc: Global, buses: &[Bus], value: &Value) -> Result<Vec<Node>, AllocError>
+    ensures made { IfOk result (λ v. map node_value v.items ≡ nodes_made (bus_names (map bus_value buses.now)) (view value.now)) }
+    ensures within { IfOk result (λ v. vec_len v ≤ 64) }
+{
+    match at(value, "nodes") {
+        Some(stands) => make_nodes_of(alloc, buses, stands),
+        None => Ok(Vec::new(alloc)),
+    }
+}
+
+/// The nodes of a list, among buses.
+fn make_nodes_of(alloc: Global, buses: &[Bus], value: &Value) -> Result<Vec<Node>, AllocError>
+    ensures made { IfOk result (λ v. map node_value v.items
+        ≡ within_in 64 (node_made (index_among (bus_names (map bus_value buses.now))) (index_among (texts_at (codes "name") (view value.now)))) (view value.now)) }
     ensures within { IfOk result (λ v. vec_len v ≤ 64) }
 {
     let Value::Array(items) = value else {
-        return Err(ValueFault::WrongKind);
+        return Ok(Vec::new(alloc));
     };
     if items.len() > MOST_NODES {
-        return Err(ValueFault::OverLimit);
+        return Ok(Vec::new(alloc));
     }
-    let reader = NodeReader {
+    let items = items.as_slice();
+    let maker = NodeMaker {
         buses: NameIndex::of(alloc, &BusName, buses)?,
-        nodes: NameIndex::of(alloc, &TextAt { key: "name" }, items.as_slice())?,
+        nodes: NameIndex::of(alloc, &TextAt { key: "name" }, items)?,
     };
-    read_list(alloc, &reader, value, MOST_NODES)
+    make_each(alloc, &maker, items)
 }
 
 /// That no two buses have one name.
@@ -235,9 +265,11 @@ fn check_placed(buses: &[Bus], nodes: &[Node]) -> Result<(), ValueFault>
 pub fn read_plan_value(alloc: Global, value: &Value) -> Result<Plan, ValueFault>
     ensures { IsReadOf plan_value (plan (view value.now)) result }
 {
-    let unit = read_unit(value)?;
-    let buses = read_list(alloc, &BusReader, member(value, "buses")?, 64)?;
-    let nodes = read_nodes(alloc, buses.as_slice(), member(value, "nodes")?)?;
+    let format = format_of(value);
+    check_shape(alloc, plan_shape(format), value)?;
+    let unit = unit_of(format, value);
+    let buses = make_within_at(alloc, &BusMaker, value, "buses", 64)?;
+    let nodes = make_nodes(alloc, buses.as_slice(), value)?;
     check_names_differ(alloc, buses.as_slice())?;
     check_placed(buses.as_slice(), nodes.as_slice())?;
     Ok(Plan { unit, buses, nodes })

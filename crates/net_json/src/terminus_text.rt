@@ -1,59 +1,53 @@
 //! Termini and their records from JSON values.
-ghost use Rattle.std.specs.Prelude.{◌≡◌, ◌≢◌, Ok, Err, MatchResult};
+ghost use Rattle.std.specs.Prelude.{◌≡◌, IfOk};
+ghost use Rattle.net_json.specs.Made.{record_made, terminus_made};
 ghost use Rattle.net_json.specs.Trees.{view};
-ghost use Rattle.net_json.specs.PlanReading.{repository_record, terminus};
 ghost use Rattle.net_plan.specs.NodeValues.{RecordValue, TerminusValue, record_value, terminus_value};
 
-use crate::error::ValueFault;
-use crate::json_value::{ReadItem, check_keys, member, read_list, read_number, read_word};
-use crate::words::read_hex;
+use crate::make::{Make, hex_at, make_within_at, number_at};
 use json::Value;
 use net_plan::{PlannedRecord, PlannedTerminus};
-use std::alloc::Global;
+use std::alloc::{AllocError, Global};
 
-/// Reads records.
+/// Makes records.
 #[derive(Clone, Copy)]
-struct RecordReader;
+struct RecordMaker;
 
-impl ReadItem for RecordReader {
+impl Make for RecordMaker {
     type Item = PlannedRecord;
 
     ghost Meaning = { RecordValue };
 
     ghost meaning = { record_value };
 
-    ghost said = { λ _ d. repository_record d };
+    ghost made = { λ _ d. record_made d };
 
-    fn read_item(&self, alloc: Global, value: &Value) -> Result<PlannedRecord, ValueFault> {
-        check_keys(value, &["handle", "next", "bytes"])?;
-        let handle = read_word(member(value, "handle")?)?;
-        let next = read_word(member(value, "next")?)?;
-        let bytes = read_hex(alloc, member(value, "bytes")?)?;
+    fn make(&self, alloc: Global, value: &Value<'_>) -> Result<PlannedRecord, AllocError> {
         Ok(PlannedRecord {
-            handle,
-            next,
-            bytes,
+            handle: number_at(value, "handle", 0, 4_294_967_295) as u32,
+            next: number_at(value, "next", 0, 4_294_967_295) as u32,
+            bytes: hex_at(alloc, value)?,
         })
     }
 }
 
-/// Reads termini.
+/// Makes termini.
 #[derive(Clone, Copy)]
-pub struct TerminusReader;
+pub struct TerminusMaker;
 
-impl ReadItem for TerminusReader {
+impl Make for TerminusMaker {
     type Item = PlannedTerminus;
 
     ghost Meaning = { TerminusValue };
 
     ghost meaning = { terminus_value };
 
-    ghost said = { λ _ d. terminus d };
+    ghost made = { λ _ d. terminus_made d };
 
-    fn read_item(&self, alloc: Global, value: &Value) -> Result<PlannedTerminus, ValueFault> {
-        check_keys(value, &["tid", "records"])?;
-        let tid = read_number(member(value, "tid")?, 0, 254)? as u8;
-        let records = read_list(alloc, &RecordReader, member(value, "records")?, 4096)?;
-        Ok(PlannedTerminus { tid, records })
+    fn make(&self, alloc: Global, value: &Value<'_>) -> Result<PlannedTerminus, AllocError> {
+        Ok(PlannedTerminus {
+            tid: number_at(value, "tid", 0, 254) as u8,
+            records: make_within_at(alloc, &RecordMaker, value, "records", 4096)?,
+        })
     }
 }

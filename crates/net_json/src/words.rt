@@ -5,7 +5,7 @@ ghost use Rattle.net_plan.specs.NodeValues.{name_bytes};
 ghost use Rattle.net_json.specs.Reading.{IsReadOf};
 ghost use Rattle.net_json.specs.Json.{name_text, reference, hex_text, address_text};
 ghost use Rattle.net_json.specs.NameIndexes.{find_in};
-ghost use Rattle.net_json.specs.PlanReading.{kind_text};
+ghost use Rattle.net_json.specs.Json.{kind_text};
 
 use crate::error::ValueFault;
 use crate::name_index::NameIndex;

@@ -4,6 +4,7 @@ use Rattle.json.specs.Json.{Json}
 use Rattle.serde_json.specs.Data.{Data}
 use Rattle.net_json.specs.Finding.{Located, first_fault, located}
 use Rattle.net_json.specs.Grammar.{Grammar, Known}
+use Rattle.net_json.specs.Names.{names_at}
 use Rattle.net_json.specs.PlanReading.{plan, plan_format}
 use Rattle.net_plan.specs.PlanValues.{PlanValue}
 use Rattle.net_json.specs.Refusals.{IsWellButForNames}
@@ -12,7 +13,7 @@ use Rattle.net_json.specs.Tables.{a_plan}
 use Rattle.net_json.specs.Trees.{data_of}
 use Rattle.net_json.specs.declared.error.ValueFault.TheVariants.{UnknownName, Doubled}
 use Rattle.net_pointers.specs.Doubles.{IsFirstDoubled, HasDoubledKey, NoneBefore}
-use Rattle.net_pointers.specs.KnownNames.{names_at, known_in}
+use Rattle.net_pointers.specs.KnownNames.{known_in}
 use Rattle.net_pointers.specs.Plans.{IsFaultOfPlan}
 use Rattle.net_pointers.specs.Pointers.{HasFaultAt}
 use Rattle.net_pointers.specs.declared.plans.PlanTrouble.{PlanTrouble}

@@ -1,14 +1,14 @@
 //! The names that are known where a text is searched.
 ghost use Rattle.std.specs.Prelude.{◌≡◌, map, IfOk};
-ghost use Rattle.net_json.specs.Names.{text_at, texts_at};
+ghost use Rattle.net_json.specs.Names.{names_at, text_at, texts_at};
 ghost use Rattle.net_plan.specs.PlanValues.{name_bytes, node_value, node_names};
 ghost use Rattle.net_json.specs.Trees.{view};
 ghost use Rattle.net_json.specs.Grammar.{known_view};
 ghost use Rattle.net_pointers.specs.CertificateTroubles.{known_nodes};
-ghost use Rattle.net_pointers.specs.KnownNames.{known_in, names_at};
+ghost use Rattle.net_pointers.specs.KnownNames.{known_in};
 
 use json::Value;
-use net_json::{KnownNames, at};
+use net_json::{KnownNames, at, text_at};
 use net_plan::Node;
 use std::alloc::{AllocError, Global};
 
@@ -60,19 +60,9 @@ fn texts_of<'v>(
 {
     let mut texts = Vec::new(alloc);
     for item in items {
-        texts.push(text_of(item, key))?;
+        texts.push(text_at(item, key))?;
     }
     Ok(texts)
-}
-
-/// The text at a key; an empty one where there is none.
-fn text_of<'v>(value: &'v Value<'_>, key: &str) -> &'v str
-    ensures { result.now ≡ text_at key.now (view value.now) }
-{
-    match at(value, key) {
-        Some(Value::String(text)) => text,
-        _ => "",
-    }
 }
 
 /// The names of a plan's nodes.

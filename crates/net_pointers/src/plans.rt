@@ -40,7 +40,7 @@ pub enum PlanTrouble {
 }
 
 /// What is wrong with the plan that a value is, by the first fault in the order of tests. `None` where nothing is.
-#[tactic(auto, using(crate::proofs::Agrees::found_in_plan))]
+#[tactic(auto, using(crate::proofs::LatePlans::found_in_plan))]
 pub fn plan_trouble(alloc: Global, value: &Value<'_>) -> Result<Option<PlanTrouble>, AllocError>
     ensures { IfOk result (λ trouble. IsToldOfPlan (value_view value.now) trouble) }
 {

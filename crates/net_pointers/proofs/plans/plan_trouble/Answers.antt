@@ -4,7 +4,7 @@ use Rattle.net_json.specs.PlanReading.{plan_format}
 use Rattle.net_json.specs.Tables.{a_plan}
 use Rattle.net_json.specs.Trees.{view}
 use Rattle.net_pointers.specs.Plans.{IsFoundInPlan}
-use Rattle.net_pointers.proofs.Agrees.{found_in_plan}
+use Rattle.net_pointers.proofs.LatePlans.{found_in_plan}
 use Rattle.net_pointers.proofs.plans.plan_trouble.Goals as goal
 
 pub returns-in-Some : goal.returns-in-Some

@@ -26,7 +26,7 @@ returns-in-Some-3 c =
     let buses : names_differ known.buses ≡ true = search rules in
     let told : first_fault (Some known) (a_plan (plan_format d)) d ≡ Some l = search rules in
     let first : first_fault (Some (known_in d)) (a_plan (plan_format d)) d ≡ Some l = subst (λ (k : Known). first_fault (Some k) (a_plan (plan_format d)) d ≡ Some l) c.in_ok-known.ensures told in
-    let p = late_unknown d l c.requires (ap (λ (k : Known). names_differ k.buses) (sym c.in_ok-known.ensures) ∙ buses) first in
+    let p = late_unknown d c.requires l (ap (λ (k : Known). names_differ k.buses) (sym c.in_ok-known.ensures) ∙ buses) first in
     let once : single (value_view c.args.value.now) ≡ true = search rules in
     (p.0, once, record { leads = leads (Some (known_in d)) (a_plan (plan_format d)) d l first; first = first; fault = p.1 })
 

@@ -39,13 +39,13 @@ returns-in_err-tid c =
     (of_item (records_of plan c.args.node) c.args.index (λ (r : listed.PlannedRecord). LocatesTerminus plan r e) r c.in_ok-listed.ensures
     (no_locator plan r e (λ t is. none-some t ((c.in_err-tid.ensures t).0 is))))
 
-pub returns-then-is_held_by_terminus : goal.returns-then-is_held_by_terminus
-returns-then-is_held_by_terminus c =
+pub returns-then-is_held_with_tid : goal.returns-then-is_held_with_tid
+returns-then-is_held_with_tid c =
     let plan = c.args.plan.now in
     let e = c.args.eid.value in
     let r = c.in_ok-listed.listed.now in
     of_item (records_of plan c.args.node) c.args.index (λ (r : listed.PlannedRecord). LocatesTerminus plan r e) r c.in_ok-listed.ensures
-    (held plan r c.in_ok-tid.tid e (λ t is. same_Some c.in_ok-tid.tid t ((c.in_ok-tid.ensures t).0 is)) (c.is_held_by_terminus.ensures.0 c.if-is_held_by_terminus.true))
+    (held plan r c.in_ok-tid.tid e (λ t is. same_Some c.in_ok-tid.tid t ((c.in_ok-tid.ensures t).0 is)) (c.is_held_with_tid.ensures.0 c.if-is_held_with_tid.true))
 
 pub returns-in-Some : goal.returns-in-Some
 returns-in-Some c =
@@ -54,7 +54,7 @@ returns-in-Some c =
     let r = c.in_ok-listed.listed.now in
     let tid = c.in_ok-tid.tid in
     let is = (c.in_ok-tid.ensures tid).1 refl in
-    let none : ¬ IsHeldByTerminus plan tid e = λ held. cc (c.is_held_by_terminus.ensures.1 held, c.if-is_held_by_terminus.false) in (
+    let none : ¬ IsHeldByTerminus plan tid e = λ held. cc (c.is_held_with_tid.ensures.1 held, c.if-is_held_with_tid.false) in (
       (refl, ((r, sym c.in_ok-listed.ensures, is), c.in-Some.ensures.1, none)),
       not_of_item (records_of plan c.args.node) c.args.index (λ (r : listed.PlannedRecord). LocatesTerminus plan r e) r c.in_ok-listed.ensures (not_held plan r tid e is none),
     )
@@ -66,7 +66,7 @@ returns-in-None c =
     let r = c.in_ok-listed.listed.now in
     let tid = c.in_ok-tid.tid in
     let is = (c.in_ok-tid.ensures tid).1 refl in
-    let none : ¬ IsHeldByTerminus plan tid e = λ held. cc (c.is_held_by_terminus.ensures.1 held, c.if-is_held_by_terminus.false) in (
+    let none : ¬ IsHeldByTerminus plan tid e = λ held. cc (c.is_held_with_tid.ensures.1 held, c.if-is_held_with_tid.false) in (
       (refl, ((r, sym c.in_ok-listed.ensures, is), nobody plan e c.len.result (omega arith) c.in-None.ensures)),
       not_of_item (records_of plan c.args.node) c.args.index (λ (r : listed.PlannedRecord). LocatesTerminus plan r e) r c.in_ok-listed.ensures (not_held plan r tid e is none),
     )

@@ -1,8 +1,0 @@
-use Rattle.std.proofs.Common.{◌≡◌, ℕ, ◌<◌, Some}
-use Rattle.std.specs.Prelude.{option_map}
-use Rattle.net_tables.specs.Routing.{Holds}
-use Rattle.net_tables.specs.Repositories.{terminus_of}
-use Rattle.net_explained.proofs.causes.locators.is_held_by_terminus.Given as goal
-
-abbrev pub invariant-loop-node : goal.invariant-loop-node
-invariant-loop-node l = (n : ℕ) → n < l.node → ¬ (Holds l.plan n l.eid.value × (option_map (λ t. t.tid) (terminus_of l.plan n) ≡ Some l.tid))

@@ -1,0 +1,13 @@
+use Rattle.std.proofs.Common.{◌≡◌, IfOk, ap, ◌∙◌, subst}
+use Rattle.net_json.specs.Trees.{view}
+use Rattle.net_plan.specs.CertificateValues.{certificate_value}
+use Rattle.net_json.specs.Made.{certificate_made}
+use Rattle.net_json.specs.Names.{index_among}
+use Rattle.net_json.specs.NameIndexes.{find_in}
+use Rattle.net_json.proofs.BusNames.{node_names_of, certificate_found}
+use Rattle.net_json.proofs.certificate_text.make_certificate.Goals as goal
+
+pub returns : goal.returns
+returns c =
+    let found = certificate_found _ (find_in c.in_ok-of.field-0) (view c.args.value.now) (λ q. c.in_ok-of.ensures.found q ∙ ap (λ ns. index_among ns q) (node_names_of c.args.nodes.now)) in
+    subst (λ made. IfOk c.make_among.result (λ c. certificate_value c ≡ made)) found c.make_among.ensures

@@ -1,0 +1,97 @@
+-- What may be wrong among names that are known with a value in which nothing else is.
+use Rattle.std.proofs.Common.{◌≡◌, inl, inr, ℕ, suc, List, Bool, true, false, Option, Some, None, option_and_then, Ok, refl, sym, ap, ◌∙◌, subst}
+use Rattle.std.proofs.lemmas.Option.{none-some, same_Some}
+use Rattle.std.specs.Option.{option_or}
+use Rattle.serde_json.specs.Data.{Data, null, boolean, number, string, array, object, Items, no_items, item}
+use Rattle.serde_json.specs.Find.{get}
+use Rattle.net_json.specs.Finding.{fault_of, names_of, known_name, word_fault, unless_null, own_fault, Step, key, index, Located, under, here, in_items, in_list, inside, in_fields, first_fault}
+use Rattle.net_json.specs.Fitting.{IsWord, EachIs, Fits, FieldsFit}
+use Rattle.net_json.specs.Grammar.{Grammar, plain, a_list, an_optional, an_object, Fields, no_fields, field, Known}
+use Rattle.net_json.specs.Json.{demand, is_among}
+use Rattle.net_json.specs.Reading.{then_with}
+use Rattle.net_json.specs.declared.error.ValueFault.{ValueFault}
+use Rattle.net_json.specs.declared.error.ValueFault.TheVariants.{UnknownName}
+use Rattle.net_json.specs.declared.shape.Named.{Named}
+use Rattle.net_json.specs.declared.shape.Word.{Word}
+use Rattle.net_json.specs.declared.shape.Word.TheVariants as word
+use Rattle.net_json.proofs.Fitting.{own_whole, inside_null}
+use Rattle.net_json.proofs.WordsLaw.{name_tells}
+
+-- the fault, if there is one, is a name that is not known
+abbrev AreNames : Option ValueFault → Type 0
+AreNames o = (f : ValueFault) → o ≡ Some f → f ≡ UnknownName
+
+abbrev IsName : Option Located → Type 0
+IsName o = (l : Located) → o ≡ Some l → l.fault ≡ UnknownName
+
+nothing : (o : Option ValueFault) → o ≡ None → AreNames o
+nothing o none f e = absurd (none-some f (sym none ∙ e))
+
+either : (a b : Option Located) → IsName a → IsName b → IsName (option_or a b)
+either None b p q = q
+either (Some l) b p q = p
+
+stepped : (s : Step) (o : Option Located) → IsName o → IsName (under s o)
+stepped s None p = p
+stepped s (Some l) p = λ m e. sym (ap (λ (n : Located). n.fault) (same_Some _ _ e)) ∙ p l refl
+
+itself : (g : Grammar) (o : Option ValueFault) → AreNames o → IsName (here g o)
+itself g None p = λ l e. absurd (none-some l e)
+itself g (Some f) p = λ l e. sym (ap (λ (n : Located). n.fault) (same_Some _ _ e)) ∙ p f refl
+
+asked : (b : Bool) → AreNames (fault_of (demand UnknownName b))
+asked true f e = absurd (none-some f e)
+asked false f e = sym (same_Some _ _ e)
+
+own_named : (k : Known) (names : Named) (d : Data) → IsWord None (word.Named names) d → AreNames (word_fault (Some k) (word.Named names) d)
+own_named k names d h = subst (λ r. AreNames (fault_of (then_with r (λ name. demand UnknownName (is_among (names_of names k) name))))) (sym (name_tells.whole d h.0 h.1)) (asked (is_among (names_of names k) h.0))
+
+own_word : (k : Known) (w : Word) (d : Data) → IsWord None w d → AreNames (word_fault (Some k) w d)
+own_word k (word.Number least most) d h = nothing _ (own_whole None (plain (word.Number least most)) d h)
+own_word k word.Name d h = nothing _ (own_whole None (plain word.Name) d h)
+own_word k (word.Named names) d h = own_named k names d h
+own_word k word.Kind d h = nothing _ (own_whole None (plain word.Kind) d h)
+own_word k word.Hex d h = nothing _ (own_whole None (plain word.Hex) d h)
+own_word k word.Address d h = nothing _ (own_whole None (plain word.Address) d h)
+
+or_null : (o : Option ValueFault) (d : Data) → AreNames o → AreNames (unless_null d o)
+or_null o null p = nothing None refl
+or_null o (boolean b) p = p
+or_null o (number n) p = p
+or_null o (string s) p = p
+or_null o (array ds) p = p
+or_null o (object ms) p = p
+
+own_left : (k : Known) (g : Grammar) (d : Data) → Fits None g d → AreNames (own_fault (Some k) g d)
+own_left k (plain w) d h = own_word k w d h
+own_left k (a_list most g) d h = nothing _ (own_whole None (a_list most g) d h)
+own_left k (an_optional g) d (inl e) = subst (λ v. AreNames (unless_null v (own_fault (Some k) g v))) (sym e) (nothing None refl)
+own_left k (an_optional g) d (inr h) = or_null (own_fault (Some k) g d) d (own_left k g d h)
+own_left k (an_object rule fs) d h = nothing _ (own_whole None (an_object rule fs) d h)
+
+items_left : (f : Data → Option Located) (P : Data → Type 0) → ((d : Data) → P d → IsName (f d)) → (n : ℕ) (ds : Items) → EachIs P ds → IsName (in_items f n ds)
+items_left f P h n no_items each = λ l e. absurd (none-some l e)
+items_left f P h n (item d ds) each = either (under (index n) (f d)) (in_items f (suc n) ds) (stepped (index n) (f d) (h d each.0)) (items_left f P h (suc n) ds each.1)
+
+whole : (k : Known) (g : Grammar) (d : Data) → Fits None g d → IsName (inside (Some k) g d) → IsName (first_fault (Some k) g d)
+whole k g d h deep = either (here g (own_fault (Some k) g d)) (inside (Some k) g d) (itself g (own_fault (Some k) g d) (own_left k g d h)) deep
+
+mutual
+  inside_left : (k : Known) (g : Grammar) (d : Data) → Fits None g d → IsName (inside (Some k) g d)
+  inside_left k (plain w) d h = λ l e. absurd (none-some l e)
+  inside_left k (a_list most g) d h =
+      subst (λ v. IsName (in_list (first_fault (Some k) g) v)) (sym h.1) (items_left (first_fault (Some k) g) (λ e. Fits None g e) (λ e fits. whole k g e fits (inside_left k g e fits)) 0 h.0 h.3)
+  inside_left k (an_optional g) d (inl e) = subst (λ o. IsName o) (sym (ap (inside (Some k) g) e ∙ inside_null (Some k) g)) (λ l e. absurd (none-some l e))
+  inside_left k (an_optional g) d (inr h) = inside_left k g d h
+  inside_left k (an_object rule fs) d h = fields_left k fs d h.1
+
+  fields_left : (k : Known) (fs : Fields) (d : Data) → FieldsFit None fs d → IsName (in_fields (Some k) fs d)
+  fields_left k no_fields d h = λ l e. absurd (none-some l e)
+  fields_left k (field name g fs) d h =
+      either (under (key name) (option_and_then (first_fault (Some k) g) (get name d))) (in_fields (Some k) fs d)
+      (stepped (key name) (option_and_then (first_fault (Some k) g) (get name d)) (subst (λ o. IsName (option_and_then (first_fault (Some k) g) o)) (sym h.0.1) (whole k g h.0.0 h.0.2 (inside_left k g h.0.0 h.0.2))))
+      (fields_left k fs d h.1)
+
+-- a fault of a value that is one whatever its names are the names of is a name that is not known
+pub unknown_left : (k : Known) (g : Grammar) (d : Data) → Fits None g d → (l : Located) → first_fault (Some k) g d ≡ Some l → l.fault ≡ UnknownName
+unknown_left k g d h = whole k g d h (inside_left k g d h)
