@@ -4,26 +4,23 @@ use Rattle.std.specs.Prelude.{IfOk, Contains, option_map}
 use Rattle.std.specs.Cow.{cow_str_bytes}
 use Rattle.net_plan.specs.declared.plan.Plan.{Plan}
 use Rattle.net_plan.specs.declared.certificate.Certificate.{Certificate}
-use Rattle.net_check.specs.declared.check_error.CheckError.{CheckError}
-use Rattle.net_check.specs.declared.check_error.CheckError.TheVariants as check_error
-use Rattle.net_check.specs.Errors.{NamesFirstFault}
 use Rattle.net_rules.specs.Certificates.{NamesObstacle, RulesOutCertificates}
 use Rattle.net_rules.specs.declared.certify_error.CertifyError.{CertifyError}
 use Rattle.net_rules.specs.declared.fault.Fault.{Fault}
 use Rattle.net_rules.specs.declared.fault_run.FaultRun.{FaultRun}
 use Rattle.net_rules.specs.FaultLists.{AreFaults}
 use Rattle.net_rules.specs.Faults.{IsFirstFault, site_of}
-use Rattle.plan_commands.specs.declared.commands.answer.Answer.{Answer}
-use Rattle.plan_commands.specs.declared.commands.certified.Question.{Question}
-use Rattle.plan_commands.specs.declared.commands.certified.Question.TheVariants as question
-use Rattle.plan_commands.specs.declared.refused.Refused.{Refused}
-use Rattle.plan_commands.specs.declared.status.Status.TheVariants as status
-use Rattle.plan_commands.specs.Answers.{IsErrorText, IsFaultText}
+use Rattle.command_answers.specs.declared.answer.Answer.{Answer}
+use Rattle.plan_commands.specs.declared.certified.Question.{Question}
+use Rattle.plan_commands.specs.declared.certified.Question.TheVariants as question
+use Rattle.command_answers.specs.declared.refused.Refused.{Refused}
+use Rattle.command_answers.specs.declared.status.Status.TheVariants as status
+use Rattle.command_answers.specs.Answers.{IsFaultText}
 use Rattle.plan_commands.specs.Certified.{IsFaultAnswer}
 use Rattle.plan_commands.specs.FaultListing.{IsObstacleListed}
 use Rattle.fault_texts.specs.FaultListLines.{IsObstacleList}
 use Rattle.plan_texts.specs.Lines.{as_line, obstacle_text}
-use Rattle.plan_commands.proofs.Explained.{not_memory}
+use Rattle.command_answers.proofs.Obstacles.{not_memory}
 
 -- where there is a fault there is a run
 pub some_runs : (plan : Plan) (cert : Certificate) (fault : Fault) (runs : List FaultRun) → IsFirstFault plan cert (site_of fault) → AreFaults plan (Some cert) runs → runs ≢ []
@@ -31,14 +28,6 @@ some_runs plan cert fault runs first faults empty = elim (faults.all (site_of fa
   | inl met ↦ first.broken met
   | inr (run, has, is) ↦ (let none = subst (λ (rs : List FaultRun). Contains rs run) empty has in omega (arith, none.1))
 ]
-
--- the line of an error of `check` is that of the first fault
-pub first_told : (plan : Plan) (cert : Certificate) (error : CheckError) (result : Result Answer Refused) → NamesFirstFault plan cert error
-    → IfOk result (λ (a : Answer). (a.status ≡ status.Fault) × IsErrorText plan error (cow_str_bytes a.text))
-    → IfOk result (λ (a : Answer). (a.status ≡ status.Fault) × IsFaultText plan cert (cow_str_bytes a.text))
-first_told plan cert (check_error.Fault fault) (Ok a) first (is, told) = (is, (fault, first, told))
-first_told plan cert check_error.OutOfMemory (Ok a) first (is, told) = absurd told
-first_told plan cert error (Err why) first told = tt
 
 other_answer : (asked : Question) (text : List ℕ) (plan : Plan) (cert : Certificate) (lines : List ℕ) → ((name : Bor (List ℕ)) → asked ≢ question.Faults name)
     → IsFaultText plan cert lines → IsFaultAnswer asked text plan cert lines

@@ -6,14 +6,14 @@ use Rattle.std.specs.Io.KnownBytes.{Consumes, IsAtEnd}
 use Rattle.net_plan.specs.declared.certificate.Certificate.{Certificate}
 use Rattle.net_plan.specs.declared.plan.Plan.{Plan}
 use Rattle.net_rules.specs.Rules.{Accepts}
-use Rattle.plan_commands.specs.declared.commands.answer.Answer.{Answer}
-use Rattle.plan_commands.specs.declared.refused.Refused.{Refused}
-use Rattle.plan_commands.specs.declared.refused.Refused.TheVariants as refused
-use Rattle.plan_commands.specs.declared.status.Status.{Status}
-use Rattle.plan_commands.specs.declared.status.Status.TheVariants as status
-use Rattle.plan_commands.specs.Answers.{Stream, AreGiven, AreUnread, IsFaultText, BreaksOff}
+use Rattle.command_answers.specs.declared.answer.Answer.{Answer}
+use Rattle.command_answers.specs.declared.refused.Refused.{Refused}
+use Rattle.command_answers.specs.declared.refused.Refused.TheVariants as refused
+use Rattle.command_answers.specs.declared.status.Status.{Status}
+use Rattle.command_answers.specs.declared.status.Status.TheVariants as status
+use Rattle.command_answers.specs.Answers.{Stream, AreGiven, AreUnread, IsFaultText, BreaksOff}
 use Rattle.plan_commands.specs.Requiring.{IsRequiredOn, RequiresOn, IsWithoutWanted, RequiresOf, RequiresSo}
-use Rattle.plan_commands.specs.Told.{IsTold, IsSomeAnswer, Gives}
+use Rattle.command_answers.specs.Told.{IsTold, IsSomeAnswer, Gives}
 
 -- ---- standard output
 

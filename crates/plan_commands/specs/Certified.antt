@@ -4,19 +4,20 @@ use Rattle.net_rules.specs.Rules.{Accepts}
 use Rattle.net_plan.specs.declared.certificate.Certificate.{Certificate}
 use Rattle.net_plan.specs.declared.plan.Plan.{Plan}
 use Rattle.net_reached.specs.Matrices.{IsMatrix}
-use Rattle.plan_commands.specs.declared.commands.certified.Question.{Question}
-use Rattle.plan_commands.specs.declared.commands.certified.Question.TheVariants as question
-use Rattle.plan_commands.specs.declared.refused.Refused.{Refused}
-use Rattle.plan_commands.specs.declared.status.Status.{Status}
-use Rattle.plan_commands.specs.declared.status.Status.TheVariants as status
-use Rattle.plan_commands.specs.Answers.{Stream, AreGiven, AreTextsGiven, AreUnread, IsFaultText}
+use Rattle.plan_commands.specs.declared.certified.Question.{Question}
+use Rattle.plan_commands.specs.declared.certified.Question.TheVariants as question
+use Rattle.command_answers.specs.declared.refused.Refused.{Refused}
+use Rattle.command_answers.specs.declared.status.Status.{Status}
+use Rattle.command_answers.specs.declared.status.Status.TheVariants as status
+use Rattle.command_answers.specs.Answers.{Stream, AreGiven, AreTextsGiven, AreUnread, IsFaultText}
 use Rattle.plan_commands.specs.Assigning.{IsAssignmentText}
 use Rattle.plan_commands.specs.Drawing.{IsCertifiedDrawing}
 use Rattle.plan_commands.specs.FaultListing.{IsFaultListOf}
 use Rattle.plan_commands.specs.Reaching.{IsReachText}
-use Rattle.plan_commands.specs.Statuses.{HasCause, yes_line}
-use Rattle.plan_commands.specs.Tracing.{IsTraceText, NameTheEnds}
-use Rattle.plan_commands.specs.Walking.{IsWalkText, HasTerminusNamed, HasTooManyBytes}
+use Rattle.command_answers.specs.Statuses.{HasCause, yes_line}
+use Rattle.plan_commands.specs.Tracing.{IsTraceText}
+use Rattle.command_answers.specs.Naming.{NameTheEnds, HasTerminusNamed}
+use Rattle.plan_commands.specs.Walking.{IsWalkText, HasTooManyBytes}
 
 -- the text answers the question, where every rule holds of the plan and the certificate
 abbrev pub IsAnswer : Question → Plan → Certificate → List ℕ → Type 0

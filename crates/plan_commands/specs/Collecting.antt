@@ -5,8 +5,8 @@ use Rattle.pdr_repository.specs.declared.walk_fault.Step.TheVariants.{Done}
 use Rattle.pdr_repository.specs.Records.{Entry, bytes_by_place}
 use Rattle.pdr_repository.specs.Walks.{Exchange, Walk, IsFinished, exchanges}
 use Rattle.pdr_repository.specs.Walkers.{WalkState, StandsFor}
-use Rattle.plan_commands.specs.declared.refused.Refused.{Refused}
-use Rattle.plan_commands.specs.declared.refused.Refused.TheVariants.{TooMuch, NoMemory}
+use Rattle.command_answers.specs.declared.refused.Refused.{Refused}
+use Rattle.command_answers.specs.declared.refused.Refused.TheVariants.{TooMuch, NoMemory}
 use Rattle.plan_commands.specs.Walking.{bytes_of}
 
 -- The walker stands for these exchanges, which are a walk. It has taken an answer for each, and it has the program's

@@ -1,6 +1,5 @@
 -- What `draw` prints of a plan, in Graphviz' DOT language.
-use Rattle.std.specs.Prelude.{◌≢◌, ℕ, List, [], Bool, true, false}
-use Rattle.std.specs.Prelude.{Option, Some, None}
+use Rattle.std.specs.Prelude.{◌≢◌, ℕ, List, [], Bool, true, false, Option, Some, None}
 use Rattle.net_rules.specs.Certificates.{NamesObstacle, HasNoCertificate}
 use Rattle.net_rules.specs.declared.certify_error.CertifyError.{CertifyError}
 use Rattle.net_rules.specs.declared.certify_error.CertifyError.TheVariants as error
@@ -8,8 +7,8 @@ use Rattle.net_rules.specs.Rules.{Accepts}
 use Rattle.net_plan.specs.declared.certificate.Certificate.{Certificate}
 use Rattle.net_plan.specs.declared.plan.Plan.{Plan}
 use Rattle.mctp_transport.specs.declared.address.Eid.{Eid}
-use Rattle.plan_commands.specs.declared.commands.draw.DrawnRows.{DrawnRows}
-use Rattle.plan_commands.specs.declared.commands.draw.DrawnRows.TheVariants as rows
+use Rattle.plan_commands.specs.declared.draw.DrawnRows.{DrawnRows}
+use Rattle.plan_commands.specs.declared.draw.DrawnRows.TheVariants as rows
 use Rattle.plan_texts.specs.DrawingLines.{IsDrawing}
 use Rattle.plan_texts.specs.RowDrawings.{IsBundleDrawing, IsWayDrawing}
 

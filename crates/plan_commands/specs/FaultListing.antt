@@ -6,10 +6,10 @@ use Rattle.net_rules.specs.declared.certify_error.CertifyError.{CertifyError}
 use Rattle.net_rules.specs.declared.fault_run.FaultRun.{FaultRun}
 use Rattle.net_rules.specs.FaultLists.{AreFaults}
 use Rattle.net_rules.specs.Rules.{Accepts}
-use Rattle.plan_commands.specs.declared.status.Status.{Status}
-use Rattle.plan_commands.specs.declared.status.Status.TheVariants as status
-use Rattle.plan_commands.specs.Certifying.{IsRuledOutBy}
-use Rattle.plan_commands.specs.Statuses.{yes_line}
+use Rattle.command_answers.specs.declared.status.Status.{Status}
+use Rattle.command_answers.specs.declared.status.Status.TheVariants as status
+use Rattle.command_answers.specs.Certifying.{IsRuledOutBy}
+use Rattle.command_answers.specs.Statuses.{yes_line}
 use Rattle.fault_texts.specs.FaultListLines.{IsFaultsText, IsObstacleList}
 
 -- The lines are those of all faults of the plan, or of it and the certificate, with their places in the text of this

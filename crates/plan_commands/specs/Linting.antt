@@ -1,17 +1,12 @@
 -- What `lint` prints of a plan.
-use Rattle.std.specs.Prelude.{◌≡◌, ◌≢◌, ℕ, List, [], codes}
+use Rattle.std.specs.Prelude.{◌≡◌, ◌≢◌, ℕ, List, []}
 use Rattle.net_plan.specs.declared.plan.Plan.{Plan}
 use Rattle.net_questions.specs.declared.finding.Finding.{Finding}
 use Rattle.net_questions.specs.Findings.{AreFindings, IsSo}
-use Rattle.plan_commands.specs.declared.status.Status.{Status}
-use Rattle.plan_commands.specs.declared.status.Status.TheVariants as status
+use Rattle.command_answers.specs.declared.status.Status.{Status}
+use Rattle.command_answers.specs.declared.status.Status.TheVariants as status
 use Rattle.plan_texts.specs.FindingLines.{findings_text}
-
--- the line that tells that nothing looks wrong
-abbrev pub clean_line : List ℕ
-clean_line = codes "clean\n"
-
--- ---- answers
+use Rattle.command_answers.specs.Statuses.{clean_line}
 
 -- No sentence on what looks wrong is so of anything in the plan, and the text says that the plan is clean.
 pub record IsCleanText (plan : Plan) (text : List ℕ) : Type 0 where

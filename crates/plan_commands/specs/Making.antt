@@ -9,12 +9,12 @@ use Rattle.board_made.specs.declared.answer.BoardAnswer.TheVariants.{Made, NoPla
 use Rattle.net_plan.specs.declared.plan.Plan.{Plan}
 use Rattle.board_made.specs.Made.{IsMadeOf, IsUnmadeOf, IsUnreadLine, IsAnswerTo}
 use Rattle.board_made.specs.Rowed.{IsRowedText, IsRowsReason}
-use Rattle.plan_commands.specs.declared.refused.Input.TheVariants as input
-use Rattle.plan_commands.specs.declared.refused.Refused.{Refused}
-use Rattle.plan_commands.specs.declared.refused.Refused.TheVariants as refused
-use Rattle.plan_commands.specs.declared.status.Status.{Status}
-use Rattle.plan_commands.specs.declared.status.Status.TheVariants as status
-use Rattle.plan_commands.specs.Answers.{Stream, Fails}
+use Rattle.command_answers.specs.declared.refused.Input.TheVariants as input
+use Rattle.command_answers.specs.declared.refused.Refused.{Refused}
+use Rattle.command_answers.specs.declared.refused.Refused.TheVariants as refused
+use Rattle.command_answers.specs.declared.status.Status.{Status}
+use Rattle.command_answers.specs.declared.status.Status.TheVariants as status
+use Rattle.command_answers.specs.Answers.{Stream, Fails}
 
 abbrev pub long_board : List ℕ
 long_board = codes "unreadable board: the text is longer than 16777216 bytes\n"

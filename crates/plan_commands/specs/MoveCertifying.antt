@@ -1,25 +1,19 @@
 -- What `certifymove` prints of two plans.
-use Rattle.std.specs.Prelude.{◌≡◌, ◌⊎◌, ◌≤◌, ℕ, List, length, Some}
+use Rattle.std.specs.Prelude.{◌≡◌, ◌≤◌, ℕ, List, length, Some}
 use Rattle.net_plan.specs.declared.plan.Plan.{Plan}
 use Rattle.net_plan.specs.declared.certificate.Certificate.{Certificate}
-use Rattle.net_json.specs.declared.error.PlanError.{PlanError}
 use Rattle.net_json.specs.CertificateJson.{certificate_text}
 use Rattle.net_json.specs.CertificateText.{IsCertificateOf}
 use Rattle.net_plan.specs.CertificateValues.{certificate_value}
 use Rattle.net_plan.specs.PlanValues.{node_names, plan_value}
 use Rattle.net_json.specs.Texts.{StandsFor}
-use Rattle.net_json.specs.Unread.{GaveNoPlan}
 use Rattle.net_plan.specs.WellFormed.{IsWellFormed}
 use Rattle.net_rules.specs.declared.move_obstacle.MoveObstacle.{MoveObstacle}
 use Rattle.net_rules.specs.MoveObstacles.{IsExactForMove, NamesMoveObstacle, HasNoMoveCertificate}
 use Rattle.net_rules.specs.MoveRules.{AcceptsMove}
-use Rattle.plan_commands.specs.declared.refused.Input.{Input}
-use Rattle.plan_commands.specs.declared.refused.Input.TheVariants as input
-use Rattle.plan_commands.specs.declared.refused.Refused.{Refused}
-use Rattle.plan_commands.specs.declared.status.Status.{Status}
-use Rattle.plan_commands.specs.declared.status.Status.TheVariants as status
-use Rattle.plan_commands.specs.Answers.{Stream, GavePlan, GaveNothing}
-use Rattle.plan_commands.specs.Statuses.{HasCause}
+use Rattle.command_answers.specs.declared.status.Status.{Status}
+use Rattle.command_answers.specs.declared.status.Status.TheVariants as status
+use Rattle.command_answers.specs.Answers.{Stream, GavePlan}
 use Rattle.plan_texts.specs.MoveLines.{move_obstacle_text}
 
 -- Every rule of a move holds of the plans and the certificate; the certificate gives each level and place as the plan
@@ -53,15 +47,3 @@ CertifiesMove before after status.NoMemory text = ⊥
 abbrev pub CertifiesMoveSo : Stream → Stream → Status → List ℕ → Type 0
 CertifiesMoveSo befores afters ended text = (before : Plan) × (after : Plan)
     × GavePlan befores before × GavePlan afters after × CertifiesMove before after ended text
-
--- why one of two plans can't be read; the second is read only where the first was given
-abbrev pub IsUnreadOfPlans : Input → PlanError → Stream → Stream → Type 0
-IsUnreadOfPlans input.Plan cause befores afters = GaveNothing GaveNoPlan befores cause
-    ⊎ ((before : Plan) × GavePlan befores before × GaveNothing GaveNoPlan afters cause)
-IsUnreadOfPlans input.Certificate cause befores afters = ⊥
-IsUnreadOfPlans input.Events cause befores afters = ⊥
-IsUnreadOfPlans input.Lines cause befores afters = ⊥
-
--- why the plans were not read
-abbrev pub ArePlansUnread : Refused → Stream → Stream → Type 0
-ArePlansUnread why befores afters = HasCause (λ unread cause. IsUnreadOfPlans unread cause befores afters) ⊥ ⊥ ⊥ why

@@ -1,12 +1,12 @@
 -- What answers a question about a plan.
 use Rattle.std.specs.Prelude.{◌≡◌, ℕ, List}
 use Rattle.net_plan.specs.declared.plan.Plan.{Plan}
-use Rattle.plan_commands.specs.declared.commands.planned.PlanQuestion.{PlanQuestion}
-use Rattle.plan_commands.specs.declared.commands.planned.PlanQuestion.TheVariants as question
-use Rattle.plan_commands.specs.declared.status.Status.{Status}
-use Rattle.plan_commands.specs.declared.status.Status.TheVariants as status
-use Rattle.plan_commands.specs.Answers.{Stream, GavePlanText}
-use Rattle.plan_commands.specs.Certifying.{Certifies}
+use Rattle.plan_commands.specs.declared.planned.PlanQuestion.{PlanQuestion}
+use Rattle.plan_commands.specs.declared.planned.PlanQuestion.TheVariants as question
+use Rattle.command_answers.specs.declared.status.Status.{Status}
+use Rattle.command_answers.specs.declared.status.Status.TheVariants as status
+use Rattle.command_answers.specs.Answers.{Stream, GavePlanText}
+use Rattle.command_answers.specs.Certifying.{Certifies}
 use Rattle.plan_commands.specs.Drawing.{IsPlanDrawing}
 use Rattle.plan_commands.specs.FaultListing.{IsListed}
 use Rattle.plan_commands.specs.Linting.{IsLinted}

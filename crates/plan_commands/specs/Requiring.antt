@@ -13,10 +13,10 @@ use Rattle.net_reached.specs.Lines.{wish_lines}
 use Rattle.net_reached.specs.Reading.{AreWishesOf, IsWhyUnread}
 use Rattle.net_reached.specs.Wishes.{IsMet, AreUnmet}
 use Rattle.net_rules.specs.Rules.{Accepts}
-use Rattle.plan_commands.specs.declared.status.Status.{Status}
-use Rattle.plan_commands.specs.declared.status.Status.TheVariants as status
-use Rattle.plan_commands.specs.Answers.{Stream, Fails, AreGiven, IsFaultText}
-use Rattle.plan_commands.specs.Statuses.{yes_line}
+use Rattle.command_answers.specs.declared.status.Status.{Status}
+use Rattle.command_answers.specs.declared.status.Status.TheVariants as status
+use Rattle.command_answers.specs.Answers.{Stream, Fails, AreGiven, IsFaultText}
+use Rattle.command_answers.specs.Statuses.{yes_line}
 
 -- ---- wishes that were read
 

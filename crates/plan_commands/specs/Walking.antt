@@ -1,25 +1,13 @@
 -- What the end of `walk` says of the plan and the certificate that it read, and of what it wrote.
-use Rattle.std.specs.Prelude.{◌≡◌, ◌≢◌, ◌<◌, ℕ, List, ◌++◌, length, Some, None, sum_by}
+use Rattle.std.specs.Prelude.{◌≡◌, ◌<◌, ℕ, List, ◌++◌, length, sum_by}
 use Rattle.std.specs.List.{flat_map}
-use Rattle.net_rules.specs.Names.{name_of}
-use Rattle.net_tables.specs.Repositories.{terminus_of, records_by_place}
+use Rattle.net_tables.specs.Repositories.{records_by_place}
 use Rattle.net_plan.specs.declared.plan.Plan.{Plan}
 use Rattle.net_plan.specs.declared.certificate.Certificate.{Certificate}
 use Rattle.pdr_repository.specs.Records.{Entry, bytes_by_place}
 use Rattle.pdr_repository.specs.Walks.{exchanges}
 use Rattle.plan_texts.specs.WalkLines.{record_line, count_line}
-
--- n is the first node of the name
-pub record IsFirstNamed (plan : Plan) (name : List ℕ) (n : ℕ) : Type 0 where
-  pub named : name_of plan n ≡ Some name
-  pub first : (m : ℕ) → m < n → name_of plan m ≢ Some name
-
--- n is the first node of the name, and it has a terminus
-abbrev pub IsTerminusNamed : Plan → List ℕ → ℕ → Type 0
-IsTerminusNamed plan name n = IsFirstNamed plan name n × (terminus_of plan n ≢ None)
-
-abbrev pub HasTerminusNamed : Plan → List ℕ → Type 0
-HasTerminusNamed plan name = (n : ℕ) × IsTerminusNamed plan name n
+use Rattle.command_answers.specs.Naming.{IsTerminusNamed}
 
 -- the line of each record by place, and the line of their number and of the requests for them, by parts of so many
 -- bytes

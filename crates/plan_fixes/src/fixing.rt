@@ -2,11 +2,10 @@
 ghost use Rattle.std.specs.Prelude.{IfOk, IfSome, Some};
 ghost use Rattle.plan_fixes.specs.Fixes.{IsAsEdited, IsFixed, IsLeftOf, IsMadeBy, IsTextOf, LeadsOn};
 
-use crate::same::are_same_plans;
 use crate::splicing::spliced;
 use net_explained::{Edit, edited, tried_edits};
 use net_json::{PlanError, plan_of_text};
-use net_plan::Plan;
+use net_plan::{Plan, are_same_plans};
 use net_rules::{CertifyError, certify};
 use plan_texts::edit_line;
 use std::alloc::{AllocError, Global};

@@ -2,7 +2,6 @@
 #![tactic(auto)]
 
 mod fixing;
-mod same;
 mod splicing;
 
 pub use fixing::{Draft, Fixed, fix};

@@ -8,7 +8,9 @@ check PLAN CERT              whether the certificate fits the plan
 certify PLAN                 the certificate of the plan, or why it has none
 move OLD NEW CERT            whether nodes may go over from the old plan's rows to the new one's
 certifymove OLD NEW          the certificate of a move from the old plan's rows to the new one's
-rollout OLD NEW              the steps from the old plan's rows to the new one's, each a move
+diff OLD NEW                 what a change from one plan to another does
+rollout OLD NEW [--write DIR]
+                             the steps from the old plan's rows to the new one's, each a move
 assign PLAN CERT             the requests that give the nodes their endpoint IDs and pools
 sim PLAN CERT EVENTS         what comes of events in the planned network
 expect PLAN CERT EVENTS LINES
@@ -17,6 +19,8 @@ script PLAN CERT walk NODE EID COUNT [--lose N,N] [--repeat N,N]
                              the events of a whole walk over the network, made as it runs
 simmove OLD NEW CERT EVENTS  the same while nodes go over to new rows
 walk PLAN CERT NODE COUNT    the records that a walk over a node's terminus collects
+export linux|c|entries|records PLAN CERT NODE [--link BUS=DEV]..
+                             what a node takes from the plan: a script, a C source, answers or records
 reach PLAN CERT              who reaches whom, and in how many hops
 matrix PLAN CERT             the same as a table that a person reads
 require PLAN CERT WANTED     whether the nodes reach whom a text wants them to reach
@@ -30,6 +34,7 @@ lint PLAN                    what is lawful in the plan and still looks wrong, o
 show packet HEX              what the bytes of a packet are
 show record HEX              what the bytes of a platform descriptor record are
 decode CAPTURE               what was captured of a bus: each packet, and what its message says
+audit PLAN CERT CAPTURE      what captured devices said, laid beside the plan
 describe HEX..               every field of a record by its name, with the standard's words
 record KIND FIELD=VALUE..    the bytes of a record, from its fields
 code CODE                    what a code, as C08 or N03, means, and what to do
@@ -54,6 +59,7 @@ pub fn guide_to(command: &str) -> Option<&'static str> {
         "certify" => Some(OF_CERTIFY),
         "move" => Some(OF_MOVE),
         "certifymove" => Some(OF_CERTIFYMOVE),
+        "diff" => Some(OF_DIFF),
         "rollout" => Some(OF_ROLLOUT),
         "assign" => Some(OF_ASSIGN),
         "sim" => Some(OF_SIM),
@@ -61,6 +67,7 @@ pub fn guide_to(command: &str) -> Option<&'static str> {
         "script" => Some(OF_SCRIPT),
         "simmove" => Some(OF_SIMMOVE),
         "walk" => Some(OF_WALK),
+        "export" => Some(OF_EXPORT),
         "reach" => Some(OF_REACH),
         "matrix" => Some(OF_MATRIX),
         "require" => Some(OF_REQUIRE),
@@ -72,6 +79,7 @@ pub fn guide_to(command: &str) -> Option<&'static str> {
         "lint" => Some(OF_LINT),
         "show" => Some(OF_SHOW),
         "decode" => Some(OF_DECODE),
+        "audit" => Some(OF_AUDIT),
         "describe" => Some(OF_DESCRIBE),
         "record" => Some(OF_RECORD),
         "code" => Some(OF_CODE),
@@ -168,7 +176,34 @@ Status 1: why there is none.
   loop eid 17 nodes left right left by new old
 "#;
 
-const OF_ROLLOUT: &str = r#"mctpplan rollout OLD NEW
+const OF_DIFF: &str = r#"mctpplan diff OLD NEW
+
+Compares the plans by the names of buses and nodes. Each thing of the old plan that the new one has
+not, or has otherwise, is a line that begins with removed or changed, in the old plan's order; then
+each that only the new one has is a line with added, in its order. Things are the transmission unit,
+buses, nodes with their kind, endpoint ID and owner, pools, ports by their indices, rows by their
+first endpoint IDs, termini with their terminus IDs, and records by their handles. Where only the
+order of lists differs, the one line is changed order of lists.
+
+Where both plans have a certificate, a line follows for each way between two nodes of both plans
+that is removed, added or changed, with the hops of a packet, and then a line with what rollout
+needs: any order, so many steps, what is stuck, or the line of certifymove where the plans differ in
+more than rows. Otherwise the line of certify stands behind old:  or new:  for each plan that has
+none.
+
+Status 0: the plans are the same. Nothing is printed.
+Status 1: the plans differ.
+
+  $ mctpplan diff examples/move/to-left.json examples/move/to-right.json
+  changed row 17 of host: size 1 port 0 next left -> size 1 port 0 next right
+  changed row 17 of left: size 1 port 1 next x -> size 1 port 0 next right
+  changed row 17 of right: size 1 port 0 next left -> size 1 port 1 next x
+  changed way from left to x: hops 1 -> hops 2
+  changed way from right to x: hops 2 -> hops 1
+  rollout: 2 steps
+"#;
+
+const OF_ROLLOUT: &str = r#"mctpplan rollout OLD NEW [--write DIR]
 
 Prints any order where one certificate serves for the whole move. Else it prints steps. Each is a
 move with a certificate of its own, so that its nodes may go over in any order, and it is finished
@@ -177,15 +212,35 @@ of A: 10-12 by B node A sends what is for these endpoint IDs to B, as its new ro
 as before; by - stands where no new row is for them. A step of parts has a line for each. The last
 step ends in the new plan. That the steps are the fewest is not promised.
 
+With --write three files of each step K are written into the folder DIR, before the steps are
+printed; any order is one step:
+
+With ten steps or more K has leading zeros. DIR has to be there. Files of these names are replaced,
+and others are left as they are. Where no steps lead to the new plan, nothing is written. Where a
+file can't be written, standard error tells its path, no steps are printed, and the files before it
+stay.
+
+- step-K.json: the plan after the step; that of the last step is the new plan.
+- step-K.cert.json: the certificate of that plan, as certify makes it. check takes the two.
+- step-K.move.json: the certificate of the move to it, as certifymove makes it. move and simmove
+  take it behind the plan before the step and the plan after. For check it may say too much (C16).
+
 Status 0: any order, or the steps.
 Status 1: what certifymove says, where a plan has no certificate by itself, or where they differ in
 more than rows.
 Status 1: the steps as far as they go, stuck, and what stands in the way of the move from there to
 the new plan.
+Status 1: no files: .., where a text that was made of a plan doesn't read as it, or a plan between
+has no certificate. Neither should come.
 
-  $ mctpplan rollout examples/move/to-left.json examples/move/to-right.json
+  $ mkdir steps
+  $ mctpplan rollout examples/move/to-left.json examples/move/to-right.json --write steps
   step 1 switch host right
   step 2 switch left
+  $ mctpplan check steps/step-1.json steps/step-1.cert.json
+  yes
+  $ mctpplan move steps/step-1.json steps/step-2.json steps/step-2.move.json
+  yes
 "#;
 
 const OF_ASSIGN: &str = r#"mctpplan assign PLAN CERT
@@ -283,6 +338,49 @@ Status 1: a fault of the plan or the certificate.
   $ mctpplan walk examples/riser/plan.json examples/riser/certificate.json nic 16
   record 1 length 9
   records 1 requests 2
+"#;
+
+const OF_EXPORT: &str = r#"mctpplan export linux|c|entries|records PLAN CERT NODE [--link BUS=DEV]..
+
+Prints what the first node of the name NODE has by the plan, in one of four forms:
+
+Rows stand in the order of their endpoint IDs, and records in the order of the certificate's places.
+
+- linux: a shell script with the commands of the tool mctp that give a Linux node its state: each
+  device is set up, with the plan's transmission unit and four bytes of header as MTU; the node has
+  its endpoint ID there; each row is a route, and each of its endpoint IDs a neighbour with the next
+  node's address. A device has the name of its bus, or what --link says, once for each bus. Over
+  SMBus and I2C Linux has the 7 bits of an address alone, so the plan's address 20 is 0x10 there.
+- c: a C99 source with the node's endpoint ID, its pool, its rows and, for a terminus, the records
+  in one array of bytes, with an index of handles, offsets and lengths. Each name begins with that
+  of the node.
+- entries: the answers of a bridge to Get Routing Table Entries, from the first entry to the last,
+  each in a line in hex, with instance ID 0.
+- records: the bytes of the records of a terminus, one record after another, in the order of their
+  next handles.
+
+Status 0: the node in this form.
+Status 1: a fault of the plan or the certificate.
+Status 2: also where no node has the name; where the node is no bridge, for entries, or has no
+terminus, for records; or where the plan has no bus of a link.
+
+  $ mctpplan export linux examples/riser/plan.json examples/riser/certificate.json nic --link b1=mctpi2c1
+  #!/bin/sh
+  # The planned state of the node nic. Made by mctpplan export linux.
+  set -e
+  mctp link set mctpi2c1 up # bus b1
+  mctp link set mctpi2c1 mtu 68 # bus b1
+  mctp addr add 17 dev mctpi2c1 # node nic
+  mctp route add 8-16 via mctpi2c1 # to riser
+  mctp neigh add 8 dev mctpi2c1 lladdr 0x11 # of riser
+  mctp neigh add 9 dev mctpi2c1 lladdr 0x11 # of riser
+  mctp neigh add 10 dev mctpi2c1 lladdr 0x11 # of riser
+  mctp neigh add 11 dev mctpi2c1 lladdr 0x11 # of riser
+  mctp neigh add 12 dev mctpi2c1 lladdr 0x11 # of riser
+  mctp neigh add 13 dev mctpi2c1 lladdr 0x11 # of riser
+  mctp neigh add 14 dev mctpi2c1 lladdr 0x11 # of riser
+  mctp neigh add 15 dev mctpi2c1 lladdr 0x11 # of riser
+  mctp neigh add 16 dev mctpi2c1 lladdr 0x11 # of riser
 "#;
 
 const OF_REACH: &str = r#"mctpplan reach PLAN CERT
@@ -496,6 +594,30 @@ Status 2: also where the capture can't be read to its end. What stands before is
   2 received message 010000020001
   pldm response instance 0 type 0 command 2 data 0001
   entries 2
+"#;
+
+const OF_AUDIT: &str = r#"mctpplan audit PLAN CERT CAPTURE
+
+Reads a capture as decode does, and prints what the answers of each node say beside the plan, in the
+plan's order: first of its routing table, then of its endpoint ID and type, then of its pool, then
+of its records. Of a node without an answer it says not captured, which is no difference. The rest
+of the traffic isn't compared. The last line says whether all is as planned, or how many lines tell
+a difference.
+
+Status 0: audit match.
+Status 1: audit differs and how many lines tell a difference; or the first fault of the plan and its
+certificate.
+Status 2: also where the capture can't be read to its end. What stands before is told, and last
+audit incomplete and how many lines of it tell a difference.
+
+  $ mctpplan audit examples/riser/plan.json examples/riser/certificate.json examples/captures/lost-row.txt
+  host not captured
+  riser routes missing 18 size 1
+  riser eid match 16
+  riser pool match 17 to 23
+  nic eid match 17
+  ssd not captured
+  audit differs 1
 "#;
 
 const OF_DESCRIBE: &str = r#"mctpplan describe HEX..

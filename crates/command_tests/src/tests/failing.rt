@@ -2,12 +2,14 @@
 ghost use Rattle.std.specs.Prelude.{◌≡◌};
 
 use super::narrow_outputs::narrow_output;
+use command_answers::Status;
 use net_check::check;
 use net_json::{Counted, certificate_of_text, events_of_text, plan_of_text};
 use net_plan::{Certificate, Event, Plan};
 use net_sim::planned_termini_count;
 use pdr_repository::{ListTerminus, Terminus, is_lawful_list};
-use plan_commands::{Question, Status, run_certified, run_sim};
+use plan_commands::{Question, run_certified};
+use play_commands::run_sim;
 use pldm_message::Tid;
 use sample_texts::riser::{CERTIFICATE, PLAN};
 use std::alloc::Global;

@@ -1,7 +1,8 @@
 //! Long lists of events, of which `sim` writes many lines at once, on outputs of which some fail.
 use super::narrow_outputs::narrow_output;
+use command_answers::Status;
 use net_json::Counted;
-use plan_commands::{Status, simulate};
+use play_commands::simulate;
 use sample_texts::riser::{CERTIFICATE, PLAN};
 use std::alloc::{AllocError, Global};
 use std::test::Fail;

@@ -1,10 +1,11 @@
 //! Words that are no command. Which words are which command, the rows in `tests/` tell.
-use plan_commands::{Refused, parse_command};
+use command_answers::Refused;
+use command_line::parse_command;
 use std::alloc::{AllocError, Global};
 use std::test::Fail;
 
 /// Lists of words with bars between, the program's name first.
-const USAGE: [&str; 89] = [
+const USAGE: [&str; 91] = [
     "mctpplan",
     "mctpplan|",
     "mctpplan||a|b",
@@ -52,6 +53,8 @@ const USAGE: [&str; 89] = [
     "mctpplan|rows|a|b",
     "mctpplan|rollout|a",
     "mctpplan|rollout|a|b|c",
+    "mctpplan|rollout|a|b|--write",
+    "mctpplan|rollout|a|b|--write|-",
     "mctpplan|script|a|b|walk|nic|18",
     "mctpplan|script|a|b|run|nic|18|16",
     "mctpplan|script|a|b|walk|nic|7|16",

@@ -12,7 +12,7 @@ returns-in-Some-3 c =
     let reads : IsTextOf c.args.after.now plan = rw c.in-Some.is at c.in_ok-plan.ensures in
     let was_read : IsTextOf c.args.before.now last = rw c.in-Some-2.is at c.in_ok-last.ensures in
     let by : IsEdited (plan_value last) edit (plan_value c.in-Some-3.wanted) = rw c.in-Some-3.is at c.in_ok-wanted.ensures in
-    let same : plan_value c.in-Some-3.wanted ≡ plan_value plan = c.are_same_plans.ensures c.if-are_same_plans.true in
+    let same : plan_value c.in-Some-3.wanted ≡ plan_value plan = c.are_same_plans.ensures.0 c.if-are_same_plans.true in
     record {
       reads = reads;
       last = last;

@@ -1,0 +1,59 @@
+//! Commands that answer on words alone: `describe` and `record`.
+ghost use Rattle.std.specs.Prelude.{◌≡◌, ◌⊎◌, IfOk, IfErr, map, string_bytes};
+ghost use Rattle.std.specs.Cow.{cow_str_bytes};
+ghost use Rattle.net_json.specs.Stream.{HasRoom};
+ghost use Rattle.command_answers.specs.declared.status.Status.TheVariants.{Yes, Fault, Unreadable, NoMemory};
+ghost use Rattle.command_answers.specs.Answers.{stream, BreaksOff};
+ghost use Rattle.command_answers.specs.Told.{IsSomeAnswer, Ends};
+ghost use Rattle.byte_commands.specs.Worded.{AnswersWords, IsUnansweredByWords};
+
+pub mod cleaned;
+mod describe;
+mod record;
+
+use command_answers::{Answer, Refused, Status, tell};
+use describe::described;
+use net_json::Sink;
+use record::recorded;
+use std::alloc::Global;
+
+/// A question that words answer: the command of the name asks it.
+#[derive(Clone, Copy, Debug, PartialEq, Eq)]
+pub enum WordQuestion {
+    /// What does each field of the record hold, whose bytes the words are in hex?
+    Describe,
+    /// What are the bytes of the record whose type and fields the words say?
+    Record,
+}
+
+/// Answers a question on `output`. Where the words can't be read, says so on `errors`.
+pub fn run_worded<O: Sink, E: Sink>(
+    alloc: Global,
+    question: WordQuestion,
+    words: &[String],
+    output: &mut O,
+    errors: &mut E,
+) -> Status
+    requires output { HasRoom (O.account output.old) }
+    requires errors { HasRoom (E.account errors.old) }
+    ensures tells { let said = map string_bytes words.now in
+        Ends (AnswersWords question said) (IsUnansweredByWords question said) result
+        (stream O.account output.old output.new) (stream E.account errors.old errors.new) }
+    ensures silent { (result ≡ Yes) ⊎ (result ≡ Fault) → errors.new ≡ errors.old }
+    ensures unwritten { result ≡ Unreadable → (output.new ≡ output.old)
+        ⊎ BreaksOff (IsSomeAnswer (AnswersWords question (map string_bytes words.now))) (stream O.account output.old output.new) }
+    ensures no_memory { result ≡ NoMemory → output.new ≡ output.old }
+{
+    let answered = answer_worded(alloc, question, words);
+    tell(alloc, answered, output, errors)
+}
+
+fn answer_worded(alloc: Global, question: WordQuestion, words: &[String]) -> Result<Answer, Refused>
+    ensures answers { IfOk result (λ answer. AnswersWords question (map string_bytes words.now) answer.status (cow_str_bytes answer.text)) }
+    ensures refused { IfErr result (IsUnansweredByWords question (map string_bytes words.now)) }
+{
+    match question {
+        WordQuestion::Describe => described(alloc, words),
+        WordQuestion::Record => recorded(alloc, words),
+    }
+}

@@ -1,0 +1,17 @@
+-- Causes of refusals that are causes of others.
+use Rattle.net_json.specs.declared.error.PlanError.{PlanError}
+use Rattle.command_answers.specs.declared.refused.Input.{Input}
+use Rattle.command_answers.specs.declared.refused.Refused.{Refused}
+use Rattle.command_answers.specs.declared.refused.Refused.TheVariants as refused
+use Rattle.command_answers.specs.Statuses.{HasCause}
+
+-- the cause of an unread input may be told otherwise
+pub unread_also : (U V : Input → PlanError → Type 0) (why : Refused) → ((unread : Input) (cause : PlanError) → U unread cause → V unread cause)
+    → HasCause U ⊥ ⊥ ⊥ why → HasCause V ⊥ ⊥ ⊥ why
+unread_also U V refused.Usage also h = h
+unread_also U V (refused.Unreadable unread cause) also h = also unread cause h
+unread_also U V refused.UnknownNode also h = h
+unread_also U V refused.UnreadableHex also h = h
+unread_also U V refused.TooMuch also h = h
+unread_also U V refused.Unwritten also h = h
+unread_also U V refused.NoMemory also h = h

@@ -1,0 +1,22 @@
+-- What is told of the first fault.
+use Rattle.std.proofs.Common.{◌≡◌, Result, Ok, Err}
+use Rattle.std.specs.Prelude.{IfOk}
+use Rattle.std.specs.Cow.{cow_str_bytes}
+use Rattle.net_plan.specs.declared.plan.Plan.{Plan}
+use Rattle.net_plan.specs.declared.certificate.Certificate.{Certificate}
+use Rattle.net_check.specs.declared.check_error.CheckError.{CheckError}
+use Rattle.net_check.specs.declared.check_error.CheckError.TheVariants as check_error
+use Rattle.net_check.specs.Errors.{NamesFirstFault}
+use Rattle.net_rules.specs.declared.fault.Fault.{Fault}
+use Rattle.command_answers.specs.declared.answer.Answer.{Answer}
+use Rattle.command_answers.specs.declared.refused.Refused.{Refused}
+use Rattle.command_answers.specs.declared.status.Status.TheVariants as status
+use Rattle.command_answers.specs.Answers.{IsErrorText, IsFaultText}
+
+-- the line of an error of `check` is that of the first fault
+pub first_told : (plan : Plan) (cert : Certificate) (error : CheckError) (result : Result Answer Refused) → NamesFirstFault plan cert error
+    → IfOk result (λ (a : Answer). (a.status ≡ status.Fault) × IsErrorText plan error (cow_str_bytes a.text))
+    → IfOk result (λ (a : Answer). (a.status ≡ status.Fault) × IsFaultText plan cert (cow_str_bytes a.text))
+first_told plan cert (check_error.Fault fault) (Ok a) first (is, told) = (is, (fault, first, told))
+first_told plan cert check_error.OutOfMemory (Ok a) first (is, told) = absurd told
+first_told plan cert error (Err why) first told = tt

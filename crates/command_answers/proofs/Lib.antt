@@ -1,0 +1,13 @@
+pub mod Causes
+pub mod Telling
+pub mod Told
+pub mod Places
+pub mod Waiting
+mod Names
+mod Moved
+mod Ends
+pub mod UnreadInputs
+pub mod GivenTexts
+pub mod FirstFaults
+mod GivenEvents
+pub mod Obstacles

@@ -1,0 +1,10 @@
+pub mod Statuses
+pub mod Answers
+pub mod Told
+pub mod Certifying
+pub mod Ordering
+pub mod Gathering
+pub mod Inputs
+pub mod Moves
+pub mod Naming
+pub mod UnreadInputs

@@ -1,0 +1,60 @@
+-- What is read for a move from one plan to another, and the line of its fault.
+use Rattle.std.specs.Prelude.{◌≡◌, ◌⊎◌, ℕ, List, Some}
+use Rattle.net_rules.specs.declared.move_error.MoveError.{MoveError}
+use Rattle.net_rules.specs.MoveFaults.{NamesFirstMoveFault}
+use Rattle.net_plan.specs.declared.plan.Plan.{Plan}
+use Rattle.net_plan.specs.declared.certificate.Certificate.{Certificate}
+use Rattle.net_json.specs.declared.error.PlanError.{PlanError}
+use Rattle.net_plan.specs.PlanValues.{plan_value}
+use Rattle.net_json.specs.Unread.{GaveNoPlan, GaveNoCertificate}
+use Rattle.command_answers.specs.declared.refused.Input.{Input}
+use Rattle.command_answers.specs.declared.refused.Input.TheVariants as input
+use Rattle.command_answers.specs.declared.refused.Refused.{Refused}
+use Rattle.command_answers.specs.Answers.{Stream, GavePlan, GaveCertificate, GaveNothing}
+use Rattle.command_answers.specs.Statuses.{HasCause}
+use Rattle.plan_texts.specs.MoveLines.{move_error_text}
+use Rattle.net_json.specs.CertificateJson.{certificate_text}
+
+-- one source gave the plan before, one the plan after, and one the certificate, which is read for the plan before
+pub record IsMoveGiven (befores afters certificates : Stream) (before after : Plan)
+    (certificate : Certificate) : Type 0 where
+  pub before_text : GavePlan befores before
+  pub after_text : GavePlan afters after
+  pub certificate_text : GaveCertificate before certificates certificate
+
+-- the text is the line of the first fault of the move
+abbrev pub IsMoveFaultText : Plan → Plan → Certificate → List ℕ → Type 0
+IsMoveFaultText before after certificate text =
+    (error : MoveError) × NamesFirstMoveFault before after certificate error
+    × (move_error_text before error ≡ Some text)
+
+-- the text is that of the error
+abbrev pub IsMoveErrorText : Plan → MoveError → List ℕ → Type 0
+IsMoveErrorText before error text = move_error_text before error ≡ Some text
+
+-- why an input of a move can't be read; each is read only where those before it were given
+abbrev pub IsUnreadInMove : Input → PlanError → Stream → Stream → Stream → Type 0
+IsUnreadInMove input.Plan cause befores afters certificates = GaveNothing GaveNoPlan befores cause
+    ⊎ ((before : Plan) × GavePlan befores before × GaveNothing GaveNoPlan afters cause)
+IsUnreadInMove input.Certificate cause befores afters certificates =
+    (before : Plan) × (after : Plan) × GavePlan befores before × GavePlan afters after
+    × GaveNothing (GaveNoCertificate (plan_value before)) certificates cause
+IsUnreadInMove input.Events cause befores afters certificates = ⊥
+IsUnreadInMove input.Lines cause befores afters certificates = ⊥
+
+-- why the inputs were not read
+abbrev pub IsMoveUnread : Refused → Stream → Stream → Stream → Type 0
+IsMoveUnread why befores afters certificates =
+    HasCause (λ unread cause. IsUnreadInMove unread cause befores afters certificates) ⊥ ⊥ ⊥ why
+
+-- why one of two plans can't be read; the second is read only where the first was given
+abbrev pub IsUnreadOfPlans : Input → PlanError → Stream → Stream → Type 0
+IsUnreadOfPlans input.Plan cause befores afters = GaveNothing GaveNoPlan befores cause
+    ⊎ ((before : Plan) × GavePlan befores before × GaveNothing GaveNoPlan afters cause)
+IsUnreadOfPlans input.Certificate cause befores afters = ⊥
+IsUnreadOfPlans input.Events cause befores afters = ⊥
+IsUnreadOfPlans input.Lines cause befores afters = ⊥
+
+-- why the plans were not read
+abbrev pub ArePlansUnread : Refused → Stream → Stream → Type 0
+ArePlansUnread why befores afters = HasCause (λ unread cause. IsUnreadOfPlans unread cause befores afters) ⊥ ⊥ ⊥ why

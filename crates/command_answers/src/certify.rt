@@ -1,0 +1,21 @@
+//! The command `certify`: the certificate of a plan, or why there is none.
+ghost use Rattle.std.specs.Prelude.{IfOk};
+ghost use Rattle.std.specs.Cow.{cow_str_bytes};
+ghost use Rattle.command_answers.specs.Certifying.{Certifies};
+
+use crate::answer::Answer;
+use net_check::certify;
+use net_json::text_of_certificate;
+use net_plan::Plan;
+use plan_texts::obstacle_line;
+use std::alloc::{AllocError, Global};
+
+/// The certificate of a plan, or the line of what rules certificates of it out.
+pub fn certificate_of_plan(alloc: Global, plan: &Plan) -> Result<Answer, AllocError>
+    ensures { IfOk result (λ answer. Certifies plan.now answer.status (cow_str_bytes answer.text)) }
+{
+    match certify(alloc, plan) {
+        Ok(certificate) => Ok(Answer::found(text_of_certificate(alloc, plan, &certificate)?)),
+        Err(obstacle) => Ok(Answer::fault(obstacle_line(alloc, plan, &obstacle)?)),
+    }
+}

@@ -1,0 +1,34 @@
+//! What the commands of `mctpplan` have in common: why there is no answer, how a run ends, what files give, what names
+//! stand for, answers that several commands give, and how an answer is told.
+#![tactic(auto)]
+
+mod answer;
+mod certify;
+mod faults;
+mod gathered;
+mod inputs;
+mod known;
+mod naming;
+mod part_size;
+mod refused;
+mod repositories;
+mod status;
+mod termini;
+
+pub use answer::{Answer, YES, give, print, refuse, tell};
+pub use certify::certificate_of_plan;
+pub use faults::{fault_answer, fault_text, move_fault_answer};
+pub use gathered::Gathered;
+pub use inputs::{
+    PlanText, Unread, certificate_or_text, given_events, given_lines, given_plan, given_plan_text,
+    plan_or_text, read_inputs, read_move, read_plans, read_texts,
+};
+pub use known::run_known;
+pub use naming::ends::{eid_of_word, named_ends};
+pub use naming::first_named;
+pub use naming::terminus::named_terminus;
+pub use part_size::PartSize;
+pub use refused::{Input, Refused};
+pub use repositories::records_by_place;
+pub use status::Status;
+pub use termini::planned_termini;

@@ -1,0 +1,610 @@
+//! The program's command line.
+use byte_commands::{ShownKind, WordQuestion};
+use clap::error::ErrorKind;
+use clap::{Arg, ArgAction, ArgMatches};
+use command_answers::{PartSize, Refused, eid_of_word};
+use export_commands::{Export, ExportKind};
+use plan_commands::{DrawnRows, PlanQuestion, Question};
+use plan_exports::Link;
+use play_commands::{Flights, WalkScript};
+use program_texts::{GUIDE, VERSION, guide_to, schema_of, text_of};
+use std::alloc::{AllocError, Global};
+
+/// A command with its arguments. Files stand by their paths.
+#[derive(Clone, Copy, Debug, PartialEq, Eq)]
+pub enum Subcommand<'a> {
+    /// A question about the plan in one file, certified by another.
+    Certified {
+        question: Question<'a>,
+        plan: &'a str,
+        certificate: &'a str,
+    },
+    /// A question about the plan in a file.
+    Planned {
+        question: PlanQuestion<'a>,
+        plan: &'a str,
+    },
+    /// What does `certify` say of the plan in a file, or `check` with the certificate in another, and why?
+    Explain {
+        plan: &'a str,
+        certificate: Option<&'a str>,
+    },
+    /// How does the plan in a file stand once edits are made that take away what rules certificates out?
+    Fix {
+        plan: &'a str,
+    },
+    /// Do the nodes of the plan in one file, certified by another, reach whom a text wants them to reach?
+    Require {
+        plan: &'a str,
+        certificate: &'a str,
+        wanted: &'a str,
+    },
+    /// Which plan is made of the board in a file, and into which file is its certificate written?
+    Make {
+        board: &'a str,
+        certificate: Option<&'a str>,
+    },
+    /// What comes of the events in a file?
+    Sim {
+        plan: &'a str,
+        certificate: &'a str,
+        events: &'a str,
+    },
+    /// Does `sim` print the lines of a file?
+    Expect {
+        plan: &'a str,
+        certificate: &'a str,
+        events: &'a str,
+        lines: &'a str,
+    },
+    /// Which events are a walk over the network?
+    Script {
+        script: WalkScript<'a>,
+        plan: &'a str,
+        certificate: &'a str,
+    },
+    /// May the nodes of the plan in one file go over, in any order, to the rows of the plan in another, by one
+    /// certificate?
+    Move {
+        before: &'a str,
+        after: &'a str,
+        certificate: &'a str,
+    },
+    /// What is the certificate of such a move, or why has it none?
+    CertifyMove {
+        before: &'a str,
+        after: &'a str,
+    },
+    /// What does the change from the plan in one file to the plan in another do?
+    Diff {
+        before: &'a str,
+        after: &'a str,
+    },
+    /// By which steps do the nodes get from the rows of one plan to those of another, and into which folder are their
+    /// files written?
+    Rollout {
+        before: &'a str,
+        after: &'a str,
+        folder: Option<&'a str>,
+    },
+    /// What comes of the events in a file while nodes go over from the rows of one plan to those of another?
+    SimMove {
+        before: &'a str,
+        after: &'a str,
+        certificate: &'a str,
+        events: &'a str,
+    },
+    /// What is a node of a plan, in some form? The words of the whole command have the links.
+    Export {
+        export: Export<'a>,
+        plan: &'a str,
+        certificate: &'a str,
+        words: &'a [String],
+    },
+    /// A text of the program itself: what a code means, a schema, a guide or the version.
+    Known {
+        text: &'static str,
+    },
+    /// A question that words answer.
+    Worded {
+        question: WordQuestion,
+        words: &'a [String],
+    },
+    /// What are the bytes of a hex text?
+    Show {
+        kind: ShownKind,
+        hex: &'a str,
+    },
+    /// What became of each entry of the capture in a file, and what do its messages say?
+    Decode {
+        capture: &'a str,
+    },
+    /// What did the devices of the capture in a file say, beside the plan?
+    Audit {
+        plan: &'a str,
+        certificate: &'a str,
+        capture: &'a str,
+    },
+}
+
+/// The command that a list of words stands for. The first word is the program's name.
+pub fn parse_command<'a>(alloc: Global, list: &'a [String]) -> Result<Subcommand<'a>, Refused> {
+    if let Some(command) = worded(list) {
+        return Ok(command);
+    }
+    let matches = matches_of(alloc, list)?;
+    let command = chosen(&matches, list).ok_or(Refused::Usage)?;
+    if let Subcommand::Export { .. } = command {
+        links_of_words(alloc, list)?;
+    }
+    Ok(command)
+}
+
+fn matches_of<'a>(alloc: Global, list: &'a [String]) -> Result<ArgMatches<'a>, Refused> {
+    grammar(alloc, list.get(1))?
+        .try_get_matches_from(list)
+        .map_err(refused_for)
+}
+
+/// The links that the words of `export` have, no two of one bus.
+pub fn links_of_words<'a>(alloc: Global, list: &'a [String]) -> Result<Vec<Link<'a>>, Refused> {
+    let matches = matches_of(alloc, list)?;
+    let (_, arguments) = matches.subcommand().ok_or(Refused::Usage)?;
+    let mut links = Vec::new(alloc);
+    if let Some(words) = arguments.get_strs(REPEATED) {
+        for word in words {
+            add_link(&mut links, Link::of(*word).ok_or(Refused::Usage)?)?;
+        }
+    }
+    Ok(links)
+}
+
+fn add_link<'a>(links: &mut Vec<Link<'a>>, link: Link<'a>) -> Result<(), Refused> {
+    if links.iter().any(|other| other.bus == link.bus) {
+        return Err(Refused::Usage);
+    }
+    match links.push(link) {
+        Ok(()) => Ok(()),
+        Err(_) => Err(Refused::NoMemory),
+    }
+}
+
+/// Every error of the command line is usage, a call for help among them. Out of memory is `NoMemory`.
+fn refused_for(error: clap::Error) -> Refused {
+    match error.kind() {
+        ErrorKind::OutOfMemory => Refused::NoMemory,
+        _ => Refused::Usage,
+    }
+}
+
+/// The commands that take any number of words.
+const WORDED: [&str; 2] = ["describe", "record"];
+
+/// A command that takes any number of words, at least one.
+fn worded(list: &[String]) -> Option<Subcommand<'_>> {
+    let [_, command, words @ ..] = list else {
+        return None;
+    };
+    let question = match command.as_str() {
+        "describe" => WordQuestion::Describe,
+        "record" => WordQuestion::Record,
+        _ => return None,
+    };
+    if words.is_empty() {
+        return None;
+    }
+    Some(Subcommand::Worded { question, words })
+}
+
+/// The name of each command, the names of its arguments, and those of the arguments that may be left out.
+const COMMANDS: [(&str, &[&str], &[&str]); 31] = [
+    ("make", &["board"], &[]),
+    ("rows", &["plan"], &[]),
+    ("check", &["plan", "certificate"], &[]),
+    ("certify", &["plan"], &[]),
+    ("assign", &["plan", "certificate"], &[]),
+    ("sim", &["plan", "certificate", "events"], &[]),
+    ("expect", &["plan", "certificate", "events", "lines"], &[]),
+    ("move", &["old", "new", "certificate"], &[]),
+    ("certifymove", &["old", "new"], &[]),
+    ("diff", &["old", "new"], &[]),
+    ("rollout", &["old", "new"], &[]),
+    ("simmove", &["old", "new", "certificate", "events"], &[]),
+    ("walk", &["plan", "certificate", "node", "count"], &[]),
+    (
+        "script",
+        &["plan", "certificate", "what", "node", "eid", "count"],
+        &[],
+    ),
+    ("export", &["kind", "plan", "certificate", "node"], &[]),
+    ("reach", &["plan", "certificate"], &[]),
+    ("matrix", &["plan", "certificate"], &[]),
+    ("require", &["plan", "certificate", "wanted"], &[]),
+    ("trace", &["plan", "certificate", "from", "to"], &[]),
+    ("draw", &["plan"], &["certificate"]),
+    ("explain", &["plan"], &["certificate"]),
+    ("faults", &["plan"], &["certificate"]),
+    ("fix", &["plan"], &[]),
+    ("lint", &["plan"], &[]),
+    ("show", &["kind", "hex"], &[]),
+    ("decode", &["capture"], &[]),
+    ("audit", &["plan", "certificate", "capture"], &[]),
+    ("code", &["code"], &[]),
+    ("schema", &["kind"], &[]),
+    ("guide", &[], &["command"]),
+    ("version", &[], &[]),
+];
+
+/// What stands for an option that has no value.
+const ALL: &str = "all";
+
+/// The option that may stand several times.
+const REPEATED: &str = "link";
+
+/// The options of commands, and what each means where no value follows it, if it may stand alone.
+const OPTIONS: [(&str, &str, Option<&str>); 6] = [
+    ("draw", "rows", Some(ALL)),
+    ("export", REPEATED, None),
+    ("make", "certificate", None),
+    ("rollout", "write", None),
+    ("script", "lose", None),
+    ("script", "repeat", None),
+];
+
+/// The names of all commands.
+pub fn command_names(alloc: Global) -> Result<Vec<&'static str>, AllocError> {
+    let mut names = Vec::new(alloc);
+    for (name, _, _) in COMMANDS {
+        names.push(name)?;
+    }
+    names.extend_from_slice(&WORDED)?;
+    Ok(names)
+}
+
+/// The words of the command of this name, if there is one. No other one could stand in its place, and making them all
+/// would cost more than checking a small plan.
+fn grammar<'a>(alloc: Global, named: Option<&String>) -> Result<clap::Command<'a>, AllocError> {
+    let mut grammar = clap::Command::new(alloc, "mctpplan").subcommand_required(true);
+    for (name, required, optional) in COMMANDS {
+        if named.is_some_and(|word| word.as_str() == name) {
+            grammar = grammar.subcommand(with_arguments(alloc, name, required, optional)?)?;
+        }
+    }
+    Ok(grammar)
+}
+
+/// A command with its arguments in this order: first those that are required, then those that may be left out. Options may
+/// stand anywhere.
+fn with_arguments<'a>(
+    alloc: Global,
+    name: &'a str,
+    required: &[&'a str],
+    optional: &[&'a str],
+) -> Result<clap::Command<'a>, AllocError> {
+    let mut command = clap::Command::new(alloc, name);
+    for id in required {
+        command = command.arg(Arg::new(alloc, *id).required(true).action(ArgAction::Set))?;
+    }
+    for id in optional {
+        command = command.arg(Arg::new(alloc, *id).action(ArgAction::Set))?;
+    }
+    for (of, id, alone) in OPTIONS {
+        if of == name {
+            command = command.arg(option(alloc, id, alone))?;
+        }
+    }
+    Ok(command)
+}
+
+/// An option, and what it means where no value follows it.
+fn option<'a>(alloc: Global, id: &'a str, alone: Option<&'a str>) -> Arg<'a> {
+    let action = if id == REPEATED {
+        ArgAction::Append
+    } else {
+        ArgAction::Set
+    };
+    let option = Arg::new(alloc, id).long(id).action(action);
+    match alone {
+        Some(value) => option.num_args(0..=1).default_missing_value(value),
+        None => option,
+    }
+}
+
+fn chosen<'a>(matches: &ArgMatches<'a>, list: &'a [String]) -> Option<Subcommand<'a>> {
+    let (name, arguments) = matches.subcommand()?;
+    match name {
+        "make" => making(arguments),
+        "rows" => planned(arguments, PlanQuestion::Rows),
+        "check" => certified(arguments, Question::Check),
+        "certify" => planned(arguments, PlanQuestion::Certify),
+        "assign" => certified(arguments, Question::Assign),
+        "sim" => playing(arguments),
+        "expect" => expecting(arguments),
+        "move" => moving(arguments),
+        "certifymove" => certifying_move(arguments),
+        "diff" => differing(arguments),
+        "rollout" => rolling_out(arguments),
+        "simmove" => playing_moves(arguments),
+        "walk" => walking(arguments),
+        "script" => scripting(arguments),
+        "export" => exporting(arguments, list),
+        "reach" => certified(arguments, Question::Reach),
+        "matrix" => certified(arguments, Question::Matrix),
+        "require" => requiring(arguments),
+        "trace" => tracing(arguments),
+        "draw" => drawing(arguments),
+        "explain" => explaining(arguments),
+        "faults" => listing(arguments),
+        "fix" => fixing(arguments),
+        "lint" => planned(arguments, PlanQuestion::Lint),
+        "show" => showing(arguments),
+        "decode" => decoding(arguments),
+        "audit" => auditing(arguments),
+        "code" => known(text_of(arguments.get_str("code")?)),
+        "schema" => known(schema_of(arguments.get_str("kind")?)),
+        "guide" => guiding(arguments),
+        "version" => known(Some(VERSION)),
+        _ => None,
+    }
+}
+
+fn certified<'a>(arguments: &ArgMatches<'a>, question: Question<'a>) -> Option<Subcommand<'a>> {
+    Some(Subcommand::Certified {
+        question,
+        plan: arguments.get_str("plan")?,
+        certificate: arguments.get_str("certificate")?,
+    })
+}
+
+fn planned<'a>(arguments: &ArgMatches<'a>, question: PlanQuestion<'a>) -> Option<Subcommand<'a>> {
+    Some(Subcommand::Planned {
+        question,
+        plan: arguments.get_str("plan")?,
+    })
+}
+
+fn requiring<'a>(arguments: &ArgMatches<'a>) -> Option<Subcommand<'a>> {
+    Some(Subcommand::Require {
+        plan: arguments.get_str("plan")?,
+        certificate: arguments.get_str("certificate")?,
+        wanted: arguments.get_str("wanted")?,
+    })
+}
+
+fn making<'a>(arguments: &ArgMatches<'a>) -> Option<Subcommand<'a>> {
+    let certificate = arguments.get_str("certificate");
+    if certificate == Some("-") {
+        return None;
+    }
+    Some(Subcommand::Make {
+        board: arguments.get_str("board")?,
+        certificate,
+    })
+}
+
+fn playing<'a>(arguments: &ArgMatches<'a>) -> Option<Subcommand<'a>> {
+    Some(Subcommand::Sim {
+        plan: arguments.get_str("plan")?,
+        certificate: arguments.get_str("certificate")?,
+        events: arguments.get_str("events")?,
+    })
+}
+
+fn expecting<'a>(arguments: &ArgMatches<'a>) -> Option<Subcommand<'a>> {
+    Some(Subcommand::Expect {
+        plan: arguments.get_str("plan")?,
+        certificate: arguments.get_str("certificate")?,
+        events: arguments.get_str("events")?,
+        lines: arguments.get_str("lines")?,
+    })
+}
+
+fn moving<'a>(arguments: &ArgMatches<'a>) -> Option<Subcommand<'a>> {
+    Some(Subcommand::Move {
+        before: arguments.get_str("old")?,
+        after: arguments.get_str("new")?,
+        certificate: arguments.get_str("certificate")?,
+    })
+}
+
+fn certifying_move<'a>(arguments: &ArgMatches<'a>) -> Option<Subcommand<'a>> {
+    Some(Subcommand::CertifyMove {
+        before: arguments.get_str("old")?,
+        after: arguments.get_str("new")?,
+    })
+}
+
+fn differing<'a>(arguments: &ArgMatches<'a>) -> Option<Subcommand<'a>> {
+    Some(Subcommand::Diff {
+        before: arguments.get_str("old")?,
+        after: arguments.get_str("new")?,
+    })
+}
+
+fn rolling_out<'a>(arguments: &ArgMatches<'a>) -> Option<Subcommand<'a>> {
+    let folder = arguments.get_str("write");
+    if folder == Some("-") || folder == Some("") {
+        return None;
+    }
+    Some(Subcommand::Rollout {
+        before: arguments.get_str("old")?,
+        after: arguments.get_str("new")?,
+        folder,
+    })
+}
+
+fn playing_moves<'a>(arguments: &ArgMatches<'a>) -> Option<Subcommand<'a>> {
+    Some(Subcommand::SimMove {
+        before: arguments.get_str("old")?,
+        after: arguments.get_str("new")?,
+        certificate: arguments.get_str("certificate")?,
+        events: arguments.get_str("events")?,
+    })
+}
+
+fn walking<'a>(arguments: &ArgMatches<'a>) -> Option<Subcommand<'a>> {
+    let node = arguments.get_str("node")?;
+    let part = part_size_of(arguments.get_str("count")?)?;
+    certified(arguments, Question::Walk { node, part })
+}
+
+fn exporting<'a>(arguments: &ArgMatches<'a>, words: &'a [String]) -> Option<Subcommand<'a>> {
+    let kind = form_of(arguments.get_str("kind")?)?;
+    if kind != ExportKind::Linux && arguments.get_str(REPEATED).is_some() {
+        return None;
+    }
+    Some(Subcommand::Export {
+        export: Export {
+            kind,
+            node: arguments.get_str("node")?,
+        },
+        plan: arguments.get_str("plan")?,
+        certificate: arguments.get_str("certificate")?,
+        words,
+    })
+}
+
+/// The form of a node that a word names.
+pub fn form_of(word: &str) -> Option<ExportKind> {
+    match word {
+        "linux" => Some(ExportKind::Linux),
+        "c" => Some(ExportKind::C),
+        "entries" => Some(ExportKind::Entries),
+        "records" => Some(ExportKind::Records),
+        _ => None,
+    }
+}
+
+fn scripting<'a>(arguments: &ArgMatches<'a>) -> Option<Subcommand<'a>> {
+    if arguments.get_str("what")? != "walk" {
+        return None;
+    }
+    let script = WalkScript {
+        node: arguments.get_str("node")?,
+        eid: eid_of_word(arguments.get_str("eid")?)?,
+        part: part_size_of(arguments.get_str("count")?)?,
+        lost: flights(arguments.get_str("lose"))?,
+        repeated: flights(arguments.get_str("repeat"))?,
+    };
+    Some(Subcommand::Script {
+        script,
+        plan: arguments.get_str("plan")?,
+        certificate: arguments.get_str("certificate")?,
+    })
+}
+
+/// The flights that an option names.
+fn flights(word: Option<&str>) -> Option<Flights<'_>> {
+    match word {
+        Some(word) => Flights::of(word),
+        None => Some(Flights::NONE),
+    }
+}
+
+fn tracing<'a>(arguments: &ArgMatches<'a>) -> Option<Subcommand<'a>> {
+    let from = arguments.get_str("from")?;
+    let to = arguments.get_str("to")?;
+    certified(arguments, Question::Trace { from, to })
+}
+
+/// A question about a plan with its certificate, or one about the plan alone where that is all.
+fn with_or_without<'a>(
+    arguments: &ArgMatches<'a>,
+    question: Question<'a>,
+    alone: PlanQuestion<'a>,
+) -> Option<Subcommand<'a>> {
+    match arguments.get_str("certificate") {
+        Some(_) => certified(arguments, question),
+        None => planned(arguments, alone),
+    }
+}
+
+fn drawing<'a>(arguments: &ArgMatches<'a>) -> Option<Subcommand<'a>> {
+    let rows = drawn_rows(arguments.get_str("rows"))?;
+    with_or_without(
+        arguments,
+        Question::Draw { rows },
+        PlanQuestion::Draw { rows },
+    )
+}
+
+/// Which rows are drawn, by what stands behind the option.
+fn drawn_rows(word: Option<&str>) -> Option<DrawnRows> {
+    match word {
+        None => Some(DrawnRows::Hidden),
+        Some(ALL) => Some(DrawnRows::All),
+        Some(word) => Some(DrawnRows::For(eid_of_word(word)?)),
+    }
+}
+
+fn listing<'a>(arguments: &ArgMatches<'a>) -> Option<Subcommand<'a>> {
+    let name = arguments.get_str("plan")?;
+    with_or_without(
+        arguments,
+        Question::Faults { name },
+        PlanQuestion::Faults { name },
+    )
+}
+
+fn explaining<'a>(arguments: &ArgMatches<'a>) -> Option<Subcommand<'a>> {
+    Some(Subcommand::Explain {
+        plan: arguments.get_str("plan")?,
+        certificate: arguments.get_str("certificate"),
+    })
+}
+
+fn fixing<'a>(arguments: &ArgMatches<'a>) -> Option<Subcommand<'a>> {
+    Some(Subcommand::Fix {
+        plan: arguments.get_str("plan")?,
+    })
+}
+
+fn showing<'a>(arguments: &ArgMatches<'a>) -> Option<Subcommand<'a>> {
+    Some(Subcommand::Show {
+        kind: kind_of(arguments.get_str("kind")?)?,
+        hex: arguments.get_str("hex")?,
+    })
+}
+
+fn decoding<'a>(arguments: &ArgMatches<'a>) -> Option<Subcommand<'a>> {
+    Some(Subcommand::Decode {
+        capture: arguments.get_str("capture")?,
+    })
+}
+
+fn auditing<'a>(arguments: &ArgMatches<'a>) -> Option<Subcommand<'a>> {
+    Some(Subcommand::Audit {
+        plan: arguments.get_str("plan")?,
+        certificate: arguments.get_str("certificate")?,
+        capture: arguments.get_str("capture")?,
+    })
+}
+
+fn kind_of(word: &str) -> Option<ShownKind> {
+    match word {
+        "packet" => Some(ShownKind::Packet),
+        "record" => Some(ShownKind::Record),
+        _ => None,
+    }
+}
+
+/// The number of bytes that a word of ASCII digits gives, if a part of a record can have so many.
+pub fn part_size_of(word: &str) -> Option<PartSize> {
+    if !word.bytes().all(|digit| digit.is_ascii_digit()) {
+        return None;
+    }
+    PartSize::of(word.parse().ok()?)
+}
+
+/// The guide to a command, or the list of all where none is named.
+fn guiding<'a>(arguments: &ArgMatches<'a>) -> Option<Subcommand<'a>> {
+    match arguments.get_str("command") {
+        Some(command) => known(guide_to(command)),
+        None => known(Some(GUIDE)),
+    }
+}
+
+/// A text of the program itself, where there is one.
+fn known(text: Option<&'static str>) -> Option<Subcommand<'static>> {
+    Some(Subcommand::Known { text: text? })
+}

@@ -1,0 +1,3 @@
+mod UnreadTexts
+mod Explained
+mod Mended

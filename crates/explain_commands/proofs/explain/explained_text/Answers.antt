@@ -1,0 +1,12 @@
+use Rattle.std.proofs.Common.{string_bytes, sym, subst}
+use Rattle.explain_commands.specs.Explaining.{AreEditsTold}
+use Rattle.explain_commands.proofs.explain.explained_text.Goals as goal
+
+pub returns : goal.returns
+returns c = (
+  string_bytes c.in_ok-text.text,
+  c.deref.result.now,
+  c.in_ok-text.ensures,
+  subst (AreEditsTold c.args.given.now.plan c.args.obstacle.now) (sym c.deref.ensures) c.in_ok-edits_text.ensures,
+  c.in_ok-push_str.ensures.bytes,
+)

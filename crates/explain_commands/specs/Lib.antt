@@ -1,0 +1,3 @@
+pub mod UnreadTexts
+pub mod Explaining
+pub mod Fixing

@@ -1,0 +1,159 @@
+//! The command `explain`: what `certify` answers of a plan, and why.
+ghost use Rattle.std.specs.Prelude.{◌≡◌, ◌≢◌, ◌⊎◌, IfOk, IfErr, option_map, string_bytes};
+ghost use Rattle.std.specs.Cow.{cow_str_bytes};
+ghost use Rattle.net_rules.specs.Certificates.{NamesObstacle, RulesOutCertificates};
+ghost use Rattle.net_json.specs.Stream.{HasRoom};
+ghost use Rattle.command_answers.specs.declared.status.Status.TheVariants.{Yes, Fault, Unreadable, NoMemory};
+ghost use Rattle.command_answers.specs.declared.refused.Refused.TheVariants as refused;
+ghost use Rattle.command_answers.specs.Answers.{stream, BreaksOff};
+ghost use Rattle.explain_commands.specs.Explaining.{AreEditsTold, AreMoreTold, IsObstacleText, IsToldWithEdits, IsSummedUp, IsExplained, ExplainsSo, others_of};
+ghost use Rattle.command_answers.specs.Told.{Gives, IsSomeAnswer, Ends};
+ghost use Rattle.command_answers.specs.UnreadInputs.{IsTextOf};
+
+pub mod certified;
+pub mod unread;
+
+use command_answers::{Answer, PlanText, Refused, Status, YES, plan_or_text, tell};
+use fault_texts::{more_line, obstacle_place};
+use net_check::{CertifyError, certify, faults};
+use net_explained::{most_hops, tried_edits};
+use net_json::{Sink, Source};
+use net_plan::{Certificate, Plan};
+use plan_texts::{edit_lines, obstacle_line, obstacle_lines, summary_lines};
+use std::alloc::{AllocError, Global};
+use unread::unread_plan;
+
+/// Says on `output` what `certify` says of a plan, `yes` in place of the certificate, and explains it. Where the plan can't
+/// be read, it says so there too, and where the text's first fault is. The name is that of the plan's file.
+pub fn run_explain<P: Source, O: Sink, E: Sink>(
+    alloc: Global,
+    name: &str,
+    plan: &mut P,
+    output: &mut O,
+    errors: &mut E,
+) -> Status
+    requires plan { HasRoom (P.account plan.old) }
+    requires output { HasRoom (O.account output.old) }
+    requires errors { HasRoom (E.account errors.old) }
+    ensures explains { let plans = stream P.account plan.old plan.new in
+        Ends (ExplainsSo name.now plans) (λ why. why ≡ refused.NoMemory) result
+        (stream O.account output.old output.new) (stream E.account errors.old errors.new) }
+    ensures silent { (result ≡ Yes) ⊎ (result ≡ Fault) → errors.new ≡ errors.old }
+    ensures quiet { result ≢ NoMemory → (O.account output.new).failures ≡ (O.account output.old).failures → errors.new ≡ errors.old }
+    ensures unwritten { let plans = stream P.account plan.old plan.new in
+        let outputs = stream O.account output.old output.new in
+        result ≡ Unreadable → Gives (ExplainsSo name.now plans) Unreadable outputs ⊎ BreaksOff (IsSomeAnswer (ExplainsSo name.now plans)) outputs }
+    ensures no_memory { result ≡ NoMemory → output.new ≡ output.old }
+{
+    let answered = answer_explain(alloc, name, plan);
+    tell(alloc, answered, output, errors)
+}
+
+fn answer_explain<P: Source>(alloc: Global, name: &str, plan: &mut P) -> Result<Answer, Refused>
+    requires { HasRoom (P.account plan.old) }
+    ensures answers { let plans = stream P.account plan.old plan.new in
+        IfOk result (λ answer. ExplainsSo name.now plans answer.status (cow_str_bytes answer.text)) }
+    ensures refused { IfErr result (λ why. why ≡ refused.NoMemory) }
+{
+    match plan_or_text(alloc, plan) {
+        Ok(given) => explained_plan(alloc, name, &given),
+        Err(unread) => unread_plan(alloc, &unread),
+    }
+}
+
+/// The answer on a plan.
+fn explained_plan(alloc: Global, name: &str, given: &PlanText) -> Result<Answer, Refused>
+    requires { IsTextOf given.now.text.items given.now.plan }
+    ensures answers { IfOk result (λ answer. IsExplained name.now given.now.text.items given.now.plan answer.status (cow_str_bytes answer.text)) }
+    ensures refused { IfErr result (λ why. why ≡ refused.NoMemory) }
+{
+    match certify(alloc, &given.plan) {
+        Ok(certificate) => Ok(Answer::found(sound_text(alloc, &given.plan, &certificate)?)),
+        Err(obstacle) => Ok(Answer::fault(obstacle_text(alloc, name, given, &obstacle)?)),
+    }
+}
+
+/// Says yes, and sums a plan up that the certificate fits.
+fn sound_text(alloc: Global, plan: &Plan, certificate: &Certificate) -> Result<String, AllocError>
+    ensures { IfOk result (λ text. IsSummedUp plan.now certificate.now (string_bytes text)) }
+{
+    let mut text = YES.to_string(alloc)?;
+    text.push_str(&summary_lines(alloc, plan, most_hops(plan, certificate))?)?;
+    Ok(text)
+}
+
+/// Says what rules certificates of a plan out and where, explains it, proposes edits, and says how many more faults there
+/// are.
+fn obstacle_text(
+    alloc: Global,
+    name: &str,
+    given: &PlanText,
+    obstacle: &CertifyError,
+) -> Result<String, AllocError>
+    requires names { NamesObstacle given.now.plan obstacle.now }
+    requires none { RulesOutCertificates given.now.plan obstacle.now }
+    requires text { IsTextOf given.now.text.items given.now.plan }
+    ensures { IfOk result (λ text. IsObstacleText name.now given.now.text.items given.now.plan (string_bytes text)) }
+{
+    let line = obstacle_line(alloc, &given.plan, obstacle)?;
+    let place = obstacle_place(alloc, name, given.text.as_slice(), &given.plan, obstacle)?;
+    let told = explained_text(alloc, given, obstacle)?;
+    let more = more_faults(alloc, name, &given.plan, None, obstacle)?;
+    format!(in alloc; "{line}{place}{told}{more}")
+}
+
+/// Says how many more faults a plan has than the one that is told, or a plan and a certificate, and by which words they are
+/// listed.
+pub fn more_faults(
+    alloc: Global,
+    words: &str,
+    plan: &Plan,
+    certificate: Option<&Certificate>,
+    obstacle: &CertifyError,
+) -> Result<String, AllocError>
+    ensures { IfOk result (λ line. AreMoreTold plan.now (option_map (λ c. c.now) certificate.entry) obstacle.now words.now (string_bytes line)) }
+{
+    let runs = faults(alloc, plan, certificate)?;
+    more_line(alloc, words, others_of(obstacle, runs.len()))
+}
+
+/// How many of so many lines of faults are there beside what is told.
+fn others_of(obstacle: &CertifyError, count: usize) -> usize
+    ensures { result ≡ others_of obstacle.now count }
+{
+    match obstacle {
+        CertifyError::Fault(_) => count.saturating_sub(1),
+        CertifyError::OwnerLoop(_)
+        | CertifyError::Loop(_, _)
+        | CertifyError::BadChain(_, _)
+        | CertifyError::OutOfMemory => count,
+    }
+}
+
+/// Explains what rules certificates of a plan out, and proposes edits.
+fn explained_text(
+    alloc: Global,
+    given: &PlanText,
+    obstacle: &CertifyError,
+) -> Result<String, AllocError>
+    requires names { NamesObstacle given.now.plan obstacle.now }
+    requires text { IsTextOf given.now.text.items given.now.plan }
+    ensures { IfOk result (λ text. IsToldWithEdits given.now.plan obstacle.now (string_bytes text)) }
+{
+    let mut text = obstacle_lines(alloc, &given.plan, obstacle)?;
+    text.push_str(&edits_text(alloc, given, obstacle)?)?;
+    Ok(text)
+}
+
+/// The edits that take away what rules certificates of a plan out, each of them tried.
+pub fn edits_text(
+    alloc: Global,
+    given: &PlanText,
+    obstacle: &CertifyError,
+) -> Result<String, AllocError>
+    requires { IsTextOf given.now.text.items given.now.plan }
+    ensures { IfOk result (λ text. AreEditsTold given.now.plan obstacle.now (string_bytes text)) }
+{
+    let edits = tried_edits(alloc, given.text.as_slice(), &given.plan, obstacle)?;
+    Ok(edit_lines(alloc, &given.plan, edits.as_slice())?)
+}

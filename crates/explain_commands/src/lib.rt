@@ -1,0 +1,9 @@
+//! The commands of `mctpplan` that explain what is wrong, and mend it: `explain` and `fix`.
+#![tactic(auto)]
+
+mod explain;
+mod fix;
+
+pub use explain::certified::run_explain_certified;
+pub use explain::run_explain;
+pub use fix::run_fix;

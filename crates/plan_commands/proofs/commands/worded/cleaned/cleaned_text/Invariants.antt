@@ -1,7 +1,0 @@
-use Rattle.std.proofs.Common.{◌≡◌, map, take, string_bytes}
-use Rattle.std.specs.List.{flat_map}
-use Rattle.plan_commands.specs.Worded.{cleaned}
-use Rattle.plan_commands.proofs.commands.worded.cleaned.cleaned_text.Given as goal
-
-abbrev pub invariant-loop-word : goal.invariant-loop-word
-invariant-loop-word l = l.text.items ≡ flat_map cleaned (map string_bytes (take l.word-index l.words))

@@ -1,0 +1,77 @@
+//! The command `certifymove`: the certificate of a move from one plan to another, or why there is none.
+ghost use Rattle.std.specs.Prelude.{◌≡◌, ◌⊎◌, IfOk, IfErr};
+ghost use Rattle.std.specs.Cow.{cow_str_bytes};
+ghost use Rattle.net_json.specs.Stream.{HasRoom};
+ghost use Rattle.command_answers.specs.declared.status.Status.TheVariants.{Yes, Fault, Unreadable, NoMemory};
+ghost use Rattle.command_answers.specs.Answers.{stream, IsWithoutPlan, BreaksOff};
+ghost use Rattle.plan_commands.specs.MoveCertifying.{CertifiesMove, CertifiesMoveSo};
+ghost use Rattle.command_answers.specs.Moves.{ArePlansUnread};
+ghost use Rattle.command_answers.specs.Told.{IsSomeAnswer, Ends};
+
+use command_answers::{Answer, Refused, Status, read_plans, tell};
+use net_check::certify_move;
+use net_json::{Sink, Source, text_of_certificate};
+use net_plan::Plan;
+use plan_texts::move_obstacle_line;
+use std::alloc::{AllocError, Global};
+
+/// Answers on `output` with the certificate of a move from one plan to another, or with the line of what rules
+/// certificates of it out. Where a plan can't be read, says so on `errors`; of two the first is told, and then the
+/// other is not read.
+pub fn run_certify_move<P: Source, Q: Source, O: Sink, E: Sink>(
+    alloc: Global,
+    before: &mut P,
+    after: &mut Q,
+    output: &mut O,
+    errors: &mut E,
+) -> Status
+    requires before { HasRoom (P.account before.old) }
+    requires after { HasRoom (Q.account after.old) }
+    requires output { HasRoom (O.account output.old) }
+    requires errors { HasRoom (E.account errors.old) }
+    ensures tells { let befores = stream P.account before.old before.new in
+        let afters = stream Q.account after.old after.new in
+        Ends (CertifiesMoveSo befores afters) (λ why. ArePlansUnread why befores afters) result
+        (stream O.account output.old output.new) (stream E.account errors.old errors.new) }
+    ensures silent { (result ≡ Yes) ⊎ (result ≡ Fault) → errors.new ≡ errors.old }
+    ensures unwritten { let befores = stream P.account before.old before.new in
+        let afters = stream Q.account after.old after.new in
+        result ≡ Unreadable → (output.new ≡ output.old)
+        ⊎ BreaksOff (IsSomeAnswer (CertifiesMoveSo befores afters)) (stream O.account output.old output.new) }
+    ensures no_memory { result ≡ NoMemory → output.new ≡ output.old }
+    ensures in_order { let befores = stream P.account before.old before.new in
+        IsWithoutPlan befores → after.new ≡ after.old }
+{
+    let answered = answer_certify_move(alloc, before, after);
+    tell(alloc, answered, output, errors)
+}
+
+fn answer_certify_move<P: Source, Q: Source>(
+    alloc: Global,
+    before: &mut P,
+    after: &mut Q,
+) -> Result<Answer, Refused>
+    requires before { HasRoom (P.account before.old) }
+    requires after { HasRoom (Q.account after.old) }
+    ensures answers { let befores = stream P.account before.old before.new in
+        let afters = stream Q.account after.old after.new in
+        IfOk result (λ answer. CertifiesMoveSo befores afters answer.status (cow_str_bytes answer.text)) }
+    ensures unread { let befores = stream P.account before.old before.new in
+        let afters = stream Q.account after.old after.new in
+        IfErr result (λ why. ArePlansUnread why befores afters) }
+    ensures in_order { let befores = stream P.account before.old before.new in
+        IsWithoutPlan befores → after.new ≡ after.old }
+{
+    let (before, after) = read_plans(alloc, before, after)?;
+    Ok(certificate_of_move(alloc, &before, &after)?)
+}
+
+/// The certificate of a move, or the line of what rules certificates of it out.
+fn certificate_of_move(alloc: Global, before: &Plan, after: &Plan) -> Result<Answer, AllocError>
+    ensures { IfOk result (λ answer. CertifiesMove before.now after.now answer.status (cow_str_bytes answer.text)) }
+{
+    match certify_move(alloc, before, after) {
+        Ok(certificate) => Ok(Answer::found(text_of_certificate(alloc, before, &certificate)?)),
+        Err(obstacle) => Ok(Answer::fault(move_obstacle_line(alloc, before, &obstacle)?)),
+    }
+}

@@ -1,0 +1,62 @@
+//! The command `faults`: every fault of a plan, or of a plan and its certificate.
+ghost use Rattle.std.specs.Prelude.{◌≡◌, [], IfOk, IfErr, None, string_bytes};
+ghost use Rattle.std.specs.Cow.{cow_str_bytes};
+ghost use Rattle.net_check.specs.Errors.{NamesFirstFault};
+ghost use Rattle.net_rules.specs.FaultLists.{AreFaults};
+ghost use Rattle.command_answers.specs.declared.status.Status.TheVariants.{Fault};
+ghost use Rattle.plan_commands.specs.FaultListing.{IsFaultListOf, IsListed};
+
+use command_answers::{Answer, PlanText, Refused};
+use fault_texts::{fault_lines, obstacle_list};
+use net_check::{CheckError, certify, faults};
+use net_plan::Certificate;
+use std::alloc::{AllocError, Global};
+
+/// Every fault of a plan, or what else rules certificates of it out. The name is that of the plan's file.
+pub fn faults_of_plan(alloc: Global, name: &str, given: &PlanText) -> Result<Answer, AllocError>
+    ensures { IfOk result (λ answer. IsListed name.now given.now.text.items given.now.plan answer.status (cow_str_bytes answer.text)) }
+{
+    let runs = faults(alloc, &given.plan, None)?;
+    if runs.is_empty() {
+        return obstacle_of_plan(alloc, name, given);
+    }
+    let lines = fault_lines(alloc, name, given.text.as_slice(), &given.plan, &runs)?;
+    Ok(Answer::fault(lines))
+}
+
+/// What rules certificates of a plan out that has no fault itself, or that nothing does.
+fn obstacle_of_plan(alloc: Global, name: &str, given: &PlanText) -> Result<Answer, AllocError>
+    requires { AreFaults given.now.plan None [] }
+    ensures { IfOk result (λ answer. IsListed name.now given.now.text.items given.now.plan answer.status (cow_str_bytes answer.text)) }
+{
+    match certify(alloc, &given.plan) {
+        Ok(_certificate) => Ok(Answer::yes()),
+        Err(obstacle) => {
+            let text = given.text.as_slice();
+            let lines = obstacle_list(alloc, name, text, &given.plan, &obstacle)?;
+            Ok(Answer::fault(lines))
+        }
+    }
+}
+
+/// Every fault of a plan and a certificate that are not accepted.
+pub fn faults_of_both(
+    alloc: Global,
+    name: &str,
+    given: &PlanText,
+    certificate: &Certificate,
+    error: &CheckError,
+) -> Result<Answer, Refused>
+    requires { NamesFirstFault given.now.plan certificate.now error.now }
+    ensures answers { IfOk result (λ answer. (answer.status ≡ Fault) × IsFaultListOf name.now given.now.text.items given.now.plan certificate.now (cow_str_bytes answer.text)) }
+    ensures refused { IfErr result (λ why. why ≡ Refused.NoMemory) }
+{
+    match error {
+        CheckError::Fault(_) => {
+            let runs = faults(alloc, &given.plan, Some(certificate))?;
+            let lines = fault_lines(alloc, name, given.text.as_slice(), &given.plan, &runs)?;
+            Ok(Answer::fault(lines))
+        }
+        CheckError::OutOfMemory => Err(Refused::NoMemory),
+    }
+}

@@ -1,0 +1,146 @@
+//! The command `make`: the plan that is made of a board.
+ghost use Rattle.std.specs.Prelude.{◌≡◌, ◌⊎◌, IfOk, IfErr, OnOk, string_bytes};
+ghost use Rattle.std.specs.Cow.{cow_str_bytes};
+ghost use Rattle.std.specs.Io.KnownBytes.{Appends};
+ghost use Rattle.net_json.specs.Stream.{HasRoom};
+ghost use Rattle.command_answers.specs.declared.status.Status.TheVariants.{Yes, Fault, Unreadable, NoMemory};
+ghost use Rattle.command_answers.specs.declared.refused.Refused.TheVariants as refused;
+ghost use Rattle.command_answers.specs.Answers.{stream, BreaksOff};
+ghost use Rattle.plan_commands.specs.Making.{long_board, failed_board, IsAnswerOf, MakesSo, MakesWithSo, IsUnwrittenBy};
+ghost use Rattle.command_answers.specs.Told.{Gives, IsSomeAnswer, Ends};
+
+use board_made::{BoardAnswer, answer_board};
+use command_answers::{Answer, Input, Refused, Status, tell};
+use net_json::{PlanError, Sink, Source, TEXT_LIMIT, TextFault, read_within, write_whole};
+use std::alloc::{AllocError, Global};
+
+/// Prints on `output` the plan that is made of a board, or why none is, also where the board can't be read.
+pub fn run_make<B: Source, O: Sink, E: Sink>(
+    alloc: Global,
+    board: &mut B,
+    output: &mut O,
+    errors: &mut E,
+) -> Status
+    requires board { HasRoom (B.account board.old) }
+    requires output { HasRoom (O.account output.old) }
+    requires errors { HasRoom (E.account errors.old) }
+    ensures tells { let boards = stream B.account board.old board.new in
+        Ends (MakesSo boards) (λ why. why ≡ refused.NoMemory) result
+        (stream O.account output.old output.new) (stream E.account errors.old errors.new) }
+    ensures silent { (result ≡ Yes) ⊎ (result ≡ Fault) → errors.new ≡ errors.old }
+    ensures unwritten { let boards = stream B.account board.old board.new in
+        let outputs = stream O.account output.old output.new in
+        result ≡ Unreadable → Gives (MakesSo boards) Unreadable outputs ⊎ BreaksOff (IsSomeAnswer (MakesSo boards)) outputs }
+    ensures no_memory { result ≡ NoMemory → output.new ≡ output.old }
+{
+    let answered = answer_make(alloc, board);
+    tell(alloc, answered, output, errors)
+}
+
+/// The same, and writes the certificate of the plan to `certificate`, before the plan is printed. Where that fails, says
+/// so on `errors`, and prints nothing. Where no plan is made, `certificate` is left as it is.
+pub fn run_make_certified<B: Source, C: Sink, O: Sink, E: Sink>(
+    alloc: Global,
+    board: &mut B,
+    certificate: &mut C,
+    output: &mut O,
+    errors: &mut E,
+) -> Status
+    requires board { HasRoom (B.account board.old) }
+    requires certificate { HasRoom (C.account certificate.old) }
+    requires output { HasRoom (O.account output.old) }
+    requires errors { HasRoom (E.account errors.old) }
+    ensures tells { let boards = stream B.account board.old board.new in
+        let certificates = stream C.account certificate.old certificate.new in
+        Ends (MakesWithSo boards certificates) (λ why. IsUnwrittenBy certificates why) result
+        (stream O.account output.old output.new) (stream E.account errors.old errors.new) }
+    ensures silent { (result ≡ Yes) ⊎ (result ≡ Fault) → errors.new ≡ errors.old }
+    ensures kept { result ≡ Fault → certificate.new ≡ certificate.old }
+    ensures unwritten { let boards = stream B.account board.old board.new in
+        let certificates = stream C.account certificate.old certificate.new in
+        let outputs = stream O.account output.old output.new in
+        result ≡ Unreadable → (output.new ≡ output.old) ⊎ Gives (MakesWithSo boards certificates) Unreadable outputs
+        ⊎ BreaksOff (IsSomeAnswer (MakesWithSo boards certificates)) outputs }
+    ensures no_memory { result ≡ NoMemory → output.new ≡ output.old }
+{
+    let answered = answer_certified(alloc, board, certificate);
+    tell(alloc, answered, output, errors)
+}
+
+fn answer_make<B: Source>(alloc: Global, board: &mut B) -> Result<Answer, Refused>
+    requires { HasRoom (B.account board.old) }
+    ensures answers { let boards = stream B.account board.old board.new in
+        IfOk result (λ answer. MakesSo boards answer.status (cow_str_bytes answer.text)) }
+    ensures refused { IfErr result (λ why. why ≡ refused.NoMemory) }
+{
+    match answered_board(alloc, board)? {
+        BoardAnswer::Made(made) => Ok(Answer::found(made.plan)),
+        BoardAnswer::NoPlan(reason) => Ok(Answer::fault(reason)),
+        BoardAnswer::Unread(line) => Ok(Answer::unread(line)),
+    }
+}
+
+fn answer_certified<B: Source, C: Sink>(
+    alloc: Global,
+    board: &mut B,
+    certificate: &mut C,
+) -> Result<Answer, Refused>
+    requires board { HasRoom (B.account board.old) }
+    requires certificate { HasRoom (C.account certificate.old) }
+    ensures answers { let boards = stream B.account board.old board.new in
+        let certificates = stream C.account certificate.old certificate.new in
+        IfOk result (λ answer. MakesWithSo boards certificates answer.status (cow_str_bytes answer.text)) }
+    ensures refused { let certificates = stream C.account certificate.old certificate.new in
+        IfErr result (λ why. IsUnwrittenBy certificates why) }
+    ensures kept { IfOk result (λ answer. answer.status ≡ Fault → certificate.new ≡ certificate.old) }
+{
+    match answered_board(alloc, board)? {
+        BoardAnswer::Made(made) => {
+            write_certificate(certificate, &made.certificate)?;
+            Ok(Answer::found(made.plan))
+        }
+        BoardAnswer::NoPlan(why) => Ok(Answer::fault(why)),
+        BoardAnswer::Unread(why) => Ok(Answer::unread(why)),
+    }
+}
+
+fn write_certificate<C: Sink>(certificate: &mut C, text: &str) -> Result<(), Refused>
+    requires { HasRoom (C.account certificate.old) }
+    ensures written { OnOk result (Appends (C.account certificate.old).bytes (C.account certificate.new).bytes text.now) }
+    ensures unwritten { let certificates = stream C.account certificate.old certificate.new in
+        IfErr result (λ why. IsUnwrittenBy certificates why) }
+{
+    match write_whole(certificate, text.as_bytes()) {
+        Ok(()) => Ok(()),
+        Err(_) => Err(Refused::Unreadable {
+            input: Input::Certificate,
+            cause: PlanError::Device,
+        }),
+    }
+}
+
+/// What is answered of the board that a source gives.
+fn answered_board<B: Source>(alloc: Global, board: &mut B) -> Result<BoardAnswer, AllocError>
+    requires { HasRoom (B.account board.old) }
+    ensures { let boards = stream B.account board.old board.new in
+        IfOk result (λ answer. IsAnswerOf boards answer) }
+{
+    match read_within(alloc, board, TEXT_LIMIT) {
+        Ok(text) => Ok(answer_board(alloc, &text)?),
+        Err(TextFault::TooLong) => Ok(BoardAnswer::Unread(long_line(alloc)?)),
+        Err(TextFault::Device) => Ok(BoardAnswer::Unread(failed_line(alloc)?)),
+        Err(TextFault::OutOfMemory) => Err(AllocError),
+    }
+}
+
+fn long_line(alloc: Global) -> Result<String, AllocError>
+    ensures { IfOk result (λ line. string_bytes line ≡ long_board) }
+{
+    "unreadable board: the text is longer than 16777216 bytes\n".to_string(alloc)
+}
+
+fn failed_line(alloc: Global) -> Result<String, AllocError>
+    ensures { IfOk result (λ line. string_bytes line ≡ failed_board) }
+{
+    "unreadable board: the file can't be opened or read\n".to_string(alloc)
+}

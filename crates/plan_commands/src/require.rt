@@ -1,0 +1,175 @@
+//! The command `require`: whether a checked plan's nodes reach whom they are to reach.
+ghost use Rattle.std.specs.Prelude.{◌≡◌, ◌⊎◌, ◌++◌, codes, IfOk, IfErr, string_bytes};
+ghost use Rattle.std.specs.Fmt.{decimal};
+ghost use Rattle.std.specs.Cow.{cow_str_bytes};
+ghost use Rattle.net_json.specs.Stream.{HasRoom};
+ghost use Rattle.command_answers.specs.declared.status.Status.TheVariants.{Yes, Fault, Unreadable, NoMemory};
+ghost use Rattle.command_answers.specs.declared.refused.Refused.TheVariants as refused;
+ghost use Rattle.command_answers.specs.Answers.{stream, AreUnread, IsWithoutPlan, BreaksOff};
+ghost use Rattle.plan_commands.specs.Requiring.{AnswersWishes, unread_wanted, unread_line_text, IsRequiredOn, RequiresOn, RequiresOf, RequiresSo};
+ghost use Rattle.command_answers.specs.Told.{Gives, IsSomeAnswer, Ends};
+
+use command_answers::{Answer, Refused, Status, fault_answer, read_inputs, tell};
+use net_check::{Checked, check};
+use net_json::{Sink, Source, TEXT_LIMIT, TextFault, read_within};
+use net_plan::{Certificate, Plan};
+use net_reached::{BadLine, Wish, WishError, unmet_wishes, wish_lines, wishes_of_text};
+use std::alloc::{AllocError, Global};
+
+/// Says on `output` that a plan's nodes reach whom a text wants them to reach, or gives the lines of the text of which it
+/// isn't so, or tells the fault of the plan and its certificate. Where the text can't be read, it says so there too. Where
+/// the plan or the certificate can't be read, says so on `errors`, and reads nothing more.
+pub fn run_require<P: Source, C: Source, W: Source, O: Sink, E: Sink>(
+    alloc: Global,
+    plan: &mut P,
+    certificate: &mut C,
+    wanted: &mut W,
+    output: &mut O,
+    errors: &mut E,
+) -> Status
+    requires plan { HasRoom (P.account plan.old) }
+    requires certificate { HasRoom (C.account certificate.old) }
+    requires wanted { HasRoom (W.account wanted.old) }
+    requires output { HasRoom (O.account output.old) }
+    requires errors { HasRoom (E.account errors.old) }
+    ensures tells { let plans = stream P.account plan.old plan.new in
+        let certificates = stream C.account certificate.old certificate.new in
+        let texts = stream W.account wanted.old wanted.new in
+        Ends (RequiresSo plans certificates texts) (λ why. AreUnread why plans certificates) result
+        (stream O.account output.old output.new) (stream E.account errors.old errors.new) }
+    ensures silent { (result ≡ Yes) ⊎ (result ≡ Fault) → errors.new ≡ errors.old }
+    ensures unwritten { let plans = stream P.account plan.old plan.new in
+        let certificates = stream C.account certificate.old certificate.new in
+        let texts = stream W.account wanted.old wanted.new in
+        let outputs = stream O.account output.old output.new in
+        result ≡ Unreadable → (output.new ≡ output.old) ⊎ Gives (RequiresSo plans certificates texts) Unreadable outputs
+        ⊎ BreaksOff (IsSomeAnswer (RequiresSo plans certificates texts)) outputs }
+    ensures no_memory { result ≡ NoMemory → output.new ≡ output.old }
+    ensures in_order { IsWithoutPlan (stream P.account plan.old plan.new)
+        → (certificate.new ≡ certificate.old) × (wanted.new ≡ wanted.old) }
+{
+    let answered = answer_require(alloc, plan, certificate, wanted);
+    tell(alloc, answered, output, errors)
+}
+
+fn answer_require<P: Source, C: Source, W: Source>(
+    alloc: Global,
+    plan: &mut P,
+    certificate: &mut C,
+    wanted: &mut W,
+) -> Result<Answer, Refused>
+    requires plan { HasRoom (P.account plan.old) }
+    requires certificate { HasRoom (C.account certificate.old) }
+    requires wanted { HasRoom (W.account wanted.old) }
+    ensures answers { let plans = stream P.account plan.old plan.new in
+        let certificates = stream C.account certificate.old certificate.new in
+        let texts = stream W.account wanted.old wanted.new in
+        IfOk result (λ answer. RequiresSo plans certificates texts answer.status (cow_str_bytes answer.text)) }
+    ensures unread { let plans = stream P.account plan.old plan.new in
+        let certificates = stream C.account certificate.old certificate.new in
+        IfErr result (λ why. AreUnread why plans certificates) }
+    ensures in_order { IsWithoutPlan (stream P.account plan.old plan.new)
+        → (certificate.new ≡ certificate.old) × (wanted.new ≡ wanted.old) }
+{
+    let (plan, certificate) = read_inputs(alloc, plan, certificate)?;
+    answer_wanted(alloc, &plan, &certificate, wanted)
+}
+
+/// The answer on a plan, a certificate and what a source gives.
+fn answer_wanted<W: Source>(
+    alloc: Global,
+    plan: &Plan,
+    certificate: &Certificate,
+    wanted: &mut W,
+) -> Result<Answer, Refused>
+    requires { HasRoom (W.account wanted.old) }
+    ensures answers { let texts = stream W.account wanted.old wanted.new in
+        IfOk result (λ answer. RequiresOf plan.now certificate.now texts answer.status (cow_str_bytes answer.text)) }
+    ensures refused { IfErr result (λ why. why ≡ refused.NoMemory) }
+{
+    match read_within(alloc, wanted, TEXT_LIMIT) {
+        Ok(text) => answer_of_text(alloc, plan, certificate, &text),
+        Err(TextFault::TooLong) => unread(alloc, "J08"),
+        Err(TextFault::Device) => unread(alloc, "file"),
+        Err(TextFault::OutOfMemory) => Err(Refused::NoMemory),
+    }
+}
+
+/// The answer on a plan, a certificate and the text of what is wanted.
+fn answer_of_text(
+    alloc: Global,
+    plan: &Plan,
+    certificate: &Certificate,
+    text: &[u8],
+) -> Result<Answer, Refused>
+    ensures answers { IfOk result (λ answer. RequiresOn plan.now certificate.now text.now answer.status (cow_str_bytes answer.text)) }
+    ensures refused { IfErr result (λ why. why ≡ refused.NoMemory) }
+{
+    match check(alloc, plan, certificate) {
+        Ok(checked) => required(alloc, &checked, text),
+        Err(error) => fault_answer(alloc, plan, &error),
+    }
+}
+
+/// The answer on a checked plan and the text of what is wanted.
+fn required(alloc: Global, checked: &Checked, text: &[u8]) -> Result<Answer, Refused>
+    ensures answers { IfOk result (λ answer. IsRequiredOn checked.now.0 text.now answer.status (cow_str_bytes answer.text)) }
+    ensures refused { IfErr result (λ why. why ≡ refused.NoMemory) }
+{
+    match str::from_utf8(text) {
+        Ok(text) => required_text(alloc, checked, text),
+        Err(_) => unread(alloc, "J01"),
+    }
+}
+
+fn required_text(alloc: Global, checked: &Checked, text: &str) -> Result<Answer, Refused>
+    ensures answers { IfOk result (λ answer. IsRequiredOn checked.now.0 text.now answer.status (cow_str_bytes answer.text)) }
+    ensures refused { IfErr result (λ why. why ≡ refused.NoMemory) }
+{
+    match wishes_of_text(alloc, checked.plan(), text) {
+        Ok(wishes) => Ok(answer_of_wishes(alloc, checked, &wishes)?),
+        Err(WishError::Unread(bad)) => Ok(unread_line(alloc, bad)?),
+        Err(WishError::OutOfMemory) => Err(Refused::NoMemory),
+    }
+}
+
+/// The answer on a checked plan and wishes.
+fn answer_of_wishes(alloc: Global, checked: &Checked, wishes: &[Wish]) -> Result<Answer, AllocError>
+    ensures { IfOk result (λ answer. AnswersWishes checked.now.0 wishes.now answer.status (cow_str_bytes answer.text)) }
+{
+    let unmet = unmet_wishes(alloc, checked, wishes)?;
+    if unmet.is_empty() {
+        return Ok(Answer::yes());
+    }
+    Ok(Answer::fault(wish_lines(alloc, checked.plan(), &unmet)?))
+}
+
+/// Says that a line says no wish, and where.
+fn unread_line(alloc: Global, bad: BadLine) -> Result<Answer, AllocError>
+    ensures { IfOk result (λ answer. (answer.status ≡ Unreadable) × (cow_str_bytes answer.text ≡ unread_line_text bad)) }
+{
+    let code = if bad.is_name { "J06" } else { "J05" };
+    let mut text = code_line(alloc, code)?;
+    text.push_str(&place_line(alloc, bad.line, bad.column)?)?;
+    Ok(Answer::unread(text))
+}
+
+fn place_line(alloc: Global, line: usize, column: usize) -> Result<String, AllocError>
+    ensures { IfOk result (λ text. string_bytes text ≡ codes "line " ++ (decimal line ++ (codes ", column " ++ (decimal column ++ codes "\n")))) }
+{
+    format!(in alloc; "line {line}, column {column}\n")
+}
+
+/// Says why what is wanted can't be read.
+fn unread(alloc: Global, code: &str) -> Result<Answer, Refused>
+    ensures answers { IfOk result (λ answer. (answer.status ≡ Unreadable) × (cow_str_bytes answer.text ≡ unread_wanted code.now)) }
+    ensures refused { IfErr result (λ why. why ≡ refused.NoMemory) }
+{
+    Ok(Answer::unread(code_line(alloc, code)?))
+}
+
+fn code_line(alloc: Global, code: &str) -> Result<String, AllocError>
+    ensures { IfOk result (λ line. string_bytes line ≡ unread_wanted code.now) }
+{
+    format!(in alloc; "unreadable wanted: {code}\n")
+}

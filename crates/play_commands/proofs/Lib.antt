@@ -1,0 +1,5 @@
+mod Simulated
+mod Expected
+mod Scripted
+mod MovePlayed
+mod Playing

@@ -1,0 +1,80 @@
+-- What the end of `simmove` says of the files that it read, and of what it wrote.
+use Rattle.std.specs.Prelude.{◌⊎◌, ℕ, List, map}
+use Rattle.net_rules.specs.MoveRules.{AcceptsMove}
+use Rattle.net_tables.specs.TwoPlans.{moving}
+use Rattle.net_runs.specs.Walkers.{WalkedEvent}
+use Rattle.net_sim.specs.Outcomes.{event_value}
+use Rattle.net_sim.specs.Promised.{IsPromised}
+use Rattle.net_plan.specs.declared.plan.Plan.{Plan}
+use Rattle.net_plan.specs.declared.certificate.Certificate.{Certificate}
+use Rattle.net_json.specs.declared.error.PlanError.{PlanError}
+use Rattle.net_plan.specs.declared.event.Event.{Event}
+use Rattle.net_plan.specs.PlanValues.{plan_value}
+use Rattle.net_json.specs.Unread.{GaveNoEvents}
+use Rattle.command_answers.specs.declared.refused.Input.{Input}
+use Rattle.command_answers.specs.declared.refused.Input.TheVariants as input
+use Rattle.command_answers.specs.declared.refused.Refused.{Refused}
+use Rattle.command_answers.specs.declared.status.Status.{Status}
+use Rattle.command_answers.specs.Answers.{Stream, GaveNothing}
+use Rattle.command_answers.specs.Moves.{IsMoveGiven, IsMoveFaultText, IsUnreadInMove}
+use Rattle.play_commands.specs.Simulating.{SimulatesBy, IsWalksText}
+use Rattle.command_answers.specs.Inputs.{GaveEvents}
+use Rattle.command_answers.specs.Statuses.{HasCause}
+
+-- the sources gave the plans, the certificate, and the events at the nodes of the plan before
+pub record IsPlayGiven (befores afters certificates happenings : Stream) (before after : Plan)
+    (certificate : Certificate) (events : List Event) : Type 0 where
+  pub inputs : IsMoveGiven befores afters certificates before after certificate
+  pub events_text : GaveEvents before happenings events
+
+-- Every rule of a move holds of the plans and the certificate, every run of the move is as promised, and what was
+-- written is what comes of the events, in such runs, in which the walkers have walked.
+abbrev pub MovesOn : Plan → Plan → Certificate → List WalkedEvent → Status → Stream → Type 0
+MovesOn before after certificate events ended output = AcceptsMove before after certificate
+    × IsPromised (moving before after) certificate × SimulatesBy (moving before after) certificate events ended output
+
+-- The text answers on them: where every rule of a move holds it is the lines of what comes of a beginning of the
+-- events, in a run of the move in which the walkers have walked, else the line of the first fault.
+abbrev pub IsMovePlayText : Plan → Plan → Certificate → List WalkedEvent → List ℕ → Type 0
+IsMovePlayText before after certificate events text = (AcceptsMove before after certificate
+    × IsWalksText (moving before after) certificate events text) ⊎ IsMoveFaultText before after certificate text
+
+-- the sources gave two plans, a certificate and events at the nodes of the plan before, of which this is so
+abbrev pub AreOfMoveFiles : (Plan → Plan → Certificate → List WalkedEvent → Type 0) → Stream → Stream → Stream → Stream
+    → Type 0
+AreOfMoveFiles IsSo befores afters certificates happenings =
+    (before : Plan) × (after : Plan) × (certificate : Certificate) × (events : List Event)
+    × IsPlayGiven befores afters certificates happenings before after certificate events
+    × IsSo before after certificate (map event_value events)
+
+abbrev pub TellsMovedRun : Stream → Stream → Stream → Stream → Status → Stream → Type 0
+TellsMovedRun befores afters certificates happenings ended output =
+    AreOfMoveFiles (λ before after certificate events. MovesOn before after certificate events ended output)
+    befores afters certificates happenings
+
+abbrev pub IsPlayFault : Stream → Stream → Stream → Stream → List ℕ → Type 0
+IsPlayFault befores afters certificates happenings text =
+    AreOfMoveFiles (λ before after certificate events. IsMoveFaultText before after certificate text)
+    befores afters certificates happenings
+
+abbrev pub IsPlayAnswer : Stream → Stream → Stream → Stream → List ℕ → Type 0
+IsPlayAnswer befores afters certificates happenings text =
+    AreOfMoveFiles (λ before after certificate events. IsMovePlayText before after certificate events text)
+    befores afters certificates happenings
+
+-- why an input can't be read; each is read only where those before it were given
+abbrev pub IsUnreadInPlay : Input → PlanError → Stream → Stream → Stream → Stream → Type 0
+IsUnreadInPlay input.Plan cause befores afters certificates happenings =
+    IsUnreadInMove input.Plan cause befores afters certificates
+IsUnreadInPlay input.Certificate cause befores afters certificates happenings =
+    IsUnreadInMove input.Certificate cause befores afters certificates
+IsUnreadInPlay input.Events cause befores afters certificates happenings =
+    (before : Plan) × (after : Plan) × (certificate : Certificate)
+    × IsMoveGiven befores afters certificates before after certificate
+    × GaveNothing (GaveNoEvents (plan_value before)) happenings cause
+IsUnreadInPlay input.Lines cause befores afters certificates happenings = ⊥
+
+-- why the inputs were not read
+abbrev pub IsPlayUnread : Refused → Stream → Stream → Stream → Stream → Type 0
+IsPlayUnread why befores afters certificates happenings =
+    HasCause (λ unread cause. IsUnreadInPlay unread cause befores afters certificates happenings) ⊥ ⊥ ⊥ why

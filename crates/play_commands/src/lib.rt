@@ -1,0 +1,12 @@
+//! The commands of `mctpplan` that play a network: `sim`, `simmove`, `expect` and `script`.
+#![tactic(auto)]
+
+mod expect;
+mod script;
+mod sim;
+
+pub use expect::run_expect;
+pub use script::{Flights, WalkScript, run_script};
+pub use sim::files::simulate;
+pub use sim::moves::simulate_move;
+pub use sim::{run_sim, run_simmove};

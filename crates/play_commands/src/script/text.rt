@@ -1,0 +1,87 @@
+//! The text of the events of a walk.
+ghost use Rattle.std.specs.Prelude.{◌≡◌, IfOk, string_bytes};
+ghost use Rattle.play_commands.specs.ScriptTexts.{script_text, event_lines, event_text, expire_text, truth_word, bit_word};
+
+use mctp_transport::Key;
+use net_plan::{Event, Plan};
+use plan_texts::name_or_dash;
+use std::alloc::{AllocError, Global};
+
+/// The text of a list of events (format 3), an event a line.
+pub fn script_text(alloc: Global, plan: &Plan, events: &[Event]) -> Result<String, AllocError>
+    ensures { IfOk result (λ text. string_bytes text ≡ script_text plan.now events.now) }
+{
+    let lines = event_lines(alloc, plan, events)?;
+    format!(in alloc; "{{ \"format\": 3, \"events\": [{lines}\n] }}\n")
+}
+
+fn event_lines(alloc: Global, plan: &Plan, events: &[Event]) -> Result<String, AllocError>
+    ensures { IfOk result (λ text. string_bytes text ≡ event_lines plan.now events.now) }
+{
+    let mut lines = String::new(alloc);
+    let [first, rest @ ..] = events else {
+        return Ok(lines);
+    };
+    lines.push_str("\n  ")?;
+    lines.push_str(&event_text(alloc, plan, first)?)?;
+    for event in rest {
+        lines.push_str(",\n  ")?;
+        lines.push_str(&event_text(alloc, plan, event)?)?;
+    }
+    Ok(lines)
+}
+
+/// An event of a walk. A walk has neither packets that are put in from outside nor nodes that switch.
+fn event_text(alloc: Global, plan: &Plan, event: &Event) -> Result<String, AllocError>
+    ensures { IfOk result (λ text. string_bytes text ≡ event_text plan.now event.now) }
+{
+    match event {
+        Event::Walk {
+            node,
+            eid,
+            tag,
+            count,
+        } => {
+            let (node, eid, tag) = (name_or_dash(plan, *node), eid.value, tag.value);
+            format!(in alloc;
+                "{{ \"do\": \"walk\", \"node\": \"{node}\", \"eid\": {eid}, \"tag\": {tag}, \"count\": {count} }}"
+            )
+        }
+        Event::Ask { walker } => format!(in alloc; "{{ \"do\": \"ask\", \"walker\": {walker} }}"),
+        Event::Move { flight, keep } => {
+            let keep = truth_word(*keep);
+            format!(in alloc; "{{ \"do\": \"move\", \"flight\": {flight}, \"keep\": {keep} }}")
+        }
+        Event::Lose { flight } => format!(in alloc; "{{ \"do\": \"lose\", \"flight\": {flight} }}"),
+        Event::Answer { node } => {
+            let node = name_or_dash(plan, *node);
+            format!(in alloc; "{{ \"do\": \"answer\", \"node\": \"{node}\" }}")
+        }
+        Event::Expire { node, key } => expire_text(alloc, name_or_dash(plan, *node), key),
+        Event::Collected { walker } => {
+            format!(in alloc; "{{ \"do\": \"collected\", \"walker\": {walker} }}")
+        }
+        Event::Put { .. } | Event::Switch { .. } => Ok(String::new(alloc)),
+    }
+}
+
+fn expire_text(alloc: Global, node: &str, key: &Key) -> Result<String, AllocError>
+    ensures { IfOk result (λ text. string_bytes text ≡ expire_text node.now key.now) }
+{
+    let (source, tag, owner) = (key.source.value, key.tag.value, bit_word(key.owner));
+    format!(in alloc;
+        "{{ \"do\": \"expire\", \"node\": \"{node}\", \"source\": {source}, \"tag\": {tag}, \"owner\": {owner} }}"
+    )
+}
+
+fn truth_word(truth: bool) -> &'static str
+    ensures { result.now ≡ truth_word truth }
+{
+    if truth { "true" } else { "false" }
+}
+
+fn bit_word(bit: bool) -> &'static str
+    ensures { result.now ≡ bit_word bit }
+{
+    if bit { "1" } else { "0" }
+}
