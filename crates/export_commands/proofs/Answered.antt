@@ -1,0 +1,31 @@
+-- What answers on a plan and a certificate.
+use Rattle.std.proofs.Common.{◌≡◌, ℕ, List, Result, Ok, Err, sym, subst}
+use Rattle.std.specs.Prelude.{IfOk, IfErr}
+use Rattle.net_check.specs.declared.check_error.CheckError.{CheckError}
+use Rattle.net_check.specs.declared.check_error.CheckError.TheVariants as check_error
+use Rattle.net_check.specs.Errors.{NamesFirstFault}
+use Rattle.net_plan.specs.declared.certificate.Certificate.{Certificate}
+use Rattle.net_plan.specs.declared.plan.Plan.{Plan}
+use Rattle.command_answers.specs.Answers.{IsErrorText, IsFaultText}
+use Rattle.command_answers.specs.declared.refused.Refused.{Refused}
+use Rattle.command_answers.specs.declared.refused.Refused.TheVariants as refused
+use Rattle.export_commands.specs.declared.exports.Export.{Export}
+use Rattle.export_commands.specs.declared.telling.Exported.{Exported}
+use Rattle.export_commands.specs.Exporting.{AnswersAt, AnswersExportOn, IsSubject, IsUnexportedOn}
+use Rattle.plan_exports.specs.declared.links.Link.{Link}
+
+-- the text of an error of `check` is that of the first fault
+pub first_told : (plan : Plan) (cert : Certificate) (error : CheckError) (text : List ℕ) → NamesFirstFault plan cert error → IsErrorText plan error text → IsFaultText plan cert text
+first_told plan cert (check_error.Fault fault) text first told = (fault, first, told)
+first_told plan cert check_error.OutOfMemory text first told = absurd told
+
+module _ (export : Export) (links : List Link) (plan : Plan) (cert : Certificate) where
+  pub answered_on : (n : ℕ) → IsSubject export links plan n → (result : Result Exported Refused)
+      → IfOk result (λ (a : Exported). AnswersAt export.kind links plan cert n a.status a.bytes.items)
+      → IfOk result (λ (a : Exported). AnswersExportOn export links plan cert a.status a.bytes.items)
+  answered_on n subject (Ok a) answers = (n, subject, answers)
+  answered_on n subject (Err why) answers = tt
+
+  pub unanswered_on : (result : Result Exported Refused) → IfErr result (λ why. why ≡ refused.NoMemory) → IfErr result (IsUnexportedOn export links plan)
+  unanswered_on (Ok a) lacks = tt
+  unanswered_on (Err why) lacks = subst (IsUnexportedOn export links plan) (sym lacks) tt

@@ -1,0 +1,4 @@
+pub mod Answered
+pub mod Lawful
+pub mod Subjects
+pub mod ToldBytes

@@ -1,0 +1,6 @@
+mod Ascending
+mod Consequences
+mod Items
+mod OtherWays
+mod Parts
+mod PortFacts

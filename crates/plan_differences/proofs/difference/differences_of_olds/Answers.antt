@@ -1,0 +1,25 @@
+use Rattle.std.proofs.Common.{◌≡◌, ◌++◌, ◌+◌, List, length, map, subst, sym, arith, rules}
+use Rattle.std.proofs.lemmas.List.{length-map}
+use Rattle.plan_differences.specs.declared.difference.Difference.{Difference}
+use Rattle.plan_differences.specs.Facts.{fact_value}
+use Rattle.plan_differences.specs.Differences.{AreToldIn, IsBefore, IsDifference}
+use Rattle.plan_differences.proofs.Parts.{old_more}
+use Rattle.plan_differences.proofs.difference.differences_of_olds.Goals as goal
+
+pub loop-index-preserved : goal.loop-index-preserved
+loop-index-preserved c =
+    let olds = map fact_value c.args.olds.now in
+    let news = map fact_value c.args.news.now in
+    let i = c.loop-index.index in
+    let xs = c.loop-index.told.items in
+    let ys = c.in_ok-differences_of_old.field-0.items in
+    let grown : c.extend_from_slice.new.self.items ≡ xs ++ ys = search rules in
+    subst (λ (told : List Difference). AreToldIn (IsDifference olds news) (IsBefore (i + 1)) told) (sym grown)
+    (old_more olds news i xs ys c.loop-index.invariant c.in_ok-differences_of_old.ensures)
+
+pub returns : goal.returns
+returns c =
+    let olds = map fact_value c.args.olds.now in
+    let news = map fact_value c.args.news.now in
+    let all : c.loop-index.index ≡ length olds = omega (arith, length-map c.args.olds.now fact_value) in
+    subst (λ n. AreToldIn (IsDifference olds news) (IsBefore n) c.loop-index.told.items) all c.loop-index.invariant

@@ -1,0 +1,7 @@
+use Rattle.std.proofs.Common.{map}
+use Rattle.plan_differences.specs.Facts.{fact_value}
+use Rattle.plan_differences.specs.Differences.{AreToldIn, IsBefore, IsDifference}
+use Rattle.plan_differences.proofs.difference.differences_of_olds.Given as goal
+
+abbrev pub invariant-loop-index : goal.invariant-loop-index
+invariant-loop-index l = AreToldIn (IsDifference (map fact_value l.olds) (map fact_value l.news)) (IsBefore l.index) l.told.items

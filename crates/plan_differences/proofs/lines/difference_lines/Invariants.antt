@@ -1,0 +1,9 @@
+use Rattle.std.proofs.Common.{◌≡◌, map, string_bytes, take}
+use Rattle.std.specs.List.{flat_map}
+use Rattle.plan_differences.specs.Facts.{fact_value}
+use Rattle.plan_differences.specs.DifferenceLines.{difference_text}
+use Rattle.plan_differences.proofs.lines.difference_lines.Given as goal
+
+abbrev pub invariant-loop-difference : goal.invariant-loop-difference
+invariant-loop-difference l =
+    string_bytes l.lines ≡ flat_map (difference_text (map fact_value l.olds) (map fact_value l.news)) (take l.difference-index l.differences)

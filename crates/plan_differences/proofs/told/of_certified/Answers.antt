@@ -1,0 +1,23 @@
+use Rattle.std.proofs.Common.{◌≡◌, ◌++◌, subst, rules}
+use Rattle.std.specs.Prelude.{IfOk, string_bytes}
+use Rattle.net_plan.specs.declared.certificate.Certificate.{Certificate}
+use Rattle.net_plan.specs.declared.plan.Plan.{Plan}
+use Rattle.std.specs.List.{flat_map}
+use Rattle.plan_differences.specs.WayDifferences.{AreOtherWays}
+use Rattle.plan_differences.specs.WayLines.{way_text}
+use Rattle.plan_differences.proofs.Consequences.{ways_so}
+use Rattle.plan_differences.proofs.told.of_certified.Goals as goal
+
+pub returns : goal.returns
+returns c =
+    let before = c.args.before.now in
+    let after = c.args.after.now in
+    let ways = c.in_ok-other_ways.field-0.items in
+    let lines = string_bytes c.in_ok-ways.ways in
+    let need = string_bytes c.in_ok-need.need in
+    let here : AreOtherWays before c.in_ok-new.new.0 ways =
+    subst (λ (p : Plan × Certificate). AreOtherWays p.0 c.in_ok-new.new.0 ways) c.in_ok-old.ensures c.in_ok-other_ways.ensures in
+    let are : AreOtherWays before after ways = subst (λ (p : Plan × Certificate). AreOtherWays before p.0 ways) c.in_ok-new.ensures here in
+    let told : lines ≡ flat_map (way_text before) ways = search rules in
+    let whole : IfOk c.format.result (λ text. string_bytes text ≡ lines ++ need) = search rules in
+    ways_so string_bytes before after ways c.in_ok-rollout.field-0 lines need c.format.result are c.in_ok-rollout.ensures c.in_ok-need.ensures told whole

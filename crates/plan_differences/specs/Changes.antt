@@ -1,0 +1,70 @@
+-- What is told of a change from one plan to another.
+use Rattle.std.specs.Prelude.{◌≡◌, ◌⊎◌, ℕ, List, [], ◌∷◌, ◌++◌, Some, codes, string_bytes}
+use Rattle.std.specs.List.{flat_map}
+use Rattle.net_plan.specs.declared.plan.Plan.{Plan}
+use Rattle.net_rules.specs.Rules.{Accepts}
+use Rattle.net_rules.specs.declared.certify_error.CertifyError.{CertifyError}
+use Rattle.net_rollout.specs.declared.change.Rollout.{Rollout}
+use Rattle.net_rollout.specs.Steps.{HasCertificate, IsRollout}
+use Rattle.command_answers.specs.Certifying.{IsRuledOutBy}
+use Rattle.plan_differences.specs.declared.difference.Difference.{Difference}
+use Rattle.plan_differences.specs.declared.told.Standing.{Standing}
+use Rattle.plan_differences.specs.declared.told.Standing.TheVariants.{Certified, RuledOut}
+use Rattle.plan_differences.specs.declared.ways.OtherWay.{OtherWay}
+use Rattle.plan_differences.specs.Facts.{FactValue, plan_facts}
+use Rattle.plan_differences.specs.Differences.{AreDifferences}
+use Rattle.plan_differences.specs.DifferenceLines.{difference_text}
+use Rattle.plan_differences.specs.WayDifferences.{AreOtherWays}
+use Rattle.plan_differences.specs.WayLines.{need_text, way_text}
+
+-- a line for each difference; where there is none, and the facts aren't the same, they stand in another order
+abbrev pub facts_text : List FactValue → List FactValue → List Difference → List ℕ
+facts_text olds news [] = codes "changed order of lists\n"
+facts_text olds news (d ∷ ds) = flat_map (difference_text olds news) (d ∷ ds)
+
+-- the text has the lines of just what differs
+abbrev pub AreFactsTold : List FactValue → List FactValue → List ℕ → Type 0
+AreFactsTold olds news text =
+    (told : List Difference) × AreDifferences olds news told × (text ≡ facts_text olds news told)
+
+-- The text has the lines of just the ways whose hops differ, and then the line of what a roll-out needs.
+pub record AreWaysTold (before after : Plan) (text : List ℕ) : Type 0 where
+  pub ways : List OtherWay
+  pub differ : AreOtherWays before after ways
+  pub found : Rollout
+  pub holds : IsRollout before after found
+  pub need : List ℕ
+  pub line : need_text before found ≡ Some need
+  pub written : text ≡ flat_map (way_text before) ways ++ need
+
+-- the plan has no certificate, and the text says why, behind the words for the plan
+abbrev pub IsRuledOut : Plan → List ℕ → List ℕ → Type 0
+IsRuledOut plan whose text =
+    (obstacle : CertifyError) × (line : List ℕ) × IsRuledOutBy plan obstacle line × (text ≡ whose ++ line)
+
+-- so it does where the plan has no certificate, and nothing where it has one
+abbrev pub IsReason : Plan → List ℕ → List ℕ → Type 0
+IsReason plan whose text = (HasCertificate plan × (text ≡ [])) ⊎ IsRuledOut plan whose text
+
+-- Where both plans have a certificate, the text tells of ways and a roll-out; otherwise it says why a plan has none.
+abbrev pub AreConsequencesTold : Plan → Plan → List ℕ → Type 0
+AreConsequencesTold before after text = (HasCertificate before × HasCertificate after × AreWaysTold before after text)
+    ⊎ ((¬ (HasCertificate before × HasCertificate after)) × (old new : List ℕ)
+    × IsReason before (codes "old: ") old × IsReason after (codes "new: ") new × (text ≡ old ++ new))
+
+-- what differs, and what comes of it
+abbrev pub AreChangesTold : Plan → Plan → List ℕ → Type 0
+AreChangesTold before after text = (facts consequences : List ℕ)
+    × AreFactsTold (plan_facts before) (plan_facts after) facts
+    × AreConsequencesTold before after consequences × (text ≡ facts ++ consequences)
+
+-- ---- parts of the work
+
+-- the certificate is accepted, or the line says why there is none
+abbrev pub IsStanding : Plan → List ℕ → Standing → Type 0
+IsStanding plan whose (Certified certificate) = Accepts plan certificate
+IsStanding plan whose (RuledOut line) = IsRuledOut plan whose (string_bytes line)
+
+abbrev pub reason_of : Standing → List ℕ
+reason_of (Certified certificate) = []
+reason_of (RuledOut line) = string_bytes line

@@ -1,0 +1,9 @@
+pub mod Facts
+pub mod Things
+pub mod Listed
+pub mod Differences
+pub mod DifferenceLines
+pub mod WayDifferences
+pub mod WayLines
+pub mod Changes
+pub mod Diffs

@@ -1,0 +1,162 @@
+//! The lines that tell how two plans differ.
+ghost use Rattle.std.specs.Prelude.{◌≡◌, IfOk, codes, map, option_map, string_bytes};
+ghost use Rattle.std.specs.List.{flat_map};
+ghost use Rattle.plan_differences.specs.Facts.{fact_value};
+ghost use Rattle.plan_differences.specs.DifferenceLines.{address_text, difference_text, kind_word, name_or_dash, said_at, said_text, thing_at, thing_text};
+
+use crate::difference::Difference;
+use crate::fact::Fact;
+use net_plan::Kind;
+use std::alloc::{AllocError, Global};
+
+/// A line for each difference.
+pub fn difference_lines(
+    alloc: Global,
+    olds: &[Fact],
+    news: &[Fact],
+    differences: &[Difference],
+) -> Result<String, AllocError>
+    ensures { IfOk result (λ lines. string_bytes lines ≡ flat_map (difference_text (map fact_value olds.now) (map fact_value news.now)) differences.now) }
+{
+    let mut lines = String::new(alloc);
+    for difference in differences {
+        lines.push_str(&difference_line(alloc, olds, news, *difference)?)?;
+    }
+    Ok(lines)
+}
+
+fn difference_line(
+    alloc: Global,
+    olds: &[Fact],
+    news: &[Fact],
+    difference: Difference,
+) -> Result<String, AllocError>
+    ensures { IfOk result (λ line. string_bytes line ≡ difference_text (map fact_value olds.now) (map fact_value news.now) difference) }
+{
+    match difference {
+        Difference::Removed(old) => {
+            let thing = thing_at(alloc, olds, old)?;
+            let said = said_at(alloc, olds, old)?;
+            format!(in alloc; "removed {thing}: {said}\n")
+        }
+        Difference::Changed(old, new) => {
+            let thing = thing_at(alloc, olds, old)?;
+            let before = said_at(alloc, olds, old)?;
+            let after = said_at(alloc, news, new)?;
+            format!(in alloc; "changed {thing}: {before} -> {after}\n")
+        }
+        Difference::Added(new) => {
+            let thing = thing_at(alloc, news, new)?;
+            let said = said_at(alloc, news, new)?;
+            format!(in alloc; "added {thing}: {said}\n")
+        }
+    }
+}
+
+/// The words for the thing of the fact at an index, or a dash where there is none.
+fn thing_at(alloc: Global, facts: &[Fact], index: usize) -> Result<String, AllocError>
+    ensures { IfOk result (λ text. string_bytes text ≡ thing_at (map fact_value facts.now) index) }
+{
+    match facts.get(index) {
+        Some(fact) => thing_text(alloc, fact),
+        None => "-".to_string(alloc),
+    }
+}
+
+/// What the fact at an index says of its thing, or a dash where there is none.
+fn said_at(alloc: Global, facts: &[Fact], index: usize) -> Result<String, AllocError>
+    ensures { IfOk result (λ text. string_bytes text ≡ said_at (map fact_value facts.now) index) }
+{
+    match facts.get(index) {
+        Some(fact) => said_text(alloc, fact),
+        None => "-".to_string(alloc),
+    }
+}
+
+/// The words for the thing of a fact.
+fn thing_text(alloc: Global, fact: &Fact) -> Result<String, AllocError>
+    ensures { IfOk result (λ text. string_bytes text ≡ thing_text (fact_value fact.now)) }
+{
+    match *fact {
+        Fact::Unit(_) => "unit".to_string(alloc),
+        Fact::Bus { name, .. } => format!(in alloc; "bus {name}"),
+        Fact::Node { name, .. } => format!(in alloc; "node {name}"),
+        Fact::Pool { node, .. } => format!(in alloc; "pool of {node}"),
+        Fact::Port { node, index, .. } => format!(in alloc; "port {index} of {node}"),
+        Fact::Row { node, first, .. } => {
+            let first = first.value;
+            format!(in alloc; "row {first} of {node}")
+        }
+        Fact::Terminus { node, .. } => format!(in alloc; "terminus of {node}"),
+        Fact::Record { node, handle, .. } => format!(in alloc; "record {handle} of {node}"),
+    }
+}
+
+/// What a fact says of its thing.
+fn said_text(alloc: Global, fact: &Fact) -> Result<String, AllocError>
+    ensures { IfOk result (λ text. string_bytes text ≡ said_text (fact_value fact.now)) }
+{
+    match *fact {
+        Fact::Unit(unit) => format!(in alloc; "{unit}"),
+        Fact::Bus { binding, media, .. } => format!(in alloc; "binding {binding} media {media}"),
+        Fact::Node {
+            kind,
+            eid,
+            owner,
+            ..
+        } => {
+            let kind = kind_word(kind);
+            let eid = eid.value;
+            let owner = name_or_dash(owner);
+            format!(in alloc; "{kind} eid {eid} owner {owner}")
+        }
+        Fact::Pool { pool, .. } => {
+            let first = pool.first.value;
+            let size = pool.size;
+            format!(in alloc; "first {first} size {size}")
+        }
+        Fact::Port { bus, address, .. } => {
+            let address = address_text(alloc, address)?;
+            format!(in alloc; "bus {bus} address {address}")
+        }
+        Fact::Row {
+            size,
+            port,
+            next,
+            ..
+        } => format!(in alloc; "size {size} port {port} next {next}"),
+        Fact::Terminus { tid, .. } => format!(in alloc; "tid {tid}"),
+        Fact::Record { next, bytes, .. } => {
+            let bytes = hex::encode(alloc, bytes)?;
+            format!(in alloc; "next {next} bytes {bytes}")
+        }
+    }
+}
+
+fn kind_word(kind: Kind) -> &'static str
+    ensures { result.now ≡ kind_word kind }
+{
+    match kind {
+        Kind::Bridge => "bridge",
+        Kind::Endpoint => "endpoint",
+    }
+}
+
+fn name_or_dash(name: Option<&str>) -> &str
+    ensures { result.now ≡ name_or_dash (option_map (λ n. n.now) name.entry) }
+{
+    match name {
+        Some(name) => name,
+        None => "-",
+    }
+}
+
+/// An address in hex, or a dash where it is empty.
+fn address_text(alloc: Global, address: &[u8]) -> Result<String, AllocError>
+    ensures { IfOk result (λ text. string_bytes text ≡ address_text address.now) }
+{
+    if address.is_empty() {
+        return "-".to_string(alloc);
+    }
+    hex::encode(alloc, address)
+}

@@ -1,0 +1,76 @@
+//! The command `diff`: what a change of plans does.
+ghost use Rattle.std.specs.Prelude.{◌≡◌, ◌⊎◌, IfOk, IfErr};
+ghost use Rattle.std.specs.Cow.{cow_str_bytes};
+ghost use Rattle.net_json.specs.Stream.{HasRoom};
+ghost use Rattle.command_answers.specs.declared.status.Status.TheVariants.{Yes, Fault, Unreadable, NoMemory};
+ghost use Rattle.command_answers.specs.Answers.{stream, IsWithoutPlan, BreaksOff};
+ghost use Rattle.command_answers.specs.Moves.{ArePlansUnread};
+ghost use Rattle.command_answers.specs.Told.{IsSomeAnswer, Ends};
+ghost use Rattle.plan_differences.specs.Diffs.{Diffs, DiffsSo};
+
+use crate::told::changes_told;
+use command_answers::{Answer, Refused, Status, read_plans, tell};
+use net_json::{Sink, Source};
+use net_plan::Plan;
+use std::alloc::{AllocError, Global};
+use std::borrow::CowStr;
+
+/// Tells on `output` what the change from one plan to another does, and nothing where they are the same. Where a plan
+/// can't be read, says so on `errors`; of two the first is told, and then the other is not read.
+pub fn run_diff<P: Source, Q: Source, O: Sink, E: Sink>(
+    alloc: Global,
+    before: &mut P,
+    after: &mut Q,
+    output: &mut O,
+    errors: &mut E,
+) -> Status
+    requires before { HasRoom (P.account before.old) }
+    requires after { HasRoom (Q.account after.old) }
+    requires output { HasRoom (O.account output.old) }
+    requires errors { HasRoom (E.account errors.old) }
+    ensures tells { let befores = stream P.account before.old before.new in
+        let afters = stream Q.account after.old after.new in
+        Ends (DiffsSo befores afters) (λ why. ArePlansUnread why befores afters) result
+        (stream O.account output.old output.new) (stream E.account errors.old errors.new) }
+    ensures silent { (result ≡ Yes) ⊎ (result ≡ Fault) → errors.new ≡ errors.old }
+    ensures unwritten { let befores = stream P.account before.old before.new in
+        let afters = stream Q.account after.old after.new in
+        result ≡ Unreadable → (output.new ≡ output.old)
+        ⊎ BreaksOff (IsSomeAnswer (DiffsSo befores afters)) (stream O.account output.old output.new) }
+    ensures no_memory { result ≡ NoMemory → output.new ≡ output.old }
+    ensures in_order { let befores = stream P.account before.old before.new in
+        IsWithoutPlan befores → after.new ≡ after.old }
+{
+    let answered = answer_diff(alloc, before, after);
+    tell(alloc, answered, output, errors)
+}
+
+fn answer_diff<P: Source, Q: Source>(
+    alloc: Global,
+    before: &mut P,
+    after: &mut Q,
+) -> Result<Answer, Refused>
+    requires before { HasRoom (P.account before.old) }
+    requires after { HasRoom (Q.account after.old) }
+    ensures answers { let befores = stream P.account before.old before.new in
+        let afters = stream Q.account after.old after.new in
+        IfOk result (λ answer. DiffsSo befores afters answer.status (cow_str_bytes answer.text)) }
+    ensures unread { let befores = stream P.account before.old before.new in
+        let afters = stream Q.account after.old after.new in
+        IfErr result (λ why. ArePlansUnread why befores afters) }
+    ensures in_order { let befores = stream P.account before.old before.new in
+        IsWithoutPlan befores → after.new ≡ after.old }
+{
+    let (before, after) = read_plans(alloc, before, after)?;
+    Ok(changes_between(alloc, &before, &after)?)
+}
+
+/// What the change does, or nothing where the plans are the same.
+fn changes_between(alloc: Global, before: &Plan, after: &Plan) -> Result<Answer, AllocError>
+    ensures { IfOk result (λ answer. Diffs before.now after.now answer.status (cow_str_bytes answer.text)) }
+{
+    match changes_told(alloc, before, after)? {
+        Some(text) => Ok(Answer::fault(text)),
+        None => Ok(Answer::said(CowStr::Borrowed(""))),
+    }
+}

@@ -1,0 +1,98 @@
+//! The lines that tell what becomes of ways and certificates, and what a roll-out needs.
+ghost use Rattle.std.specs.Prelude.{◌≡◌, Some, None, IfOk, string_bytes};
+ghost use Rattle.std.specs.List.{flat_map};
+ghost use Rattle.net_reached.specs.Lines.{name_text};
+ghost use Rattle.plan_differences.specs.WayLines.{hops_line, need_text, way_text};
+
+use crate::ways::OtherWay;
+use net_plan::Plan;
+use net_rollout::Rollout;
+use plan_texts::move_obstacle_line;
+use std::alloc::{AllocError, Global};
+
+/// A line for each way, with the nodes' names in the plan before.
+pub fn way_lines(alloc: Global, before: &Plan, ways: &[OtherWay]) -> Result<String, AllocError>
+    ensures { IfOk result (λ lines. string_bytes lines ≡ flat_map (way_text before.now) ways.now) }
+{
+    let mut lines = String::new(alloc);
+    for way in ways {
+        lines.push_str(&way_line(alloc, before, *way)?)?;
+    }
+    Ok(lines)
+}
+
+fn way_line(alloc: Global, plan: &Plan, way: OtherWay) -> Result<String, AllocError>
+    ensures { IfOk result (λ line. string_bytes line ≡ way_text plan.now way) }
+{
+    let from = name_at(plan, way.from);
+    let to = name_at(plan, way.to);
+    let ends = format!(in alloc; "from {from} to {to}")?;
+    hops_line(alloc, &ends, way.before, way.after)
+}
+
+/// What becomes of the way of these words, by its hops before and after.
+fn hops_line(
+    alloc: Global,
+    ends: &str,
+    before: Option<usize>,
+    after: Option<usize>,
+) -> Result<String, AllocError>
+    ensures { IfOk result (λ line. string_bytes line ≡ hops_line ends.now before after) }
+{
+    match before {
+        Some(before) => hops_line_from(alloc, ends, before, after),
+        None => new_hops_line(alloc, ends, after),
+    }
+}
+
+fn hops_line_from(
+    alloc: Global,
+    ends: &str,
+    before: usize,
+    after: Option<usize>,
+) -> Result<String, AllocError>
+    ensures { IfOk result (λ line. string_bytes line ≡ hops_line ends.now (Some before) after) }
+{
+    match after {
+        Some(after) => format!(in alloc; "changed way {ends}: hops {before} -> hops {after}\n"),
+        None => format!(in alloc; "removed way {ends}: hops {before}\n"),
+    }
+}
+
+fn new_hops_line(alloc: Global, ends: &str, after: Option<usize>) -> Result<String, AllocError>
+    ensures { IfOk result (λ line. string_bytes line ≡ hops_line ends.now None after) }
+{
+    match after {
+        Some(after) => format!(in alloc; "added way {ends}: hops {after}\n"),
+        None => "".to_string(alloc),
+    }
+}
+
+fn name_at(plan: &Plan, node: usize) -> &str
+    ensures { result.now ≡ name_text plan.now node }
+{
+    plan.nodes
+        .get(node)
+        .map_or("-", |node| node.name.text.as_str())
+}
+
+/// What the nodes need to get to their new rows. Out of memory is an error, and has no such line.
+pub fn need_line(alloc: Global, before: &Plan, rollout: &Rollout) -> Result<String, AllocError>
+    ensures { IfOk result (λ line. need_text before.now rollout.now ≡ Some (string_bytes line)) }
+{
+    match rollout {
+        Rollout::AnyOrder(_) => format!(in alloc; "rollout: any order\n"),
+        Rollout::Steps(steps, _) => {
+            let count = steps.len() + 1;
+            format!(in alloc; "rollout: {count} steps\n")
+        }
+        Rollout::Stuck(_, obstacle) => {
+            let line = move_obstacle_line(alloc, before, obstacle)?;
+            format!(in alloc; "rollout: stuck: {line}")
+        }
+        Rollout::Unfit(obstacle) => {
+            let line = move_obstacle_line(alloc, before, obstacle)?;
+            format!(in alloc; "rollout: {line}")
+        }
+    }
+}

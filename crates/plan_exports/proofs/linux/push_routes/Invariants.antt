@@ -1,0 +1,9 @@
+use Rattle.std.proofs.Common.{◌≡◌, ◌++◌, map, string_bytes, take}
+use Rattle.std.specs.List.{flat_map}
+use Rattle.plan_exports.specs.LinuxScripts.{route_line}
+use Rattle.plan_exports.specs.PlannedRows.{row_facts}
+use Rattle.plan_exports.proofs.linux.push_routes.Given as goal
+
+abbrev pub invariant-loop-row : goal.invariant-loop-row
+invariant-loop-row l =
+    string_bytes l.text ≡ string_bytes l.fn.text ++ flat_map (route_line l.plan (map (λ d. d.now) l.devices)) (map row_facts (take l.row-index l.rows))

@@ -1,0 +1,10 @@
+pub mod Neighbors
+pub mod PlannedTables
+pub mod PlannedRows
+pub mod TableAnswers
+pub mod Words
+pub mod DeviceNames
+pub mod Devices
+pub mod LinuxScripts
+pub mod CSources
+pub mod Repositories

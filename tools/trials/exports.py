@@ -1,0 +1,205 @@
+"""Each node of the examples in each form of export, beside what the plan itself says of it.
+
+The C source must compile as C99 without a warning, and a program that takes it in must find each row, the pool and each
+record in it. The script must be one by sh -n, and with a function in place of mctp it must call it with just the words
+that the plan gives. The answers must be cut into parts that begin where the one before ends, and together be the
+entries of the rows; the records must be those by place, joined. Names that a shell or C would read otherwise are tried
+besides. It needs a C compiler (cc), and says where that is missing.
+"""
+import json
+import pathlib
+import shutil
+import subprocess
+
+from runner import RISER, TOP, kind_of
+
+# the binding of SMBus and I2C
+SMBUS = 1
+C_PROGRAM = """#include "node.c"
+#include <stdio.h>
+
+int main(void) {{
+    printf("%u %u %u\\n", {id}_eid, {id}_pool_first, {id}_pool_size);
+    for (size_t i = 0; i < {id}_row_count; i++) {{
+        const struct {id}_row *row = &{id}_rows[i];
+        printf("row %u %u %u %u ", row->first, row->size, row->port, row->next_eid);
+        for (uint8_t j = 0; j < row->address_length; j++) printf("%02x", row->address[j]);
+        printf("\\n");
+    }}
+{records}    return 0;
+}}
+"""
+C_RECORDS = """    printf("tid %u size %u\\n", {id}_tid, (unsigned)sizeof {id}_repository);
+    for (size_t i = 0; i < {id}_record_count; i++) {{
+        const struct {id}_record *record = &{id}_records[i];
+        printf("record %lu ", (unsigned long)record->handle);
+        for (uint32_t j = 0; j < record->length; j++) printf("%02x", {id}_repository[record->offset + j]);
+        printf("\\n");
+    }}
+"""
+
+
+class Node:
+    """What a plan and its certificate say of a node."""
+
+    def __init__(self, plan, certificate, node):
+        self.plan, self.node, self.name = plan, node, node["name"]
+        self.nodes = {it["name"]: it for it in plan["nodes"]}
+        self.buses = {it["name"]: it for it in plan["buses"]}
+        self.rows = sorted(node["rows"], key=lambda row: row["first"])
+        places = next((it["places"] for it in certificate["places"] if it["node"] == self.name), [])
+        listed = node["terminus"]["records"] if node["terminus"] else []
+        self.records = [listed[places.index(place)] for place in range(len(listed))]
+
+    def bus(self, row):
+        return self.node["ports"][row["port"]]["bus"]
+
+    def address(self, row):
+        ports = self.nodes[row["next"]]["ports"]
+        return bytes.fromhex(next(it["address"] for it in ports if it["bus"] == self.bus(row)))
+
+    def id(self):
+        cleaned = "".join(it if it.isascii() and it.isalnum() else "_" for it in self.name)
+        return cleaned if cleaned[0].isalpha() else "node_" + cleaned
+
+    def told_in_c(self):
+        """What the program in C prints."""
+        pool = self.node["pool"] or {"first": 0, "size": 0}
+        yield f"{self.node['eid']} {pool['first']} {pool['size']}"
+        for row in self.rows:
+            yield f"row {row['first']} {row['size']} {row['port']} {self.nodes[row['next']]['eid']} {self.address(row).hex()}"
+        if self.node["terminus"]:
+            yield f"tid {self.node['terminus']['tid']} size {sum(len(it['bytes']) // 2 for it in self.records)}"
+            for record in self.records:
+                yield f"record {record['handle']} {record['bytes'].lower()}"
+
+    def commands(self, devices):
+        """The words with which the script calls mctp."""
+        buses = [it for it in self.buses if any(port["bus"] == it for port in self.node["ports"])]
+        device = lambda bus: devices.get(bus, bus)
+        for bus in buses:
+            yield f"link set {device(bus)} up"
+            yield f"link set {device(bus)} mtu {self.plan.get('unit', 64) + 4}"
+        yield from (f"addr add {self.node['eid']} dev {device(bus)}" for bus in buses)
+        for row in self.rows:
+            last = row["first"] + row["size"] - 1
+            yield f"route add {row['first'] if row['size'] == 1 else str(row['first']) + '-' + str(last)} via {device(self.bus(row))}"
+        for row in self.rows:
+            address = [it >> 1 if self.buses[self.bus(row)]["binding"] == SMBUS else it for it in self.address(row)]
+            for eid in range(row["first"], row["first"] + row["size"]) if address else ():
+                yield f"neigh add {eid} dev {device(self.bus(row))} lladdr 0x" + ":".join(f"{it:02x}" for it in address)
+
+    def entries(self):
+        """The entries of the rows: their bytes."""
+        for row in self.rows:
+            next_node, bus = self.nodes[row["next"]], self.buses[self.bus(row)]
+            own, end = next_node["eid"], row["first"] + row["size"]
+            parts = [(row["first"], row["size"], 0)]
+            if next_node["kind"] == "bridge":
+                parts = [(row["first"], row["size"], 3)]
+                if row["first"] <= own < end:
+                    before = [(row["first"], own - row["first"], 3)] if own > row["first"] else []
+                    parts = [*before, (own, end - own, 2 if end - own == 1 else 1)]
+            for first, size, kind in parts:
+                address = self.address(row)
+                yield bytes([size, first, 64 * kind + row["port"], bus["binding"], bus["media"], len(address)]) + address
+
+    def answers(self):
+        """The messages that tell the entries: as many in each as fit 58 bytes."""
+        entries, start = [*self.entries()], 0
+        while True:
+            count = 0
+            while start + count < len(entries) and sum(map(len, entries[start : start + count + 1])) <= 58:
+                count += 1
+            end = start + count
+            yield (bytes([0, 0, 10, 0, 255 if end == len(entries) else end, count]) + b"".join(entries[start:end])).hex()
+            if end == len(entries):
+                return
+            start = end
+
+
+def accepted():
+    """Each plan of the examples beside each certificate in its folder."""
+    for plan in sorted(it for it in TOP.glob("examples/*/*.json") if kind_of(it) == "plan"):
+        for certificate in sorted(plan.parent.glob("*certificate*.json")):
+            yield plan, certificate
+
+
+def compiled(trial, node, source, compiler):
+    """What the program in C prints, or why it doesn't compile."""
+    folder = trial.file(f"{compiler}-node", "").with_suffix(".d")
+    folder.mkdir(exist_ok=True)
+    (folder / "node.c").write_bytes(source)
+    records = C_RECORDS.format(id=node.id()) if node.node["terminus"] else ""
+    (folder / "main.c").write_text(C_PROGRAM.format(id=node.id(), records=records))
+    flags = ["-std=c99", "-Wall", "-Wextra", "-Werror", "-pedantic"]
+    made = subprocess.run([compiler, *flags, "main.c", "-o", "main"], cwd=folder, capture_output=True, text=True, timeout=600)
+    if made.returncode:
+        return made.stderr
+    return subprocess.run([folder / "main"], capture_output=True, text=True, timeout=60).stdout
+
+
+def called(trial, script):
+    """The words with which a script calls mctp, or why it is none."""
+    path = trial.file("node.sh", b"mctp() { printf '%s\\n' \"$*\"; }\n" + script)
+    read = subprocess.run(["sh", "-n", path], capture_output=True, text=True, timeout=60)
+    if read.returncode:
+        return read.stderr
+    ran = subprocess.run(["sh", path], capture_output=True, text=True, timeout=60, env={})
+    return ran.stdout if not ran.returncode and not ran.stderr else f"status {ran.returncode}: {ran.stderr}"
+
+
+def faults(trial, files, node, compilers):
+    """What is wrong with a node in each form."""
+    export = lambda form, *more: trial.run(["export", form, *files, node.name, *more])
+    lines = lambda told: "".join(f"{it}\n" for it in told)
+    bus = node.node["ports"][0]["bus"] if node.node["ports"] else None
+    links = {bus: "mctpi2c7"} if bus else {}
+    for devices in ({}, links):
+        status, script, error = export("linux", *(f"--link={bus}={device}" for bus, device in devices.items()))
+        if (status, error, called(trial, script)) != (0, b"", lines(node.commands(devices))):
+            yield f"linux: {called(trial, script)}"
+    for compiler in compilers:
+        status, source, error = export("c")
+        told = compiled(trial, node, source, compiler)
+        if (status, error, told) != (0, b"", lines(node.told_in_c())):
+            yield f"c: {told}"
+    wanted = (0, lines(node.answers()).encode()) if node.node["kind"] == "bridge" else (2, b"")
+    if export("entries")[:2] != wanted:
+        yield f"entries: {export('entries')}"
+    wanted = (0, b"".join(bytes.fromhex(it["bytes"]) for it in node.records)) if node.node["terminus"] else (2, b"")
+    if export("records")[:2] != wanted:
+        yield f"records: {export('records')}"
+
+
+def renamed(trial):
+    """A plan whose names a shell or C would read otherwise, were they not cleaned."""
+    names = {"riser": "9-riser.x", "nic": "n.-ic", "ssd": "if", "host": ".-_", "b0": "-rf", "b1": "..."}
+    text = (TOP / "examples/riser/plan.json").read_text(), (TOP / "examples/riser/certificate.json").read_text()
+    for old, new in names.items():
+        text = tuple(it.replace(f'"{old}"', f'"{new}"') for it in text)
+    return trial.file("renamed-plan.json", text[0]), trial.file("renamed-certificate.json", text[1])
+
+
+def try_all(trial):
+    # (cc is mostly one of the others)
+    compilers = sorted({str(pathlib.Path(shutil.which(it)).resolve()): it for it in ("cc", "gcc", "clang") if shutil.which(it)}.values())
+    if not compilers:
+        return trial.skip("a C compiler is not there")
+    for plan, certificate in [*accepted(), renamed(trial)]:
+        if trial.run(["check", plan, certificate])[1] != b"yes\n":
+            continue
+        parsed = json.loads(plan.read_text()), json.loads(certificate.read_text())
+        for it in parsed[0]["nodes"]:
+            node, name = Node(*parsed, it), f"{plan.name} {certificate.name} {it['name']}"
+            if trial.has(name):
+                wrong = [*faults(trial, [plan, certificate], node, compilers)]
+                trial.note(not wrong, f"{plan.parent.name} {name}: {wrong}")
+    plan, certificate = RISER / "plan.json", RISER / "certificate.json"
+    for words in (["linux", "--link", "b0"], ["linux", "--link", "b0=a b"], ["linux", "--link", "b0=$(id)"], ["linux", "--link", "b0="],
+                  ["linux", "--link", "b0=x", "--link", "b0=y"], ["c", "--link", "b0=x"], ["linux", "--link", "b0=0123456789abcdef"],
+                  ["linux", "--link", "b0=a\nid"], ["linux", "--link", "b0=a;id"]):
+        got = trial.run(["export", words[0], plan, certificate, "host", *words[1:]])
+        trial.note(got == (2, b"", b"usage\n"), f"{words}: {got}")
+    got = trial.run(["export", "linux", plan, certificate, "host", "--link", "b7=x"])
+    trial.note(got == (2, b"", b"unreadable node: J06\n"), f"a link of no bus: {got}")
