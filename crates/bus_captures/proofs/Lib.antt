@@ -1,3 +1,5 @@
 pub mod HexLaws
 pub mod RecordLaws
 pub mod LineLaws
+pub mod WritingLaws
+pub mod ReadingBack

@@ -34,7 +34,7 @@ one_more order unit link bytes entries left rest r e before lawful front is =
     }
 
 -- a number of four bytes is known by them
-four : (order : Order) (a b : ℕ) (xs ys : List ℕ) → a < 2 ^ 32 → b < 2 ^ 32 → number_bytes order a ++ xs ≡ number_bytes order b ++ ys → (a ≡ b) × (xs ≡ ys)
+pub four : (order : Order) (a b : ℕ) (xs ys : List ℕ) → a < 2 ^ 32 → b < 2 ^ 32 → number_bytes order a ++ xs ≡ number_bytes order b ++ ys → (a ≡ b) × (xs ≡ ys)
 four Little a b xs ys ha hb e =
     let e0 : a % 256 ≡ b % 256 = cc in
     let e1 : a / 256 % 256 ≡ b / 256 % 256 = cc in
@@ -49,7 +49,7 @@ four Big a b xs ys ha hb e =
     (omega arith, ap (drop 4) e)
 
 -- lists of one length at the front of equal lists are equal, and so is what follows them
-fronts : (xs ys us vs : List ℕ) → length xs ≡ length ys → xs ++ us ≡ ys ++ vs → (xs ≡ ys) × (us ≡ vs)
+pub fronts : (xs ys us vs : List ℕ) → length xs ≡ length ys → xs ++ us ≡ ys ++ vs → (xs ≡ ys) × (us ≡ vs)
 fronts [] [] us vs l e = (refl, e)
 fronts [] (y ∷ ys) us vs l e = absurd (omega arith)
 fronts (x ∷ xs) [] us vs l e = absurd (omega arith)
@@ -66,7 +66,7 @@ regrouped : (order : Order) (r : FileRecord) (xs : List ℕ) → record_bytes or
     ≡ number_bytes order r.seconds ++ (number_bytes order r.fraction ++ (number_bytes order (length r.bytes) ++ (number_bytes order r.original ++ (r.bytes ++ xs))))
 regrouped order r xs = simp append_assoc
 
-one_record : (order : Order) (r q : FileRecord) (xs ys : List ℕ) → IsRecord r → IsRecord q → record_bytes order r ++ xs ≡ record_bytes order q ++ ys → (r ≡ q) × (xs ≡ ys)
+pub one_record : (order : Order) (r q : FileRecord) (xs ys : List ℕ) → IsRecord r → IsRecord q → record_bytes order r ++ xs ≡ record_bytes order q ++ ys → (r ≡ q) × (xs ≡ ys)
 one_record order r q xs ys hr hq e =
     let whole = sym (regrouped order r xs) ∙ e ∙ regrouped order q ys in
     let seconds = four order r.seconds q.seconds _ _ hr.seconds hq.seconds whole in
@@ -76,7 +76,7 @@ one_record order r q xs ys hr hq e =
     let kept = fronts r.bytes q.bytes xs ys count.0 original.1 in
     (same_record r q seconds.0 fraction.0 original.0 kept.0, kept.1)
 
-some_bytes : (order : Order) (r : FileRecord) (xs : List ℕ) → record_bytes order r ++ xs ≡ [] → ⊥
+pub some_bytes : (order : Order) (r : FileRecord) (xs : List ℕ) → record_bytes order r ++ xs ≡ [] → ⊥
 some_bytes Little r xs e = cc
 some_bytes Big r xs e = cc
 

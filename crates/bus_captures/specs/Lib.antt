@@ -10,3 +10,4 @@ pub mod Lines
 pub mod LineValues
 pub mod Adding
 pub mod Captures
+pub mod Written

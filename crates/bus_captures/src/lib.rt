@@ -1,7 +1,9 @@
-//! Captures of a bus: what a capture file of pcap or a text of hex lines holds, packet by packet.
+//! Captures of a bus: what a capture file of pcap or a text of hex lines holds, packet by packet, and such files that
+//! are written.
 #![tactic(auto)]
 
 mod capture;
+mod carried;
 mod file;
 mod format;
 mod hex_text;
@@ -13,7 +15,10 @@ mod record;
 mod sort;
 mod text;
 mod time;
+mod writing;
 
 pub use capture::{Capture, CaptureFault, Direction, End, Entry, Kind, MAX_ENTRIES, Time};
+pub use carried::CarriedPacket;
 pub use laws::one_list_of_records;
 pub use reading::read_capture;
+pub use writing::{add_packet, begin_file, written_reads_back};

@@ -1,2 +1,1 @@
 pub mod SeenLaws
-pub mod StationLaws

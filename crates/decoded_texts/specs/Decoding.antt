@@ -7,14 +7,14 @@ use Rattle.bus_captures.specs.declared.capture.CaptureFault.{CaptureFault}
 use Rattle.bus_captures.specs.declared.capture.CaptureFault.TheVariants as fault
 use Rattle.bus_captures.specs.declared.capture.End.{End}
 use Rattle.bus_captures.specs.declared.capture.End.TheVariants as end
-use Rattle.decoded_texts.specs.Seen.{Seen, IsSeen, IsToldAs}
+use Rattle.heard_captures.specs.Seen.{Seen, AreSeen}
+use Rattle.decoded_texts.specs.Seen.{IsToldAs}
 
--- These became of the entries, one after the other, and these are the lines of it. Entries are numbered from 1.
-pub data AreSeen : List EntryValue → List Seen → List ℕ → Type 0 where
-  None : AreSeen [] [] []
-  More : (entries : List EntryValue) (seen : List Seen) (lines : List ℕ) (e : EntryValue) (s : Seen) (told : List ℕ)
-      → AreSeen entries seen lines → IsSeen seen e s → IsToldAs (length entries + 1) s told
-      → AreSeen (entries ++ e ∷ []) (seen ++ s ∷ []) (lines ++ told)
+-- These are the lines of what was seen, one after the other. Entries are numbered from 1.
+pub data AreTold : List Seen → List ℕ → Type 0 where
+  None : AreTold [] []
+  More : (seen : List Seen) (lines : List ℕ) (s : Seen) (told : List ℕ) → AreTold seen lines
+      → IsToldAs (length seen + 1) s told → AreTold (seen ++ s ∷ []) (lines ++ told)
 
 abbrev pub fault_word : CaptureFault → List ℕ
 fault_word fault.Header = codes "header"
@@ -35,7 +35,8 @@ end_line count (end.Broken place why) =
 -- the text tells what became of the entries, and how reading them ended
 abbrev pub IsDecoded : List EntryValue → End → List ℕ → Type 0
 IsDecoded entries how text =
-    (seen : List Seen) × (lines : List ℕ) × AreSeen entries seen lines × (text ≡ lines ++ end_line (length entries) how)
+    (seen : List Seen) × (lines : List ℕ) × AreSeen entries seen × AreTold seen lines
+    × (text ≡ lines ++ end_line (length entries) how)
 
 abbrev pub IsDecodedCapture : Capture → List ℕ → Type 0
 IsDecodedCapture capture text = IsDecoded (map entry_value capture.entries.items) capture.end text

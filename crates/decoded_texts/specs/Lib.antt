@@ -1,5 +1,3 @@
-pub mod Heard
-pub mod Stations
 pub mod Control
 pub mod Platform
 pub mod Messages

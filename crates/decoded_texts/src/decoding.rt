@@ -2,9 +2,9 @@
 ghost use Rattle.std.specs.Prelude.{◌≡◌, ◌+◌, IfOk, string_bytes, map, length};
 ghost use Rattle.decoded_texts.specs.Decoding.{fault_word, end_line, IsDecodedCapture};
 
-use crate::assembling::idle_assemblers;
 use crate::entries::entry_lines;
 use bus_captures::{Capture, CaptureFault, End};
+use heard_captures::idle_assemblers;
 use std::alloc::{AllocError, Global};
 
 /// For each entry of a capture a line with its number and what became of it, and behind it what its message says; and

@@ -1,15 +1,16 @@
-//! What becomes of an entry, and the lines that tell it.
+//! The lines that tell what became of an entry.
 ghost use Rattle.std.specs.Prelude.{◌≡◌, IfOk, string_bytes, length};
-ghost use Rattle.bus_captures.specs.Values.{EntryValue, entry_value};
-ghost use Rattle.bus_captures.specs.declared.capture.Kind.TheVariants as kind;
+ghost use Rattle.bus_captures.specs.Values.{entry_value};
 ghost use Rattle.mctp_transport.specs.Packets.{frame_of};
-ghost use Rattle.decoded_texts.specs.Heard.{heard_answer};
-ghost use Rattle.decoded_texts.specs.Seen.{answer_word, way_word, fed_line, told_line, IsSaidOf, IsToldAs, Fed, Told};
+ghost use Rattle.heard_captures.specs.Heard.{heard_answer};
+ghost use Rattle.heard_captures.specs.Seen.{Fed, Told};
+ghost use Rattle.heard_captures.specs.Sights.{seen_of};
+ghost use Rattle.decoded_texts.specs.Seen.{answer_word, way_word, fed_line, told_line, IsSaidOf, IsToldAs};
 ghost use Rattle.decoded_texts.specs.Steps.{IsStep};
 
-use crate::assembling::{Heard, feed_at};
 use crate::message::message_text;
-use bus_captures::{Direction, Entry, Kind};
+use bus_captures::{Direction, Entry};
+use heard_captures::{Heard, Sight, see};
 use mctp_transport::{Assembler, PacketView};
 use plan_texts::{packet_text, refused_text};
 use std::alloc::{AllocError, Global};
@@ -24,33 +25,22 @@ pub fn entry_lines(
     requires { length assemblers.old.items ≡ 256 }
     ensures { IfOk result (λ lines. IsStep assemblers.old.items assemblers.new.items number (entry_value entry.now) (string_bytes lines)) }
 {
-    match entry.kind {
-        Kind::Packet => packet_lines(alloc, assemblers, number, entry),
-        Kind::Message => told_lines(alloc, number, entry.direction, &entry.bytes),
-        Kind::Other(protocol) => format!(in alloc; "{number} protocol {protocol}\n"),
-    }
+    let sight = see(alloc, assemblers, entry)?;
+    sight_lines(alloc, number, &sight)
 }
 
-/// The lines of an entry that may be a packet.
-fn packet_lines(
-    alloc: Global,
-    assemblers: &mut Vec<Assembler>,
-    number: usize,
-    entry: &Entry,
-) -> Result<String, AllocError>
-    requires kind { entry.now.kind ≡ kind.Packet }
-    requires assemblers { length assemblers.old.items ≡ 256 }
-    ensures { IfOk result (λ lines. IsStep assemblers.old.items assemblers.new.items number (entry_value entry.now) (string_bytes lines)) }
+/// The lines of what became of an entry.
+fn sight_lines(alloc: Global, number: usize, sight: &Sight) -> Result<String, AllocError>
+    ensures { IfOk result (λ lines. IsToldAs number (seen_of sight.now) (string_bytes lines)) }
 {
-    match PacketView::read(&entry.bytes) {
-        Ok(packet) => {
-            let heard = feed_at(alloc, assemblers, packet)?;
-            fed_lines(alloc, number, &packet, &heard)
-        }
-        Err(error) => {
+    match sight {
+        Sight::Fed(packet, heard) => fed_lines(alloc, number, packet, heard),
+        Sight::NoPacket(error) => {
             let refused = refused_text(alloc, error.code())?;
             format!(in alloc; "{number} {refused}")
         }
+        Sight::Told(way, message) => told_lines(alloc, number, *way, *message),
+        Sight::Other(protocol) => format!(in alloc; "{number} protocol {protocol}\n"),
     }
 }
 

@@ -1,7 +1,6 @@
 //! What a capture of a bus says: for each entry what became of it and what its message says.
 #![tactic(auto)]
 
-mod assembling;
 mod control;
 mod decoding;
 mod entries;

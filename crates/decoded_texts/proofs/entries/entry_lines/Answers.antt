@@ -1,14 +1,8 @@
-use Rattle.std.proofs.Common.{rules, ◌≡◌, IfOk, List, ℕ, string_bytes, subst}
+use Rattle.std.proofs.Common.{string_bytes}
 use Rattle.bus_captures.specs.Values.{entry_value}
-use Rattle.decoded_texts.specs.Seen.{IsToldAs, Told}
-use Rattle.decoded_texts.proofs.SeenLaws.{told_step, other_step}
+use Rattle.heard_captures.specs.Sights.{seen_of}
+use Rattle.decoded_texts.proofs.SeenLaws.{step_if}
 use Rattle.decoded_texts.proofs.entries.entry_lines.Goals as goal
 
-pub returns-in-Message : goal.returns-in-Message
-returns-in-Message c =
-    let e = entry_value c.args.entry.now in
-    let told = subst (λ (bytes : List ℕ). IfOk c.told_lines.result (λ t. IsToldAs c.args.number (Told e.direction bytes) (string_bytes t))) c.deref.ensures.value c.told_lines.ensures in
-    told_step string_bytes _ c.args.number e c.told_lines.result c.in-Message.is told
-
-pub returns-in-Other : goal.returns-in-Other
-returns-in-Other c = other_step string_bytes _ c.args.number c.in-Other.protocol (entry_value c.args.entry.now) c.format.result c.in-Other.is (search rules)
+pub returns : goal.returns
+returns c = step_if string_bytes _ _ c.args.number (entry_value c.args.entry.now) (seen_of c.in_ok-sight.sight) c.sight_lines.result c.in_ok-sight.ensures c.sight_lines.ensures

@@ -1,0 +1,82 @@
+-- What the end of `audit` tells of an answer.
+use Rattle.std.proofs.Common.{◌≡◌, ◌≢◌, ◌⊎◌, ℕ, zero, suc, List, Result, Ok, Err, inl, inr, refl, sym, subst}
+use Rattle.std.proofs.Math.Nat.{suc-ne-zero}
+use Rattle.std.specs.Prelude.{IfOk, IfErr, OnErr}
+use Rattle.std.specs.Cow.{cow_str_bytes}
+use Rattle.audited_captures.specs.Audits.{AreAudited, difference_count, audit_text}
+use Rattle.audited_captures.specs.Lines.{LineValue}
+use Rattle.bus_captures.specs.Captures.{IsCapture}
+use Rattle.bus_captures.specs.Values.{EntryValue}
+use Rattle.bus_captures.specs.declared.capture.End.{End}
+use Rattle.bus_captures.specs.declared.capture.End.TheVariants as end
+use Rattle.net_plan.specs.declared.certificate.Certificate.{Certificate}
+use Rattle.net_plan.specs.declared.plan.Plan.{Plan}
+use Rattle.net_rules.specs.Rules.{Accepts}
+use Rattle.command_answers.specs.declared.answer.Answer.{Answer}
+use Rattle.command_answers.specs.declared.refused.Refused.{Refused}
+use Rattle.command_answers.specs.declared.refused.Refused.TheVariants as refused
+use Rattle.command_answers.specs.declared.status.Status.{Status}
+use Rattle.command_answers.specs.declared.status.Status.TheVariants as status
+use Rattle.command_answers.specs.Answers.{Stream, AreGiven, AreUnread, IsFaultText, BreaksOff}
+use Rattle.command_answers.specs.Told.{IsTold, IsSomeAnswer, Gives}
+use Rattle.audit_commands.specs.Auditing.{TellsCapture, AuditsCapture, AuditsOn, AuditsOf, AuditsSo}
+
+-- an answer may tell why an input can't be read, and there may be none
+pub same_gives_or_breaks : (Answers : Status → List ℕ → Type 0) (ended : Status) (output errors : Stream) (Same : Type 0) (answered : Result Answer Refused)
+    → IfOk answered (λ (a : Answer). Answers a.status (cow_str_bytes a.text)) → IfOk answered (λ (a : Answer). IsTold a.status (cow_str_bytes a.text) ended output errors)
+    → OnErr answered Same → ended ≡ status.Unreadable → Same ⊎ (Gives Answers status.Unreadable output ⊎ BreaksOff (IsSomeAnswer Answers) output)
+same_gives_or_breaks Answers ended output errors Same (Ok a) answers (inl (is, written)) same unreadable =
+    let A : Status → Type 0 = λ s. Answers s (cow_str_bytes a.text) in
+    inr (inl (cow_str_bytes a.text, subst A unreadable (subst A (sym is) answers), written))
+same_gives_or_breaks Answers ended output errors Same (Ok a) answers (inr (is, fails, part, line)) same unreadable =
+    inr (inr (record { text = cow_str_bytes a.text; answer = (a.status, answers); fails = fails; beginning = part }))
+same_gives_or_breaks Answers ended output errors Same (Err why) answers told same unreadable = inl same
+
+module _ (plan : Plan) (cert : Certificate) (bytes text : List ℕ) (ended : Status) where
+  -- of a capture that was read whole
+  whole_so : (count : ℕ) → TellsCapture plan cert bytes end.Whole count text → (count ≡ 0 → ended ≡ status.Yes) → (count ≢ 0 → ended ≡ status.Fault) → AuditsCapture plan cert bytes ended text
+  whole_so zero tells matches differs = subst (λ (s : Status). AuditsCapture plan cert bytes s text) (sym (matches refl)) tells
+  whole_so (suc n) tells matches differs =
+      subst (λ (s : Status). AuditsCapture plan cert bytes s text) (sym (differs (suc-ne-zero n))) (suc n, suc-ne-zero n, tells)
+
+  -- of one that was not
+  broken_so : (how : End) (count : ℕ) → TellsCapture plan cert bytes how count text → how ≢ end.Whole → (how ≢ end.Whole → ended ≡ status.Unreadable) → AuditsCapture plan cert bytes ended text
+  broken_so how count tells other broken = subst (λ (s : Status). AuditsCapture plan cert bytes s text) (sym (broken other)) (how, count, other, tells)
+
+  ended_so : (how : End) (count : ℕ) → TellsCapture plan cert bytes how count text → (how ≡ end.Whole → count ≡ 0 → ended ≡ status.Yes)
+      → (how ≡ end.Whole → count ≢ 0 → ended ≡ status.Fault) → (how ≢ end.Whole → ended ≡ status.Unreadable) → AuditsCapture plan cert bytes ended text
+  ended_so end.Whole count tells matches differs broken = whole_so count tells (matches refl) (differs refl)
+  ended_so end.Full count tells matches differs broken = broken_so end.Full count tells (λ e. cc) broken
+  ended_so (end.Broken place why) count tells matches differs broken = broken_so (end.Broken place why) count tells (λ e. cc) broken
+
+  pub audited_so : (entries : List EntryValue) (lines : List LineValue) (how : End) → IsCapture bytes entries how → AreAudited plan cert entries lines → text ≡ audit_text lines how
+      → (how ≡ end.Whole → difference_count lines ≡ 0 → ended ≡ status.Yes) → (how ≡ end.Whole → difference_count lines ≢ 0 → ended ≡ status.Fault)
+      → (how ≢ end.Whole → ended ≡ status.Unreadable) → AuditsCapture plan cert bytes ended text
+  audited_so entries lines how captured audited told =
+      ended_so how (difference_count lines) (record { entries = entries; lines = lines; captured = captured; audited = audited; counted = refl; told = told })
+
+module _ (plan : Plan) (cert : Certificate) where
+  pub given_so : (plans certificates captures : Stream) (result : Result Answer Refused) → AreGiven plans certificates plan cert
+      → IfOk result (λ (a : Answer). AuditsOf plan cert captures a.status (cow_str_bytes a.text))
+      → IfOk result (λ (a : Answer). AuditsSo plans certificates captures a.status (cow_str_bytes a.text))
+  given_so plans certificates captures (Ok a) given answers = (plan, cert, given, answers)
+  given_so plans certificates captures (Err why) given answers = tt
+
+  pub checked_so : (checked : Plan × Certificate) (bytes : List ℕ) (result : Result Answer Refused) → checked ≡ (plan, cert) → Accepts plan cert
+      → IfOk result (λ (a : Answer). AuditsCapture checked.0 checked.1 bytes a.status (cow_str_bytes a.text))
+      → IfOk result (λ (a : Answer). AuditsOn plan cert bytes a.status (cow_str_bytes a.text))
+  checked_so checked bytes (Ok a) same accepted answers =
+      inl (accepted, subst (λ (c : Plan × Certificate). AuditsCapture c.0 c.1 bytes a.status (cow_str_bytes a.text)) same answers)
+  checked_so checked bytes (Err why) same accepted answers = tt
+
+  pub fault_so : (bytes : List ℕ) (result : Result Answer Refused)
+      → IfOk result (λ (a : Answer). (a.status ≡ status.Fault) × IsFaultText plan cert (cow_str_bytes a.text))
+      → IfOk result (λ (a : Answer). AuditsOn plan cert bytes a.status (cow_str_bytes a.text))
+  fault_so bytes (Ok a) told = inr told
+  fault_so bytes (Err why) told = tt
+
+-- want of memory is why nothing more is said
+pub memory_so : (plans certificates : Stream) (result : Result Answer Refused) → IfErr result (λ why. why ≡ refused.NoMemory)
+    → IfErr result (λ why. AreUnread why plans certificates)
+memory_so plans certificates (Ok a) is = tt
+memory_so plans certificates (Err why) is = subst (λ w. AreUnread w plans certificates) (sym is) tt

@@ -1,0 +1,154 @@
+//! The command `audit`: what captured devices said, laid beside a checked plan.
+ghost use Rattle.std.specs.Prelude.{◌≡◌, ◌≢◌, ◌⊎◌, IfOk, IfErr, map, string_bytes};
+ghost use Rattle.std.specs.Cow.{cow_str_bytes};
+ghost use Rattle.net_json.specs.Stream.{HasRoom};
+ghost use Rattle.command_answers.specs.declared.status.Status.TheVariants.{Yes, Fault, Unreadable, NoMemory};
+ghost use Rattle.command_answers.specs.declared.refused.Refused.TheVariants as refused;
+ghost use Rattle.command_answers.specs.Answers.{stream, AreUnread, IsWithoutPlan, BreaksOff};
+ghost use Rattle.command_answers.specs.Told.{Gives, IsSomeAnswer, Ends};
+ghost use Rattle.audited_captures.specs.Audits.{difference_count};
+ghost use Rattle.audited_captures.specs.Lines.{line_value};
+ghost use Rattle.audit_commands.specs.Auditing.{AuditsCapture, AuditsOn, AuditsOf, AuditsSo};
+
+use crate::repositories::repositories_of;
+use audited_captures::{Line, audit_text, audited_lines, difference_count};
+use bus_captures::{End, read_capture};
+use byte_commands::not_given;
+use command_answers::{Answer, Refused, Status, fault_answer, read_inputs, tell};
+use net_check::{Checked, check};
+use net_json::{Sink, Source, TEXT_LIMIT, read_within};
+use net_plan::{Certificate, Plan};
+use std::alloc::Global;
+
+/// Says on `output` what the devices of a capture said, laid beside a plan, or tells the fault of the plan and its
+/// certificate. A capture that can't be read to its end is told as far as it can. Where the plan or the certificate
+/// can't be read, says so on `errors`, and reads nothing more.
+pub fn run_audit<P: Source, C: Source, T: Source, O: Sink, E: Sink>(
+    alloc: Global,
+    plan: &mut P,
+    certificate: &mut C,
+    capture: &mut T,
+    output: &mut O,
+    errors: &mut E,
+) -> Status
+    requires plan { HasRoom (P.account plan.old) }
+    requires certificate { HasRoom (C.account certificate.old) }
+    requires capture { HasRoom (T.account capture.old) }
+    requires output { HasRoom (O.account output.old) }
+    requires errors { HasRoom (E.account errors.old) }
+    ensures tells { let plans = stream P.account plan.old plan.new in
+        let certificates = stream C.account certificate.old certificate.new in
+        let captures = stream T.account capture.old capture.new in
+        Ends (AuditsSo plans certificates captures) (λ why. AreUnread why plans certificates) result
+        (stream O.account output.old output.new) (stream E.account errors.old errors.new) }
+    ensures silent { (result ≡ Yes) ⊎ (result ≡ Fault) → errors.new ≡ errors.old }
+    ensures unwritten { let plans = stream P.account plan.old plan.new in
+        let certificates = stream C.account certificate.old certificate.new in
+        let captures = stream T.account capture.old capture.new in
+        let outputs = stream O.account output.old output.new in
+        result ≡ Unreadable → (output.new ≡ output.old)
+        ⊎ Gives (AuditsSo plans certificates captures) Unreadable outputs
+        ⊎ BreaksOff (IsSomeAnswer (AuditsSo plans certificates captures)) outputs }
+    ensures no_memory { result ≡ NoMemory → output.new ≡ output.old }
+    ensures in_order { IsWithoutPlan (stream P.account plan.old plan.new)
+        → (certificate.new ≡ certificate.old) × (capture.new ≡ capture.old) }
+{
+    let answered = answer_audit(alloc, plan, certificate, capture);
+    tell(alloc, answered, output, errors)
+}
+
+fn answer_audit<P: Source, C: Source, T: Source>(
+    alloc: Global,
+    plan: &mut P,
+    certificate: &mut C,
+    capture: &mut T,
+) -> Result<Answer, Refused>
+    requires plan { HasRoom (P.account plan.old) }
+    requires certificate { HasRoom (C.account certificate.old) }
+    requires capture { HasRoom (T.account capture.old) }
+    ensures answers { let plans = stream P.account plan.old plan.new in
+        let certificates = stream C.account certificate.old certificate.new in
+        let captures = stream T.account capture.old capture.new in
+        IfOk result (λ answer. AuditsSo plans certificates captures answer.status (cow_str_bytes answer.text)) }
+    ensures unread { let plans = stream P.account plan.old plan.new in
+        let certificates = stream C.account certificate.old certificate.new in
+        IfErr result (λ why. AreUnread why plans certificates) }
+    ensures in_order { IsWithoutPlan (stream P.account plan.old plan.new)
+        → (certificate.new ≡ certificate.old) × (capture.new ≡ capture.old) }
+{
+    let (plan, certificate) = read_inputs(alloc, plan, certificate)?;
+    answer_capture(alloc, &plan, &certificate, capture)
+}
+
+/// The answer on a plan, a certificate and what a source gives.
+fn answer_capture<T: Source>(
+    alloc: Global,
+    plan: &Plan,
+    certificate: &Certificate,
+    capture: &mut T,
+) -> Result<Answer, Refused>
+    requires { HasRoom (T.account capture.old) }
+    ensures answers { let captures = stream T.account capture.old capture.new in
+        IfOk result (λ answer. AuditsOf plan.now certificate.now captures answer.status (cow_str_bytes answer.text)) }
+    ensures refused { IfErr result (λ why. why ≡ refused.NoMemory) }
+{
+    match read_within(alloc, capture, TEXT_LIMIT) {
+        Ok(bytes) => answer_bytes(alloc, plan, certificate, &bytes),
+        Err(fault) => not_given(alloc, fault),
+    }
+}
+
+/// The answer on a plan, a certificate and the bytes of a capture.
+fn answer_bytes(
+    alloc: Global,
+    plan: &Plan,
+    certificate: &Certificate,
+    bytes: &[u8],
+) -> Result<Answer, Refused>
+    ensures answers { IfOk result
+        (λ answer. AuditsOn plan.now certificate.now bytes.now answer.status (cow_str_bytes answer.text)) }
+    ensures refused { IfErr result (λ why. why ≡ refused.NoMemory) }
+{
+    match check(alloc, plan, certificate) {
+        Ok(checked) => audited(alloc, &checked, bytes),
+        Err(error) => fault_answer(alloc, plan, &error),
+    }
+}
+
+/// The answer on a checked plan and the bytes of a capture.
+fn audited(alloc: Global, checked: &Checked, bytes: &[u8]) -> Result<Answer, Refused>
+    ensures answers { IfOk result
+        (λ answer. AuditsCapture checked.now.0 checked.now.1 bytes.now answer.status (cow_str_bytes answer.text)) }
+    ensures refused { IfErr result (λ why. why ≡ refused.NoMemory) }
+{
+    let capture = read_capture(alloc, bytes)?;
+    let repositories = repositories_of(alloc, checked)?;
+    let lines = audited_lines(alloc, checked, &repositories, &capture)?;
+    let text = audit_text(alloc, &lines, capture.end)?;
+    Ok(answer_at(capture.end, &lines, text))
+}
+
+/// The answer where reading a capture ended so, and these lines were told of it. Only a whole one was read as asked.
+fn answer_at(end: End, lines: &[Line], text: String) -> Answer
+    ensures matches { end ≡ End.Whole → difference_count (map line_value lines.now) ≡ 0 → result.status ≡ Yes }
+    ensures differs { end ≡ End.Whole → difference_count (map line_value lines.now) ≢ 0 → result.status ≡ Fault }
+    ensures broken { end ≢ End.Whole → result.status ≡ Unreadable }
+    ensures text { cow_str_bytes result.text ≡ string_bytes text }
+{
+    match end {
+        End::Whole => answer_of(lines, text),
+        End::Full | End::Broken { .. } => Answer::unread(text),
+    }
+}
+
+fn answer_of(lines: &[Line], text: String) -> Answer
+    ensures matches { difference_count (map line_value lines.now) ≡ 0 → result.status ≡ Yes }
+    ensures differs { difference_count (map line_value lines.now) ≢ 0 → result.status ≡ Fault }
+    ensures text { cow_str_bytes result.text ≡ string_bytes text }
+{
+    if difference_count(lines) == 0 {
+        Answer::found(text)
+    } else {
+        Answer::fault(text)
+    }
+}

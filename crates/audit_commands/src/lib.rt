@@ -1,0 +1,7 @@
+//! The command that lays what was captured beside a plan.
+#![tactic(auto)]
+
+mod audit;
+mod repositories;
+
+pub use audit::run_audit;

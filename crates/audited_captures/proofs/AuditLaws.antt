@@ -1,0 +1,48 @@
+-- The lines of one node, and of one node more.
+use Rattle.std.proofs.Common.{◌≡◌, ℕ, ◌+◌, List, ◌++◌, length, ap, sym, ◌∙◌, subst, map}
+use Rattle.std.specs.Prelude.{Result, Ok, Err, IfOk, Some, slice_get}
+use Rattle.std.proofs.lemmas.List.{map-append}
+use Rattle.net_plan.specs.NodeValues.{name_bytes}
+use Rattle.bus_captures.specs.Values as bus
+use Rattle.net_plan.specs.declared.certificate.Certificate.{Certificate}
+use Rattle.net_plan.specs.declared.plan.Plan.{Plan}
+use Rattle.net_plan.specs.declared.nodes.Node.{Node}
+use Rattle.mctp_control.specs.RouteEntries.{EntryValue}
+use Rattle.pdr_repository.specs.Records.{Entry}
+use Rattle.plan_exports.specs.TableAnswers.{AreEntriesOf}
+use Rattle.audited_captures.specs.Repositories.{TellsRecords}
+use Rattle.audited_captures.specs.Lines.{LineValue, line_value}
+use Rattle.audited_captures.specs.declared.lines.Line.{Line}
+use Rattle.audited_captures.specs.RecordLines.{walks_lines}
+use Rattle.audited_captures.specs.Audits.{Heard, NodeFacts, AreFacts, AreNodeLines, AreLines, More, lines_of_node, AreBeside, AreAudited, AreRepositories}
+
+-- three lists of lines joined
+pub joined : (a b c two all : List Line) (A B C : List LineValue) → two ≡ b ++ c → all ≡ a ++ two
+    → map line_value a ≡ A → map line_value b ≡ B → map line_value c ≡ C → map line_value all ≡ A ++ (B ++ C)
+joined a b c two all A B C later whole is_a is_b is_c =
+    ap (map line_value) (whole ∙ ap (λ x. a ++ x) later) ∙ map-append line_value a (b ++ c)
+    ∙ ap (λ x. map line_value a ++ x) (map-append line_value b c)
+    ∙ (ap (λ x. x ++ (map line_value b ++ map line_value c)) is_a
+    ∙ (ap (λ x. A ++ (x ++ map line_value c)) is_b ∙ ap (λ x. A ++ (B ++ x)) is_c))
+
+pub of_node : {T E : Type 0} (lines_of : T → List LineValue) (plan : Plan) (rs : List (List Entry)) (h : Heard) (n : ℕ) (node : Node) (planned : List EntryValue) (records : List Entry)
+    (told : List LineValue) (result : Result T E) → slice_get plan.nodes.items n ≡ Some node → AreEntriesOf plan n planned → slice_get rs n ≡ Some records
+    → TellsRecords node records h.words told → IfOk result (λ t. lines_of t ≡ lines_of_node node planned h.exchanges told) → IfOk result (λ t. AreNodeLines plan rs h n (lines_of t))
+of_node lines_of plan rs h n node planned records told (Ok t) at plans stored (parts, answered, (walks, walked, is)) tell = record {
+  node = node;
+  facts = record { planned = planned; records = records; parts = parts; walks = walks };
+  at = at;
+  are = record { plans = plans; stored = stored; answered = answered; walked = walked };
+  tell = tell ∙ ap (lines_of_node node planned h.exchanges) is;
+}
+of_node lines_of plan rs h n node planned records told (Err e) at plans stored tells tell = tt
+
+pub next_node : (plan : Plan) (rs : List (List Entry)) (h : Heard) (n : ℕ) (old more new : List Line) → AreLines plan rs h n (map line_value old)
+    → AreNodeLines plan rs h n (map line_value more) → new ≡ old ++ more → AreLines plan rs h (n + 1) (map line_value new)
+next_node plan rs h n old more new are of_one joins =
+    subst (λ ls. AreLines plan rs h (n + 1) ls) (sym (ap (map line_value) joins ∙ map-append line_value old more)) (More n (map line_value old) (map line_value more) are of_one)
+
+pub audited_if : {T E : Type 0} (lines_of : T → List LineValue) (plan : Plan) (cert : Certificate) (rs : List (List Entry)) (entries : List bus.EntryValue) (result : Result T E)
+    → AreRepositories plan cert (length plan.nodes.items) rs → IfOk result (λ t. AreBeside plan rs entries (lines_of t)) → IfOk result (λ t. AreAudited plan cert entries (lines_of t))
+audited_if lines_of plan cert rs entries (Ok t) placed beside = record { repositories = rs; placed = placed; beside = beside }
+audited_if lines_of plan cert rs entries (Err e) placed beside = tt

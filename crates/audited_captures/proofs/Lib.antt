@@ -1,0 +1,13 @@
+pub mod Booleans
+pub mod WordLaws
+pub mod ExchangeLaws
+pub mod PartLaws
+pub mod ReadingLaws
+pub mod RouteLaws
+pub mod WalkLaws
+pub mod RecordLaws
+pub mod AuditLaws
+pub mod CheckedPlans
+pub mod PlannedReadings
+pub mod MatchLaws
+pub mod WholeAudits

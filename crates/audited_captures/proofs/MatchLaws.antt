@@ -1,0 +1,362 @@
+-- No line of a node tells a difference exactly where all that it said is planned.
+use Rattle.std.proofs.Common.{◌≡◌, ◌⊎◌, ℕ, ◌+◌, ◌<◌, ◌==◌, ◌&&◌, ◌||◌, not, Bool, true, false, List, [], ◌∷◌, ◌++◌, length, refl, ap, sym, ◌∙◌, subst, inl, inr, arith}
+use Rattle.std.specs.Prelude.{Option, Some, None, find, codes, if◌then◌else◌}
+use Rattle.std.specs.Fmt.{decimal}
+use Rattle.std.specs.List.{flat_map, list_any, filter}
+use Rattle.std.proofs.Math.Nat.{suc-ne-zero}
+use Rattle.std.proofs.lemmas.Bool.{cases_Bool, eqb-true, eq-eqb}
+use Rattle.std.proofs.lemmas.List.{nil_from_length, length-append}
+use Rattle.std.proofs.lemmas.List.Elements.{filter-append}
+use Rattle.mctp_control.specs.RouteEntries.{EntryValue}
+use Rattle.mctp_control.specs.Requests.{CommandValue, SetsEid, GetsEid, AllocatesEids, GetsEntries}
+use Rattle.mctp_control.specs.Responses.{AnswerValue, EidSet, EidTold, PoolTold, EntriesTold, Failed}
+use Rattle.net_plan.specs.NodeValues.{name_bytes}
+use Rattle.net_plan.specs.declared.nodes.Node.{Node}
+use Rattle.audited_captures.specs.AsPlanned.{IsAmong}
+use Rattle.pdr_repository.specs.Records.{Entry, handle_in}
+use Rattle.audited_captures.specs.Audits.{NodeFacts, difference_count, lines_of_node, answered_lines}
+use Rattle.audited_captures.specs.Exchanges.{ExchangeValue}
+use Rattle.audited_captures.specs.Identities.{answered_by, kind_word, eid_line, kind_line, identity_lines, tells_eid, span_words, same_span, pool_line, pool_lines_of, tells_pool, told_lines, eid_lines, pool_lines, answers_of, answer_if, first_of, size_of, kind_number}
+use Rattle.audited_captures.specs.Lines.{LineValue, difference, note, differences_or}
+use Rattle.audited_captures.specs.RecordLines.{unlike_from, line_if_unlike_at, line_of_found, found_lines, is_found, missing_lines, unlike_records, are_planned, records_match, order_line, open_line, stopped_line, walk_lines, walks_lines}
+use Rattle.audited_captures.specs.Walking.{Walked, Whole, Open, Stopped}
+use Rattle.audited_captures.specs.Matching.{IsReadAsPlanned, IsWalkedAsPlanned, HasPlannedEid, HasPlannedPool, SaysAsPlanned, NodesMatchWhereAsPlanned}
+use Rattle.audited_captures.specs.Readings.{part_asked, part_of, parts_of, readings}
+use Rattle.audited_captures.specs.Routes.{unlike, line_if_unlike, line_beside, planned_lines, extra_line, lines_if_extra, extra_lines, unlike_lines, match_line, reading_lines, routes_lines, has_range, same_range}
+use Rattle.audited_captures.proofs.RecordLaws.{planned_is, planned_of}
+use Rattle.audited_captures.proofs.Booleans.{both, both_left, both_right, not_both, either, or_right}
+use Rattle.audited_captures.proofs.PlannedReadings.{nil_left, nil_right, no_line, flat_nil, flat_none, any_of, as_planned, no_lines}
+
+-- ---- counts of differences
+
+count_append : (a b : List LineValue) → difference_count (a ++ b) ≡ difference_count a + difference_count b
+count_append a b = ap length (filter-append (λ (l : LineValue). l.differs) a b) ∙ length-append (filter (λ (l : LineValue). l.differs) a) (filter (λ (l : LineValue). l.differs) b)
+
+pub zero_left : (a b : List LineValue) → difference_count (a ++ b) ≡ 0 → difference_count a ≡ 0
+zero_left a b is = omega (arith, count_append a b, is)
+
+pub zero_right : (a b : List LineValue) → difference_count (a ++ b) ≡ 0 → difference_count b ≡ 0
+zero_right a b is = omega (arith, count_append a b, is)
+
+pub zero_both : (a b : List LineValue) → difference_count a ≡ 0 → difference_count b ≡ 0 → difference_count (a ++ b) ≡ 0
+zero_both a b is_a is_b = omega (arith, count_append a b, is_a, is_b)
+
+-- each of the lines tells a difference
+abbrev AllDiffer : List LineValue → Type 0
+AllDiffer ls = difference_count ls ≡ length ls
+
+all_both : (a b : List LineValue) → AllDiffer a → AllDiffer b → AllDiffer (a ++ b)
+all_both a b all_a all_b = omega (arith, count_append a b, length-append a b, all_a, all_b)
+
+none_of : (ls : List LineValue) → AllDiffer ls → difference_count ls ≡ 0 → ls ≡ []
+none_of ls all zero = nil_from_length ls (sym all ∙ zero)
+
+one_if : (b : Bool) (text : List ℕ) → AllDiffer (if b then [] else difference text ∷ [])
+one_if true text = refl
+one_if false text = refl
+
+module _ {A : Type 0} (f : A → List LineValue) where
+  zero_each : (xs : List A) → difference_count (flat_map f xs) ≡ 0 → (x : A) → IsAmong x xs → difference_count (f x) ≡ 0
+  zero_each [] is x among = absurd among
+  zero_each (y ∷ ys) is x (inl same) = subst (λ z. difference_count (f z) ≡ 0) same (zero_left (f y) (flat_map f ys) is)
+  zero_each (y ∷ ys) is x (inr among) = zero_each ys (zero_right (f y) (flat_map f ys) is) x among
+
+  zero_all : (xs : List A) → ((x : A) → IsAmong x xs → difference_count (f x) ≡ 0) → difference_count (flat_map f xs) ≡ 0
+  zero_all [] each = refl
+  zero_all (y ∷ ys) each = zero_both (f y) (flat_map f ys) (each y (inl refl)) (zero_all ys (λ x among. each x (inr among)))
+
+  all_flat : ((x : A) → AllDiffer (f x)) → (xs : List A) → AllDiffer (flat_map f xs)
+  all_flat each [] = refl
+  all_flat each (y ∷ ys) = all_both (f y) (flat_map f ys) (each y) (all_flat each ys)
+
+no_difference : (text : List ℕ) (ls : List LineValue) → AllDiffer ls → difference_count (differences_or (note text) ls) ≡ 0 → ls ≡ []
+no_difference text [] all zero = refl
+no_difference text (l ∷ ls) all zero = none_of (l ∷ ls) all zero
+
+-- ---- readings
+
+module _ (name : List ℕ) where
+  if_all : (e : EntryValue) (words : Option (List ℕ)) → AllDiffer (line_if_unlike name e words)
+  if_all e None = refl
+  if_all e (Some words) = refl
+
+  beside_all : (e : EntryValue) (o : Option EntryValue) → AllDiffer (line_beside name e o)
+  beside_all e None = refl
+  beside_all e (Some f) = if_all e (unlike e f)
+
+  extra_all : (planned found : List EntryValue) → AllDiffer (extra_lines name planned found)
+  extra_all planned [] = refl
+  extra_all planned (f ∷ fs) =
+      all_both (lines_if_extra name planned f fs) (extra_lines name planned fs)
+      (one_if (has_range planned f && not (has_range fs f)) (extra_line name f).text) (extra_all planned fs)
+
+  unlike_all : (planned found : List EntryValue) → AllDiffer (unlike_lines name planned found)
+  unlike_all planned found =
+      all_both (flat_map (planned_lines name found) planned) (extra_lines name planned found)
+      (all_flat (planned_lines name found) (λ e. beside_all e (find (same_range e) found)) planned) (extra_all planned found)
+
+  reading_is : (planned : List EntryValue) (r : Option (List EntryValue)) → difference_count (reading_lines name planned r) ≡ 0 → IsReadAsPlanned planned r
+  reading_is planned None zero = absurd (cc)
+  reading_is planned (Some found) zero = as_planned name planned found (no_difference (match_line name found).text (unlike_lines name planned found) (unlike_all planned found) zero)
+
+  reading_of : (planned : List EntryValue) (r : Option (List EntryValue)) → IsReadAsPlanned planned r → difference_count (reading_lines name planned r) ≡ 0
+  reading_of planned None are = absurd are
+  reading_of planned (Some found) are = ap (λ ls. difference_count (differences_or (match_line name found) ls)) (no_lines name planned found are)
+
+  -- ---- endpoint IDs and pools
+
+  told_is : (told : Bool) (text : List ℕ) (ls : List LineValue) → AllDiffer ls → difference_count (told_lines told (note text) ls) ≡ 0 → (told ≡ false) ⊎ (ls ≡ [])
+  told_is true text ls all zero = inr (no_difference text ls all zero)
+  told_is false text ls all zero = inl refl
+
+  told_of : (told : Bool) (text : List ℕ) (ls : List LineValue) → ls ≡ [] → difference_count (told_lines told (note text) ls) ≡ 0
+  told_of true text ls none = ap (λ x. difference_count (differences_or (note text) x)) none
+  told_of false text ls none = refl
+
+  abbrev eid_text : (planned found : ℕ) → List ℕ
+  eid_text planned found = name ++ (codes " eid " ++ (decimal found ++ (codes " planned " ++ decimal planned)))
+
+  abbrev kind_text : (planned found : ℕ) → List ℕ
+  kind_text planned found = name ++ (codes " type " ++ (kind_word found ++ (codes " planned " ++ kind_word planned)))
+
+  eid_is : (planned found : ℕ) → eid_line name planned found ≡ [] → planned ≡ found
+  eid_is planned found none = eqb-true planned found (no_line (planned == found) (difference (eid_text planned found)) none)
+
+  eid_none : (planned found : ℕ) → planned ≡ found → eid_line name planned found ≡ []
+  eid_none planned found is = ap (λ (b : Bool). if b then [] else difference (eid_text planned found) ∷ []) (eq-eqb planned found is)
+
+  kind_is : (planned found : ℕ) → kind_line name planned found ≡ [] → planned ≡ found
+  kind_is planned found none = eqb-true planned found (no_line (planned == found) (difference (kind_text planned found)) none)
+
+  kind_none : (planned found : ℕ) → planned ≡ found → kind_line name planned found ≡ []
+  kind_none planned found is = ap (λ (b : Bool). if b then [] else difference (kind_text planned found) ∷ []) (eq-eqb planned found is)
+
+  module _ (eid type : ℕ) where
+    identity_all : (a : AnswerValue) → AllDiffer (identity_lines name eid type a)
+    identity_all (EidSet status found size) = one_if (eid == found) (eid_text eid found)
+    identity_all (EidTold found status medium) =
+        all_both (eid_line name eid found) (kind_line name type status.second) (one_if (eid == found) (eid_text eid found)) (one_if (type == status.second) (kind_text type status.second))
+    identity_all (PoolTold status size first) = refl
+    identity_all (EntriesTold next entries) = refl
+    identity_all (Failed command code) = refl
+
+    identity_is : (a : AnswerValue) → identity_lines name eid type a ≡ [] → HasPlannedEid eid type a
+    identity_is (EidSet status found size) none = eid_is eid found none
+    identity_is (EidTold found status medium) none = (
+      eid_is eid found (nil_left (eid_line name eid found) (kind_line name type status.second) none),
+      kind_is type status.second (nil_right (eid_line name eid found) (kind_line name type status.second) none),
+    )
+    identity_is (PoolTold status size first) none = tt
+    identity_is (EntriesTold next entries) none = tt
+    identity_is (Failed command code) none = tt
+
+    identity_none : (a : AnswerValue) → HasPlannedEid eid type a → identity_lines name eid type a ≡ []
+    identity_none (EidSet status found size) has = eid_none eid found has
+    identity_none (EidTold found status medium) has = ap (λ ls. ls ++ kind_line name type status.second) (eid_none eid found has.0) ∙ kind_none type status.second has.1
+    identity_none (PoolTold status size first) has = refl
+    identity_none (EntriesTold next entries) has = refl
+    identity_none (Failed command code) has = refl
+
+    untold_eid : (a : AnswerValue) → tells_eid a ≡ false → HasPlannedEid eid type a
+    untold_eid (EidSet status found size) untold = absurd (cc)
+    untold_eid (EidTold found status medium) untold = absurd (cc)
+    untold_eid (PoolTold status size first) untold = tt
+    untold_eid (EntriesTold next entries) untold = tt
+    untold_eid (Failed command code) untold = tt
+
+    eids_are : (answers : List AnswerValue) → difference_count (eid_lines name eid type answers) ≡ 0 → (a : AnswerValue) → IsAmong a answers → HasPlannedEid eid type a
+    eids_are answers zero a among = elim (told_is (list_any tells_eid answers) (name ++ (codes " eid match " ++ decimal eid)) (flat_map (identity_lines name eid type) answers) (all_flat (identity_lines name eid type) identity_all answers) zero) [
+      | inl untold ↦ elim (cases_Bool (tells_eid a)) [
+        | inl tells ↦ absurd (not_both (list_any tells_eid answers) (any_of tells_eid answers a among tells) untold)
+        | inr silent ↦ untold_eid a silent
+      ]
+      | inr none ↦ identity_is a (flat_nil (identity_lines name eid type) answers none a among)
+    ]
+
+    eids_of : (answers : List AnswerValue) → ((a : AnswerValue) → IsAmong a answers → HasPlannedEid eid type a) → difference_count (eid_lines name eid type answers) ≡ 0
+    eids_of answers each =
+        told_of (list_any tells_eid answers) (name ++ (codes " eid match " ++ decimal eid)) (flat_map (identity_lines name eid type) answers)
+        (flat_none (identity_lines name eid type) answers (λ a among. identity_none a (each a among)))
+
+  module _ (first size : ℕ) where
+    abbrev pool_text : (found_first found_size : ℕ) → List ℕ
+    pool_text found_first found_size = name ++ (codes " pool " ++ (span_words found_first found_size ++ (codes " planned " ++ span_words first size)))
+
+    pool_all : (a : AnswerValue) → AllDiffer (pool_lines_of name first size a)
+    pool_all (PoolTold status found_size found_first) = one_if (same_span first size found_first found_size) (pool_text found_first found_size)
+    pool_all (EidSet status found wanted) = refl
+    pool_all (EidTold found status medium) = refl
+    pool_all (EntriesTold next entries) = refl
+    pool_all (Failed command code) = refl
+
+    pool_is : (a : AnswerValue) → pool_lines_of name first size a ≡ [] → HasPlannedPool first size a
+    pool_is (PoolTold status found_size found_first) none =
+        let same = no_line (same_span first size found_first found_size) (difference (pool_text found_first found_size)) none in
+        let begins = both_right (size == found_size) (size == 0 || first == found_first) same in (
+          eqb-true size found_size (both_left (size == found_size) (size == 0 || first == found_first) same),
+          elim (either (size == 0) (first == found_first) begins) [ inl empty ↦ inl (eqb-true size 0 empty) | inr at ↦ inr (eqb-true first found_first at) ],
+        )
+    pool_is (EidSet status found wanted) none = tt
+    pool_is (EidTold found status medium) none = tt
+    pool_is (EntriesTold next entries) none = tt
+    pool_is (Failed command code) none = tt
+
+    begins_of : (found_first : ℕ) → (size ≡ 0) ⊎ (first ≡ found_first) → (size == 0 || first == found_first) ≡ true
+    begins_of found_first (inl empty) = ap (λ b. b || first == found_first) (eq-eqb size 0 empty)
+    begins_of found_first (inr at) = or_right (size == 0) (first == found_first) (eq-eqb first found_first at)
+
+    pool_none : (a : AnswerValue) → HasPlannedPool first size a → pool_lines_of name first size a ≡ []
+    pool_none (PoolTold status found_size found_first) has =
+        ap (λ (b : Bool). if b then [] else difference (pool_text found_first found_size) ∷ [])
+        (both (size == found_size) (size == 0 || first == found_first) (eq-eqb size found_size has.0) (begins_of found_first has.1))
+    pool_none (EidSet status found wanted) has = refl
+    pool_none (EidTold found status medium) has = refl
+    pool_none (EntriesTold next entries) has = refl
+    pool_none (Failed command code) has = refl
+
+    untold_pool : (a : AnswerValue) → tells_pool a ≡ false → HasPlannedPool first size a
+    untold_pool (PoolTold status found_size found_first) untold = absurd (cc)
+    untold_pool (EidSet status found wanted) untold = tt
+    untold_pool (EidTold found status medium) untold = tt
+    untold_pool (EntriesTold next entries) untold = tt
+    untold_pool (Failed command code) untold = tt
+
+    pools_are : (answers : List AnswerValue) → difference_count (pool_lines name first size answers) ≡ 0 → (a : AnswerValue) → IsAmong a answers → HasPlannedPool first size a
+    pools_are answers zero a among = elim (told_is (list_any tells_pool answers) (name ++ (codes " pool match " ++ span_words first size)) (flat_map (pool_lines_of name first size) answers) (all_flat (pool_lines_of name first size) pool_all answers) zero) [
+      | inl untold ↦ elim (cases_Bool (tells_pool a)) [
+        | inl tells ↦ absurd (not_both (list_any tells_pool answers) (any_of tells_pool answers a among tells) untold)
+        | inr silent ↦ untold_pool a silent
+      ]
+      | inr none ↦ pool_is a (flat_nil (pool_lines_of name first size) answers none a among)
+    ]
+
+    pools_of : (answers : List AnswerValue) → ((a : AnswerValue) → IsAmong a answers → HasPlannedPool first size a) → difference_count (pool_lines name first size answers) ≡ 0
+    pools_of answers each =
+        told_of (list_any tells_pool answers) (name ++ (codes " pool match " ++ span_words first size)) (flat_map (pool_lines_of name first size) answers)
+        (flat_none (pool_lines_of name first size) answers (λ a among. pool_none a (each a among)))
+
+  -- ---- records
+
+  or_order_some : (text : List ℕ) (ls : List LineValue) → AllDiffer ls → difference_count (differences_or (difference text) ls) ≡ 0 → ⊥
+  or_order_some text [] all zero = cc
+  or_order_some text (l ∷ ls) all zero = omega (arith, all, zero)
+
+  module _ (records : List Entry) where
+    unlike_at_all : (handle : ℕ) (at : Option ℕ) → AllDiffer (line_if_unlike_at name handle at)
+    unlike_at_all handle None = refl
+    unlike_at_all handle (Some k) = refl
+
+    of_found_all : (found : List ℕ) (o : Option Entry) → AllDiffer (line_of_found name found o)
+    of_found_all found None = refl
+    of_found_all found (Some e) = unlike_at_all (handle_in found) (unlike_from 0 e.bytes found)
+
+    records_all : (found : List (List ℕ)) → AllDiffer (unlike_records name records found ++ flat_map (missing_lines name found) records)
+    records_all found =
+        all_both (unlike_records name records found) (flat_map (missing_lines name found) records)
+        (all_flat (found_lines name records) (λ f. of_found_all f (find (λ (e : Entry). e.handle == handle_in f) records)) found)
+        (all_flat (missing_lines name found) (λ e. one_if (is_found found e) (name ++ (codes " record " ++ (decimal e.handle ++ codes " missing")))) records)
+
+    walk_is : (w : Walked) → difference_count (walk_lines name records w) ≡ 0 → IsWalkedAsPlanned records w
+    walk_is (Whole found) zero = elim (cases_Bool (are_planned records found)) [
+      | inl planned ↦ planned_is records found planned
+      | inr other ↦ absurd (or_order_some (name ++ codes " records order differs") (unlike_records name records found ++ flat_map (missing_lines name found) records) (records_all found)
+          (sym (ap (λ (b : Bool). difference_count (if b then records_match name (length found) ∷ [] else differences_or (order_line name) (unlike_records name records found ++ flat_map (missing_lines name found) records))) other) ∙ zero))
+    ]
+    walk_is (Open found) zero =
+        let one : difference_count (open_line name (length found) ∷ []) ≡ 0 = zero_right (unlike_records name records found) (open_line name (length found) ∷ []) zero in
+        absurd (suc-ne-zero 0 one)
+    walk_is (Stopped fault found) zero =
+        let one : difference_count (stopped_line name fault (length found) ∷ []) ≡ 0 = zero_right (unlike_records name records found) (stopped_line name fault (length found) ∷ []) zero in
+        absurd (suc-ne-zero 0 one)
+
+    walk_of : (w : Walked) → IsWalkedAsPlanned records w → difference_count (walk_lines name records w) ≡ 0
+    walk_of (Whole found) is =
+        ap (λ (b : Bool). difference_count (if b then records_match name (length found) ∷ [] else differences_or (order_line name) (unlike_records name records found ++ flat_map (missing_lines name found) records)))
+        (planned_of records found is)
+    walk_of (Open found) is = absurd is
+    walk_of (Stopped fault found) is = absurd is
+
+-- ---- a node of which nothing was captured
+
+if_same : {A : Type 0} (b : Bool) (xs : List A) → (if b then xs else xs) ≡ xs
+if_same true xs = refl
+if_same false xs = refl
+
+some_or : {A B : Type 0} (b : Bool) (x : A) (y : B) → (if b then x ∷ [] else []) ≡ [] → (if b then y ∷ [] else []) ≡ []
+some_or true x y is = absurd (cc)
+some_or false x y is = refl
+
+module _ (eid : ℕ) (x : ExchangeValue) where
+  by_command : (c : CommandValue) → (if answered_by x c == eid then x.answer ∷ [] else []) ≡ [] → (if x.responder == eid then part_asked x c else []) ≡ []
+  by_command (SetsEid operation reserved e) is = if_same (x.responder == eid) []
+  by_command GetsEid is = if_same (x.responder == eid) []
+  by_command (AllocatesEids operation reserved size first) is = if_same (x.responder == eid) []
+  by_command (GetsEntries handle) is = some_or (x.responder == eid) x.answer (record { requester = x.requester; handle = handle; answer = x.answer }) is
+
+no_parts : (eid : ℕ) (xs : List ExchangeValue) → answers_of eid xs ≡ [] → parts_of eid xs ≡ []
+no_parts eid xs none = flat_none (part_of eid) xs (λ x among. by_command eid x x.command (flat_nil (answer_if eid) xs none x among))
+
+-- ---- a node
+
+module _ (node : Node) (xs : List ExchangeValue) (f : NodeFacts) where
+  abbrev name : List ℕ
+  name = name_bytes node.name
+
+  abbrev answers : List AnswerValue
+  answers = answers_of node.eid.value xs
+
+  abbrev told : List LineValue
+  told = walks_lines name f.records f.walks
+
+  abbrev routes : List LineValue
+  routes = routes_lines name f.planned (readings (parts_of node.eid.value xs))
+
+  abbrev eids : List LineValue
+  eids = eid_lines name node.eid.value (kind_number node.kind) answers
+
+  abbrev pools : List LineValue
+  pools = pool_lines name (first_of node.pool) (size_of node.pool) answers
+
+  abbrev chosen : Bool → List LineValue
+  chosen quiet = if quiet then note (name ++ codes " not captured") ∷ [] else (routes ++ (eids ++ pools)) ++ told
+
+  records_are : difference_count told ≡ 0 → (w : Walked) → IsAmong w f.walks → IsWalkedAsPlanned f.records w
+  records_are zero w among = walk_is name f.records w (zero_each (walk_lines name f.records) f.walks zero w among)
+
+  node_is : difference_count (lines_of_node node f.planned xs told) ≡ 0 → SaysAsPlanned node xs f
+  node_is zero = elim (cases_Bool (length answers == 0 && length told == 0)) [
+    | inl none ↦ (
+        let no_answers : answers ≡ [] = nil_from_length answers (eqb-true (length answers) 0 (both_left (length answers == 0) (length told == 0) none)) in
+        let no_told : told ≡ [] = nil_from_length told (eqb-true (length told) 0 (both_right (length answers == 0) (length told == 0) none)) in
+        record {
+          tables = λ r among. absurd (subst (λ ps. IsAmong r (readings ps)) (no_parts node.eid.value xs no_answers) among);
+          eids = λ a among. absurd (subst (λ as_. IsAmong a as_) no_answers among);
+          pools = λ a among. absurd (subst (λ as_. IsAmong a as_) no_answers among);
+          records = records_are (ap difference_count no_told);
+        })
+    | inr some ↦ (
+        let said : difference_count ((routes ++ (eids ++ pools)) ++ told) ≡ 0 = sym (ap (λ (b : Bool). difference_count (chosen b)) some) ∙ zero in
+        let control = zero_left (routes ++ (eids ++ pools)) told said in
+        let later = zero_right routes (eids ++ pools) control in
+        record {
+          tables = λ r among. reading_is name f.planned r (zero_each (reading_lines name f.planned) (readings (parts_of node.eid.value xs)) (zero_left routes (eids ++ pools) control) r among);
+          eids = eids_are name node.eid.value (kind_number node.kind) answers (zero_left eids pools later);
+          pools = pools_are name (first_of node.pool) (size_of node.pool) answers (zero_right eids pools later);
+          records = records_are (zero_right (routes ++ (eids ++ pools)) told said);
+        })
+  ]
+
+  node_of : SaysAsPlanned node xs f → difference_count (lines_of_node node f.planned xs told) ≡ 0
+  node_of says = elim (cases_Bool (length answers == 0 && length told == 0)) [
+    | inl none ↦ ap (λ (b : Bool). difference_count (chosen b)) none
+    | inr some ↦ (
+        ap (λ (b : Bool). difference_count (chosen b)) some
+        ∙ zero_both (routes ++ (eids ++ pools)) told
+        (zero_both routes (eids ++ pools)
+        (zero_all (reading_lines name f.planned) (readings (parts_of node.eid.value xs)) (λ r among. reading_of name f.planned r (says.tables r among)))
+        (zero_both eids pools (eids_of name node.eid.value (kind_number node.kind) answers says.eids) (pools_of name (first_of node.pool) (size_of node.pool) answers says.pools)))
+        (zero_all (walk_lines name f.records) f.walks (λ w among. walk_of name f.records w (says.records w among))))
+  ]
+
+pub nodes_match : NodesMatchWhereAsPlanned
+nodes_match node xs f = (node_is node xs f, node_of node xs f)

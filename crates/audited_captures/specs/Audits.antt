@@ -1,0 +1,139 @@
+-- What captured devices said, laid beside a plan.
+use Rattle.std.specs.Prelude.{◌≡◌, ℕ, ◌+◌, ◌<◌, ◌==◌, ◌&&◌, List, [], ◌∷◌, ◌++◌, length, codes, slice_get, Some}
+use Rattle.std.specs.Prelude.{if◌then◌else◌}
+use Rattle.std.specs.Fmt.{decimal}
+use Rattle.std.specs.List.{flat_map, filter}
+use Rattle.bus_captures.specs.Values.{EntryValue}
+use Rattle.bus_captures.specs.declared.capture.End.{End}
+use Rattle.bus_captures.specs.declared.capture.End.TheVariants as end
+use Rattle.heard_captures.specs.Messages.{MessageValue, AreHeard}
+use Rattle.mctp_control.specs.RouteEntries as routes
+use Rattle.net_plan.specs.NodeValues.{name_bytes}
+use Rattle.net_plan.specs.declared.certificate.Certificate.{Certificate}
+use Rattle.net_plan.specs.declared.plan.Plan.{Plan}
+use Rattle.net_plan.specs.declared.nodes.Node.{Node}
+use Rattle.audited_captures.specs.Words.{WordValue, AreWords}
+use Rattle.audited_captures.specs.Exchanges.{ExchangeValue, AreExchanges}
+use Rattle.net_tables.specs.Repositories.{records_by_place}
+use Rattle.pdr_repository.specs.Records.{Entry}
+use Rattle.plan_exports.specs.PlannedTables.{HasLawfulRows}
+use Rattle.plan_exports.specs.TableAnswers.{AreEntriesOf}
+use Rattle.audited_captures.specs.Readings.{parts_of, readings}
+use Rattle.audited_captures.specs.Lines.{LineValue, note}
+use Rattle.audited_captures.specs.RecordLines.{walks_lines}
+use Rattle.audited_captures.specs.RecordParts.{RecordPartValue, AreRecordParts}
+use Rattle.audited_captures.specs.Routes.{routes_lines}
+use Rattle.audited_captures.specs.Walking.{Walked, AreWalks}
+use Rattle.audited_captures.specs.Identities.{answers_of, eid_lines, pool_lines, first_of, size_of, kind_number}
+
+-- each node's rows make a routing table
+abbrev pub HasTables : Plan → Type 0
+HasTables plan = (n : ℕ) → n < length plan.nodes.items → HasLawfulRows plan n
+
+-- what a node's control messages say beside the plan: of its routing table, of its endpoint ID and type, of its pool
+abbrev pub answered_lines : Node → (planned : List routes.EntryValue) → List ExchangeValue → List LineValue
+answered_lines node planned xs =
+    routes_lines (name_bytes node.name) planned (readings (parts_of node.eid.value xs))
+    ++ (eid_lines (name_bytes node.name) node.eid.value (kind_number node.kind) (answers_of node.eid.value xs)
+    ++ pool_lines (name_bytes node.name) (first_of node.pool) (size_of node.pool) (answers_of node.eid.value xs))
+
+-- behind that stands what was told of its records, or it says that nothing was captured of it
+abbrev pub lines_of_node :
+    Node → (planned : List routes.EntryValue) → List ExchangeValue → (told : List LineValue) → List LineValue
+lines_of_node node planned xs told =
+    if length (answers_of node.eid.value xs) == 0 && length told == 0
+    then note (name_bytes node.name ++ codes " not captured") ∷ []
+    else answered_lines node planned xs ++ told
+
+-- what was captured: the messages that ask and answer, and among them the control messages that were answered
+pub record Heard : Type 0 where
+  pub words : List WordValue
+  pub exchanges : List ExchangeValue
+
+abbrev pub heard_of : List WordValue → List ExchangeValue → Heard
+heard_of words exchanges = record { words = words; exchanges = exchanges }
+
+-- what is planned and what was captured of a node: the entries of its routing table, its records by place, what it
+-- answered about records, and the walks that this makes
+pub record NodeFacts : Type 0 where
+  pub planned : List routes.EntryValue
+  pub records : List Entry
+  pub parts : List RecordPartValue
+  pub walks : List Walked
+
+pub record AreFacts (plan : Plan) (repositories : List (List Entry)) (h : Heard) (n : ℕ) (node : Node)
+    (f : NodeFacts) : Type 0 where
+  pub plans : AreEntriesOf plan n f.planned
+  pub stored : slice_get repositories n ≡ Some f.records
+  pub answered : AreRecordParts node.eid.value h.words f.parts
+  pub walked : AreWalks f.parts f.walks
+
+-- the lines of the node at an index
+pub record AreNodeLines (plan : Plan) (repositories : List (List Entry)) (h : Heard) (n : ℕ)
+    (lines : List LineValue) : Type 0 where
+  pub node : Node
+  pub facts : NodeFacts
+  pub at : slice_get plan.nodes.items n ≡ Some node
+  pub are : AreFacts plan repositories h n node facts
+  pub tell : lines
+      ≡ lines_of_node node facts.planned h.exchanges (walks_lines (name_bytes node.name) facts.records facts.walks)
+
+-- the lines of so many nodes, in the plan's order
+pub data AreLines (plan : Plan) (repositories : List (List Entry)) (h : Heard) : ℕ → List LineValue → Type 0 where
+  Empty : AreLines plan repositories h 0 []
+  More : (n : ℕ) (lines more : List LineValue) → AreLines plan repositories h n lines
+      → AreNodeLines plan repositories h n more → AreLines plan repositories h (n + 1) (lines ++ more)
+
+-- the records of so many nodes, by the certificate's places
+pub record AreRepositories (plan : Plan) (cert : Certificate) (count : ℕ)
+    (repositories : List (List Entry)) : Type 0 where
+  pub as_many : length repositories ≡ count
+  pub each : (n : ℕ) (records : List Entry) → slice_get repositories n ≡ Some records
+      → records ≡ records_by_place plan cert n
+
+abbrev pub difference_count : List LineValue → ℕ
+difference_count lines = length (filter (λ l. l.differs) lines)
+
+-- the last line of what was captured whole
+abbrev pub whole_line : ℕ → List ℕ
+whole_line count =
+    if count == 0 then codes "audit match\n" else codes "audit differs " ++ (decimal count ++ codes "\n")
+
+-- and of what was read in part only: what wasn't read may differ too
+abbrev pub part_line : ℕ → List ℕ
+part_line count = codes "audit incomplete " ++ (decimal count ++ codes "\n")
+
+abbrev pub last_line : End → ℕ → List ℕ
+last_line end.Whole count = whole_line count
+last_line end.Full count = part_line count
+last_line (end.Broken place why) count = part_line count
+
+abbrev pub text_line : LineValue → List ℕ
+text_line l = l.text ++ codes "\n"
+
+-- where a capture was not read to its end, and why
+abbrev pub rest_line : End → List ℕ
+rest_line end.Whole = []
+rest_line end.Full = codes "capture not read behind 100000 entries\n"
+rest_line (end.Broken place why) = codes "capture not read from " ++ (decimal place ++ codes "\n")
+
+abbrev pub audit_text : List LineValue → End → List ℕ
+audit_text lines how = flat_map text_line lines ++ (rest_line how ++ last_line how (difference_count lines))
+
+-- These are the lines of what was captured beside the plan and these records: the messages that came whole, those among
+-- them that ask and answer, the control messages that were answered, and what the answers of each node say.
+pub record AreBeside (plan : Plan) (repositories : List (List Entry)) (entries : List EntryValue)
+    (lines : List LineValue) : Type 0 where
+  pub messages : List MessageValue
+  pub heard : Heard
+  pub whole : AreHeard entries messages
+  pub spoken : AreWords messages heard.words
+  pub answered : AreExchanges heard.words heard.exchanges
+  pub told : AreLines plan repositories heard (length plan.nodes.items) lines
+
+-- beside the plan and its records
+pub record AreAudited (plan : Plan) (cert : Certificate) (entries : List EntryValue)
+    (lines : List LineValue) : Type 0 where
+  pub repositories : List (List Entry)
+  pub placed : AreRepositories plan cert (length plan.nodes.items) repositories
+  pub beside : AreBeside plan repositories entries lines

@@ -1,0 +1,17 @@
+pub mod Words
+pub mod Exchanges
+pub mod Readings
+pub mod Turns
+pub mod RecordParts
+pub mod Walking
+pub mod WalkTurns
+pub mod Lines
+pub mod Routes
+pub mod RecordLines
+pub mod Walks
+pub mod Repositories
+pub mod Answers
+pub mod Identities
+pub mod Audits
+pub mod AsPlanned
+pub mod Matching

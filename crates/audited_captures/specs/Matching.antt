@@ -1,0 +1,79 @@
+-- What it means that devices said what is planned.
+use Rattle.std.specs.Prelude.{◌≡◌, ◌⊎◌, ◌↔◌, ℕ, ⊤, List, Option, Some, None, slice_get}
+use Rattle.bus_captures.specs.Values as bus
+use Rattle.mctp_control.specs.RouteEntries.{EntryValue}
+use Rattle.mctp_control.specs.Responses.{AnswerValue, EidSet, EidTold, PoolTold, EntriesTold, Failed}
+use Rattle.net_plan.specs.NodeValues.{name_bytes}
+use Rattle.net_plan.specs.declared.certificate.Certificate.{Certificate}
+use Rattle.net_plan.specs.declared.nodes.Node.{Node}
+use Rattle.net_plan.specs.declared.plan.Plan.{Plan}
+use Rattle.audited_captures.specs.AsPlanned.{IsAmong, AreAsPlanned}
+use Rattle.audited_captures.specs.Audits.{AreAudited, NodeFacts, AreFacts, difference_count, lines_of_node}
+use Rattle.audited_captures.specs.Exchanges.{ExchangeValue}
+use Rattle.audited_captures.specs.Identities.{answers_of, first_of, size_of, kind_number}
+use Rattle.audited_captures.specs.Lines.{LineValue}
+use Rattle.pdr_repository.specs.Records.{Entry, bytes_by_place}
+use Rattle.audited_captures.specs.RecordLines.{walks_lines}
+use Rattle.audited_captures.specs.Walking.{Walked, Whole, Open, Stopped}
+use Rattle.audited_captures.specs.Readings.{parts_of, readings}
+
+-- a reading came to its end, with the planned entries
+abbrev pub IsReadAsPlanned : List EntryValue → Option (List EntryValue) → Type 0
+IsReadAsPlanned planned None = ⊥
+IsReadAsPlanned planned (Some found) = AreAsPlanned planned found
+
+-- where the answer tells an endpoint ID or a type, it is the planned one
+abbrev pub HasPlannedEid : (eid type : ℕ) → AnswerValue → Type 0
+HasPlannedEid eid type (EidSet status found size) = eid ≡ found
+HasPlannedEid eid type (EidTold found status medium) = (eid ≡ found) × (type ≡ status.second)
+HasPlannedEid eid type (PoolTold status size first) = ⊤
+HasPlannedEid eid type (EntriesTold next entries) = ⊤
+HasPlannedEid eid type (Failed command code) = ⊤
+
+-- where the answer tells a pool, it is the planned one; two without endpoint IDs are one
+abbrev pub HasPlannedPool : (first size : ℕ) → AnswerValue → Type 0
+HasPlannedPool first size (PoolTold status found_size found_first) =
+    (size ≡ found_size) × ((size ≡ 0) ⊎ (first ≡ found_first))
+HasPlannedPool first size (EidSet status found wanted) = ⊤
+HasPlannedPool first size (EidTold found status medium) = ⊤
+HasPlannedPool first size (EntriesTold next entries) = ⊤
+HasPlannedPool first size (Failed command code) = ⊤
+
+-- a walk came to its end with the planned records, in the planned order
+abbrev pub IsWalkedAsPlanned : List Entry → Walked → Type 0
+IsWalkedAsPlanned records (Whole found) = found ≡ bytes_by_place records
+IsWalkedAsPlanned records (Open found) = ⊥
+IsWalkedAsPlanned records (Stopped fault found) = ⊥
+
+-- All that a node said is planned: each reading of its routing table, each answer that tells its endpoint ID, its type
+-- or its pool, and each walk through its records.
+pub record SaysAsPlanned (node : Node) (xs : List ExchangeValue) (f : NodeFacts) : Type 0 where
+  pub tables : (r : Option (List EntryValue)) → IsAmong r (readings (parts_of node.eid.value xs))
+      → IsReadAsPlanned f.planned r
+  pub eids : (a : AnswerValue) → IsAmong a (answers_of node.eid.value xs)
+      → HasPlannedEid node.eid.value (kind_number node.kind) a
+  pub pools : (a : AnswerValue) → IsAmong a (answers_of node.eid.value xs)
+      → HasPlannedPool (first_of node.pool) (size_of node.pool) a
+  pub records : (w : Walked) → IsAmong w f.walks → IsWalkedAsPlanned f.records w
+
+-- no line of a node tells a difference exactly where all that it said is planned
+abbrev pub NodesMatchWhereAsPlanned : Type 0
+NodesMatchWhereAsPlanned = (node : Node) (xs : List ExchangeValue) (f : NodeFacts)
+    → (difference_count (lines_of_node node f.planned xs (walks_lines (name_bytes node.name) f.records f.walks)) ≡ 0)
+    ↔ SaysAsPlanned node xs f
+
+-- where an audit matches, each node has said what is planned
+abbrev pub AuditMatches : Type 0
+AuditMatches = (plan : Plan) (cert : Certificate) (entries : List bus.EntryValue) (lines : List LineValue)
+    → (are : AreAudited plan cert entries lines) → difference_count lines ≡ 0
+    → (n : ℕ) (node : Node) → slice_get plan.nodes.items n ≡ Some node
+    → (f : NodeFacts) × AreFacts plan are.repositories are.beside.heard n node f
+    × SaysAsPlanned node are.beside.heard.exchanges f
+
+-- where each node has said what is planned, the audit matches
+abbrev pub MatchesAudit : Type 0
+MatchesAudit = (plan : Plan) (cert : Certificate) (entries : List bus.EntryValue) (lines : List LineValue)
+    → (are : AreAudited plan cert entries lines)
+    → ((n : ℕ) (node : Node) (f : NodeFacts) → slice_get plan.nodes.items n ≡ Some node
+    → AreFacts plan are.repositories are.beside.heard n node f → SaysAsPlanned node are.beside.heard.exchanges f)
+    → difference_count lines ≡ 0

@@ -1,0 +1,149 @@
+-- Messages that were heard, by who asked whom: control messages (DSP0236, "MCTP control message format"), and requests
+-- for parts of records with their answers (DSP0248, GetPDR).
+use Rattle.std.specs.Prelude.{◌≡◌, ◌⊎◌, ℕ, true, false, List, [], ◌∷◌, ◌++◌}
+use Rattle.mctp_transport.specs.Wire.{Spells}
+use Rattle.mctp_control.specs.Requests.{CommandValue, SetsEid, GetsEid, AllocatesEids, GetsEntries, command_value}
+use Rattle.mctp_control.specs.Requests.{RequestValue, SpellsRequest}
+use Rattle.mctp_control.specs.Responses.{AnswerValue, EidSet, EidTold, PoolTold, EntriesTold, Failed, answer_value}
+use Rattle.mctp_control.specs.Responses.{ResponseValue, SpellsResponse}
+use Rattle.pldm_message.specs.Commands.{type_of, command_byte}
+use Rattle.pldm_message.specs.Headers.{HeaderValue, BeginsWith}
+use Rattle.pldm_message.specs.Messages.{RequestMessage}
+use Rattle.pldm_message.specs.PdrValues.{get_pdr_request}
+use Rattle.pldm_message.specs.Pdrs.{PartRequest, IsGetPdrRequest, get_pdr_request_bytes}
+use Rattle.pldm_message.specs.declared.command.Command.TheVariants.{GetPdr}
+use Rattle.pldm_message.specs.declared.kind.MessageKind.TheVariants.{Response}
+use Rattle.heard_captures.specs.Messages.{MessageValue}
+use Rattle.audited_captures.specs.declared.words.Body.{Body}
+use Rattle.audited_captures.specs.declared.words.Body.TheVariants as body
+use Rattle.audited_captures.specs.declared.words.Word.{Word}
+
+-- a control message asks or answers; or a part of a record is asked for, or told by all bytes of the answer
+pub data BodyValue : Type 0 where
+  Asks : CommandValue → BodyValue
+  Answers : AnswerValue → BodyValue
+  AsksPart : RequestMessage PartRequest → BodyValue
+  TellsPart : List ℕ → BodyValue
+
+-- who asks whom, the message tag and the instance ID of the exchange, and what is asked or answered
+pub record WordValue : Type 0 where
+  pub requester : ℕ
+  pub responder : ℕ
+  pub tag : ℕ
+  pub instance : ℕ
+  pub body : BodyValue
+
+abbrev pub body_value : Body → BodyValue
+body_value (body.Asks command) = Asks (command_value command)
+body_value (body.Answers answer) = Answers (answer_value answer)
+body_value (body.AsksPart request) = AsksPart (get_pdr_request request)
+body_value (body.TellsPart bytes) = TellsPart bytes.now
+
+abbrev pub word_value : Word → WordValue
+word_value w = record {
+  requester = w.requester.value;
+  responder = w.responder.value;
+  tag = w.tag.value;
+  instance = w.instance;
+  body = body_value w.body;
+}
+
+-- the number of a command
+abbrev pub number_asked : CommandValue → ℕ
+number_asked (SetsEid operation reserved eid) = 1
+number_asked GetsEid = 2
+number_asked (AllocatesEids operation reserved size first) = 8
+number_asked (GetsEntries handle) = 10
+
+-- the number of the command that is answered
+abbrev pub number_answered : AnswerValue → ℕ
+number_answered (EidSet status eid size) = 1
+number_answered (EidTold eid status medium) = 2
+number_answered (PoolTold status size first) = 8
+number_answered (EntriesTold next entries) = 10
+number_answered (Failed command code) = command
+
+-- of a message; what parts of records are asked for and told by has a number that no control command has
+abbrev pub command_of : BodyValue → ℕ
+command_of (Asks command) = number_asked command
+command_of (Answers answer) = number_answered answer
+command_of (AsksPart request) = 337
+command_of (TellsPart bytes) = 337
+
+-- a request from the message's source
+abbrev pub asked : MessageValue → RequestValue → WordValue
+asked m r = record {
+  requester = m.source;
+  responder = m.destination;
+  tag = m.tag;
+  instance = r.header.instance;
+  body = Asks r.command;
+}
+
+-- a response from the message's source
+abbrev pub answered : MessageValue → ResponseValue → WordValue
+answered m r = record {
+  requester = m.destination;
+  responder = m.source;
+  tag = m.tag;
+  instance = r.header.instance;
+  body = Answers r.answer;
+}
+
+abbrev pub IsRequestWord : MessageValue → WordValue → Type 0
+IsRequestWord m w = (r : RequestValue) × SpellsRequest r m.bytes × (w ≡ asked m r)
+
+abbrev pub IsResponseWord : MessageValue → WordValue → Type 0
+IsResponseWord m w = (r : ResponseValue) × SpellsResponse r m.bytes × (w ≡ answered m r)
+
+-- a request for a part of a record, from the message's source
+abbrev pub asked_part : MessageValue → RequestMessage PartRequest → WordValue
+asked_part m r = record {
+  requester = m.source;
+  responder = m.destination;
+  tag = m.tag;
+  instance = r.head.instance;
+  body = AsksPart r;
+}
+
+-- what begins as an answer to one, from the message's source
+abbrev pub told_part : MessageValue → HeaderValue → WordValue
+told_part m h = record {
+  requester = m.destination;
+  responder = m.source;
+  tag = m.tag;
+  instance = h.instance;
+  body = TellsPart m.bytes;
+}
+
+-- the header is that of an answer to GetPDR
+abbrev pub IsPartHeader : HeaderValue → Type 0
+IsPartHeader h = (h.kind ≡ Response) × (h.pldm_type ≡ type_of GetPdr) × (h.command ≡ command_byte GetPdr)
+
+abbrev pub IsAskingWord : MessageValue → WordValue → Type 0
+IsAskingWord m w = (r : RequestMessage PartRequest) × Spells IsGetPdrRequest get_pdr_request_bytes r m.bytes
+    × (w ≡ asked_part m r)
+
+abbrev pub IsTellingWord : MessageValue → WordValue → Type 0
+IsTellingWord m w = (h : HeaderValue) × BeginsWith h m.bytes × IsPartHeader h × (w ≡ told_part m h)
+
+-- the message is such a request, and its sender owns the tag; or it is such an answer, and its sender doesn't
+abbrev pub IsWord : MessageValue → WordValue → Type 0
+IsWord m w =
+    ((m.owner ≡ true) × (IsRequestWord m w ⊎ IsAskingWord m w))
+    ⊎ ((m.owner ≡ false) × (IsResponseWord m w ⊎ IsTellingWord m w))
+
+abbrev pub IsNoWord : MessageValue → Type 0
+IsNoWord m = (w : WordValue) → ¬ IsWord m w
+
+-- what the message says was added, if it says one of these
+abbrev pub AddsWord : MessageValue → List WordValue → List WordValue → Type 0
+AddsWord m old new = (IsNoWord m × (new ≡ old)) ⊎ ((w : WordValue) × IsWord m w × (new ≡ old ++ w ∷ []))
+
+-- what these messages say, in their order
+pub data AreWords : List MessageValue → List WordValue → Type 0 where
+  None : AreWords [] []
+  Other : (ms : List MessageValue) (ws : List WordValue) (m : MessageValue) → AreWords ms ws → IsNoWord m
+      → AreWords (ms ++ m ∷ []) ws
+  More : (ms : List MessageValue) (ws : List WordValue) (m : MessageValue) (w : WordValue) → AreWords ms ws → IsWord m w
+      → AreWords (ms ++ m ∷ []) (ws ++ w ∷ [])

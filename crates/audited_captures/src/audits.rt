@@ -1,0 +1,229 @@
+//! What captured devices said, laid beside a plan.
+ghost use Rattle.std.specs.Prelude.{◌≡◌, ◌++◌, ◌<◌, ◌+◌, ◌==◌, ◌&&◌, IfOk, OnOk, map, length, slice_get, Some, string_bytes, codes, ◌∷◌, []};
+ghost use Rattle.std.specs.List.{flat_map};
+ghost use Rattle.bus_captures.specs.Values.{entry_value as bus_entry_value};
+ghost use Rattle.net_plan.specs.NodeValues.{name_bytes};
+ghost use Rattle.mctp_control.specs.RouteEntries.{entry_value};
+ghost use Rattle.audited_captures.specs.Exchanges.{exchange_value};
+ghost use Rattle.plan_exports.specs.PlannedTables.{HasLawfulRows};
+ghost use Rattle.audited_captures.specs.Lines.{line_value, note};
+ghost use Rattle.audited_captures.specs.Answers.{answer_values};
+ghost use Rattle.audited_captures.specs.Identities.{answers_of};
+ghost use Rattle.audited_captures.specs.Audits.{HasTables, answered_lines, lines_of_node, AreNodeLines, AreLines, difference_count, last_line, whole_line, text_line, rest_line, audit_text, AreBeside, AreAudited, AreRepositories, heard_of};
+ghost use Rattle.audited_captures.specs.Repositories.{repository_values, TellsRecords};
+ghost use Rattle.audited_captures.specs.Words.{word_value};
+ghost use Rattle.pdr_repository.specs.Records.{entries};
+
+use crate::exchanges::{Exchange, exchanges_of};
+use crate::identities::{answers_of, eid_lines, pool_lines};
+use crate::lines::{Line, differences_or};
+use crate::readings::parts_of;
+use crate::record_parts::record_parts_of;
+use crate::routes::routes_lines;
+use crate::walks::walks_lines;
+use crate::words::{Word, words_of};
+use bus_captures::{Capture, End};
+use heard_captures::heard_messages;
+use mctp_control::{ControlAnswer, RouteEntry};
+use net_check::Checked;
+use net_plan::{Node, Plan};
+use plan_exports::planned_entries;
+use std::alloc::{AllocError, Global};
+
+/// What the nodes of a checked plan said in a capture, laid beside the plan: the lines of each node, in the plan's order.
+/// The repositories are the nodes' records by place, as handles and bytes.
+pub fn audited_lines(
+    alloc: Global,
+    checked: &Checked,
+    repositories: &[Vec<(u32, Vec<u8>)>],
+    capture: &Capture,
+) -> Result<Vec<Line>, AllocError>
+    requires { AreRepositories checked.now.0 checked.now.1 (length checked.now.0.nodes.items) (repository_values repositories.now) }
+    ensures { IfOk result (λ lines. AreAudited checked.now.0 checked.now.1 (map bus_entry_value capture.now.entries.items) (map line_value lines.items)) }
+{
+    lines_of_capture(alloc, checked.plan(), repositories, capture)
+}
+
+fn lines_of_capture(
+    alloc: Global,
+    plan: &Plan,
+    repositories: &[Vec<(u32, Vec<u8>)>],
+    capture: &Capture,
+) -> Result<Vec<Line>, AllocError>
+    requires tables { HasTables plan.now }
+    requires stored { length repositories.now ≡ length plan.now.nodes.items }
+    ensures { IfOk result (λ lines. AreBeside plan.now (repository_values repositories.now) (map bus_entry_value capture.now.entries.items) (map line_value lines.items)) }
+{
+    let messages = heard_messages(alloc, capture)?;
+    let words = words_of(alloc, &messages)?;
+    let exchanges = exchanges_of(alloc, &words)?;
+    lines_of_nodes(alloc, plan, repositories, &words, &exchanges)
+}
+
+fn lines_of_nodes(
+    alloc: Global,
+    plan: &Plan,
+    repositories: &[Vec<(u32, Vec<u8>)>],
+    words: &[Word],
+    exchanges: &[Exchange],
+) -> Result<Vec<Line>, AllocError>
+    requires tables { HasTables plan.now }
+    requires stored { length repositories.now ≡ length plan.now.nodes.items }
+    ensures { IfOk result (λ lines. AreLines plan.now (repository_values repositories.now) (heard_of (map word_value words.now) (map exchange_value exchanges.now)) (length plan.now.nodes.items) (map line_value lines.items)) }
+{
+    let mut lines = Vec::new(alloc);
+    for n in 0..plan.nodes.len() {
+        let mut more = lines_of_node(alloc, plan, n, repositories, words, exchanges)?;
+        lines.append(&mut more)?;
+    }
+    Ok(lines)
+}
+
+/// The lines of the node at an index.
+fn lines_of_node(
+    alloc: Global,
+    plan: &Plan,
+    index: usize,
+    repositories: &[Vec<(u32, Vec<u8>)>],
+    words: &[Word],
+    exchanges: &[Exchange],
+) -> Result<Vec<Line>, AllocError>
+    requires within { index < length plan.now.nodes.items }
+    requires stored { index < length repositories.now }
+    requires rows { HasLawfulRows plan.now index }
+    ensures { IfOk result (λ lines. AreNodeLines plan.now (repository_values repositories.now) (heard_of (map word_value words.now) (map exchange_value exchanges.now)) index (map line_value lines.items)) }
+{
+    let node = &plan.nodes[index];
+    let records = &repositories[index];
+    let planned = planned_entries(alloc, plan, index)?;
+    let told = told_of_records(alloc, node, records, words)?;
+    lines_beside(alloc, node, &planned, exchanges, told)
+}
+
+/// What is told of a node's records, which the terminus has by place.
+fn told_of_records(
+    alloc: Global,
+    node: &Node,
+    records: &[(u32, Vec<u8>)],
+    words: &[Word],
+) -> Result<Vec<Line>, AllocError>
+    ensures { IfOk result (λ lines. TellsRecords node.now (entries records.now) (map word_value words.now) (map line_value lines.items)) }
+{
+    let parts = record_parts_of(alloc, words, node.eid)?;
+    walks_lines(alloc, node.name.text.as_str(), records, &parts)
+}
+
+/// The lines of a node with these planned entries, of whose records this was told.
+fn lines_beside(
+    alloc: Global,
+    node: &Node,
+    planned: &[RouteEntry],
+    exchanges: &[Exchange],
+    mut told: Vec<Line>,
+) -> Result<Vec<Line>, AllocError>
+    ensures { IfOk result (λ lines. map line_value lines.items ≡ lines_of_node node.now (map entry_value planned.now) (map exchange_value exchanges.now) (map line_value told.items)) }
+{
+    let answers = answers_of(alloc, exchanges, node.eid)?;
+    if answers.is_empty() && told.is_empty() {
+        return not_captured(alloc, node.name.text.as_str());
+    }
+    let mut lines = answered_lines(alloc, node, planned, exchanges, &answers)?;
+    lines.append(&mut told)?;
+    Ok(lines)
+}
+
+fn not_captured(alloc: Global, name: &str) -> Result<Vec<Line>, AllocError>
+    ensures { IfOk result (λ lines. map line_value lines.items ≡ note (name.now ++ codes " not captured") ∷ []) }
+{
+    let text = not_captured_text(alloc, name)?;
+    differences_or(text, Vec::new(alloc))
+}
+
+fn not_captured_text(alloc: Global, name: &str) -> Result<String, AllocError>
+    ensures { IfOk result (λ text. string_bytes text ≡ name.now ++ codes " not captured") }
+{
+    format!(in alloc; "{name} not captured")
+}
+
+fn answered_lines(
+    alloc: Global,
+    node: &Node,
+    planned: &[RouteEntry],
+    exchanges: &[Exchange],
+    answers: &[&ControlAnswer],
+) -> Result<Vec<Line>, AllocError>
+    requires { answer_values answers.now ≡ answers_of node.now.eid.value (map exchange_value exchanges.now) }
+    ensures { IfOk result (λ lines. map line_value lines.items ≡ answered_lines node.now (map entry_value planned.now) (map exchange_value exchanges.now)) }
+{
+    let name = node.name.text.as_str();
+    let parts = parts_of(alloc, exchanges, node.eid)?;
+    let mut lines = routes_lines(alloc, name, planned, &parts)?;
+    let mut identity = eid_lines(alloc, name, node.eid, node.kind, answers)?;
+    let mut pool = pool_lines(alloc, name, node.pool, answers)?;
+    identity.append(&mut pool)?;
+    lines.append(&mut identity)?;
+    Ok(lines)
+}
+
+/// How many of the lines tell a difference.
+pub fn difference_count(lines: &[Line]) -> usize
+    ensures { result ≡ difference_count (map line_value lines.now) }
+{
+    let mut count = 0;
+    for line in lines {
+        if line.differs {
+            count += 1;
+        }
+    }
+    count
+}
+
+/// The text of an audit: its lines, where the capture was not read to its end, and last whether all that was captured is
+/// planned, or how many lines tell a difference. What was read in part is never told as a match.
+pub fn audit_text(alloc: Global, lines: &[Line], end: End) -> Result<String, AllocError>
+    ensures { IfOk result (λ text. string_bytes text ≡ audit_text (map line_value lines.now) end) }
+{
+    let told = text_of_lines(alloc, lines)?;
+    let rest = rest_line(alloc, end)?;
+    let last = last_line(alloc, end, difference_count(lines))?;
+    format!(in alloc; "{told}{rest}{last}")
+}
+
+fn text_of_lines(alloc: Global, lines: &[Line]) -> Result<String, AllocError>
+    ensures { IfOk result (λ text. string_bytes text ≡ flat_map text_line (map line_value lines.now)) }
+{
+    let mut text = String::new(alloc);
+    for line in lines {
+        text.push_str(&line.text)?;
+        text.push_str("\n")?;
+    }
+    Ok(text)
+}
+
+fn rest_line(alloc: Global, end: End) -> Result<String, AllocError>
+    ensures { IfOk result (λ line. string_bytes line ≡ rest_line end) }
+{
+    match end {
+        End::Whole => Ok(String::new(alloc)),
+        End::Full => String::from_str(alloc, "capture not read behind 100000 entries\n"),
+        End::Broken { place, .. } => format!(in alloc; "capture not read from {place}\n"),
+    }
+}
+
+fn last_line(alloc: Global, end: End, count: usize) -> Result<String, AllocError>
+    ensures { IfOk result (λ line. string_bytes line ≡ last_line end count) }
+{
+    match end {
+        End::Whole => whole_line(alloc, count),
+        End::Full | End::Broken { .. } => format!(in alloc; "audit incomplete {count}\n"),
+    }
+}
+
+fn whole_line(alloc: Global, count: usize) -> Result<String, AllocError>
+    ensures { IfOk result (λ line. string_bytes line ≡ whole_line count) }
+{
+    if count == 0 {
+        return String::from_str(alloc, "audit match\n");
+    }
+    format!(in alloc; "audit differs {count}\n")
+}

@@ -1,0 +1,22 @@
+//! What captured devices said, laid beside a plan.
+#![tactic(auto)]
+
+mod audits;
+mod exchanges;
+mod identities;
+mod laws;
+mod lines;
+mod places;
+mod readings;
+mod record_lines;
+mod record_parts;
+mod routes;
+mod walking;
+mod walks;
+mod words;
+
+pub use audits::{audit_text, audited_lines, difference_count};
+pub use laws::{
+    audits_match_where_as_planned, matches_where_as_planned, nodes_match_where_as_planned,
+};
+pub use lines::Line;

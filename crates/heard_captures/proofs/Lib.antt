@@ -1,0 +1,3 @@
+pub mod StationLaws
+pub mod SeenLaws
+pub mod HearingLaws

@@ -1,0 +1,8 @@
+use Rattle.std.proofs.Common.{map, take}
+use Rattle.bus_captures.specs.Values.{entry_value}
+use Rattle.heard_captures.specs.Messages.{message_value}
+use Rattle.heard_captures.proofs.HearingLaws.{HaveHeard}
+use Rattle.heard_captures.proofs.messages.heard_messages.Given as goal
+
+abbrev pub invariant-loop-entry : goal.invariant-loop-entry
+invariant-loop-entry l = HaveHeard (map entry_value (take l.entry-index l.capture.entries.items)) l.assemblers.items (map message_value l.messages.items)

@@ -1,0 +1,8 @@
+use Rattle.std.proofs.Common.{refl, sym}
+use Rattle.heard_captures.proofs.seeing.see.Goals as goal
+
+pub returns-in-Message : goal.returns-in-Message
+returns-in-Message c = (c.in-Message.is, refl, c.deref.ensures.value, refl)
+
+pub returns-in-Other : goal.returns-in-Other
+returns-in-Other c = (c.in-Other.is, refl)

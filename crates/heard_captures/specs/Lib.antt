@@ -1,0 +1,6 @@
+pub mod Heard
+pub mod Stations
+pub mod Seen
+pub mod Sights
+pub mod Steps
+pub mod Messages

@@ -1,0 +1,50 @@
+-- What becomes of the entries of a capture.
+use Rattle.std.specs.Prelude.{◌≡◌, ℕ, ◌==◌, List, [], ◌∷◌, ◌++◌, Option, if◌then◌else◌}
+use Rattle.bus_captures.specs.Values.{EntryValue}
+use Rattle.bus_captures.specs.declared.capture.Direction.{Direction}
+use Rattle.bus_captures.specs.declared.capture.Kind.TheVariants as kind
+use Rattle.mctp_transport.specs.declared.packet_error.PacketError.{PacketError}
+use Rattle.mctp_transport.specs.declared.packet_error.PacketError.TheVariants as packet
+use Rattle.mctp_transport.specs.Frames.{Frame, Spelled}
+use Rattle.mctp_transport.specs.Hearing.{Answer, HearsOnly}
+use Rattle.mctp_transport.specs.Histories.{History, Arrived}
+use Rattle.mctp_transport.specs.Refusals as refusals
+
+-- what became of an entry: a packet and what its assembler made of it, bytes that are no packet and why, a message,
+-- or something of another protocol
+pub data Seen : Type 0 where
+  Fed : Frame → Answer → Seen
+  NoPacket : PacketError → Seen
+  Told : Option Direction → List ℕ → Seen
+  Other : ℕ → Seen
+
+-- the packets to a destination among what was seen
+abbrev pub history_to : ℕ → List Seen → History
+history_to d [] = []
+history_to d (Fed p answer ∷ seen) = if p.destination == d then Arrived p ∷ history_to d seen else history_to d seen
+history_to d (NoPacket why ∷ seen) = history_to d seen
+history_to d (Told way message ∷ seen) = history_to d seen
+history_to d (Other protocol ∷ seen) = history_to d seen
+
+-- why bytes are no packet: the first of the causes
+abbrev pub IsNoPacketFor : PacketError → List ℕ → Type 0
+IsNoPacketFor packet.Short bytes = refusals.IsShort bytes
+IsNoPacketFor packet.Empty bytes = ¬ refusals.IsShort bytes × refusals.IsEmpty bytes
+IsNoPacketFor packet.Long bytes = refusals.IsLong 64 bytes
+IsNoPacketFor packet.Version bytes =
+    ¬ refusals.IsShort bytes × ¬ refusals.IsEmpty bytes × ¬ refusals.IsLong 64 bytes × refusals.HasOtherVersion bytes
+
+-- This became of the entry where that was seen before: its packet was given to the assembler of its destination, which
+-- had been given the earlier packets to that destination and nothing else.
+abbrev pub IsSeen : List Seen → EntryValue → Seen → Type 0
+IsSeen before e (Fed p answer) =
+    (e.kind ≡ kind.Packet) × Spelled 64 p e.bytes × HearsOnly 16 4096 (history_to p.destination before) p answer
+IsSeen before e (NoPacket why) = (e.kind ≡ kind.Packet) × IsNoPacketFor why e.bytes
+IsSeen before e (Told way message) = (e.kind ≡ kind.Message) × (way ≡ e.direction) × (message ≡ e.bytes)
+IsSeen before e (Other protocol) = e.kind ≡ kind.Other protocol
+
+-- these became of the entries, one after the other
+pub data AreSeen : List EntryValue → List Seen → Type 0 where
+  None : AreSeen [] []
+  More : (entries : List EntryValue) (seen : List Seen) (e : EntryValue) (s : Seen)
+      → AreSeen entries seen → IsSeen seen e s → AreSeen (entries ++ e ∷ []) (seen ++ s ∷ [])

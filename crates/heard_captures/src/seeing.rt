@@ -1,0 +1,58 @@
+//! What becomes of the entries of a capture.
+ghost use Rattle.std.specs.Prelude.{◌≡◌, IfOk, length};
+ghost use Rattle.bus_captures.specs.Values.{entry_value};
+ghost use Rattle.heard_captures.specs.Sights.{seen_of};
+ghost use Rattle.heard_captures.specs.Steps.{Sees};
+
+use crate::assembling::{Heard, feed_at};
+use bus_captures::{Direction, Entry, Kind};
+use mctp_transport::{Assembler, PacketError, PacketView};
+use std::alloc::{AllocError, Global};
+
+/// What became of an entry.
+#[derive(Debug, Drop)]
+pub enum Sight<'e> {
+    /// A packet, and what the assembler of its destination made of it.
+    Fed(PacketView<'e>, Heard),
+    /// Bytes that are no packet, and why.
+    NoPacket(PacketError),
+    /// A message that was captured whole, and which way it went.
+    Told(Option<Direction>, &'e [u8]),
+    /// Something of another protocol, by its number.
+    Other(u16),
+}
+
+/// Says what becomes of an entry. A packet is given to the assembler of its destination.
+pub fn see<'e>(
+    alloc: Global,
+    assemblers: &mut Vec<Assembler>,
+    entry: &'e Entry,
+) -> Result<Sight<'e>, AllocError>
+    requires { length assemblers.old.items ≡ 256 }
+    ensures { IfOk result (λ sight. Sees assemblers.old.items assemblers.new.items (entry_value entry.now) (seen_of sight)) }
+{
+    match entry.kind {
+        Kind::Packet => see_packet(alloc, assemblers, entry),
+        Kind::Message => Ok(Sight::Told(entry.direction, &entry.bytes)),
+        Kind::Other(protocol) => Ok(Sight::Other(protocol)),
+    }
+}
+
+/// Says what becomes of bytes that may be a packet.
+fn see_packet<'e>(
+    alloc: Global,
+    assemblers: &mut Vec<Assembler>,
+    entry: &'e Entry,
+) -> Result<Sight<'e>, AllocError>
+    requires kind { entry.now.kind ≡ Kind.Packet }
+    requires assemblers { length assemblers.old.items ≡ 256 }
+    ensures { IfOk result (λ sight. Sees assemblers.old.items assemblers.new.items (entry_value entry.now) (seen_of sight)) }
+{
+    match PacketView::read(&entry.bytes) {
+        Ok(packet) => {
+            let heard = feed_at(alloc, assemblers, packet)?;
+            Ok(Sight::Fed(packet, heard))
+        }
+        Err(error) => Ok(Sight::NoPacket(error)),
+    }
+}
