@@ -1,0 +1,140 @@
+//! A node that is emulated.
+ghost use Rattle.std.specs.Prelude.{◌≡◌, ◌<◌, length};
+ghost use Rattle.emulated_node.specs.Heard.{AreSized};
+
+use crate::deciding::decide_on;
+use crate::hearing::{Heard, hear_over, idle_assemblers};
+use crate::received::{Reason, Received};
+use crate::replying::reply;
+use crate::sending::packet_bytes;
+use mctp_bridge::{Decision, DeviceKind, Hop, RangeTable};
+use mctp_control::{Device, RouteEntry};
+use mctp_transport::{Assembler, PacketView};
+use net_plan::Plan;
+use net_tables::lookup::bus_at;
+use pdr_repository::Terminus;
+use std::alloc::{AllocError, Global};
+
+/// A node of a plan as a device that answers: it takes packets in, one after another.
+///
+/// Its device answers control messages with the entries of its routing table, and its terminus all other requests. A
+/// bridge sends the packets for others on by its rows. There is an assembler for each bus, of 16 slots for messages of
+/// at most 4096 bytes.
+#[derive(Drop)]
+pub struct Emulated<'a, T> {
+    alloc: Global,
+    plan: &'a Plan,
+    node: usize,
+    kind: DeviceKind,
+    table: RangeTable,
+    entries: Vec<RouteEntry>,
+    device: Device,
+    assemblers: Vec<Assembler>,
+    terminus: Option<T>,
+    ghost few: { length entries.items < 255 },
+    ghost many: { length assemblers.items ≡ length plan.now.buses.items },
+    ghost sized: { AreSized assemblers.items },
+}
+
+impl<'a, T: Terminus> Emulated<'a, T> {
+    ghost use Rattle.std.specs.Prelude.{IfOk, option_map};
+    ghost use Rattle.mctp_control.specs.Devices.{device_value};
+    ghost use Rattle.mctp_control.specs.EntryLists.{values_of};
+    ghost use Rattle.mctp_transport.specs.Packets.{frame_of};
+    ghost use Rattle.emulated_node.specs.Nodes.{NodeState};
+    ghost use Rattle.emulated_node.specs.ReceivedValues.{received_value};
+    ghost use Rattle.emulated_node.specs.Receiving.{IsForNode, IsSentOn, Receives};
+    ghost use Rattle.emulated_node.specs.Standing.{StandsFor, setting_of, at_start};
+    ghost use Rattle.emulated_node.specs.Termini.{terminus_value};
+
+    /// A node to which no packet has come yet, with its routing table, the entries that tell it, its device and its
+    /// terminus.
+    pub fn new(
+        alloc: Global,
+        plan: &'a Plan,
+        node: usize,
+        kind: DeviceKind,
+        table: RangeTable,
+        entries: Vec<RouteEntry>,
+        device: Device,
+        terminus: Option<T>,
+    ) -> Result<Emulated<'a, T>, AllocError>
+        requires few { length entries.items < 255 }
+        ensures setting { IfOk result (λ emulated. setting_of emulated
+            ≡ record { plan = plan.now; node = node; kind = kind; rows = table; entries = values_of entries.items }) }
+        ensures stands { IfOk result (λ emulated. StandsFor T.tid T.records emulated
+            (at_start (device_value device) (option_map (terminus_value T.tid T.records) terminus))) }
+    {
+        let assemblers = idle_assemblers(alloc, plan.buses.len())?;
+        Ok(Emulated {
+            alloc,
+            plan,
+            node,
+            kind,
+            table,
+            entries,
+            device,
+            assemblers,
+            terminus,
+        })
+    }
+
+    /// Takes a packet in that came over a bus, and says what is sent for it. Where memory runs out, the packet may be
+    /// lost.
+    pub fn receive(&mut self, bus: usize, packet: PacketView) -> Result<Received, AllocError>
+        requires { bus < length self.old.plan.now.buses.items }
+        ensures setting { setting_of self.new ≡ setting_of self.old }
+        ensures receives { IfOk result (λ received. (s : NodeState) → StandsFor T.tid T.records self.old s
+            → (next : NodeState) × Receives (setting_of self.old) s bus (frame_of packet.entry) (received_value received) next
+            × StandsFor T.tid T.records self.new next) }
+    {
+        match decide_on(&self.device, self.kind, &self.table, &packet.header) {
+            Decision::Here => self.take_in(bus, packet),
+            Decision::Forward(hop) => {
+                let received = self.send_on(hop, packet)?;
+                Ok(received)
+            }
+            Decision::Drop(why) => Ok(Received::Dropped(Reason::Obstacle(why))),
+        }
+    }
+
+    /// Sends a packet on.
+    fn send_on(&self, hop: Hop, packet: PacketView) -> Result<Received, AllocError>
+        ensures { IfOk result (λ received. IsSentOn (setting_of self.now) hop (frame_of packet.entry) (received_value received)) }
+    {
+        let Some(bus) = bus_at(self.plan, self.node, hop.port) else {
+            return Ok(Received::Dropped(Reason::NoPort));
+        };
+        let mut packets = Vec::new(self.alloc);
+        packets.push(packet_bytes(self.alloc, &packet)?)?;
+        Ok(Received::Sent { bus, packets })
+    }
+
+    /// Takes in a packet for the node.
+    fn take_in(&mut self, bus: usize, packet: PacketView) -> Result<Received, AllocError>
+        requires { bus < length self.old.plan.now.buses.items }
+        ensures setting { setting_of self.new ≡ setting_of self.old }
+        ensures takes { IfOk result (λ received. (s : NodeState) → StandsFor T.tid T.records self.old s
+            → IsForNode (setting_of self.old) s (frame_of packet.entry)
+            → (next : NodeState) × Receives (setting_of self.old) s bus (frame_of packet.entry) (received_value received) next
+            × StandsFor T.tid T.records self.new next) }
+    {
+        let asked = packet.key();
+        let message = match hear_over(self.alloc, &mut self.assemblers, bus, packet)? {
+            Heard::Whole(message) => message,
+            Heard::Held => return Ok(Received::Held),
+            Heard::Dropped(why) => return Ok(Received::Dropped(Reason::Unassembled(why))),
+        };
+        let received = reply(
+            self.alloc,
+            usize::from(self.plan.unit),
+            &mut self.device,
+            &mut self.terminus,
+            bus as u8,
+            &self.entries,
+            asked,
+            &message,
+        )?;
+        Ok(received)
+    }
+}

@@ -1,0 +1,13 @@
+//! A node of a plan as a device that answers: it takes packets in, one after another, and says which it sends for each.
+#![tactic(auto)]
+
+mod deciding;
+mod emulated;
+mod hearing;
+mod received;
+mod replying;
+mod responding;
+mod sending;
+
+pub use emulated::Emulated;
+pub use received::{Reason, Received};
