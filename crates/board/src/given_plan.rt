@@ -78,7 +78,8 @@ fn port_of(alloc: Global, port: &Port) -> Result<BoardPort, AllocError> {
     })
 }
 
-fn rows_of(alloc: Global, rows: &[Row]) -> Result<Vec<BoardRow>, AllocError> {
+/// Rows, in their order.
+pub fn rows_of(alloc: Global, rows: &[Row]) -> Result<Vec<BoardRow>, AllocError> {
     let mut own = Vec::new(alloc);
     for row in rows {
         own.push(row_of(*row))?;

@@ -5,6 +5,7 @@ mod board;
 mod fault;
 mod given;
 mod given_plan;
+mod given_text;
 mod items;
 mod making;
 mod places;
@@ -18,6 +19,7 @@ pub use board::{
 };
 pub use fault::BoardError;
 pub use given_plan::board_of_plan;
+pub use given_text::text_of_plan;
 pub use making::{NoPlan, made_plan};
 pub use places::line_of_node;
 pub use reading::read_board;

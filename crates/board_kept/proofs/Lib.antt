@@ -6,3 +6,4 @@ pub mod Raising
 pub mod Turning
 pub mod SameLists
 pub mod Named
+mod SameFrames

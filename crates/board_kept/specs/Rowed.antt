@@ -6,7 +6,7 @@ use Rattle.net_plan.specs.declared.certificate.Certificate.{Certificate}
 use Rattle.net_plan.specs.declared.nodes.Row.{Row}
 use Rattle.net_tables.specs.Routing.{Routes, rows_of}
 use Rattle.net_rules.specs.Rules.{Accepts}
-use Rattle.net_rules.specs.MoveRules.{but_rows}
+use Rattle.net_plan.specs.NodeValues.{but_rows}
 use Rattle.board_kept.specs.Ways.{ReachesBy}
 
 -- The transmission unit, the buses and the nodes are the same, these but for their rows.

@@ -1,0 +1,2 @@
+mod RolledOut
+mod Written

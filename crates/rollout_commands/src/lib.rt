@@ -1,0 +1,8 @@
+//! The command `rollout`: how nodes get from the rows of one plan to those of another, told or with the files of its steps.
+#![tactic(auto)]
+
+mod rollout;
+mod writing;
+
+pub use rollout::run_rollout;
+pub use writing::run_rollout_written;

@@ -1,0 +1,78 @@
+//! The command `rollout`: how nodes get from the rows of one plan to those of another.
+ghost use Rattle.std.specs.Prelude.{◌≡◌, ◌⊎◌, IfOk, IfErr};
+ghost use Rattle.std.specs.Cow.{cow_str_bytes};
+ghost use Rattle.net_json.specs.Stream.{HasRoom};
+ghost use Rattle.command_answers.specs.declared.status.Status.TheVariants.{Yes, Fault, Unreadable, NoMemory};
+ghost use Rattle.command_answers.specs.Answers.{stream, IsWithoutPlan, BreaksOff};
+ghost use Rattle.command_answers.specs.Moves.{ArePlansUnread};
+ghost use Rattle.rollout_commands.specs.Rollouts.{RollsOut, RollsOutSo};
+ghost use Rattle.command_answers.specs.Told.{IsSomeAnswer, Ends};
+
+use command_answers::{Answer, Refused, Status, read_plans, tell};
+use net_json::{Sink, Source};
+use net_plan::Plan;
+use net_rollout::{Rollout, rollout};
+use plan_texts::rollout_lines;
+use std::alloc::{AllocError, Global};
+
+/// Answers on `output` with the steps from the rows of one plan to those of another, or with the line of what stands in
+/// the way. Where a plan can't be read, says so on `errors`; of two the first is told, and then the other is not read.
+pub fn run_rollout<P: Source, Q: Source, O: Sink, E: Sink>(
+    alloc: Global,
+    before: &mut P,
+    after: &mut Q,
+    output: &mut O,
+    errors: &mut E,
+) -> Status
+    requires before { HasRoom (P.account before.old) }
+    requires after { HasRoom (Q.account after.old) }
+    requires output { HasRoom (O.account output.old) }
+    requires errors { HasRoom (E.account errors.old) }
+    ensures tells { let befores = stream P.account before.old before.new in
+        let afters = stream Q.account after.old after.new in
+        Ends (RollsOutSo befores afters) (λ why. ArePlansUnread why befores afters) result
+        (stream O.account output.old output.new) (stream E.account errors.old errors.new) }
+    ensures silent { (result ≡ Yes) ⊎ (result ≡ Fault) → errors.new ≡ errors.old }
+    ensures unwritten { let befores = stream P.account before.old before.new in
+        let afters = stream Q.account after.old after.new in
+        result ≡ Unreadable → (output.new ≡ output.old)
+        ⊎ BreaksOff (IsSomeAnswer (RollsOutSo befores afters)) (stream O.account output.old output.new) }
+    ensures no_memory { result ≡ NoMemory → output.new ≡ output.old }
+    ensures in_order { let befores = stream P.account before.old before.new in
+        IsWithoutPlan befores → after.new ≡ after.old }
+{
+    let answered = answer_rollout(alloc, before, after);
+    tell(alloc, answered, output, errors)
+}
+
+fn answer_rollout<P: Source, Q: Source>(
+    alloc: Global,
+    before: &mut P,
+    after: &mut Q,
+) -> Result<Answer, Refused>
+    requires before { HasRoom (P.account before.old) }
+    requires after { HasRoom (Q.account after.old) }
+    ensures answers { let befores = stream P.account before.old before.new in
+        let afters = stream Q.account after.old after.new in
+        IfOk result (λ answer. RollsOutSo befores afters answer.status (cow_str_bytes answer.text)) }
+    ensures unread { let befores = stream P.account before.old before.new in
+        let afters = stream Q.account after.old after.new in
+        IfErr result (λ why. ArePlansUnread why befores afters) }
+    ensures in_order { let befores = stream P.account before.old before.new in
+        IsWithoutPlan befores → after.new ≡ after.old }
+{
+    let (before, after) = read_plans(alloc, before, after)?;
+    Ok(steps_between(alloc, &before, &after)?)
+}
+
+/// The lines of the steps, or of what stands in their way.
+fn steps_between(alloc: Global, before: &Plan, after: &Plan) -> Result<Answer, AllocError>
+    ensures { IfOk result (λ answer. RollsOut before.now after.now answer.status (cow_str_bytes answer.text)) }
+{
+    let found = rollout(alloc, before, after)?;
+    let lines = rollout_lines(alloc, before, &found)?;
+    match found {
+        Rollout::AnyOrder(_) | Rollout::Steps(..) => Ok(Answer::found(lines)),
+        Rollout::Stuck(..) | Rollout::Unfit(_) => Ok(Answer::fault(lines)),
+    }
+}

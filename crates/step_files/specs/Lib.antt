@@ -1,0 +1,2 @@
+pub mod StepFiles
+pub mod Writes
