@@ -13,3 +13,4 @@ mod FirstRows
 mod TopmostOwners
 mod Referring
 mod Crossing
+mod Contained

@@ -1,13 +1,17 @@
 -- The first records of a node by what they have.
-use Rattle.std.specs.Prelude.{◌≡◌, ◌≢◌, ℕ, ◌<◌, List, Option, Some, None, MatchOption, length, slice_get}
-use Rattle.std.specs.Ordering.{nat_cmp}
+use Rattle.std.specs.Prelude.{◌≡◌, ◌≢◌, ◌↔◌, ◌⊎◌, ℕ, ◌<◌, List, Option, Some, None, MatchOption, length, slice_get}
+use Rattle.std.specs.Prelude.{IsTrue, Contains}
+use Rattle.std.specs.Ordering.{nat_cmp, ordering_then}
+use Rattle.std.specs.declared.cmp.Ordering.{Ordering}
 use Rattle.std.specs.BTreeMap.{BTreeMap, get}
+use Rattle.std.specs.BTreeSet.{BTreeSet, contains}
 use Rattle.net_plan.specs.declared.plan.Plan.{Plan}
 use Rattle.net_plan.specs.declared.terminus.PlannedRecord.{PlannedRecord}
 use Rattle.net_tables.specs.Repositories.{records_of}
+use Rattle.pdr_record.specs.Layouts.{AssociationValue, EntityValue}
 use Rattle.pdr_record.specs.Records.{BodyValue}
 use Rattle.net_questions.specs.Lint.{IsSensorRecord}
-use Rattle.net_questions.specs.Sensors.{IsLocatorOf}
+use Rattle.net_questions.specs.Sensors.{IsLocatorOf, HasAssociationOf}
 use Rattle.net_questions.specs.declared.lints.record_index.RecordIndex.{RecordIndex}
 
 -- the terminus handle of a body, if it is a terminus locator's
@@ -32,10 +36,40 @@ IsFirst Is (Some i) = Is i × ((j : ℕ) → j < i → ¬ Is j)
 abbrev pub AreFirst : (List ℕ → ℕ → Type 0) → Plan → ℕ → BTreeMap ℕ ℕ → Type 0
 AreFirst Is plan n first = (number : ℕ) → IsFirst (λ j. IsOfRecord Is plan n j number) (get nat_cmp first number)
 
+-- ---- entities
+
+-- what entities are told apart by
+abbrev pub entity_key : EntityValue → ℕ × ℕ × ℕ
+entity_key e = (e.entity_type, e.instance_number, e.container_id)
+
+-- by the entity type, the instance number and the container, in this order
+abbrev pub by_entity : (ℕ × ℕ × ℕ) → (ℕ × ℕ × ℕ) → Ordering
+by_entity p q = ordering_then (ordering_then (nat_cmp p.0 q.0) (nat_cmp p.1 q.1)) (nat_cmp p.2 q.2)
+
+-- the set has the entity
+abbrev pub HasEntity : BTreeSet (ℕ × ℕ × ℕ) → EntityValue → Type 0
+HasEntity set e = IsTrue (contains by_entity set (entity_key e))
+
+-- the set has just the entities that n's associations contain
+abbrev pub AreContained : Plan → ℕ → BTreeSet (ℕ × ℕ × ℕ) → Type 0
+AreContained plan n set = (e : EntityValue) → HasEntity set e ↔ HasAssociationOf plan n e
+
+-- the body is an entity association's, which has the entity among those that are contained
+abbrev pub AssociatesIn : BodyValue → EntityValue → Type 0
+AssociatesIn body e =
+    (a : AssociationValue) × (body ≡ BodyValue.Association a) × Contains a.contained_entities e
+
+-- the set gets just the entities of which it is so, and keeps those that it has
+abbrev pub NotesEntities : BTreeSet (ℕ × ℕ × ℕ) → (EntityValue → Type 0) → BTreeSet (ℕ × ℕ × ℕ) → Type 0
+NotesEntities old Is new = (e : EntityValue) → HasEntity new e ↔ (HasEntity old e ⊎ Is e)
+
+-- ---- indexes
+
 -- of the node's records
 pub record IsRecordIndex (plan : Plan) (n : ℕ) (index : RecordIndex) : Type 0 where
   pub sensors : AreFirst IsSensorRecord plan n index.sensors
   pub locators : AreFirst IsLocatorOf plan n index.locators
+  pub contained : AreContained plan n index.contained
 
 -- an index for each node
 pub record AreRecordIndexes (plan : Plan) (indexes : List RecordIndex) : Type 0 where

@@ -284,7 +284,7 @@ fn is_so(plan: &Plan, indexes: &[RecordIndex], finding: Finding) -> bool
             handles::names_no_terminus(plan, indexes, node, record)
         }
         Finding::UncontainedEntity { node, record } => {
-            entities::measures_uncontained(plan, node, record)
+            entities::measures_uncontained(plan, indexes, node, record)
         }
     }
 }

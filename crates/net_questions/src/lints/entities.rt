@@ -1,98 +1,96 @@
 //! H19: the entities that sensors measure.
-ghost use Rattle.std.specs.Prelude.{◌≡◌, ◌↔◌, IsTrue, Contains};
+ghost use Rattle.std.specs.Prelude.{◌≡◌, ◌↔◌, IsTrue, OnOk, Contains};
 ghost use Rattle.pdr_record.specs.Bodies.{body_value};
-ghost use Rattle.pdr_record.specs.Layouts.{AssociationValue};
-ghost use Rattle.pdr_record.specs.Records.{Association};
 ghost use Rattle.pdr_record.specs.Lists.{entities_value};
 ghost use Rattle.pdr_record.specs.Values.{entity_value};
-ghost use Rattle.net_questions.specs.Sensors.{Associates, HasAssociationOf, IsUncontained, HasUncontainedEntity, MeasuresUncontained};
+ghost use Rattle.net_questions.specs.Sensors.{Associates, IsUncontained, HasUncontainedEntity, MeasuresUncontained};
+ghost use Rattle.net_questions.specs.RecordIndexes.{AreRecordIndexes, AssociatesIn, NotesEntities, entity_key};
 
 use super::bodies::{body, sensor};
-use net_plan::{Plan, PlannedRecord};
-use net_tables::lookup::{record_at, records_at};
+use super::record_index::{RecordIndex, has_association_of};
+use net_plan::Plan;
+use net_tables::lookup::record_at;
 use pdr_record::{Body, Entities, Entity};
+use std::alloc::AllocError;
+use std::collections::BTreeSet;
+
+/// An entity's type, its instance number and its container.
+pub type EntityKey = (u16, u16, u16);
 
 /// Whether a node's record is a sensor's, and no entity association of the node contains its entity.
-pub fn measures_uncontained(plan: &Plan, node: usize, index: usize) -> bool
+pub fn measures_uncontained(plan: &Plan, indexes: &[RecordIndex], node: usize, index: usize) -> bool
+    requires { AreRecordIndexes plan.now indexes.now }
     ensures { IsTrue result ↔ MeasuresUncontained plan.now node index }
 {
     match record_at(plan, node, index) {
-        Some(listed) => has_uncontained_entity(plan, node, &listed.bytes),
+        Some(listed) => has_uncontained_entity(plan, indexes, node, &listed.bytes),
         None => false,
     }
 }
 
 /// Whether the bytes are those of a sensor's record, and no entity association of the node contains its entity.
-fn has_uncontained_entity(plan: &Plan, node: usize, bytes: &[u8]) -> bool
+fn has_uncontained_entity(plan: &Plan, indexes: &[RecordIndex], node: usize, bytes: &[u8]) -> bool
+    requires { AreRecordIndexes plan.now indexes.now }
     ensures { IsTrue result ↔ HasUncontainedEntity plan.now node bytes.now }
 {
     match sensor(bytes) {
-        Some(sensor) => is_uncontained(plan, node, sensor.entity),
+        Some(sensor) => is_uncontained(plan, indexes, node, sensor.entity),
         None => false,
     }
 }
 
 /// Whether an entity is in a container that is not the system, and no entity association of the node contains it.
-fn is_uncontained(plan: &Plan, node: usize, entity: Entity) -> bool
+fn is_uncontained(plan: &Plan, indexes: &[RecordIndex], node: usize, entity: Entity) -> bool
+    requires { AreRecordIndexes plan.now indexes.now }
     ensures { IsTrue result ↔ IsUncontained plan.now node (entity_value entity) }
 {
-    entity.container_id != 0 && !has_association_of(plan, node, entity)
+    entity.container_id != 0 && !has_association_of(plan, indexes, node, entity)
 }
 
-/// Whether one of a node's records is an entity association that contains the entity.
-fn has_association_of(plan: &Plan, node: usize, entity: Entity) -> bool
-    ensures { IsTrue result ↔ HasAssociationOf plan.now node (entity_value entity) }
-{
-    let records = records_at(plan, node);
-    for listed in records {
-        if is_association(listed, entity) {
-            return true;
-        }
-    }
-    false
-}
-
-/// Whether a record is an entity association that contains the entity.
-fn is_association(listed: &PlannedRecord, entity: Entity) -> bool
-    ensures { IsTrue result ↔ Associates listed.now.bytes.items (entity_value entity) }
-{
-    associates(&listed.bytes, entity)
-}
-
-fn associates(bytes: &[u8], entity: Entity) -> bool
-    ensures { IsTrue result ↔ Associates bytes.now (entity_value entity) }
+/// Notes the entities that the bytes contain, where they are an entity association's.
+pub fn note_contained(contained: &mut BTreeSet<EntityKey>, bytes: &[u8]) -> Result<(), AllocError>
+    ensures { OnOk result (NotesEntities contained.old (Associates bytes.now) contained.new) }
 {
     match body(bytes) {
-        Some(body) => is_association_of(&body, entity),
-        None => false,
+        Some(body) => note_body(contained, &body),
+        None => Ok(()),
     }
 }
 
-/// Whether a body is an entity association's that contains the entity.
-fn is_association_of(body: &Body, entity: Entity) -> bool
-    ensures { IsTrue result ↔ (a : AssociationValue) × (body_value body.now ≡ Association a) × Contains a.contained_entities (entity_value entity) }
+/// Notes the entities that a body contains, where it is an entity association's.
+fn note_body(contained: &mut BTreeSet<EntityKey>, body: &Body) -> Result<(), AllocError>
+    ensures { OnOk result (NotesEntities contained.old (AssociatesIn (body_value body.now)) contained.new) }
 {
     match body {
-        Body::Association(association) => contains(&association.contained_entities, entity),
-        Body::Terminus(_) | Body::Numeric(_) | Body::State(_) | Body::Other { .. } => false,
+        Body::Association(association) => note_all(contained, &association.contained_entities),
+        Body::Terminus(_) | Body::Numeric(_) | Body::State(_) | Body::Other { .. } => Ok(()),
     }
 }
 
-/// Whether the entity is one of these.
-fn contains(entities: &Entities, entity: Entity) -> bool
-    ensures { IsTrue result ↔ Contains (entities_value entities.now) (entity_value entity) }
+fn note_all(contained: &mut BTreeSet<EntityKey>, entities: &Entities) -> Result<(), AllocError>
+    ensures { OnOk result (NotesEntities contained.old (Contains (entities_value entities.now)) contained.new) }
 {
     let mut left = entities.iter();
-    while let Some(contained) = left.next() {
-        if is_same(contained, entity) {
-            return true;
-        }
+    while let Some(entity) = left.next() {
+        note(contained, entity)?;
     }
-    false
+    Ok(())
 }
 
-fn is_same(entity: Entity, other: Entity) -> bool
-    ensures { IsTrue result ↔ (entity_value entity ≡ entity_value other) }
+fn note(contained: &mut BTreeSet<EntityKey>, entity: Entity) -> Result<(), AllocError>
+    ensures { OnOk result (NotesEntities contained.old (λ e. entity_value entity ≡ e) contained.new) }
 {
-    entity == other
+    contained.insert(key_of(entity))?;
+    Ok(())
+}
+
+/// What entities are told apart by.
+pub fn key_of(entity: Entity) -> EntityKey
+    ensures { result ≡ entity_key (entity_value entity) }
+{
+    (
+        entity.entity_type,
+        entity.instance_number,
+        entity.container_id,
+    )
 }

@@ -3,23 +3,29 @@ ghost use Rattle.std.specs.Prelude.{◌≡◌, ◌<◌, ◌↔◌, IsSomeAnd, If
 ghost use Rattle.std.specs.Ordering.{nat_cmp};
 ghost use Rattle.std.specs.BTreeMap.{get};
 ghost use Rattle.net_questions.specs.Lint.{IsSensorRecord, HasEarlierSensor};
-ghost use Rattle.net_questions.specs.Sensors.{IsLocatorOf, HasLocatorOf};
-ghost use Rattle.net_questions.specs.RecordIndexes.{AreFirst, IsRecordIndex, AreRecordIndexes, NotesAny};
+ghost use Rattle.pdr_record.specs.Values.{entity_value};
+ghost use Rattle.net_questions.specs.Sensors.{HasAssociationOf, IsLocatorOf, HasLocatorOf};
+ghost use Rattle.net_questions.specs.RecordIndexes.{AreContained, AreFirst, IsRecordIndex, AreRecordIndexes, NotesAny};
 
+use super::entities::{EntityKey, key_of, note_contained};
 use super::handles::locator_handle;
 use super::sensors::sensor_id;
 use net_plan::Plan;
 use net_tables::lookup::records_at;
+use pdr_record::Entity;
 use std::alloc::{AllocError, Global};
-use std::collections::BTreeMap;
+use std::collections::{BTreeMap, BTreeSet};
 
-/// The first records of a node that have a sensor ID or a terminus handle, so that no search is needed for them.
+/// The first records of a node that have a sensor ID or a terminus handle, and the entities that its associations
+/// contain, so that no search is needed for them.
 #[derive(Drop)]
 pub struct RecordIndex {
     /// The index of the first sensor's record of each sensor ID.
     sensors: BTreeMap<u16, usize>,
     /// The index of the first terminus locator of each terminus handle.
     locators: BTreeMap<u16, usize>,
+    /// Each entity that an entity association contains.
+    contained: BTreeSet<EntityKey>,
 }
 
 /// The index of each node's records.
@@ -40,6 +46,7 @@ fn record_index(alloc: Global, plan: &Plan, node: usize) -> Result<RecordIndex, 
     Ok(RecordIndex {
         sensors: first_sensors(alloc, plan, node)?,
         locators: first_locators(alloc, plan, node)?,
+        contained: contained_entities(alloc, plan, node)?,
     })
 }
 
@@ -73,6 +80,22 @@ fn first_locators(
         note(&mut first, locator_handle(&records[at].bytes), at)?;
     }
     Ok(first)
+}
+
+/// The entities that a node's entity associations contain.
+fn contained_entities(
+    alloc: Global,
+    plan: &Plan,
+    node: usize,
+) -> Result<BTreeSet<EntityKey>, AllocError>
+    ensures { IfOk result (AreContained plan.now node) }
+{
+    let mut contained = BTreeSet::new(alloc);
+    let records = records_at(plan, node);
+    for listed in records {
+        note_contained(&mut contained, &listed.bytes)?;
+    }
+    Ok(contained)
 }
 
 /// Notes an index for a number, if there is one, that has none yet.
@@ -132,6 +155,17 @@ pub fn has_locator_of(plan: &Plan, indexes: &[RecordIndex], node: usize, handle:
 {
     match indexes.get(node) {
         Some(records) => first_at(&records.locators, handle).is_some(),
+        None => false,
+    }
+}
+
+/// Whether one of a node's records is an entity association that contains the entity.
+pub fn has_association_of(plan: &Plan, indexes: &[RecordIndex], node: usize, entity: Entity) -> bool
+    requires { AreRecordIndexes plan.now indexes.now }
+    ensures { IsTrue result ↔ HasAssociationOf plan.now node (entity_value entity) }
+{
+    match indexes.get(node) {
+        Some(records) => records.contained.contains(&key_of(entity)),
         None => false,
     }
 }
