@@ -2,8 +2,9 @@
 # Source it, or put it into /usr/share/bash-completion/completions/mctpplan.
 
 # tools/made writes these commands
-_mctpplan_commands='make rows check certify move certifymove rollout assign sim expect script simmove walk reach matrix
-require trace draw explain faults fix lint show decode describe record code schema guide version'
+_mctpplan_commands='make rows check certify move certifymove diff rollout assign sim expect script simmove walk export
+reach matrix require trace draw explain faults fix lint show decode audit describe record code
+schema guide version'
 
 # tools/made writes these codes
 _mctpplan_codes='A01 A02 A03 A04 A05 B01 B02 B03 B10 B11 B12 C01 C02 C03 C04 C05 C06 C07 C08 C09 C10 C11 C12 C13 C14
@@ -82,6 +83,11 @@ _mctpplan() {
         COMPREPLY=(walk)
     elif [[ $command == make && $current == -* ]]; then
         mapfile -t COMPREPLY < <(compgen -W '--certificate' -- "$current")
+    elif [[ $command == rollout && $current == -* ]]; then
+        mapfile -t COMPREPLY < <(compgen -W '--write' -- "$current")
+    elif [[ $command == rollout && ${COMP_WORDS[COMP_CWORD - 1]} == --write ]]; then
+        compopt -o filenames 2>/dev/null
+        mapfile -t COMPREPLY < <(compgen -d -- "$current")
     elif [[ $command == make ]]; then
         compopt -o filenames 2>/dev/null
         mapfile -t COMPREPLY < <(compgen -d -- "$current"; compgen -f -X '!*.@(toml|json)' -- "$current")

@@ -3,14 +3,23 @@
 
 ghost use Rattle.std.specs.Prelude.{◌≡◌};
 
+use audit_commands::run_audit;
+use byte_commands::{ShownKind, WordQuestion, run_decode, run_show, run_worded};
+use command_answers::{Refused, Status, refuse, run_known};
+use command_line::{
+    FileAtPath, FileToWrite, FilesAtPaths, Subcommand, hint_node, hint_nodes, hint_record,
+    hint_words, links_of_words, parse_command,
+};
+use explain_commands::{run_explain, run_explain_certified, run_fix};
+use export_commands::{Export, run_export};
 use net_json::Counted;
 use plan_commands::{
-    FileAtPath, FileToWrite, PlanQuestion, Question, Refused, ShownKind, Status, Subcommand,
-    WalkScript, WordQuestion, hint_node, hint_nodes, hint_record, hint_words, parse_command,
-    refuse, run_certified, run_certify_move, run_decode, run_expect, run_explain,
-    run_explain_certified, run_fix, run_known, run_make, run_make_certified, run_move, run_planned,
-    run_require, run_rollout, run_script, run_show, run_worded, simulate, simulate_move,
+    PlanQuestion, Question, run_certified, run_certify_move, run_make, run_make_certified,
+    run_move, run_planned, run_require,
 };
+use plan_differences::run_diff;
+use play_commands::{WalkScript, run_expect, run_script, simulate, simulate_move};
+use rollout_commands::{run_rollout, run_rollout_written};
 use std::env;
 use std::io::IsTerminal;
 use std::process::ExitCode;
@@ -98,17 +107,38 @@ fn run_command<'a>(rt: &'a HostRuntime, command: Subcommand<'a>) -> Status {
             certificate,
         } => check_move(rt, before, after, certificate),
         Subcommand::CertifyMove { before, after } => certify_move(rt, before, after),
-        Subcommand::Rollout { before, after } => roll_out(rt, before, after),
+        Subcommand::Diff { before, after } => tell_changes(rt, before, after),
+        Subcommand::Rollout {
+            before,
+            after,
+            folder: None,
+        } => roll_out(rt, before, after),
+        Subcommand::Rollout {
+            before,
+            after,
+            folder: Some(folder),
+        } => roll_out_into(rt, before, after, folder),
         Subcommand::SimMove {
             before,
             after,
             certificate,
             events,
         } => play_move(rt, [before, after, certificate, events]),
+        Subcommand::Export {
+            export,
+            plan,
+            certificate,
+            words,
+        } => export_node(rt, &export, plan, certificate, words),
         Subcommand::Known { text } => tell(rt, text),
         Subcommand::Worded { question, words } => say(rt, question, words),
         Subcommand::Show { kind, hex } => show(rt, kind, hex),
         Subcommand::Decode { capture } => decode(rt, capture),
+        Subcommand::Audit {
+            plan,
+            certificate,
+            capture,
+        } => audit(rt, plan, certificate, capture),
     }
 }
 
@@ -283,6 +313,44 @@ fn write_script<'a>(
     status
 }
 
+/// Writes what a node of a plan is in some form. The words have the links of the buses.
+fn export_node<'a>(
+    rt: &'a HostRuntime,
+    export: &Export<'a>,
+    plan: &'a str,
+    certificate: &'a str,
+    words: &'a [String],
+) -> Status {
+    let alloc = rt.alloc();
+    let mut errors = Counted::new(rt.stderr());
+    let links = match links_of_words(alloc, words) {
+        Ok(links) => links,
+        Err(refused) => return refuse(alloc, refused, &mut errors),
+    };
+    let mut plan_file = file(rt, plan);
+    let mut certificate = file(rt, certificate);
+    let mut output = Counted::new(rt.stdout());
+    let status = run_export(
+        alloc,
+        export,
+        &links,
+        &mut plan_file,
+        &mut certificate,
+        &mut output,
+        &mut errors,
+    );
+    if status == Status::Unreadable && plan != "-" && rt.stderr().is_terminal() {
+        let mut plan = file(rt, plan);
+        hint_node(
+            alloc,
+            export.node,
+            &mut plan,
+            &mut Counted::new(rt.stderr()),
+        );
+    }
+    status
+}
+
 /// Checks a move from one plan to another.
 fn check_move<'a>(
     rt: &'a HostRuntime,
@@ -320,6 +388,21 @@ fn certify_move<'a>(rt: &'a HostRuntime, before: &'a str, after: &'a str) -> Sta
     )
 }
 
+/// Tells what the change from one plan to another does.
+fn tell_changes<'a>(rt: &'a HostRuntime, before: &'a str, after: &'a str) -> Status {
+    let mut before = file(rt, before);
+    let mut after = file(rt, after);
+    let mut output = Counted::new(rt.stdout());
+    let mut errors = Counted::new(rt.stderr());
+    run_diff(
+        rt.alloc(),
+        &mut before,
+        &mut after,
+        &mut output,
+        &mut errors,
+    )
+}
+
 /// Tells the steps from the rows of one plan to those of another.
 fn roll_out<'a>(rt: &'a HostRuntime, before: &'a str, after: &'a str) -> Status {
     let mut before = file(rt, before);
@@ -333,6 +416,33 @@ fn roll_out<'a>(rt: &'a HostRuntime, before: &'a str, after: &'a str) -> Status 
         &mut output,
         &mut errors,
     )
+}
+
+/// The same, and writes the files of the steps into a folder. Where that fails, standard error tells the path and the
+/// system's reason.
+fn roll_out_into<'a>(
+    rt: &'a HostRuntime,
+    before: &'a str,
+    after: &'a str,
+    folder: &'a str,
+) -> Status {
+    let alloc = rt.alloc();
+    let mut before = file(rt, before);
+    let mut after = file(rt, after);
+    let mut files = FilesAtPaths::new(rt, alloc);
+    let mut output = Counted::new(rt.stdout());
+    let mut errors = Counted::new(rt.stderr());
+    let status = run_rollout_written(
+        alloc,
+        folder,
+        &mut before,
+        &mut after,
+        &mut files,
+        &mut output,
+        &mut errors,
+    );
+    files.tell_failure(&mut Counted::new(rt.stderr()));
+    status
 }
 
 /// Plays events in a network that moves. The files are the old plan, the new one, the certificate and the events.
@@ -384,6 +494,23 @@ fn decode<'a>(rt: &'a HostRuntime, capture: &'a str) -> Status {
     let mut output = Counted::new(rt.stdout());
     let mut errors = Counted::new(rt.stderr());
     run_decode(rt.alloc(), &mut capture, &mut output, &mut errors)
+}
+
+/// Tells what the devices of a capture said, beside a plan.
+fn audit<'a>(rt: &'a HostRuntime, plan: &'a str, certificate: &'a str, capture: &'a str) -> Status {
+    let mut plan = file(rt, plan);
+    let mut certificate = file(rt, certificate);
+    let mut capture = file(rt, capture);
+    let mut output = Counted::new(rt.stdout());
+    let mut errors = Counted::new(rt.stderr());
+    run_audit(
+        rt.alloc(),
+        &mut plan,
+        &mut certificate,
+        &mut capture,
+        &mut output,
+        &mut errors,
+    )
 }
 
 /// Explains a plan. Where its file can't be opened or read, standard error tells the path and the system's reason.
