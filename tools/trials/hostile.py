@@ -2,15 +2,17 @@
 
 What is wanted is told from the texts: that a text that is cut off is no JSON (J01), that one of more than 16,777,216 bytes
 is too long (J08), that a plan of format 2 with the unit 64 has the answers of the same plan of format 1, and so on. Each
-run has a limit of processor time and of memory. The words choose among outputs, beginnings, bytes, escapes, limits, sizes,
+run has a limit of processor time and of memory. The words choose among outputs, folders, beginnings, bytes, escapes, limits, sizes,
 formats and captures.
 """
 import itertools
 import json
 import os
+import pathlib
 import re
 import subprocess
 import sys
+import tempfile
 
 from runner import MOVE, RISER, TOP, commands, each
 
@@ -45,6 +47,28 @@ def try_outputs(trial):
         os.close(end)
         with open(start, "wb") as closed:
             expect(trial, f"{words[0]} over a closed pipe", words, UNWRITTEN, stdout=closed)
+
+
+def try_folders(trial):
+    """The files of a roll-out: into no folder, over a folder that has the name of one, and over a disk that is full."""
+    words = ["rollout", MOVE / "to-left.json", MOVE / "to-right.json", "--write"]
+    names = ["step-1.json", "step-1.cert.json", "step-1.move.json", "step-2.json", "step-2.cert.json", "step-2.move.json"]
+    with tempfile.TemporaryDirectory(prefix="steps-") as room:
+        for at, (name, why) in enumerate((name, why) for name in names for why in ("a folder", "full")):
+            folder = pathlib.Path(room, str(at))
+            folder.mkdir()
+            if why == "full":
+                (folder / name).symlink_to("/dev/full")
+            else:
+                (folder / name).mkdir()
+            reason = "No space left on device (os error 28)" if why == "full" else "Is a directory (os error 21)"
+            wanted = 2, b"", f"unreadable output: file\n{folder}/{name}: {reason}\n".encode()
+            expect(trial, f"{name} is {why}", [*words, folder], wanted)
+            before = names[: names.index(name)]
+            there = {it.name for it in folder.iterdir()} - {name}
+            trial.note(there == set(before), f"{name} is {why}: there are {there}")
+        wanted = 2, b"", f"unreadable output: file\n{room}/none/step-1.json: No such file or directory (os error 2)\n".encode()
+        expect(trial, "no folder", [*words, f"{room}/none"], wanted)
 
 
 def try_beginnings(trial):
@@ -278,6 +302,6 @@ def try_all(trial):
     # (with checks of each access a program reserves all addresses, and is slow)
     limits = "ulimit -t 600" if trial.is_unproved else f"ulimit -t {SECONDS}; ulimit -v {MOST_MEMORY // 1000}"
     trial.program = ["sh", "-c", f'{limits}; exec "$@"', "sh", *trial.program]
-    for part in (try_outputs, try_beginnings, try_bytes, try_escapes, try_limits, try_sizes, try_formats, try_captures):
+    for part in (try_outputs, try_folders, try_beginnings, try_bytes, try_escapes, try_limits, try_sizes, try_formats, try_captures):
         if trial.has(part.__name__):
             part(trial)

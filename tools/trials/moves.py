@@ -7,13 +7,16 @@ and no row leads what is held to a node without a row, with the lengths of the l
 accept it; or else the first loop, or the row. rollout has to say `any order` just there, the same line where one of the
 plans has no certificate by itself, and else steps: by each the nodes send as it says, each is a move that certifymove
 certifies and move accepts, and the last ends in the new plan. For some choice of node and endpoint ID there always is a
-next step, so it is never stuck. 5,000 pairs are tried of the proved program, 400 of another; a word that is a number says how
+next step, so it is never stuck. The files of its steps are those that certify, certifymove, check and move take: each plan
+has the rows of its step. 5,000 pairs are tried of the proved program, 400 of another; a word that is a number says how
 many.
 """
 import itertools
 import json
+import pathlib
 import random
 import re
+import tempfile
 
 from runner import each
 
@@ -181,10 +184,43 @@ def why_not_steps(trial, old, new, lines):
     return None if tables == new else "the last step doesn't end in the new plan"
 
 
+def why_not_files(trial, old, new, folder, lines):
+    """What is wrong with the files of the steps, if anything."""
+    steps = [] if lines == ["any order"] else steps_of(lines)[:-1]
+    before, count, tables = trial.file("old", plan(old)), len(steps) + 1, [old]
+    for step in steps:
+        tables.append((switched if isinstance(step[0], str) else with_parts)(tables[-1], new, step))
+    names = [f"step-{number:0{len(str(count))}}" for number in range(1, count + 1)]
+    if sorted(it.name for it in folder.iterdir()) != sorted(f"{name}.{kind}" for name in names for kind in ("json", "cert.json", "move.json")):
+        return "other files"
+    for name, after in zip(names, [*tables[1:], new]):
+        step, certificate, move = (folder / f"{name}.{kind}" for kind in ("json", "cert.json", "move.json"))
+        if moved(json.loads(step.read_text())) != moved(json.loads(plan(after))):
+            return f"{name} is another plan"
+        if trial.run(["certify", step])[1] != certificate.read_bytes() or trial.run(["check", step, certificate])[1] != b"yes\n":
+            return f"{name} has another certificate"
+        if trial.run(["certifymove", before, step])[1] != move.read_bytes() or trial.run(["move", before, step, move])[1] != b"yes\n":
+            return f"{name} has another certificate of its move"
+        before = step
+    return None
+
+
+def moved(told):
+    """A plan's text, where each node has a row for each endpoint ID that it sends on."""
+    for node in told["nodes"]:
+        node["rows"] = sorted((e, row["port"], row["next"]) for row in node["rows"] for e in range(row["first"], row["first"] + row["size"]))
+    return told
+
+
 def try_rollout(trial, seed, old, new, want):
-    """Compares rollout with what certifymove is to print."""
+    """Compares rollout with what certifymove is to print, and the files of its steps with the commands that take them."""
     files = trial.file("old", plan(old)), trial.file("new", plan(new))
     status, output, error = trial.run(["rollout", *files])
+    with tempfile.TemporaryDirectory(prefix="steps-") as name:
+        folder = pathlib.Path(name)
+        same = trial.run(["rollout", *files, "--write", folder]) == (status, output, error)
+        wrong = why_not_files(trial, old, new, folder, output.decode().splitlines()) if status == 0 else [*folder.iterdir()]
+    trial.note(same and not wrong, f"pair {seed}: rollout --write: {output}: {wrong}")
     lines = output.decode().splitlines()
     alone = [wanted(side, side) for side in (old, new)]
     if not isinstance(want, str):

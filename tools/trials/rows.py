@@ -7,7 +7,10 @@ and the status.
 """
 import codecs
 import importlib.machinery
+import json
+import pathlib
 import re
+import tempfile
 
 from runner import TOP, Failed, each
 
@@ -28,6 +31,7 @@ class Scene:
 
     def __init__(self, title):
         self.title, self.words, self.texts, self.as_words, self.rows = title, [], {}, set(), []
+        self.folder = None
 
     def last_text(self):
         """The name of the text that the rows change or fill: the last one that was set."""
@@ -46,9 +50,9 @@ class Case:
     def __init__(self, scene, texts, rows):
         self.scene, self.texts, self.rows = scene, texts, rows
 
-    def words(self, path_of):
-        """The words of the run, with a path for each text that is a file."""
-        return [self.word(it, path_of) for it in self.scene.words]
+    def words(self, path_of, folder):
+        """The words of the run, with a path for each text that is a file, and for the folder if there is one."""
+        return [str(folder) if it == self.scene.folder else self.word(it, path_of) for it in self.scene.words]
 
     def word(self, word, path_of):
         if word not in self.texts:
@@ -56,8 +60,9 @@ class Case:
         text = self.texts[word]
         return text.decode() if word in self.scene.as_words else path_of(word, text)
 
-    def wrong(self, output, error, status):
-        """The rows that are not as written, each with what came instead."""
+    def wrong(self, output, error, status, written):
+        """The rows that are not as written, each with what came instead. What was written are lines too."""
+        output += written
         if self.scene.is_of_events():
             lines = [re.sub(r"^\d+ ", "", it) for it in output.splitlines()]
             numbers = [it.split(" ")[0] for it in output.splitlines()]
@@ -137,6 +142,8 @@ def setting(scene, line, number):
     kind, _, rest = value.partition(" ")
     if key == "run":
         scene.words = value.split()
+    elif key.isupper() and value == "folder":
+        scene.folder = key
     elif key.isupper() and kind == "file":
         scene.texts[key] = (TOP / rest).read_bytes()
     elif key.isupper() and kind in ("text", "word"):
@@ -259,6 +266,12 @@ def named_in(printed, paths):
     return text
 
 
+def written_in(folder):
+    """A line for each file of a folder: its name, and its JSON without spaces."""
+    files = sorted(pathlib.Path(folder).iterdir())
+    return "".join(f"{it.name}: {json.dumps(json.loads(it.read_text()), separators=(',', ':'))}\n" for it in files)
+
+
 def try_all(trial):
     named = [*read(trial)]
 
@@ -269,8 +282,10 @@ def try_all(trial):
             paths[name] = trial.file(name, text)
             return paths[name]
 
-        status, output, error = trial.run(case.words(path_of))
-        return case.wrong(named_in(output, paths), named_in(error, paths), status)
+        with tempfile.TemporaryDirectory(prefix="rows-") as folder:
+            status, output, error = trial.run(case.words(path_of, folder))
+            written = written_in(folder) if case.scene.folder else ""
+        return case.wrong(named_in(output, paths), named_in(error, paths), status, written)
 
     for (name, case), wrong in zip(named, each(run, [case for _, case in named])):
         instead = {row: came for row, came in wrong}

@@ -1,8 +1,10 @@
 """What all parts of tools/try share: the program that they run, its commands, and what they count."""
+import atexit
 import functools
 import importlib.machinery
 import os
 import pathlib
+import shutil
 import subprocess
 import sys
 import tempfile
@@ -88,6 +90,14 @@ def kind_of(path):
     return "certificate" if "certificate" in path.name else "plan"
 
 
+@functools.cache
+def steps_folder():
+    """A folder for the files of a roll-out, which is gone when the trials end."""
+    folder = tempfile.mkdtemp(prefix="steps-")
+    atexit.register(shutil.rmtree, folder)
+    return folder
+
+
 def commands():
     """The words of each command, each way that it may go."""
     plan, certificate, loop = RISER / "plan.json", RISER / "certificate.json", TOP / "examples/refused/loop.json"
@@ -103,6 +113,8 @@ def commands():
         ("sim", [[plan, certificate, RISER / it] for it in ("events-tid.json", "events-walk.json")]),
         ("expect", [[plan, certificate, RISER / "events-tid.json", RISER / "README.md"]]),
         ("walk", [[plan, certificate, "nic", "16"]]),
+        ("export", [[it, plan, certificate, node] for it, node in (("linux", "riser"), ("c", "nic"), ("entries", "riser"), ("records", "nic"))]),
+        ("export", [["linux", plan, certificate, "host", "--link", "b0=mctpi2c0"]]),
         ("reach", [[plan, certificate]]),
         ("matrix", [[plan, certificate]]),
         ("require", [[plan, certificate, TOP / "examples/questions/wanted.txt"]]),
@@ -114,10 +126,13 @@ def commands():
         ("lint", [[plan], [TOP / "examples/questions/plan-without-rows.json"]]),
         ("move", [[left, right, ranks]]),
         ("certifymove", [[left, right], [MOVE / "to-left.json", MOVE / "to-right.json"]]),
+        ("diff", [[left, right], [MOVE / "to-left.json", MOVE / "to-right.json"]]),
         ("rollout", [[left, right], [MOVE / "to-left.json", MOVE / "to-right.json"]]),
+        ("rollout", [[MOVE / "to-left.json", MOVE / "to-right.json", "--write", steps_folder()]]),
         ("simmove", [[left, right, ranks, MOVE / "events.json"]]),
         ("show", [["packet", "010a08cb01800002"], ["packet", "010a08"], ["record", record]]),
         ("decode", [[TOP / "examples/captures/riser.pcap"], [TOP / "examples/captures/nic.log"]]),
+        ("audit", [[plan, certificate, TOP / "examples/captures" / it] for it in ("as-planned.txt", "liar.txt")]),
         ("describe", [[record]]),
         ("record", [["terminus-locator", "handle=1", "tid=20", "eid=37"]]),
         ("code", [["C08"]]),
