@@ -85,7 +85,7 @@ pub data AreHopsTold (before after : PlanFile) (e : ℕ) (nodes : List ℕ) (sid
 abbrev pub circling_text : ℕ → List ℕ
 circling_text e =
     codes "While the nodes of new rows have switched and those of old rows have not, what is for\nendpoint ID "
-    ++ (decimal e ++ codes " circles. So no ranks can fall along each of these rows.\n")
+    ++ (decimal e ++ codes " circles. The ranks of a certificate would have to fall all the way round.\n")
 
 -- ---- what helps
 

@@ -101,7 +101,7 @@ fn circling_line(alloc: Global, eid: Eid) -> Result<String, AllocError>
     ensures { IfOk result (λ text. string_bytes text ≡ circling_text eid.value) }
 {
     let eid = eid.value;
-    format!(in alloc; "While the nodes of new rows have switched and those of old rows have not, what is for\nendpoint ID {eid} circles. So no ranks can fall along each of these rows.\n")
+    format!(in alloc; "While the nodes of new rows have switched and those of old rows have not, what is for\nendpoint ID {eid} circles. The ranks of a certificate would have to fall all the way round.\n")
 }
 
 // ---- a row
