@@ -557,7 +557,10 @@ fn explaining<'a>(arguments: &ArgMatches<'a>) -> Option<Subcommand<'a>> {
     let certificate = arguments.get_str("certificate");
     match (arguments.get_str("move"), certificate) {
         (None, certificate) => Some(Subcommand::Explain { plan, certificate }),
-        (Some(after), None) => Some(Subcommand::ExplainMove { before: plan, after }),
+        (Some(after), None) => Some(Subcommand::ExplainMove {
+            before: plan,
+            after,
+        }),
         (Some(_), Some(_)) => None,
     }
 }

@@ -1,3 +1,6 @@
 mod UnreadTexts
 mod Explained
 mod Mended
+mod Differing
+mod Hops
+mod ExplainedMoves

@@ -65,8 +65,8 @@ abbrev pub AreMoreTold : Plan → Option Certificate → CertifyError → List �
 AreMoreTold plan cert obstacle words line = (runs : List FaultRun) × AreFaults plan cert runs
     × (line ≡ more_text words (others_of obstacle (length runs)))
 
--- The lines explain an obstacle of the plan: where it stands in the text of this name; why it is one, with edits; and how
--- many more faults there are.
+-- The lines explain an obstacle of the plan: where it stands in the text of this name; why it is one, with edits; and
+-- how many more faults there are.
 pub record IsExplainedThere (name text : List ℕ) (plan : Plan) (obstacle : CertifyError)
     (lines : List ℕ) : Type 0 where
   pub place : List ℕ

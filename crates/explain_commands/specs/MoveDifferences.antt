@@ -1,7 +1,10 @@
 -- What is told where two plans of a move differ in more than rows.
-use Rattle.std.specs.Prelude.{◌≡◌, ◌≢◌, ℕ, List, [], ◌∷◌, ◌++◌, codes, length, map, Option, Some, None, slice_get, option_map}
-use Rattle.net_json.specs.Finding.{Step, key}
-use Rattle.net_plan.specs.NodeValues.{NodeValue, bus_value, node_value}
+use Rattle.std.specs.Prelude.{◌≡◌, ◌≢◌, ℕ, List, [], ◌∷◌, ◌++◌, codes, length, slice_get}
+use Rattle.std.specs.Prelude.{Option, Some, None, option_map}
+use Rattle.std.specs.Fmt.{decimal}
+use Rattle.net_json.specs.Finding.{Step, key, index}
+use Rattle.net_plan.specs.NodeValues.{BusValue, NodeValue, bus_value, node_value}
+use Rattle.net_plan.specs.declared.nodes.Bus.{Bus}
 use Rattle.net_plan.specs.declared.plan.Plan.{Plan}
 use Rattle.explain_commands.specs.declared.explain.moved.differences.NodePart.{NodePart}
 use Rattle.explain_commands.specs.declared.explain.moved.differences.NodePart.TheVariants as part
@@ -29,10 +32,19 @@ pub record IsUnlikeNode (before after : Plan) (n : ℕ) (part : NodePart) : Type
   pub is_other : option_map node_value (slice_get after.nodes.items n) ≡ Some other
   pub unlike : IsUnlikePart part one other
 
+-- both lists have a bus there, and it is not the same in both
+pub record IsUnlikeBus (buses others : List Bus) (i : ℕ) : Type 0 where
+  pub one : BusValue
+  pub other : BusValue
+  pub is_one : option_map bus_value (slice_get buses i) ≡ Some one
+  pub is_other : option_map bus_value (slice_get others i) ≡ Some other
+  pub unlike : one ≢ other
+
 -- this is not the same in both plans
 abbrev pub AreUnlikeIn : Unlike → Plan → Plan → Type 0
 AreUnlikeIn unlike.Unit before after = before.unit ≢ after.unit
-AreUnlikeIn unlike.Buses before after = map bus_value before.buses.items ≢ map bus_value after.buses.items
+AreUnlikeIn unlike.Buses before after = length before.buses.items ≢ length after.buses.items
+AreUnlikeIn (unlike.Bus i) before after = IsUnlikeBus before.buses.items after.buses.items i
 AreUnlikeIn unlike.Nodes before after = length before.nodes.items ≢ length after.nodes.items
 AreUnlikeIn (unlike.Part n part) before after = IsUnlikeNode before after n part
 
@@ -40,6 +52,7 @@ AreUnlikeIn (unlike.Part n part) before after = IsUnlikeNode before after n part
 abbrev pub node_of : Unlike → Option ℕ
 node_of unlike.Unit = None
 node_of unlike.Buses = None
+node_of (unlike.Bus i) = None
 node_of unlike.Nodes = None
 node_of (unlike.Part n part) = Some n
 
@@ -59,13 +72,15 @@ part_key part.Terminus = codes "terminus"
 abbrev pub unlike_pointer : Unlike → List Step
 unlike_pointer unlike.Unit = key (codes "unit") ∷ []
 unlike_pointer unlike.Buses = key (codes "buses") ∷ []
+unlike_pointer (unlike.Bus i) = key (codes "buses") ∷ index i ∷ []
 unlike_pointer unlike.Nodes = key (codes "nodes") ∷ []
 unlike_pointer (unlike.Part n part) = part_pointer n (part_key part)
 
 -- what it is, with the node's name in the plan
 abbrev pub unlike_words : Plan → Unlike → List ℕ
 unlike_words plan unlike.Unit = codes "unit"
-unlike_words plan unlike.Buses = codes "buses"
+unlike_words plan unlike.Buses = codes "number of buses"
+unlike_words plan (unlike.Bus i) = codes "bus " ++ decimal i
 unlike_words plan unlike.Nodes = codes "number of nodes"
 unlike_words plan (unlike.Part n part) = part_key part ++ (codes " of " ++ name_or_dash plan n)
 

@@ -60,10 +60,11 @@ abbrev pub row_line : Side → Plan → ℕ → Option ℕ → List ℕ
 row_line side plan n index = table_word side ++ (codes " row " ++ (number_or_dash index
     ++ (codes " of " ++ (name_or_dash plan n ++ (codes ": " ++ (row_words plan (row_at plan n index) ++ codes "\n"))))))
 
--- the lines tell where a row of the file's plan stands in its text, and what it says
-abbrev pub IsRowTold : PlanFile → Side → ℕ → Option ℕ → List ℕ → Type 0
-IsRowTold file side n index lines = (place : List ℕ)
-    × IsPlaceTold file.name file.text (way_pointer n index) place × (lines ≡ place ++ row_line side file.plan n index)
+-- The lines tell where a row of the file's plan stands in its text, and what it says.
+pub record IsRowTold (file : PlanFile) (side : Side) (n : ℕ) (index : Option ℕ) (lines : List ℕ) : Type 0 where
+  pub place : List ℕ
+  pub placed : IsPlaceTold file.name file.text (way_pointer n index) place
+  pub written : lines ≡ place ++ row_line side file.plan n index
 
 -- ---- a loop
 

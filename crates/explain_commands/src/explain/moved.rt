@@ -1,6 +1,8 @@
 //! The command `explain` of a move: what `certifymove` answers, and why.
-ghost use Rattle.std.specs.Prelude.{◌≡◌, ◌≢◌, ◌⊎◌, IfOk, IfErr, string_bytes};
+ghost use Rattle.std.specs.Prelude.{◌≡◌, ◌≢◌, ◌⊎◌, IfOk, IfErr, map, string_bytes};
 ghost use Rattle.std.specs.Cow.{cow_str_bytes};
+ghost use Rattle.fault_texts.specs.Places.{IsPlaceTold};
+ghost use Rattle.net_json.specs.Finding.{step_value};
 ghost use Rattle.net_json.specs.Stream.{HasRoom};
 ghost use Rattle.net_rules.specs.MoveObstacles.{NamesMoveObstacle, NamesSureFault, RulesOutMoveCertificates};
 ghost use Rattle.net_rules.specs.declared.certify_error.CertifyError.TheVariants as error;
@@ -21,11 +23,12 @@ use super::unread::unread_plan;
 use super::{edits_text, explained_there, sound_text, told_there};
 use command_answers::{Answer, PlanText, Refused, Status, plan_or_text, tell};
 use differences::difference_text;
+use fault_texts::pointer_place;
 use net_check::{
     CertifyError, Fault, MoveError, MoveFault, MoveObstacle, MoveRule, Rule, Side, certify_move,
 };
 use net_explained::find_cause;
-use net_json::{Sink, Source};
+use net_json::{PointerStep, Sink, Source};
 use plan_texts::move_obstacle_line;
 use rows::{loop_text, way_on_text};
 use std::alloc::{AllocError, Global};
@@ -243,4 +246,16 @@ fn fault_lines(alloc: Global, given: &PlanText, fault: &Fault) -> Result<String,
         Some(cause) => cause_text(alloc, given, fault, cause),
         None => edits_text(alloc, given, &CertifyError::Fault(*fault)),
     }
+}
+
+/// The line that tells where in the text of a plan a pointer leads.
+fn place_of(
+    alloc: Global,
+    name: &str,
+    given: &PlanText,
+    pointer: &[PointerStep],
+) -> Result<String, AllocError>
+    ensures { IfOk result (λ line. IsPlaceTold name.now given.now.text.items (map step_value pointer.now) (string_bytes line)) }
+{
+    pointer_place(alloc, name, given.text.as_slice(), pointer)
 }

@@ -1,17 +1,18 @@
 //! What two plans of a move differ in beside rows.
-ghost use Rattle.std.specs.Prelude.{◌≡◌, ◌≢◌, ◌<◌, IfOk, length, map, string_bytes};
+ghost use Rattle.std.specs.Prelude.{◌≡◌, ◌≢◌, ◌<◌, IfOk, None, length, map, string_bytes};
 ghost use Rattle.net_json.specs.Finding.{step_value};
-ghost use Rattle.net_plan.specs.NodeValues.{but_rows, node_value};
+ghost use Rattle.net_plan.specs.NodeValues.{bus_value, but_rows, node_value};
 ghost use Rattle.net_rules.specs.MoveRules.{HaveSameFrame, IsSameNode};
 ghost use Rattle.net_rules.specs.MoveObstacles.{NamesDifference};
 ghost use Rattle.net_rules.specs.declared.move_error.MoveError.TheVariants as move_error;
 ghost use Rattle.explain_commands.specs.MoveRows.{file_of};
-ghost use Rattle.explain_commands.specs.MoveDifferences.{AreUnlikeIn, IsDifferenceTold, IsUnlikeNode, IsUnlikePart, node_of, part_key, unlike_pointer, unlike_text, unlike_words};
+ghost use Rattle.explain_commands.specs.MoveDifferences.{AreUnlikeIn, IsDifferenceTold, IsUnlikeBus, IsUnlikeNode, IsUnlikePart, node_of, part_key, unlike_pointer, unlike_text, unlike_words};
 
+use super::place_of;
 use command_answers::PlanText;
-use fault_texts::{part_pointer, pointer_place};
+use fault_texts::part_pointer;
 use net_json::PointerStep;
-use net_plan::{Node, Plan, are_same};
+use net_plan::{Bus, Node, Plan, PlanPart, are_same};
 use plan_texts::name_or_dash;
 use std::alloc::{AllocError, Global};
 
@@ -32,8 +33,10 @@ pub enum NodePart {
 pub enum Unlike {
     /// The transmission unit.
     Unit,
-    /// The list of buses.
+    /// How many buses there are.
     Buses,
+    /// The bus at an index.
+    Bus(usize),
     /// How many nodes there are.
     Nodes,
     /// What the node at an index says beside its rows.
@@ -55,8 +58,8 @@ pub fn difference_text(
 {
     let unlike = first_unlike(&before.plan, &after.plan, node);
     let pointer = unlike_pointer(alloc, unlike)?;
-    let there = pointer_place(alloc, name, before.text.as_slice(), &pointer)?;
-    let here = pointer_place(alloc, new_name, after.text.as_slice(), &pointer)?;
+    let there = place_of(alloc, name, before, &pointer)?;
+    let here = place_of(alloc, new_name, after, &pointer)?;
     let words = unlike_line(alloc, &before.plan, unlike)?;
     format!(in alloc; "{there}{here}{words}")
 }
@@ -71,11 +74,12 @@ fn first_unlike(before: &Plan, after: &Plan, node: Option<usize>) -> Unlike
 {
     match node {
         None => unlike_frame(before, after),
-        Some(node) => Unlike::Part(node, unlike_part(&before.nodes[node], &after.nodes[node])),
+        Some(node) => Unlike::Part(node, unlike_node(before, after, node)),
     }
 }
 
 /// What is not the same in two plans of other frames.
+#[tactic(auto, unfolding(net_rules::specs::MoveRules::HaveSameFrame))]
 fn unlike_frame(before: &Plan, after: &Plan) -> Unlike
     requires { ¬ HaveSameFrame before.now after.now }
     ensures unlike { AreUnlikeIn result before.now after.now }
@@ -84,10 +88,37 @@ fn unlike_frame(before: &Plan, after: &Plan) -> Unlike
     if before.unit != after.unit {
         return Unlike::Unit;
     }
-    if !are_same(before.buses.as_slice(), after.buses.as_slice()) {
+    if before.nodes.len() != after.nodes.len() {
+        return Unlike::Nodes;
+    }
+    if before.buses.len() != after.buses.len() {
         return Unlike::Buses;
     }
-    Unlike::Nodes
+    Unlike::Bus(unlike_bus(&before.buses, &after.buses))
+}
+
+/// The first bus that is not the same in two lists of as many.
+fn unlike_bus(buses: &[Bus], others: &[Bus]) -> usize
+    requires long { length buses.now ≡ length others.now }
+    requires unlike { map bus_value buses.now ≢ map bus_value others.now }
+    ensures { IsUnlikeBus buses.now others.now result }
+{
+    for index in 0..buses.len() {
+        if !buses[index].is_same(&others[index]) {
+            return index;
+        }
+    }
+    0
+}
+
+/// What is not the same in the nodes of two plans at an index, which differ in more than rows.
+fn unlike_node(before: &Plan, after: &Plan, node: usize) -> NodePart
+    requires before { node < length before.now.nodes.items }
+    requires after { node < length after.now.nodes.items }
+    requires unlike { ¬ IsSameNode before.now after.now node }
+    ensures { IsUnlikeNode before.now after.now node result }
+{
+    unlike_part(&before.nodes[node], &after.nodes[node])
 }
 
 /// What is not the same in two nodes that differ in more than rows.
@@ -140,6 +171,7 @@ fn unlike_pointer(alloc: Global, unlike: Unlike) -> Result<Vec<PointerStep>, All
     match unlike {
         Unlike::Unit => [PointerStep::Key("unit")].to_vec(alloc),
         Unlike::Buses => [PointerStep::Key("buses")].to_vec(alloc),
+        Unlike::Bus(bus) => [PointerStep::Key("buses"), PointerStep::Index(bus)].to_vec(alloc),
         Unlike::Nodes => [PointerStep::Key("nodes")].to_vec(alloc),
         Unlike::Part(node, part) => part_pointer(alloc, node, part_key(part)),
     }
@@ -151,7 +183,8 @@ fn unlike_words(alloc: Global, plan: &Plan, unlike: Unlike) -> Result<String, Al
 {
     match unlike {
         Unlike::Unit => "unit".to_string(alloc),
-        Unlike::Buses => "buses".to_string(alloc),
+        Unlike::Buses => "number of buses".to_string(alloc),
+        Unlike::Bus(bus) => format!(in alloc; "bus {bus}"),
         Unlike::Nodes => "number of nodes".to_string(alloc),
         Unlike::Part(node, part) => {
             let key = part_key(part);
@@ -166,5 +199,7 @@ fn unlike_line(alloc: Global, plan: &Plan, unlike: Unlike) -> Result<String, All
     ensures { IfOk result (λ line. string_bytes line ≡ unlike_text plan.now unlike) }
 {
     let words = unlike_words(alloc, plan, unlike)?;
-    format!(in alloc; "Not the same in both plans: {words}.\nHint: let the plans of a move differ in rows alone.\n")
+    format!(in alloc;
+        "Not the same in both plans: {words}.\nHint: let the plans of a move differ in rows alone.\n"
+    )
 }

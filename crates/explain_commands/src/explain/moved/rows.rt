@@ -5,8 +5,9 @@ ghost use Rattle.plan_texts.specs.Explanations.{row_for};
 ghost use Rattle.explain_commands.specs.MoveRows.{AreHopsTold, IsHopTold, IsLackTold, IsMixedLoopTold, IsMoveRemedyTold, IsRowTold, IsStopTold, IsWayOnTold, IsWayTold};
 ghost use Rattle.explain_commands.specs.MoveRows.{circling_text, file_of, lack_line, mend_text, next_of, other_side, row_at, row_line, row_words, side_file, steps_text, table_word};
 
+use super::place_of;
 use command_answers::PlanText;
-use fault_texts::{part_pointer, pointer_place, way_pointer};
+use fault_texts::{part_pointer, way_pointer};
 use mctp_transport::Eid;
 use net_check::{CertifyError, MixedLoop, MoveFault, Side, certify};
 use net_plan::{Plan, Row};
@@ -36,8 +37,9 @@ pub fn loop_text(
     requires { length found.now.nodes.items ≡ length found.now.sides.items + 1 }
     ensures { IfOk result (λ text. IsMixedLoopTold (file_of name.now before.now) (file_of new_name.now after.now) found.now (string_bytes text)) }
 {
-    let hops = hops_text(alloc, name, new_name, before, after, found)?;
-    let why = circling_line(alloc, found.eid)?;
+    let (eid, nodes, sides) = (found.eid, &found.nodes, &found.sides);
+    let hops = hops_text(alloc, name, new_name, before, after, eid, nodes, sides)?;
+    let why = circling_line(alloc, eid)?;
     let remedy = move_remedy(alloc, name, new_name, after)?;
     format!(in alloc; "{hops}{why}{remedy}")
 }
@@ -49,15 +51,18 @@ fn hops_text(
     new_name: &str,
     before: &PlanText,
     after: &PlanText,
-    found: &MixedLoop,
+    eid: Eid,
+    nodes: &[usize],
+    sides: &[Side],
 ) -> Result<String, AllocError>
-    requires { length found.now.nodes.items ≡ length found.now.sides.items + 1 }
-    ensures { IfOk result (λ text. AreHopsTold (file_of name.now before.now) (file_of new_name.now after.now) found.now.eid.value found.now.nodes.items found.now.sides.items (length found.now.sides.items) (string_bytes text)) }
+    requires { length nodes.now ≡ length sides.now + 1 }
+    ensures { IfOk result (λ text. AreHopsTold (file_of name.now before.now) (file_of new_name.now after.now) eid.value nodes.now sides.now (length sides.now) (string_bytes text)) }
 {
     let mut text = String::new(alloc);
-    for hop in 0..found.sides.len() {
-        let (node, side) = (found.nodes[hop], found.sides[hop]);
-        let line = hop_line(alloc, name, new_name, before, after, found.eid, node, side)?;
+    for hop in 0..sides.len() {
+        let node = nodes[hop];
+        let side = sides[hop];
+        let line = hop_line(alloc, name, new_name, before, after, eid, node, side)?;
         text.push_str(&line)?;
     }
     Ok(text)
@@ -93,7 +98,14 @@ fn first_row(
 ) -> Result<String, AllocError>
     ensures { IfOk result (λ line. IsRowTold (file_of name.now given.now) side node (row_for given.now.plan eid.value node).index (string_bytes line)) }
 {
-    row_text(alloc, side, name, given, node, index_for(&given.plan, eid, node))
+    row_text(
+        alloc,
+        side,
+        name,
+        given,
+        node,
+        index_for(&given.plan, eid, node),
+    )
 }
 
 /// Why a loop leaves no ranks.
@@ -101,7 +113,9 @@ fn circling_line(alloc: Global, eid: Eid) -> Result<String, AllocError>
     ensures { IfOk result (λ text. string_bytes text ≡ circling_text eid.value) }
 {
     let eid = eid.value;
-    format!(in alloc; "While the nodes of new rows have switched and those of old rows have not, what is for\nendpoint ID {eid} circles. The ranks of a certificate would have to fall all the way round.\n")
+    format!(in alloc;
+        "While the nodes of new rows have switched and those of old rows have not, what is for\nendpoint ID {eid} circles. The ranks of a certificate would have to fall all the way round.\n"
+    )
 }
 
 // ---- a row
@@ -118,7 +132,7 @@ fn row_text(
     ensures { IfOk result (λ text. IsRowTold (file_of name.now given.now) side node index (string_bytes text)) }
 {
     let pointer = way_pointer(alloc, node, index)?;
-    let place = pointer_place(alloc, name, given.text.as_slice(), &pointer)?;
+    let place = place_of(alloc, name, given, &pointer)?;
     let line = row_line(alloc, side, &given.plan, node, index)?;
     format!(in alloc; "{place}{line}")
 }
@@ -269,7 +283,7 @@ fn lack_text(
     match row {
         None => {
             let pointer = part_pointer(alloc, node, "rows")?;
-            let place = pointer_place(alloc, name, given.text.as_slice(), &pointer)?;
+            let place = place_of(alloc, name, given, &pointer)?;
             let line = lack_line(alloc, side, &given.plan, node, eid)?;
             format!(in alloc; "{place}{line}")
         }
@@ -313,11 +327,15 @@ fn move_remedy(
 fn steps_line(alloc: Global, name: &str, new_name: &str) -> Result<String, AllocError>
     ensures { IfOk result (λ text. string_bytes text ≡ steps_text name.now new_name.now) }
 {
-    format!(in alloc; "By itself the new plan has a certificate.\nHint: look for several moves that lead there: mctpplan rollout {name} {new_name}\n")
+    format!(in alloc;
+        "By itself the new plan has a certificate.\nHint: look for several moves that lead there: mctpplan rollout {name} {new_name}\n"
+    )
 }
 
 fn mend_line(alloc: Global, name: &str) -> Result<String, AllocError>
     ensures { IfOk result (λ text. string_bytes text ≡ mend_text name.now) }
 {
-    format!(in alloc; "By itself the new plan has no certificate.\nHint: mend it first: mctpplan explain {name}\n")
+    format!(in alloc;
+        "By itself the new plan has no certificate.\nHint: mend it first: mctpplan explain {name}\n"
+    )
 }
