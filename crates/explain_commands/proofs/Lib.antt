@@ -4,3 +4,4 @@ mod Mended
 mod Differing
 mod Hops
 mod ExplainedMoves
+mod MovedTexts
