@@ -1,6 +1,5 @@
 mod Named
 mod Exchanging
-mod MoveCertified
 mod FaultListed
 mod Drawn
 mod Required
