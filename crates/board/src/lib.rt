@@ -20,6 +20,6 @@ pub use board::{
 pub use fault::BoardError;
 pub use given_plan::board_of_plan;
 pub use given_text::text_of_plan;
-pub use making::{NoPlan, made_plan};
+pub use making::{Cut, Made, NoPlan, made_plan};
 pub use places::line_of_node;
 pub use reading::read_board;

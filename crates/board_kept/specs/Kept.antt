@@ -12,10 +12,11 @@ use Rattle.net_plan.specs.declared.nodes.Port.{Port}
 use Rattle.net_plan.specs.declared.nodes.Row.{Row}
 use Rattle.net_plan.specs.declared.terminus.PlannedRecord.{PlannedRecord}
 use Rattle.net_plan.specs.declared.terminus.PlannedTerminus.{PlannedTerminus}
-use Rattle.board_kept.specs.Said.{SaysText, SaysNumber, SaysOr, SaysNoneOr, item_at, IsListAt, HasOnlyKeys}
-use Rattle.board_kept.specs.Said.{AreItemsKept}
+use Rattle.board_values.specs.Said.{SaysText, SaysNumber, SaysOr, SaysNoneOr, item_at, IsListAt, HasOnlyKeys}
+use Rattle.board_values.specs.Said.{AreItemsKept}
 use Rattle.board_kept.specs.Keys.{IsBoardKey, IsBusKey, IsNodeKey, IsHexKey}
-use Rattle.board_kept.specs.Texts.{binding_word, kind_word, node_name, eids_text, port_text, row_text}
+use Rattle.board_values.specs.Eids.{eids_text}
+use Rattle.board_kept.specs.Texts.{binding_word, kind_word, node_name, port_text, row_text}
 use Rattle.board_kept.specs.Fields.{AreFieldsGiven}
 
 -- the number of a binding, or its word

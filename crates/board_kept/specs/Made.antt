@@ -6,7 +6,7 @@ use Rattle.net_plan.specs.declared.certificate.Certificate.{Certificate}
 use Rattle.net_plan.specs.declared.nodes.Row.{Row}
 use Rattle.net_tables.specs.Routing.{Covers, rows_of}
 use Rattle.net_rules.specs.Rules.{Accepts}
-use Rattle.board_kept.specs.Said.{SaysText, item_at}
+use Rattle.board_values.specs.Said.{SaysText, item_at}
 use Rattle.board_kept.specs.Texts.{node_name, row_text}
 use Rattle.board_kept.specs.Kept.{Keeps}
 use Rattle.board_kept.specs.Ways.{ReachesBy}

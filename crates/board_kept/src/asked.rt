@@ -1,11 +1,11 @@
 //! What a board asks for: who is to reach whom, and rows of its own.
 ghost use Rattle.std.specs.Prelude.{◌≡◌, IfOk, IfSome, IsTrue, Some, codes};
 ghost use Rattle.toml.specs.View.{view};
-ghost use Rattle.board_kept.specs.Said.{SaysText, item_at};
+ghost use Rattle.board_values.specs.Said.{SaysText, item_at};
 ghost use Rattle.board_kept.specs.Turns.{AreTurns, AreTurnsTo};
 ghost use Rattle.board_kept.specs.Made.{ListsName, Asks, AsksFor, ListsRow, IsRowGiven, GivesStepAt, GivesStep};
 
-use crate::said::{has_item, is_left_out, is_text, item};
+use board_values::{has_item, is_left_out, is_text, item};
 use crate::texts::{node_name, row_text};
 use mctp_transport::Eid;
 use net_plan::{Plan, Row};

@@ -2,12 +2,12 @@
 ghost use Rattle.std.specs.Prelude.{◌≡◌, IfOk, IsTrue, codes};
 ghost use Rattle.toml.specs.Data.{get};
 ghost use Rattle.toml.specs.View.{view};
-ghost use Rattle.board_kept.specs.Said.{IsItemKept, AreItemsKept};
+ghost use Rattle.board_values.specs.Said.{IsItemKept, AreItemsKept};
 ghost use Rattle.board_kept.specs.Kept.{SaysBinding, IsBusKept, IsNodeKept, Keeps};
 
 use crate::keys::{Level, has_only_keys};
 use crate::nodes::keeps_node;
-use crate::said::{is_list_at, item, says_number, says_or, says_text};
+use board_values::{is_list_at, item, says_number, says_or, says_text};
 use crate::texts::binding_word;
 use net_plan::{Bus, Plan};
 use std::alloc::{AllocError, Global};

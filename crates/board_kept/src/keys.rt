@@ -1,7 +1,7 @@
 //! The keys of a board's tables.
 ghost use Rattle.std.specs.Prelude.{◌≡◌, IsTrue};
 ghost use Rattle.toml.specs.View.{view, table_view};
-ghost use Rattle.board_kept.specs.Said.{AreKeys, HasOnlyKeys};
+ghost use Rattle.board_values.specs.Said.{AreKeys, HasOnlyKeys};
 ghost use Rattle.board_kept.specs.Keys.{IsBoardKey, IsBusKey, IsHeadKey, IsPartKey, IsNodeKey, IsHexKey, IsKeyOf};
 
 use toml::{Table, Value};

@@ -2,12 +2,12 @@
 ghost use Rattle.std.specs.Prelude.{◌≡◌, ◌+◌, ◌<◌, IfOk, IsTrue, codes, length};
 ghost use Rattle.toml.specs.Data.{get};
 ghost use Rattle.toml.specs.View.{view};
-ghost use Rattle.board_kept.specs.Said.{SaysOr};
+ghost use Rattle.board_values.specs.Said.{SaysOr};
 ghost use Rattle.board_kept.specs.Kept.{next_handle, AreBytesKept, IsRecordKept, IsRecordKeptAt, AreRecordsKept, HasNoTerminus, IsTerminusGiven, IsTerminusKept};
 
 use crate::fields::are_fields_given;
 use crate::keys::{Level, has_only_keys};
-use crate::said::{is_left_out, is_list_at, item, says_or, says_text};
+use board_values::{is_left_out, is_list_at, item, says_or, says_text};
 use net_plan::{Node, Plan, PlannedRecord, PlannedTerminus};
 use std::alloc::{AllocError, Global};
 use toml::Value;

@@ -7,7 +7,7 @@ use Rattle.net_rules.specs.declared.certify_error.CertifyError.{CertifyError}
 use Rattle.net_rules.specs.declared.certify_error.CertifyError.TheVariants as error
 use Rattle.net_rules.specs.Certificates.{NamesObstacle, RulesOutCertificates}
 use Rattle.plan_texts.specs.Lines.{obstacle_text}
-use Rattle.board_kept.specs.Said.{IsTomlOf}
+use Rattle.board_values.specs.Said.{IsTomlOf}
 use Rattle.board_made.specs.declared.answer.BoardAnswer.{BoardAnswer}
 use Rattle.board_made.specs.declared.answer.BoardAnswer.TheVariants.{Made, NoPlan, Unread}
 use Rattle.board_made.specs.Made.{TellsObstacle, IsReason, IsOtherReason, IsUnreadLine, IsAnswerTo, IsAnswerFor}

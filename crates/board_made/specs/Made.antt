@@ -13,7 +13,7 @@ use Rattle.net_rules.specs.declared.certify_error.CertifyError.{CertifyError}
 use Rattle.net_rules.specs.Certificates.{IsExact, NamesObstacle, HasNoCertificate}
 use Rattle.plan_texts.specs.Explanations.{IsObstacleTold}
 use Rattle.plan_texts.specs.Lines.{obstacle_text}
-use Rattle.board_kept.specs.Said.{IsTomlOf}
+use Rattle.board_values.specs.Said.{IsTomlOf}
 use Rattle.board_kept.specs.Kept.{Keeps}
 use Rattle.board_kept.specs.Made.{IsFitFor}
 use Rattle.board_made.specs.declared.answer.BoardAnswer.{BoardAnswer}

@@ -1,7 +1,7 @@
 //! What is answered of the text of a board.
 ghost use Rattle.std.specs.Prelude.{IfOk, string_bytes};
 ghost use Rattle.toml.specs.View.{view};
-ghost use Rattle.board_kept.specs.Said.{IsTomlOf};
+ghost use Rattle.board_values.specs.Said.{IsTomlOf};
 ghost use Rattle.board_made.specs.Made.{IsAnswerTo, IsAnswerFor, IsUnreadLine};
 
 use crate::judged::judged;
