@@ -7,8 +7,8 @@ ghost use Rattle.board_kept.specs.Kept.{SaysBinding, IsBusKept, IsNodeKept, Keep
 
 use crate::keys::{Level, has_only_keys};
 use crate::nodes::keeps_node;
-use board_values::{is_list_at, item, says_number, says_or, says_text};
 use crate::texts::binding_word;
+use board_values::{is_list_at, item, says_number, says_or, says_text};
 use net_plan::{Bus, Plan};
 use std::alloc::{AllocError, Global};
 use toml::Value;

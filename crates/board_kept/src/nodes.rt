@@ -7,10 +7,11 @@ ghost use Rattle.board_kept.specs.Kept.{IsKindKept, IsOwnerKept, SaysPool, IsPoo
 
 use crate::keys::{Level, has_only_keys};
 use crate::records::keeps_terminus;
-use board_values::{
-    eids_text, has_item, is_left_out, is_list_at, is_text, item, says_none_or, says_number, says_text,
-};
 use crate::texts::{kind_word, node_name, port_text, row_text};
+use board_values::{
+    eids_text, has_item, is_left_out, is_list_at, is_text, item, says_none_or, says_number,
+    says_text,
+};
 use net_plan::{Kind, Node, Plan, Pool, Port, Row};
 use std::alloc::{AllocError, Global};
 use toml::Value;

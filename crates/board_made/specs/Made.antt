@@ -1,5 +1,5 @@
 -- What is answered of a board.
-use Rattle.std.specs.Prelude.{◌≡◌, ◌⊎◌, ℕ, List, ◌++◌, codes, Some, string_bytes}
+use Rattle.std.specs.Prelude.{◌≡◌, ℕ, List, ◌++◌, codes, string_bytes}
 use Rattle.toml.specs.Data.{Data}
 use Rattle.net_plan.specs.declared.plan.Plan.{Plan}
 use Rattle.net_plan.specs.declared.certificate.Certificate.{Certificate}
@@ -9,13 +9,10 @@ use Rattle.net_json.specs.CertificateJson.{certificate_text}
 use Rattle.net_json.specs.CertificateText.{IsCertificateOf}
 use Rattle.net_json.specs.PlanText.{IsPlanOf}
 use Rattle.net_json.specs.Texts.{StandsFor}
-use Rattle.net_rules.specs.declared.certify_error.CertifyError.{CertifyError}
-use Rattle.net_rules.specs.Certificates.{IsExact, NamesObstacle, HasNoCertificate}
-use Rattle.plan_texts.specs.Explanations.{IsObstacleTold}
-use Rattle.plan_texts.specs.Lines.{obstacle_text}
+use Rattle.net_rules.specs.Certificates.{IsExact}
 use Rattle.board_values.specs.Said.{IsTomlOf}
-use Rattle.board_kept.specs.Kept.{Keeps}
 use Rattle.board_kept.specs.Made.{IsFitFor}
+use Rattle.board_made.specs.Reasons.{IsReason}
 use Rattle.board_made.specs.declared.answer.BoardAnswer.{BoardAnswer}
 use Rattle.board_made.specs.declared.answer.BoardAnswer.TheVariants.{Made, NoPlan, Unread}
 
@@ -34,33 +31,6 @@ pub record IsFitText (board : Data) (text certified : List ℕ) : Type 0 where
   pub written : IsCertificateText plan certificate certified
   pub fit : IsFitFor board plan certificate
 
--- The text tells this obstacle: its line, a place in the board or none, and an explanation.
-pub record TellsObstacle (plan : Plan) (obstacle : CertifyError) (text : List ℕ) : Type 0 where
-  pub line : List ℕ
-  pub place : List ℕ
-  pub told : List ℕ
-  pub worded : obstacle_text plan obstacle ≡ Some line
-  pub explained : IsObstacleTold plan obstacle told
-  pub written : text ≡ codes "no plan: " ++ (line ++ (place ++ told))
-
--- The text tells what comes first, in the order of the rules, of what rules certificates out of a plan of which this
--- holds.
-pub record IsRuledOut (IsGiven : Plan → Type 0) (text : List ℕ) : Type 0 where
-  pub plan : Plan
-  pub obstacle : CertifyError
-  pub given : IsGiven plan
-  pub first : NamesObstacle plan obstacle
-  pub none : HasNoCertificate plan
-  pub told : TellsObstacle plan obstacle text
-
--- another reason, which no line of an obstacle begins like; nothing more is promised of it
-abbrev pub IsOtherReason : List ℕ → Type 0
-IsOtherReason text = (words : List ℕ) × (text ≡ codes "no plan: no " ++ (words ++ codes "\n"))
-
--- why no plan is made: of one of which this holds its obstacle, or another reason
-abbrev pub IsReason : (Plan → Type 0) → List ℕ → Type 0
-IsReason IsGiven text = IsRuledOut IsGiven text ⊎ IsOtherReason text
-
 -- a line that says why a board can't be read; nothing more is promised of it
 abbrev pub IsUnreadLine : List ℕ → Type 0
 IsUnreadLine text = (words : List ℕ) × (text ≡ codes "unreadable board: " ++ (words ++ codes "\n"))
@@ -68,7 +38,7 @@ IsUnreadLine text = (words : List ℕ) × (text ≡ codes "unreadable board: " +
 -- what is answered of a board that was read
 abbrev pub IsAnswerFor : Data → BoardAnswer → Type 0
 IsAnswerFor board (Made made) = IsFitText board (string_bytes made.plan) (string_bytes made.certificate)
-IsAnswerFor board (NoPlan reason) = IsReason (Keeps board) (string_bytes reason)
+IsAnswerFor board (NoPlan reason) = IsReason board (string_bytes reason)
 IsAnswerFor board (Unread line) = IsUnreadLine (string_bytes line)
 
 -- The one text is a TOML document; of what stands in it the others are a plan that is fit for it, and the certificate.
@@ -81,7 +51,7 @@ pub record IsMadeOf (board_text text certified : List ℕ) : Type 0 where
 pub record IsUnmadeOf (board_text text : List ℕ) : Type 0 where
   pub board : Data
   pub toml : IsTomlOf board_text board
-  pub reason : IsReason (Keeps board) text
+  pub reason : IsReason board text
 
 -- what is answered of a text, so of one that is no TOML document a line that says why it can't be read
 abbrev pub IsAnswerTo : List ℕ → BoardAnswer → Type 0

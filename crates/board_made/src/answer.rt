@@ -7,7 +7,7 @@ ghost use Rattle.board_made.specs.Made.{IsAnswerTo, IsAnswerFor, IsUnreadLine};
 use crate::judged::judged;
 use crate::reasons::{no_plan_line, place_line, unread_line};
 use board::{Board, BoardError, made_plan, read_board};
-use board_kept::board_of_text;
+use board_values::board_of_text;
 use std::alloc::{AllocError, Global};
 use toml::Value;
 
@@ -114,6 +114,6 @@ fn answer_given(
 {
     match made_plan(alloc, given) {
         Ok(made) => judged(alloc, text, board, made),
-        Err(why) => Ok(BoardAnswer::NoPlan(no_plan_line(alloc, Some(text), given, why)?)),
+        Err(why) => Ok(BoardAnswer::NoPlan(no_plan_line(alloc, text, board, given, why)?)),
     }
 }

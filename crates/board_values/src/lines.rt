@@ -50,7 +50,12 @@ pub fn lacking_words(
 }
 
 /// A node by its name and the line of its table.
-fn node_text(alloc: Global, board: &Value, text: &str, node: usize) -> Result<String, AllocError>
+pub fn node_text(
+    alloc: Global,
+    board: &Value,
+    text: &str,
+    node: usize,
+) -> Result<String, AllocError>
     ensures { IfOk result (λ words. IsNodeTold (view board.now) node (string_bytes words)) }
 {
     match name_of(board, node) {

@@ -8,7 +8,8 @@ use Rattle.board_made.specs.declared.answer.BoardAnswer.{BoardAnswer}
 use Rattle.board_made.specs.declared.answer.BoardAnswer.TheVariants.{Made, NoPlan, Unread}
 use Rattle.net_plan.specs.declared.plan.Plan.{Plan}
 use Rattle.board_made.specs.Made.{IsMadeOf, IsUnmadeOf, IsUnreadLine, IsAnswerTo}
-use Rattle.board_made.specs.Rowed.{IsRowedText, IsRowsReason}
+use Rattle.board_made.specs.Reasons.{IsRowsReason}
+use Rattle.board_made.specs.Rowed.{IsRowedText}
 use Rattle.command_answers.specs.declared.refused.Input.TheVariants as input
 use Rattle.command_answers.specs.declared.refused.Refused.{Refused}
 use Rattle.command_answers.specs.declared.refused.Refused.TheVariants as refused

@@ -25,7 +25,10 @@ pub fn make_rows(alloc: Global, board: &Board, chosen: &[Chosen]) -> Result<Made
         if let Some(target) = target_of(board, chosen, eid) {
             let ways = ways_to(alloc, board, chosen, &links, target, last.take())?;
             let from = add_rows(alloc, board, chosen, &ways, &mut rows)?;
-            cut = cut.or(from.map(|from| Cut { from, to: target.node }));
+            cut = cut.or(from.map(|from| Cut {
+                from,
+                to: target.node,
+            }));
             last = Some(ways);
         }
     }
