@@ -5,11 +5,12 @@ mod records;
 mod rows;
 mod ways;
 
-use crate::board::{Board, BoardNode, BoardRow};
+use crate::board::{Board, BoardNode, BoardRow, RecordFile};
 use crate::writing::plan_text;
 use eids::choose_eids;
 use net_plan::Kind;
 use records::make_records;
+pub use records::named_files;
 use rows::make_rows;
 use std::alloc::{AllocError, AllocFailed, Global};
 
@@ -100,11 +101,11 @@ pub struct Cut {
     pub to: usize,
 }
 
-/// The text of a plan that is made of a board, or why none is made. Nothing of the plan is promised here.
-pub fn made_plan(alloc: Global, board: &Board) -> Result<Made, NoPlan> {
+/// The text of a plan that is made of a board, whose records may name these files, or why none is made. Nothing of the plan is promised here.
+pub fn made_plan(alloc: Global, board: &Board, files: &[RecordFile]) -> Result<Made, NoPlan> {
     let chosen = choose_eids(alloc, board)?;
     let made = make_rows(alloc, board, &chosen)?;
-    let records = make_records(alloc, board, &chosen)?;
+    let records = make_records(alloc, board, files, &chosen)?;
     let text = plan_text(alloc, board, &chosen, &made.rows, &records)?;
     Ok(Made {
         text,

@@ -1,6 +1,7 @@
 -- What a board asks for, and which plans are fit for it.
 use Rattle.std.specs.Prelude.{◌≡◌, ◌≢◌, ◌⊎◌, ℕ, ◌<◌, List, codes, length, None, Some, slice_get}
 use Rattle.toml.specs.Data.{Data, get}
+use Rattle.board.specs.declared.board.RecordFile.{RecordFile}
 use Rattle.net_plan.specs.declared.plan.Plan.{Plan}
 use Rattle.net_plan.specs.declared.certificate.Certificate.{Certificate}
 use Rattle.net_plan.specs.declared.nodes.Port.{Port}
@@ -61,9 +62,9 @@ pub record AllReachAsked (board : Data) (plan : Plan) : Type 0 where
 
 -- Every rule holds of the plan and the certificate, all that the board gives is in the plan, and every node reaches
 -- those for which the board asks.
-pub record IsFitFor (board : Data) (plan : Plan) (certificate : Certificate) : Type 0 where
+pub record IsFitFor (files : List RecordFile) (board : Data) (plan : Plan) (certificate : Certificate) : Type 0 where
   pub accepted : Accepts plan certificate
-  pub keeps : Keeps board plan
+  pub keeps : Keeps files board plan
   pub reaches : AllReachAsked board plan
 
 -- ---- where no way leads

@@ -8,6 +8,7 @@ ghost use Rattle.board_kept.specs.Kept.{IsKindKept, IsOwnerKept, SaysPool, IsPoo
 use crate::keys::{Level, has_only_keys};
 use crate::records::keeps_terminus;
 use crate::texts::{kind_word, node_name, port_text, row_text};
+use board::RecordFile;
 use board_values::{
     eids_text, has_item, is_left_out, is_list_at, is_text, item, says_none_or, says_number,
     says_text,
@@ -17,8 +18,14 @@ use std::alloc::{AllocError, Global};
 use toml::Value;
 
 /// Whether what is said of a node is so of it.
-pub fn keeps_node(alloc: Global, plan: &Plan, node: &Node, said: &Value) -> Result<bool, AllocError>
-    ensures { IfOk result (λ answer. IsTrue answer → IsNodeKept plan.now node.now (view said.now)) }
+pub fn keeps_node(
+    alloc: Global,
+    files: &[RecordFile],
+    plan: &Plan,
+    node: &Node,
+    said: &Value,
+) -> Result<bool, AllocError>
+    ensures { IfOk result (λ answer. IsTrue answer → IsNodeKept files.now plan.now node.now (view said.now)) }
 {
     if !has_only_keys(said, Level::OfNode) || !keeps_head(plan, node, said) {
         return Ok(false);
@@ -32,7 +39,7 @@ pub fn keeps_node(alloc: Global, plan: &Plan, node: &Node, said: &Value) -> Resu
     if !keeps_rows(alloc, plan, &node.rows, said)? || !keeps_names(plan, said) {
         return Ok(false);
     }
-    Ok(keeps_terminus(alloc, plan, node, said)?)
+    Ok(keeps_terminus(alloc, files, plan, node, said)?)
 }
 
 /// Whether the name, the kind, the endpoint ID and the owner are what stands there.

@@ -7,6 +7,7 @@ use Rattle.net_rules.specs.declared.certify_error.CertifyError.{CertifyError}
 use Rattle.net_rules.specs.declared.certify_error.CertifyError.TheVariants as error
 use Rattle.net_rules.specs.Certificates.{NamesObstacle, RulesOutCertificates}
 use Rattle.plan_texts.specs.Lines.{obstacle_text}
+use Rattle.board.specs.declared.board.RecordFile.{RecordFile}
 use Rattle.board.specs.declared.making.NoPlan as lacking
 use Rattle.board_values.specs.Said.{IsTomlOf}
 use Rattle.board_values.specs.Lacks.{Lacks}
@@ -16,10 +17,11 @@ use Rattle.board_made.specs.declared.answer.BoardAnswer.TheVariants.{Made, NoPla
 use Rattle.board_made.specs.Made.{IsUnreadLine, IsAnswerTo, IsAnswerFor}
 use Rattle.board_made.specs.Reasons.{TellsObstacle, IsRuledOut, IsReason, IsUnfound, IsWayTold, reason_line, way_words}
 
-pub answered : (text : List ℕ) (board : Data) (answer : BoardAnswer) → IsTomlOf text board → IsAnswerFor board answer → IsAnswerTo text answer
-answered text board (Made made) toml fit = record { board = board; toml = toml; fit = fit }
-answered text board (NoPlan reason) toml told = record { board = board; toml = toml; reason = told }
-answered text board (Unread line) toml worded = worded
+pub answered : (files : List RecordFile) (text : List ℕ) (board : Data) (answer : BoardAnswer) → IsTomlOf text board → IsAnswerFor files board answer
+    → IsAnswerTo files text answer
+answered files text board (Made made) toml fit = record { board = board; toml = toml; fit = fit }
+answered files text board (NoPlan reason) toml told = record { board = board; toml = toml; reason = told }
+answered files text board (Unread line) toml worded = worded
 
 -- ---- lines
 
@@ -29,17 +31,17 @@ unfound_worded bytes words (Ok t) written = (words, written)
 unfound_worded bytes words (Err e) written = tt
 
 -- what the board lacks, in words
-pub lack_worded : {A E : Type 0} (board : Data) (why : lacking.NoPlan) (bytes : A → List ℕ) (words said : List ℕ) (r : Result A E) → Lacks board why
-    → IsWorded board why words → said ≡ words → IfOk r (λ t. bytes t ≡ reason_line said) → IfOk r (λ t. IsReason board (bytes t))
-lack_worded board why bytes words said (Ok t) lacks worded same written =
+pub lack_worded : {A E : Type 0} (files : List RecordFile) (board : Data) (why : lacking.NoPlan) (bytes : A → List ℕ) (words said : List ℕ) (r : Result A E) → Lacks board why
+    → IsWorded board why words → said ≡ words → IfOk r (λ t. bytes t ≡ reason_line said) → IfOk r (λ t. IsReason files board (bytes t))
+lack_worded files board why bytes words said (Ok t) lacks worded same written =
     inr (inr (inl (record { why = why; lacks = lacks; words = said; worded = subst (λ w. IsWorded board why w) (sym same) worded; written = written })))
-lack_worded board why bytes words said (Err e) lacks worded same written = tt
+lack_worded files board why bytes words said (Err e) lacks worded same written = tt
 
 -- no plan that was found is a reason
-pub unfound_is_reason : {A E : Type 0} (board : Data) (bytes : A → List ℕ) (r : Result A E) → IfOk r (λ t. IsUnfound (bytes t))
-    → IfOk r (λ t. IsReason board (bytes t))
-unfound_is_reason board bytes (Ok t) unfound = inr (inr (inr unfound))
-unfound_is_reason board bytes (Err e) unfound = tt
+pub unfound_is_reason : {A E : Type 0} (files : List RecordFile) (board : Data) (bytes : A → List ℕ) (r : Result A E) → IfOk r (λ t. IsUnfound (bytes t))
+    → IfOk r (λ t. IsReason files board (bytes t))
+unfound_is_reason files board bytes (Ok t) unfound = inr (inr (inr unfound))
+unfound_is_reason files board bytes (Err e) unfound = tt
 
 -- a way between nodes that are told
 pub way_told : {A E : Type 0} (board : Data) (a b : ℕ) (bytes : A → List ℕ) (one other said also : List ℕ) (r : Result A E) → IsNodeTold board a one

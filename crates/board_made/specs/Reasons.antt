@@ -6,6 +6,7 @@ use Rattle.net_rules.specs.declared.certify_error.CertifyError.{CertifyError}
 use Rattle.net_rules.specs.Certificates.{NamesObstacle, HasNoCertificate}
 use Rattle.plan_texts.specs.Explanations.{IsObstacleTold}
 use Rattle.plan_texts.specs.Lines.{obstacle_text}
+use Rattle.board.specs.declared.board.RecordFile.{RecordFile}
 use Rattle.board.specs.declared.making.NoPlan.{NoPlan}
 use Rattle.board_values.specs.Lacks.{Lacks}
 use Rattle.board_values.specs.Lines.{IsNodeTold, IsWorded}
@@ -49,11 +50,11 @@ IsWayTold board a b text = (one other : List ℕ) × IsNodeTold board a one × I
 
 -- The text says that no way leads from one node to another, for which the board asks; and so it is in a plan that has
 -- all that the board gives.
-pub record IsCutTold (board : Data) (text : List ℕ) : Type 0 where
+pub record IsCutTold (files : List RecordFile) (board : Data) (text : List ℕ) : Type 0 where
   pub plan : Plan
   pub one : ℕ
   pub other : ℕ
-  pub given : Keeps board plan
+  pub given : Keeps files board plan
   pub cut : IsCutOff board plan one other
   pub told : IsWayTold board one other text
 
@@ -70,9 +71,9 @@ abbrev pub IsUnfound : List ℕ → Type 0
 IsUnfound text = (words : List ℕ) × (text ≡ codes "no plan: none was found: no " ++ (words ++ codes "\n"))
 
 -- why no plan is made of a board
-abbrev pub IsReason : Data → List ℕ → Type 0
-IsReason board text =
-    IsRuledOut (Keeps board) text ⊎ IsCutTold board text ⊎ IsLackTold board text ⊎ IsUnfound text
+abbrev pub IsReason : List RecordFile → Data → List ℕ → Type 0
+IsReason files board text =
+    IsRuledOut (Keeps files board) text ⊎ IsCutTold files board text ⊎ IsLackTold board text ⊎ IsUnfound text
 
 -- ---- rows PLAN
 

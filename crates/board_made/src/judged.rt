@@ -13,7 +13,7 @@ ghost use Rattle.board_made.specs.Reasons.{IsCutTold, IsReason, IsUnfound};
 
 use crate::answer::{BoardAnswer, MadePlan};
 use crate::reasons::{lacking, obstacle_reason, unfit_line, unfound, way_line};
-use board::{Cut, Made};
+use board::{Cut, Made, RecordFile};
 use board_kept::{is_cut_off, judge, keeps};
 use net_check::{CertifyError, CheckError, certify, check};
 use net_json::{PlanError, plan_of_text, text_of_certificate};
@@ -25,13 +25,14 @@ use toml::Value;
 pub fn judged(
     alloc: Global,
     text: &str,
+    files: &[RecordFile],
     board: &Value,
     made: Made,
 ) -> Result<BoardAnswer, AllocError>
-    ensures { IfOk result (λ answer. IsAnswerFor (view board.now) answer) }
+    ensures { IfOk result (λ answer. IsAnswerFor files.now (view board.now) answer) }
 {
     match plan_of_text(alloc, made.text.as_str().as_bytes()) {
-        Ok(plan) => Ok(judged_plan(alloc, text, board, made, &plan)?),
+        Ok(plan) => Ok(judged_plan(alloc, text, files, board, made, &plan)?),
         Err(PlanError::OutOfMemory) => Err(AllocError),
         Err(_) => Ok(BoardAnswer::NoPlan(unfound(alloc, "text that was made reads as a plan")?)),
     }
@@ -40,16 +41,17 @@ pub fn judged(
 fn judged_plan(
     alloc: Global,
     text: &str,
+    files: &[RecordFile],
     board: &Value,
     made: Made,
     plan: &Plan,
 ) -> Result<BoardAnswer, AllocError>
     requires { StandsFor IsPlanOf (string_bytes made.text) (plan_value plan.now) }
-    ensures { IfOk result (λ answer. IsAnswerFor (view board.now) answer) }
+    ensures { IfOk result (λ answer. IsAnswerFor files.now (view board.now) answer) }
 {
-    match cut_reason(alloc, text, board, plan, made.cut)? {
+    match cut_reason(alloc, text, files, board, plan, made.cut)? {
         Some(reason) => Ok(BoardAnswer::NoPlan(reason)),
-        None => judged_text(alloc, text, board, made.text, plan),
+        None => judged_text(alloc, text, files, board, made.text, plan),
     }
 }
 
@@ -57,14 +59,15 @@ fn judged_plan(
 fn cut_reason(
     alloc: Global,
     text: &str,
+    files: &[RecordFile],
     board: &Value,
     plan: &Plan,
     cut: Option<Cut>,
 ) -> Result<Option<String>, AllocError>
-    ensures { IfOk result (λ found. IfSome found (λ reason. IsCutTold (view board.now) (string_bytes reason))) }
+    ensures { IfOk result (λ found. IfSome found (λ reason. IsCutTold files.now (view board.now) (string_bytes reason))) }
 {
     match cut {
-        Some(cut) => reason_if_cut(alloc, text, board, plan, cut),
+        Some(cut) => reason_if_cut(alloc, text, files, board, plan, cut),
         None => Ok(None),
     }
 }
@@ -72,13 +75,14 @@ fn cut_reason(
 fn reason_if_cut(
     alloc: Global,
     text: &str,
+    files: &[RecordFile],
     board: &Value,
     plan: &Plan,
     cut: Cut,
 ) -> Result<Option<String>, AllocError>
-    ensures { IfOk result (λ found. IfSome found (λ reason. IsCutTold (view board.now) (string_bytes reason))) }
+    ensures { IfOk result (λ found. IfSome found (λ reason. IsCutTold files.now (view board.now) (string_bytes reason))) }
 {
-    if !keeps(alloc, board, plan)? || !is_cut_off(alloc, board, plan, cut.from, cut.to)? {
+    if !keeps(alloc, files, board, plan)? || !is_cut_off(alloc, board, plan, cut.from, cut.to)? {
         return Ok(None);
     }
     Ok(Some(way_line(alloc, text, board, cut.from, cut.to)?))
@@ -87,17 +91,18 @@ fn reason_if_cut(
 fn judged_text(
     alloc: Global,
     text: &str,
+    files: &[RecordFile],
     board: &Value,
     made: String,
     plan: &Plan,
 ) -> Result<BoardAnswer, AllocError>
     requires { StandsFor IsPlanOf (string_bytes made) (plan_value plan.now) }
-    ensures { IfOk result (λ answer. IsAnswerFor (view board.now) answer) }
+    ensures { IfOk result (λ answer. IsAnswerFor files.now (view board.now) answer) }
 {
     match certify(alloc, plan) {
-        Ok(certificate) => Ok(judged_with(alloc, text, board, made, plan, &certificate)?),
+        Ok(certificate) => Ok(judged_with(alloc, text, files, board, made, plan, &certificate)?),
         Err(obstacle) => Ok(BoardAnswer::NoPlan(why_ruled_out(
-            alloc, text, board, plan, &obstacle,
+            alloc, text, files, board, plan, &obstacle,
         )?)),
     }
 }
@@ -106,15 +111,16 @@ fn judged_text(
 fn why_ruled_out(
     alloc: Global,
     text: &str,
+    files: &[RecordFile],
     board: &Value,
     plan: &Plan,
     obstacle: &CertifyError,
 ) -> Result<String, AllocError>
     requires names { NamesObstacle plan.now obstacle.now }
     requires none { RulesOutCertificates plan.now obstacle.now }
-    ensures { IfOk result (λ reason. IsReason (view board.now) (string_bytes reason)) }
+    ensures { IfOk result (λ reason. IsReason files.now (view board.now) (string_bytes reason)) }
 {
-    if keeps(alloc, board, plan)? {
+    if keeps(alloc, files, board, plan)? {
         Ok(obstacle_reason(alloc, Some(text), plan, obstacle)?)
     } else {
         Ok(lacking(alloc)?)
@@ -124,6 +130,7 @@ fn why_ruled_out(
 fn judged_with(
     alloc: Global,
     text: &str,
+    files: &[RecordFile],
     board: &Value,
     made: String,
     plan: &Plan,
@@ -132,10 +139,10 @@ fn judged_with(
     requires reads { StandsFor IsPlanOf (string_bytes made) (plan_value plan.now) }
     requires exact { IsExact plan.now certificate.now }
     requires well_formed { IsWellFormed (plan_value plan.now) (certificate_value certificate.now) }
-    ensures { IfOk result (λ answer. IsAnswerFor (view board.now) answer) }
+    ensures { IfOk result (λ answer. IsAnswerFor files.now (view board.now) answer) }
 {
     let certified = certified_text(alloc, plan, certificate)?;
-    match why_unfit(alloc, text, board, plan, certificate)? {
+    match why_unfit(alloc, text, files, board, plan, certificate)? {
         Some(reason) => Ok(BoardAnswer::NoPlan(reason)),
         None => Ok(BoardAnswer::Made(MadePlan {
             plan: made,
@@ -160,15 +167,16 @@ fn certified_text(
 fn why_unfit(
     alloc: Global,
     text: &str,
+    files: &[RecordFile],
     board: &Value,
     plan: &Plan,
     certificate: &Certificate,
 ) -> Result<Option<String>, AllocError>
-    ensures fit { IfOk result (λ why. why ≡ None → IsFitFor (view board.now) plan.now certificate.now) }
+    ensures fit { IfOk result (λ why. why ≡ None → IsFitFor files.now (view board.now) plan.now certificate.now) }
     ensures reason { IfOk result (λ why. IfSome why (λ reason. IsUnfound (string_bytes reason))) }
 {
     match check(alloc, plan, certificate) {
-        Ok(checked) => match judge(alloc, board, &checked) {
+        Ok(checked) => match judge(alloc, files, board, &checked) {
             Ok(()) => Ok(None),
             Err(unfit) => Ok(Some(unfit_line(alloc, Some(text), plan, unfit)?)),
         },

@@ -5,7 +5,7 @@ ghost use Rattle.net_rules.specs.Certificates.{NamesObstacle};
 ghost use Rattle.board_made.specs.Made.{IsUnreadLine};
 ghost use Rattle.board_made.specs.Reasons.{reason_line, way_words, name_words, IsReason, IsUnfound, IsWayTold, IsWayToldOf, TellsObstacle};
 
-use board::{Board, NoPlan};
+use board::{Board, NoPlan, RecordFile};
 use board_kept::{Unfit, node_name};
 use board_values::{lacking_words, lacks, node_text as told_node};
 use net_check::CertifyError;
@@ -89,11 +89,12 @@ fn node_of_plan(
 pub fn no_plan_line(
     alloc: Global,
     text: &str,
+    files: &[RecordFile],
     board: &Value,
     given: &Board,
     why: NoPlan,
 ) -> Result<String, AllocError>
-    ensures { IfOk result (λ reason. IsReason (view board.now) (string_bytes reason)) }
+    ensures { IfOk result (λ reason. IsReason files.now (view board.now) (string_bytes reason)) }
 {
     let words = lacking_words(alloc, board, text, why)?;
     if lacks(alloc, board, given, why)? {

@@ -30,7 +30,7 @@ pub fn answer_rows(alloc: Global, before: &Plan) -> Result<RowsAnswer, AllocErro
     ensures { IfOk result (λ answer. IsRowsAnswer before.now answer) }
 {
     let board = board_of_plan(alloc, before)?;
-    match made_plan(alloc, &board) {
+    match made_plan(alloc, &board, &[]) {
         Ok(made) => judged(alloc, before, made),
         Err(why) => Ok(RowsAnswer::NoPlan(no_rows_line(alloc, before, why)?)),
     }

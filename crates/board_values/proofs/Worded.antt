@@ -33,11 +33,11 @@ pub rows_told : {E : Type 0} (board : Data) (why : NoPlan) (n : ℕ) (own said :
 rows_told board why n own said r is same told written =
     worded_as board why (TooManyRows n) (rows_words said) r is (said, subst (λ ws. IsNodeTold board n ws) (sym same) told, refl) written
 
-pub record_told : {E : Type 0} (board : Data) (why : NoPlan) (n place : ℕ) (own said : List ℕ) (r : Result (String Global) E)
-    → why ≡ WrongRecord n place → said ≡ own → IsNodeTold board n own → IfOk r (λ t. string_bytes t ≡ record_words place said)
+pub record_told : {E : Type 0} (board : Data) (why : NoPlan) (n place line : ℕ) (own said : List ℕ) (r : Result (String Global) E)
+    → why ≡ WrongRecord n place → said ≡ own → IsNodeTold board n own → IfOk r (λ t. string_bytes t ≡ record_words place line said)
     → IfOk r (λ t. IsWorded board why (string_bytes t))
-record_told board why n place own said r is same told written =
-    worded_as board why (WrongRecord n place) (record_words place said) r is (said, subst (λ ws. IsNodeTold board n ws) (sym same) told, refl) written
+record_told board why n place line own said r is same told written =
+    worded_as board why (WrongRecord n place) (record_words place line said) r is (said, line, subst (λ ws. IsNodeTold board n ws) (sym same) told, refl) written
 
 pub no_pool_told : {E : Type 0} (board : Data) (why : NoPlan) (n m : ℕ) (own above said whose : List ℕ) (r : Result (String Global) E)
     → why ≡ NoPool n m → said ≡ own → whose ≡ above → IsNodeTold board n own → IsNodeTold board m above

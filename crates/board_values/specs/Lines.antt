@@ -35,9 +35,9 @@ run_words size own whose = decimal size ++ (codes " endpoint IDs of " ++ (whose
 abbrev pub rows_words : List ℕ → List ℕ
 rows_words own = codes "room is left for the rows of " ++ (own ++ codes ": it would have more than 256")
 
-abbrev pub record_words : ℕ → List ℕ → List ℕ
-record_words place own = codes "bytes spell record " ++ (decimal place ++ (codes " of " ++ (own
-    ++ codes ": it gives a field that its type doesn't have, or what the field can't hold")))
+abbrev pub record_words : ℕ → ℕ → List ℕ → List ℕ
+record_words place line own = codes "bytes spell record " ++ (decimal place ++ (codes " (line " ++ (decimal line
+    ++ (codes ") of " ++ (own ++ codes ": it gives a field that its type doesn't have, or what the field can't hold")))))
 
 -- the words say that this is lacking
 abbrev pub IsWorded : Data → NoPlan → List ℕ → Type 0
@@ -49,5 +49,6 @@ IsWorded board (NoEid n owner) words =
 IsWorded board (NoRun n size owner) words =
     (own whose : List ℕ) × IsNodeTold board n own × IsPoolTold board owner whose × (words ≡ run_words size own whose)
 IsWorded board (TooManyRows n) words = (own : List ℕ) × IsNodeTold board n own × (words ≡ rows_words own)
-IsWorded board (WrongRecord n place) words = (own : List ℕ) × IsNodeTold board n own × (words ≡ record_words place own)
+IsWorded board (WrongRecord n place) words =
+    (own : List ℕ) × (line : ℕ) × IsNodeTold board n own × (words ≡ record_words place line own)
 IsWorded board OutOfMemory words = ⊥

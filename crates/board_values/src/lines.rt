@@ -4,7 +4,7 @@ ghost use Rattle.toml.specs.View.{view};
 ghost use Rattle.board_values.specs.Lines.{node_words, IsNodeTold, IsPoolTold, loop_words, pool_words, eid_words, run_words, rows_words, record_words, IsWorded};
 
 use crate::owners::name_of;
-use board::{NoPlan, line_of_node};
+use board::{NoPlan, line_of_node, line_of_record};
 use std::alloc::{AllocError, Global};
 use toml::Value;
 
@@ -43,7 +43,7 @@ pub fn lacking_words(
         }
         NoPlan::WrongRecord { node, record } => {
             let own = node_text(alloc, board, text, node)?;
-            told_record(alloc, record, &own)
+            told_record(alloc, record, line_of_record(text, node, record), &own)
         }
         NoPlan::OutOfMemory => Err(AllocError),
     }
@@ -126,10 +126,10 @@ fn told_rows(alloc: Global, own: &str) -> Result<String, AllocError>
     format!(in alloc; "room is left for the rows of {own}: it would have more than 256")
 }
 
-fn told_record(alloc: Global, place: usize, own: &str) -> Result<String, AllocError>
-    ensures { IfOk result (λ words. string_bytes words ≡ record_words place own.now) }
+fn told_record(alloc: Global, place: usize, line: usize, own: &str) -> Result<String, AllocError>
+    ensures { IfOk result (λ words. string_bytes words ≡ record_words place line own.now) }
 {
     format!(in alloc;
-        "bytes spell record {place} of {own}: it gives a field that its type doesn't have, or what the field can't hold"
+        "bytes spell record {place} (line {line}) of {own}: it gives a field that its type doesn't have, or what the field can't hold"
     )
 }

@@ -29,6 +29,6 @@ returns-in_ok-own-in-TooManyRows c = rows_told (view c.args.board.now) c.args.wh
     c.told_rows.ensures
 
 pub returns-in_ok-own-in-WrongRecord : goal.returns-in_ok-own-in-WrongRecord
-returns-in_ok-own-in-WrongRecord c = record_told (view c.args.board.now) c.args.why c.in-WrongRecord.node c.in-WrongRecord.record
+returns-in_ok-own-in-WrongRecord c = record_told (view c.args.board.now) c.args.why c.in-WrongRecord.node c.in-WrongRecord.record c.line_of_record.result
     (string_bytes c.in_ok-own-in-WrongRecord.own) c.deref-in-WrongRecord.result.now c.told_record.result c.in-WrongRecord.is
     c.deref-in-WrongRecord.ensures c.in_ok-own-in-WrongRecord.ensures c.told_record.ensures
