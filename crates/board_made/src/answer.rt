@@ -124,7 +124,7 @@ fn answer_given(
 {
     match made_plan(alloc, given, files) {
         Ok(made) => judged(alloc, text, files, board, made),
-        Err(why) => Ok(BoardAnswer::NoPlan(no_plan_line(alloc, text, board, given, why)?)),
+        Err(why) => Ok(BoardAnswer::NoPlan(no_plan_line(alloc, text, files, board, given, why)?)),
     }
 }
 

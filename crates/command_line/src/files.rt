@@ -12,6 +12,7 @@ use plan_commands::RecordFiles;
 use std::alloc::{AllocError, Global};
 use std::fs::File;
 use std::io::{self, Input, Read, Write};
+use std::path::Path;
 use std::rt::Files;
 use step_files::TextFiles;
 
@@ -235,11 +236,9 @@ impl<R: Files + Input> RecordFiles for FilesBeside<'_, R> {
 
 /// The path of a file in the folder of another.
 fn path_beside(alloc: Global, other: &str, name: &str) -> Result<String, AllocError> {
-    if name.starts_with("/") {
-        return name.to_string(alloc);
-    }
-    match other.rsplit_once('/') {
-        Some((folder, _)) => format!(in alloc; "{folder}/{name}"),
-        None => format!(in alloc; "./{name}"),
-    }
+    let folder = match Path::new(other).parent() {
+        Some(folder) if !folder.as_str().is_empty() => folder,
+        _ => Path::new("."),
+    };
+    Ok(folder.join(alloc, name)?.into_string())
 }
