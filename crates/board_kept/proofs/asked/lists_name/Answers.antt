@@ -1,6 +1,6 @@
 use Rattle.std.proofs.Common.{codes, arith}
 use Rattle.toml.specs.View.{view}
-use Rattle.board_kept.specs.Said.{SaysText, item_at}
+use Rattle.board_values.specs.Said.{SaysText, item_at}
 use Rattle.board_kept.proofs.More.{one_more, denied, among_first}
 use Rattle.board_kept.proofs.asked.lists_name.Goals as goal
 
