@@ -1,8 +1,10 @@
 -- Nodes that no hop leaves.
-use Rattle.std.proofs.Common.{◌≡◌, ◌≢◌, ◌⊎◌, ℕ, zero, suc, ◌<◌, List, Vec, length, Bool, true, Option, Some, slice_get, subst, sym, inl, inr}
+use Rattle.std.proofs.Common.{◌≡◌, ◌≢◌, ◌⊎◌, ℕ, zero, suc, ◌<◌, List, Vec, length, Bool, true, Option, Some, slice_get, Result, Ok, Err, IfOk, IsTrue, subst, sym, inl, inr}
 use Rattle.std.specs.declared.alloc.Global.{Global}
 use Rattle.net_plan.specs.declared.plan.Plan.{Plan}
 use Rattle.net_tables.specs.Routing.{IsBridge}
+use Rattle.toml.specs.Data.{Data}
+use Rattle.board_kept.specs.Made.{AsksFor, AreKindsAsSaid, GivesStep, IsCutOff}
 use Rattle.board_kept.specs.Turns.{AreTurnsTo}
 use Rattle.board_kept.specs.Ways.{AreClosed, AreNear, ComesOver, HasNoWay, HasNoWayBy, SendsOn, TurnsTo}
 use Rattle.board_kept.proofs.Reaching.{more_given}
@@ -33,3 +35,17 @@ pub no_way_given : (Given : ℕ → ℕ → ℕ → Type 0) (turns : List (Optio
     → HasNoWay (TurnsTo turns) plan a b → HasNoWayBy Given plan a b
 no_way_given Given turns plan a b are none e holds hops comes =
     none hops (more_given (TurnsTo turns) (Given e) plan (are e holds) a hops b comes)
+
+-- so it is where a test says so
+pub no_way_so : {E : Type 0} (Given : ℕ → ℕ → ℕ → Type 0) (turns seen : List (Option ℕ)) (plan : Plan) (a b : ℕ) (r : Result Bool E) → seen ≡ turns
+    → AreTurnsTo Given plan b turns → IfOk r (λ answer. IsTrue answer → HasNoWay (TurnsTo seen) plan a b)
+    → IfOk r (λ answer. IsTrue answer → HasNoWayBy Given plan a b)
+no_way_so Given turns seen plan a b (Ok answer) same are none = λ yes.
+    no_way_given Given seen plan a b (subst (λ ts. AreTurnsTo Given plan b ts) (sym same) are) (none yes)
+no_way_so Given turns seen plan a b (Err e) same are none = tt
+
+-- and of a board that asks for it
+pub cut_off_so : {E : Type 0} (board : Data) (plan : Plan) (a b : ℕ) (r : Result Bool E) → AsksFor board plan a b → AreKindsAsSaid board plan
+    → IfOk r (λ answer. IsTrue answer → HasNoWayBy (GivesStep board plan) plan a b) → IfOk r (λ answer. IsTrue answer → IsCutOff board plan a b)
+cut_off_so board plan a b (Ok answer) asked kinds none = λ yes. record { asked = asked; kinds = kinds; none = none yes }
+cut_off_so board plan a b (Err e) asked kinds none = tt

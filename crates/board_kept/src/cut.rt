@@ -1,8 +1,8 @@
 //! Whether no way over buses and bridges leads from one node to another.
-ghost use Rattle.std.specs.Prelude.{◌≡◌, ◌↔◌, IfOk, IsTrue, false, slice_get, Some, true};
+ghost use Rattle.std.specs.Prelude.{◌≡◌, ◌≢◌, ◌<◌, ◌↔◌, IfOk, IsTrue, false, length, slice_get, Some, true};
 ghost use Rattle.toml.specs.View.{view};
 ghost use Rattle.board_kept.specs.Ways.{HasNoWay, HasNoWayBy, TurnsTo, AreNear, IsStepIn, IsPassing, IsClosedAt, AreClosed};
-ghost use Rattle.board_kept.specs.Made.{AsksFor, Asks, ListsName, IsCutOff};
+ghost use Rattle.board_kept.specs.Made.{AsksFor, Asks, AreKindsAsSaid, ListsName, IsCutOff};
 ghost use Rattle.board_kept.specs.Rowed.{LeadsAlready};
 
 use crate::asked::{MOST_NAMES, is_name_at, turns_to};
@@ -26,9 +26,19 @@ pub fn is_cut_off(
 ) -> Result<bool, AllocError>
     ensures { IfOk result (λ answer. IsTrue answer → IsCutOff (view board.now) plan.now from to) }
 {
+    if !may_be_cut(board, plan, from, to) {
+        return Ok(false);
+    }
     let turns = turns_to(alloc, board, plan, to)?;
-    let is_apart = leads_nowhere(alloc, plan, &turns, from, to)?;
-    Ok(is_apart && is_asked(board, plan, from, to) && are_kinds_as_said(board, plan))
+    leads_nowhere(alloc, plan, &turns, from, to)
+}
+
+/// Whether the board asks that a node reaches another, and each node that it makes a bridge is one.
+fn may_be_cut(board: &Value, plan: &Plan, from: usize, to: usize) -> bool
+    ensures asked { IsTrue result → AsksFor (view board.now) plan.now from to }
+    ensures kinds { IsTrue result → AreKindsAsSaid (view board.now) plan.now }
+{
+    is_asked(board, plan, from, to) && are_kinds_as_said(board, plan)
 }
 
 /// Whether no way leads from a node to another that goes where the rows of another plan lead. Where the answer is no, that
@@ -144,10 +154,16 @@ fn is_apart(
     requires { AreNear plan.now near.now }
     ensures { IsTrue result → HasNoWay (TurnsTo turns.now) plan.now from to }
 {
-    to < plan.nodes.len()
-        && is_reached(reached, from)
-        && !is_reached(reached, to)
-        && are_closed(plan, near, turns, reached, from)
+    is_between(plan, reached, from, to) && are_closed(plan, near, turns, reached, from)
+}
+
+/// Whether the nodes that are reached have the one node and not the other, which is one of the plan.
+fn is_between(plan: &Plan, reached: &[bool], from: usize, to: usize) -> bool
+    ensures within { IsTrue result → to < length plan.now.nodes.items }
+    ensures begun { IsTrue result → slice_get reached.now from ≡ Some true }
+    ensures not { IsTrue result → slice_get reached.now to ≢ Some true }
+{
+    to < plan.nodes.len() && is_reached(reached, from) && !is_reached(reached, to)
 }
 
 fn is_reached(reached: &[bool], node: usize) -> bool

@@ -107,9 +107,20 @@ fn keeps_record(
     requires { index < length records.now }
     ensures { IfOk result (λ answer. IsTrue answer → IsRecordKept files.now plan.now records.now index own.now (view given.now)) }
 {
-    let handles = says_handle(given, own.handle, index)
-        && says_or(given, "next", own.next, next_handle(records, index));
-    Ok(are_bytes_kept(alloc, files, plan, &own.bytes, given)? && handles)
+    Ok(
+        are_bytes_kept(alloc, files, plan, &own.bytes, given)?
+            && says_handles(records, index, own, given),
+    )
+}
+
+/// Whether the handle and the next handle stand there, or nothing does and they are those of the list.
+fn says_handles(records: &[PlannedRecord], index: usize, own: &PlannedRecord, given: &Value) -> bool
+    requires { index < length records.now }
+    ensures handle { IsTrue result → SaysOr (index + 1) (get (codes "handle") (view given.now)) own.now.handle }
+    ensures next { IsTrue result → SaysOr (next_handle records.now index) (get (codes "next") (view given.now)) own.now.next }
+{
+    says_handle(given, own.handle, index)
+        && says_or(given, "next", own.next, next_handle(records, index))
 }
 
 /// The most records of a terminus.

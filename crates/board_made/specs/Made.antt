@@ -63,6 +63,7 @@ pub record IsUnmadeOf (files : List RecordFile) (board_text text : List ℕ) : T
 
 -- what is answered of a text, so of one that is no TOML document a line that says why it can't be read
 abbrev pub IsAnswerTo : List RecordFile → List ℕ → BoardAnswer → Type 0
-IsAnswerTo files board_text (Made made) = IsMadeOf files board_text (string_bytes made.plan) (string_bytes made.certificate)
+IsAnswerTo files board_text (Made made) =
+    IsMadeOf files board_text (string_bytes made.plan) (string_bytes made.certificate)
 IsAnswerTo files board_text (NoPlan reason) = IsUnmadeOf files board_text (string_bytes reason)
 IsAnswerTo files board_text (Unread line) = IsUnreadLine (string_bytes line)

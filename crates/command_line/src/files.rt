@@ -208,6 +208,7 @@ impl<R: Files> TextFiles for FilesAtPaths<'_, R> {
 }
 
 /// The files beside a board, by their paths from its folder. A path from the root is taken as it is.
+#[derive(Drop)]
 pub struct FilesBeside<'a, R: Files + Input> {
     rt: &'a R,
     board: &'a str,
