@@ -1,21 +1,32 @@
 -- The texts of a move, from their parts.
-use Rattle.std.proofs.Common.{◌≡◌, ◌++◌, List, ℕ, Option, Result, Ok, Err, length, inl}
-use Rattle.std.specs.Prelude.{IfOk}
+use Rattle.std.proofs.Common.{◌≡◌, ◌++◌, List, ℕ, Option, None, Result, Ok, Err, length, inl, sym, subst}
+use Rattle.std.specs.Prelude.{IfOk, codes}
 use Rattle.net_plan.specs.declared.certificate.Certificate.{Certificate}
 use Rattle.net_rules.specs.declared.mixed_loop.MixedLoop.{MixedLoop}
 use Rattle.net_rules.specs.declared.mixed_loop.Side.{Side}
 use Rattle.net_rules.specs.declared.move_fault.MoveFault.{MoveFault}
 use Rattle.net_rules.specs.Rules.{Accepts}
-use Rattle.fault_texts.specs.Places.{IsPlaceTold}
+use Rattle.fault_texts.specs.Places.{IsPlaceTold, part_pointer, way_pointer}
 use Rattle.explain_commands.specs.declared.explain.moved.differences.Unlike.{Unlike}
 use Rattle.explain_commands.specs.MoveDifferences.{AreUnlikeIn, IsDifferenceTold, node_of, unlike_pointer, unlike_text}
-use Rattle.explain_commands.specs.MoveRows.{AreHopsTold, IsMixedLoopTold, IsMoveRemedyTold, IsWayOnTold, IsWayTold, PlanFile, circling_text, other_side, side_file, steps_text, stopped_text, way_on_text}
+use Rattle.explain_commands.specs.MoveRows.{AreHopsTold, IsLackTold, IsMixedLoopTold, IsMoveRemedyTold, IsRowTold, IsWayOnTold, IsWayTold, PlanFile, circling_text, lack_line, other_side, row_line, side_file, steps_text, stopped_text, way_on_text}
 
 module _ {A E : Type 0} (bytes : A → List ℕ) where
   pub steps_told : (name : List ℕ) (after : PlanFile) (cert : Certificate) (r : Result A E) → Accepts after.plan cert
       → IfOk r (λ t. bytes t ≡ steps_text name after.name) → IfOk r (λ t. IsMoveRemedyTold name after (bytes t))
   steps_told name after cert (Ok t) accepted written = inl (cert, accepted, written)
   steps_told name after cert (Err e) accepted written = tt
+
+  module _ (file : PlanFile) (side : Side) (n : ℕ) where
+    pub row_told : (index : Option ℕ) (place : List ℕ) (r : Result A E) → IsPlaceTold file.name file.text (way_pointer n index) place
+        → IfOk r (λ t. bytes t ≡ place ++ row_line side file.plan n index) → IfOk r (λ t. IsRowTold file side n index (bytes t))
+    row_told index place (Ok t) placed written = record { place = place; placed = placed; written = written }
+    row_told index place (Err e) placed written = tt
+
+    pub lack_told : (e : ℕ) (row : Option ℕ) (place : List ℕ) (r : Result A E) → row ≡ None → IsPlaceTold file.name file.text (part_pointer n (codes "rows")) place
+        → IfOk r (λ t. bytes t ≡ place ++ lack_line side file.plan n e) → IfOk r (λ t. IsLackTold file side n e row (bytes t))
+    lack_told e row place (Ok t) is placed written = subst (λ (o : Option ℕ). IsLackTold file side n e o (bytes t)) (sym is) (place, placed, written)
+    lack_told e row place (Err e2) is placed written = tt
 
   module _ (before after : PlanFile) where
     pub difference_told : (node : Option ℕ) (it : Unlike) (there here : List ℕ) (r : Result A E) → AreUnlikeIn it before.plan after.plan → node_of it ≡ node
