@@ -1,6 +1,6 @@
 -- What is answered for a board is answered to its text, and how lines are worded.
-use Rattle.std.proofs.Common.{◌≡◌, ◌≢◌, ℕ, List, ◌++◌, Some, Result, Ok, Err, inl, inr, subst, sym}
-use Rattle.std.specs.Prelude.{IfOk, codes}
+use Rattle.std.proofs.Common.{◌≡◌, ◌≢◌, ℕ, List, ◌++◌, String, Global, Option, Some, None, Result, Ok, Err, inl, inr, subst, sym}
+use Rattle.std.specs.Prelude.{IfOk, IfSome, codes, string_bytes}
 use Rattle.toml.specs.Data.{Data}
 use Rattle.net_plan.specs.declared.plan.Plan.{Plan}
 use Rattle.net_rules.specs.declared.certify_error.CertifyError.{CertifyError}
@@ -8,14 +8,14 @@ use Rattle.net_rules.specs.declared.certify_error.CertifyError.TheVariants as er
 use Rattle.net_rules.specs.Certificates.{NamesObstacle, RulesOutCertificates}
 use Rattle.plan_texts.specs.Lines.{obstacle_text}
 use Rattle.board.specs.declared.board.RecordFile.{RecordFile}
-use Rattle.board.specs.declared.making.NoPlan as lacking
 use Rattle.board_values.specs.Said.{IsTomlOf}
-use Rattle.board_values.specs.Lacks.{Lacks}
-use Rattle.board_values.specs.Lines.{IsNodeTold, IsWorded}
+use Rattle.board_values.specs.Lines.{IsNodeTold}
 use Rattle.board_made.specs.declared.answer.BoardAnswer.{BoardAnswer}
 use Rattle.board_made.specs.declared.answer.BoardAnswer.TheVariants.{Made, NoPlan, Unread}
+use Rattle.board_kept.specs.Rowed.{IsSameButRows, LeadsAlready}
+use Rattle.board_kept.specs.Ways.{HasNoWayBy}
 use Rattle.board_made.specs.Made.{IsUnreadLine, IsAnswerTo, IsAnswerFor}
-use Rattle.board_made.specs.Reasons.{TellsObstacle, IsRuledOut, IsReason, IsUnfound, IsWayTold, reason_line, way_words}
+use Rattle.board_made.specs.Reasons.{TellsObstacle, IsRuledOut, IsCutToldOf, IsUnfound, IsWayTold, IsWayToldOf, reason_line, way_words}
 
 pub answered : (files : List RecordFile) (text : List ℕ) (board : Data) (answer : BoardAnswer) → IsTomlOf text board → IsAnswerFor files board answer
     → IsAnswerTo files text answer
@@ -30,19 +30,6 @@ pub unfound_worded : {A E : Type 0} (bytes : A → List ℕ) (words : List ℕ) 
 unfound_worded bytes words (Ok t) written = (words, written)
 unfound_worded bytes words (Err e) written = tt
 
--- what the board lacks, in words
-pub lack_worded : {A E : Type 0} (files : List RecordFile) (board : Data) (why : lacking.NoPlan) (bytes : A → List ℕ) (words said : List ℕ) (r : Result A E) → Lacks board why
-    → IsWorded board why words → said ≡ words → IfOk r (λ t. bytes t ≡ reason_line said) → IfOk r (λ t. IsReason files board (bytes t))
-lack_worded files board why bytes words said (Ok t) lacks worded same written =
-    inr (inr (inl (record { why = why; lacks = lacks; words = said; worded = subst (λ w. IsWorded board why w) (sym same) worded; written = written })))
-lack_worded files board why bytes words said (Err e) lacks worded same written = tt
-
--- no plan that was found is a reason
-pub unfound_is_reason : {A E : Type 0} (files : List RecordFile) (board : Data) (bytes : A → List ℕ) (r : Result A E) → IfOk r (λ t. IsUnfound (bytes t))
-    → IfOk r (λ t. IsReason files board (bytes t))
-unfound_is_reason files board bytes (Ok t) unfound = inr (inr (inr unfound))
-unfound_is_reason files board bytes (Err e) unfound = tt
-
 -- a way between nodes that are told
 pub way_told : {A E : Type 0} (board : Data) (a b : ℕ) (bytes : A → List ℕ) (one other said also : List ℕ) (r : Result A E) → IsNodeTold board a one
     → IsNodeTold board b other → said ≡ one → also ≡ other → IfOk r (λ t. bytes t ≡ reason_line (way_words said also))
@@ -55,6 +42,13 @@ pub unread_worded : {A E : Type 0} (bytes : A → List ℕ) (words : List ℕ) (
     → IfOk r (λ t. IsUnreadLine (bytes t))
 unread_worded bytes words (Ok t) written = (words, written)
 unread_worded bytes words (Err e) written = tt
+
+-- so it is of a plan with rows
+pub cut_told_of : (before plan : Plan) (a b : ℕ) (found : Option (String Global)) → IsSameButRows before plan → HasNoWayBy (LeadsAlready before) plan a b
+    → IfSome found (λ line. IsWayToldOf plan a b (string_bytes line)) → IfSome found (λ line. IsCutToldOf before (string_bytes line))
+cut_told_of before plan a b None given cut told = tt
+cut_told_of before plan a b (Some line) given cut told =
+    record { plan = plan; one = a; other = b; given = given; cut = cut; told = told }
 
 -- ---- obstacles
 

@@ -204,11 +204,7 @@ fn read_files<F: RecordFiles>(
     Ok(list)
 }
 
-fn read_file<F: RecordFiles>(
-    alloc: Global,
-    files: &F,
-    name: &str,
-) -> Result<RecordFile, FileFault>
+fn read_file<F: RecordFiles>(alloc: Global, files: &F, name: &str) -> Result<RecordFile, FileFault>
     ensures held { IfOk result (λ file. F.holds files.now (string_bytes file.name) file.bytes.items) }
     ensures unread { IfErr result (λ fault. IsFileUnread fault) }
 {
