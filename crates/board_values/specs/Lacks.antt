@@ -2,7 +2,8 @@
 use Rattle.std.specs.Prelude.{◌≡◌, ◌⊎◌, ℕ, codes, Option, None}
 use Rattle.toml.specs.Data.{Data}
 use Rattle.board.specs.declared.making.NoPlan.{NoPlan}
-use Rattle.board.specs.declared.making.NoPlan.TheVariants.{OwnerLoop, NoPool, NoEid, NoRun, TooManyRows, WrongRecord, OutOfMemory}
+use Rattle.board.specs.declared.making.NoPlan.TheVariants.{OwnerLoop, NoPool, NoEid, NoRun}
+use Rattle.board.specs.declared.making.NoPlan.TheVariants.{TooManyRows, WrongRecord, OutOfMemory}
 use Rattle.board_values.specs.Said.{SaysNumber}
 use Rattle.board_values.specs.Owners.{at_node, Owns, HasOwnersWithoutEnd, LeavesOut, IsOf, IsOverdrawn}
 

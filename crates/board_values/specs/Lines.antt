@@ -3,7 +3,8 @@ use Rattle.std.specs.Prelude.{◌≡◌, ℕ, List, ◌++◌, codes, Option, Som
 use Rattle.std.specs.Fmt.{decimal}
 use Rattle.toml.specs.Data.{Data}
 use Rattle.board.specs.declared.making.NoPlan.{NoPlan}
-use Rattle.board.specs.declared.making.NoPlan.TheVariants.{OwnerLoop, NoPool, NoEid, NoRun, TooManyRows, WrongRecord, OutOfMemory}
+use Rattle.board.specs.declared.making.NoPlan.TheVariants.{OwnerLoop, NoPool, NoEid, NoRun}
+use Rattle.board.specs.declared.making.NoPlan.TheVariants.{TooManyRows, WrongRecord, OutOfMemory}
 use Rattle.board_values.specs.Owners.{IsNamed}
 
 -- a node by its name, and a line
@@ -23,7 +24,8 @@ abbrev pub loop_words : List ℕ → List ℕ
 loop_words own = codes "node stands above all owners of " ++ (own ++ codes ": they go round in a circle")
 
 abbrev pub pool_words : List ℕ → List ℕ → List ℕ
-pool_words own above = codes "pool stands at " ++ (above ++ (codes ", from which " ++ (own ++ codes " is to take endpoint IDs")))
+pool_words own above =
+    codes "pool stands at " ++ (above ++ (codes ", from which " ++ (own ++ codes " is to take endpoint IDs")))
 
 abbrev pub eid_words : List ℕ → List ℕ → List ℕ
 eid_words own whose = codes "endpoint ID of " ++ (whose ++ (codes " is left for " ++ own))
@@ -37,7 +39,8 @@ rows_words own = codes "room is left for the rows of " ++ (own ++ codes ": it wo
 
 abbrev pub record_words : ℕ → ℕ → List ℕ → List ℕ
 record_words place line own = codes "bytes spell record " ++ (decimal place ++ (codes " (line " ++ (decimal line
-    ++ (codes ") of " ++ (own ++ codes ": it gives a field that its type doesn't have, or what the field can't hold")))))
+    ++ (codes ") of " ++ (own
+    ++ codes ": it gives a field that its type doesn't have, or what the field can't hold")))))
 
 -- the words say that this is lacking
 abbrev pub IsWorded : Data → NoPlan → List ℕ → Type 0
