@@ -5,3 +5,4 @@ mod FaultListed
 mod Drawn
 mod Required
 mod Questions
+pub mod Held
