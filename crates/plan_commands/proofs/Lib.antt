@@ -4,3 +4,4 @@ mod FaultListed
 mod Drawn
 mod Required
 mod Questions
+pub mod Held
