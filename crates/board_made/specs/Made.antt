@@ -36,12 +36,6 @@ pub record IsFitText (files : List RecordFile) (board : Data) (text certified : 
 abbrev pub IsUnreadLine : List ℕ → Type 0
 IsUnreadLine text = (words : List ℕ) × (text ≡ codes "unreadable board: " ++ (words ++ codes "\n"))
 
--- the answer is such a line
-abbrev pub IsUnreadAnswer : BoardAnswer → Type 0
-IsUnreadAnswer (Made made) = ⊥
-IsUnreadAnswer (NoPlan reason) = ⊥
-IsUnreadAnswer (Unread line) = IsUnreadLine (string_bytes line)
-
 -- what is answered of a board that was read
 abbrev pub IsAnswerFor : List RecordFile → Data → BoardAnswer → Type 0
 IsAnswerFor files board (Made made) = IsFitText files board (string_bytes made.plan) (string_bytes made.certificate)

@@ -10,7 +10,7 @@ use Rattle.board_made.specs.declared.answer.BoardAnswer.TheVariants.{Made, NoPla
 use Rattle.net_plan.specs.declared.plan.Plan.{Plan}
 use Rattle.plan_commands.specs.declared.make.FileFault.{FileFault}
 use Rattle.plan_commands.specs.declared.make.FileFault.TheVariants as fault
-use Rattle.board_made.specs.Made.{IsMadeOf, IsUnmadeOf, IsUnreadAnswer, IsUnreadLine, IsAnswerTo}
+use Rattle.board_made.specs.Made.{IsMadeOf, IsUnmadeOf, IsUnreadLine}
 use Rattle.board_made.specs.Reasons.{IsRowsReason}
 use Rattle.board_made.specs.Rowed.{IsRowedText}
 use Rattle.command_answers.specs.declared.refused.Input.TheVariants as input
@@ -48,19 +48,6 @@ abbrev pub AreHeld : (List ℕ → List ℕ → Type 0) → List RecordFile → 
 AreHeld Holds files =
     (i : ℕ) (file : RecordFile) → slice_get files i ≡ Some file → Holds (string_bytes file.name) file.bytes.items
 
--- what is answered of a board and files that its records name; or a file can't be had, and a line says so
-abbrev pub IsAnswerWith : (List ℕ → List ℕ → Type 0) → List ℕ → BoardAnswer → Type 0
-IsAnswerWith Holds board answer =
-    ((files : List RecordFile) × AreHeld Holds files × IsAnswerTo files board answer) ⊎ IsUnreadAnswer answer
-
--- what is answered of the board that a source gave, or why it gave none
-abbrev pub IsAnswerOf : (List ℕ → List ℕ → Type 0) → Stream → BoardAnswer → Type 0
-IsAnswerOf Holds boards answer =
-    Gave 16777216 boards.before.bytes boards.after.bytes (λ bytes. IsAnswerWith Holds bytes answer)
-    ⊎ IsUngivenBoard boards answer
-
--- ---- make BOARD
-
 -- a plan that is made of the board, and of files that hold what its records name, with its certificate
 abbrev pub IsMadeBy : (List ℕ → List ℕ → Type 0) → List ℕ → List ℕ → List ℕ → Type 0
 IsMadeBy Holds board text certified =
@@ -69,6 +56,20 @@ IsMadeBy Holds board text certified =
 -- why no plan is made of them
 abbrev pub IsUnmadeBy : (List ℕ → List ℕ → Type 0) → List ℕ → List ℕ → Type 0
 IsUnmadeBy Holds board text = (files : List RecordFile) × AreHeld Holds files × IsUnmadeOf files board text
+
+-- what is answered of a board and of files that hold what its records name; or why they can't be had
+abbrev pub IsAnswerWith : (List ℕ → List ℕ → Type 0) → List ℕ → BoardAnswer → Type 0
+IsAnswerWith Holds board (Made made) = IsMadeBy Holds board (string_bytes made.plan) (string_bytes made.certificate)
+IsAnswerWith Holds board (NoPlan reason) = IsUnmadeBy Holds board (string_bytes reason)
+IsAnswerWith Holds board (Unread line) = IsUnreadLine (string_bytes line)
+
+-- what is answered of the board that a source gave, or why it gave none
+abbrev pub IsAnswerOf : (List ℕ → List ℕ → Type 0) → Stream → BoardAnswer → Type 0
+IsAnswerOf Holds boards answer =
+    Gave 16777216 boards.before.bytes boards.after.bytes (λ bytes. IsAnswerWith Holds bytes answer)
+    ⊎ IsUngivenBoard boards answer
+
+-- ---- make BOARD
 
 -- The text answers for a board, in a run that ends so: it is a plan that is made of the board, or the reason why none
 -- is. Of a text that is no TOML document there is neither.
