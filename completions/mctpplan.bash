@@ -94,7 +94,9 @@ _mctpplan() {
     elif [[ $command == expect && $place -eq 5 ]]; then
         compopt -o filenames 2>/dev/null
         mapfile -t COMPREPLY < <(compgen -f -- "$current")
-    elif [ "$((place - 1))" -le "$files" ]; then
+    elif [[ $command == explain && $current == -* ]]; then
+        mapfile -t COMPREPLY < <(compgen -W '--move' -- "$current")
+    elif [[ $((place - 1)) -le $files || ${COMP_WORDS[COMP_CWORD - 1]} == --move ]]; then
         compopt -o filenames 2>/dev/null
         mapfile -t COMPREPLY < <(compgen -d -- "$current"; compgen -f -X '!*.json' -- "$current")
     elif [[ $command == require && $place -eq 4 ]]; then

@@ -176,20 +176,24 @@ def pool_of(board, name):
     return set(range(int(pool.split("-")[0]), int(pool.split("-")[1]) + 1)) if isinstance(pool, str) else None
 
 
+def given_rows(board):
+    return any("rows" in it for it in board.nodes)
+
+
 def wrong_of_reason(board, reason):
     gives_some = any({"eid", "rows"} & {*it} for it in board.nodes)
     if found := re.match(r'no plan: no (\d+ )?endpoint IDs? of the pool of node "(\w+)"', reason):
-        # (at most so many are handed out from the pool, or the board gives some that are in the way)
+        # (no more can be handed out from the pool)
         owned = [it for it in board.nodes if it.get("owner") == found[2]]
         wanted = len(owned) + sum(it["pool"] for it in owned if isinstance(it.get("pool"), int))
         pool = pool_of(board, found[2])
         size = len(pool) if pool else next(it for it in board.nodes if it["name"] == found[2])["pool"]
-        return None if wanted > size or gives_some else "there is room"
+        return None if wanted > size else "there is room"
     if found := re.match(r'no plan: no way over buses, bridges and given rows leads from node "(\w+)" .* to node "(\w+)"', reason):
         names = [it["name"] for it in board.nodes]
         bridges = ["pool" in it for it in board.nodes]
         is_cut = names.index(found[2]) not in hops_over(board.nodes, bridges, names.index(found[1]))
-        return None if is_cut or gives_some else "there is a way"
+        return None if is_cut or given_rows(board) else "there is a way"
     return None if gives_some and reason.startswith("no plan: ") else "nothing that the board gives is against a plan"
 
 

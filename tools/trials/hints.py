@@ -43,6 +43,11 @@ HINTS = [
     ),
     (["script", PLAN, CERTIFICATE, "walk", "hsot", "17", "64"], "unreadable node: J06", ["there is no node hsot; the nearest is host"]),
     (
+        ["explain", PLAN, CERTIFICATE, "--move", PLAN],
+        "usage",
+        ["mctpplan explain PLAN [CERT]", "the other form is explain OLD --move NEW", "mctpplan guide explain tells more"],
+    ),
+    (
         ["draw", PLAN, "--rows", "7"],
         "usage",
         ["mctpplan draw PLAN [CERT] [--rows [EID]]", "EID is a number of 8 to 254, and not 7", "mctpplan guide draw tells more"],

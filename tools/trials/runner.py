@@ -121,6 +121,8 @@ def commands():
         ("trace", [[plan, certificate, "host", "18"]]),
         ("draw", [[plan], [loop], [plan, certificate], [loop, "--rows"], [loop, "--rows", "16"]]),
         ("explain", [[plan], [loop], [row], [plan, certificate]]),
+        ("explain", [[left, "--move", MOVE / it] for it in ("by-right.json", "no-left.json", "by-right-18.json")]),
+        ("explain", [[MOVE / "to-left.json", "--move", MOVE / "to-right.json"], [plan, "--move", loop], [row, "--move", row]]),
         ("faults", [[plan], [loop], [row], [plan, certificate]]),
         ("fix", [[plan], [loop], [row]]),
         ("lint", [[plan], [TOP / "examples/questions/plan-without-rows.json"]]),

@@ -55,7 +55,7 @@ BOARD = {
             "reaches": ["a"],
             "rows": ["16-31 via a port 0"],
             "tid": 1,
-            "record": [{"type": "terminus-locator", "handle": 1, "eid": "a"}, {"hex": "00"}],
+            "record": [{"type": "terminus-locator", "handle": 1, "eid": "a"}, {"hex": "00"}, {"file": "a.pdr"}],
         }
     ],
 }
@@ -120,6 +120,7 @@ WRONG = [
     ("board", ["node", 0, "rows", 0], "16 via nic"),
     ("board", ["node", 0, "record", 0, "type"], "locator"),
     ("board", ["node", 0, "record", 0, "type"], TAKEN_OUT),
+    ("board", ["node", 0, "record", 2, "file"], ""),
     ("board", ["node", 0, "knows"], ["nic"]),
 ]
 # Each begins with the name of its schema.

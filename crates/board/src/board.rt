@@ -77,6 +77,8 @@ pub struct BoardRecord {
 pub enum RecordContent {
     /// These bytes, in hex.
     Hex(String),
+    /// The bytes of the file of this name.
+    File(String),
     /// A record of a type, with these fields.
     Fields { kind: String, words: Vec<FieldWord> },
 }
@@ -94,4 +96,11 @@ pub enum FieldText {
     Text(String),
     /// The endpoint ID of the node at an index.
     EidOf(usize),
+}
+
+/// A file that records of a board name, and its bytes.
+#[derive(Debug, Drop)]
+pub struct RecordFile {
+    pub name: String,
+    pub bytes: Vec<u8>,
 }

@@ -1,6 +1,7 @@
 //! What the tables of a board give, or why they can't be read.
 use crate::fault::BoardError;
 use crate::places::{Place, position};
+use net_pointers::nearest_name;
 use std::alloc::{AllocError, Global};
 use toml::{Table, Value};
 
@@ -24,6 +25,36 @@ impl<'v> Given<'v> {
         match self.reason(key, item, wanted) {
             Ok(reason) => self.fault_of(key, item, reason),
             Err(_) => BoardError::OutOfMemory,
+        }
+    }
+
+    /// The same where no such name is known, with the nearest of those that are.
+    pub fn fault_near(
+        &self,
+        key: &str,
+        item: Option<usize>,
+        wanted: &str,
+        name: &str,
+        known: &[&str],
+    ) -> BoardError {
+        match self.near_reason(key, item, wanted, name, known) {
+            Ok(reason) => self.fault_of(key, item, reason),
+            Err(_) => BoardError::OutOfMemory,
+        }
+    }
+
+    fn near_reason(
+        &self,
+        key: &str,
+        item: Option<usize>,
+        wanted: &str,
+        name: &str,
+        known: &[&str],
+    ) -> Result<String, AllocError> {
+        let reason = self.reason(key, item, wanted)?;
+        match nearest_of(self.alloc, name, known)? {
+            Some(near) => format!(in self.alloc; "{reason}, as \"{near}\""),
+            None => Ok(reason),
         }
     }
 
@@ -111,10 +142,22 @@ impl<'v> Given<'v> {
     pub fn check_keys(&self, known: &[&'static str], wanted: &str) -> Result<(), BoardError> {
         for (key, _) in self.table.iter() {
             if !is_among(known, key.as_str()) {
-                return Err(self.fault(key.as_str(), None, wanted));
+                return Err(self.fault_near(key.as_str(), None, wanted, key.as_str(), known));
             }
         }
         Ok(())
+    }
+}
+
+/// The nearest of some names, where one is near.
+pub fn nearest_of<'n>(
+    alloc: Global,
+    name: &str,
+    known: &[&'n str],
+) -> Result<Option<&'n str>, AllocError> {
+    match nearest_name(alloc, name, known)? {
+        Some(index) => Ok(known.get(index).copied()),
+        None => Ok(None),
     }
 }
 

@@ -15,11 +15,11 @@ mod writing;
 
 pub use board::{
     Board, BoardBus, BoardNode, BoardPool, BoardPort, BoardRecord, BoardRow, FieldText, FieldWord,
-    RecordContent,
+    RecordContent, RecordFile,
 };
 pub use fault::BoardError;
 pub use given_plan::board_of_plan;
 pub use given_text::text_of_plan;
-pub use making::{NoPlan, made_plan};
-pub use places::line_of_node;
+pub use making::{Cut, Made, NoPlan, made_plan, named_files};
+pub use places::{line_of_node, line_of_record};
 pub use reading::read_board;

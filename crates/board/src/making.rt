@@ -5,18 +5,19 @@ mod records;
 mod rows;
 mod ways;
 
-use crate::board::{Board, BoardNode, BoardRow};
+use crate::board::{Board, BoardNode, BoardRow, RecordFile};
 use crate::writing::plan_text;
 use eids::choose_eids;
 use net_plan::Kind;
 use records::make_records;
+pub use records::named_files;
 use rows::make_rows;
 use std::alloc::{AllocError, AllocFailed, Global};
 
 /// Why no plan is made of a board. Nodes are named by their indices.
 #[derive(Clone, Copy, Debug, PartialEq, Eq)]
 pub enum NoPlan {
-    /// The node is owned by itself, or round a circle.
+    /// The node's owners go round in a circle, and something is to be chosen for a node of which that is so.
     OwnerLoop {
         node: usize,
     },
@@ -35,11 +36,6 @@ pub enum NoPlan {
         node: usize,
         size: u8,
         owner: Option<usize>,
-    },
-    /// No way over buses and bridges leads from the one node to the other.
-    NoWay {
-        from: usize,
-        to: usize,
     },
     /// The node would have more than 256 rows.
     TooManyRows {
@@ -89,12 +85,32 @@ pub struct MadeRecord {
     pub hex: String,
 }
 
-/// The text of a plan that is made of a board, or why none is made. Nothing of the plan is promised here.
-pub fn made_plan(alloc: Global, board: &Board) -> Result<String, NoPlan> {
+/// What was made of a board.
+#[derive(Debug, Drop)]
+pub struct Made {
+    /// The text of a plan.
+    pub text: String,
+    /// Two nodes of which the first is to reach the second, and no way was found.
+    pub cut: Option<Cut>,
+}
+
+/// Two nodes between which no way was found. They are named by their indices.
+#[derive(Clone, Copy, Debug, PartialEq, Eq)]
+pub struct Cut {
+    pub from: usize,
+    pub to: usize,
+}
+
+/// The text of a plan that is made of a board, whose records may name these files, or why none is made. Nothing of the plan is promised here.
+pub fn made_plan(alloc: Global, board: &Board, files: &[RecordFile]) -> Result<Made, NoPlan> {
     let chosen = choose_eids(alloc, board)?;
-    let rows = make_rows(alloc, board, &chosen)?;
-    let records = make_records(alloc, board, &chosen)?;
-    Ok(plan_text(alloc, board, &chosen, &rows, &records)?)
+    let made = make_rows(alloc, board, &chosen)?;
+    let records = make_records(alloc, board, files, &chosen)?;
+    let text = plan_text(alloc, board, &chosen, &made.rows, &records)?;
+    Ok(Made {
+        text,
+        cut: made.cut,
+    })
 }
 
 /// Whether the node is a bridge: where the board doesn't say, one that has a pool, owns a node, or has rows and ports on

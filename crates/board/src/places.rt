@@ -34,6 +34,12 @@ pub fn line_of_node(text: &str, node: usize) -> usize {
     header_line(text, "[[node]]", node, 0).unwrap_or(0).max(1)
 }
 
+/// The line of the header of a record of the node at an index, from 1; that of the node where the record has none.
+pub fn line_of_record(text: &str, node: usize, record: usize) -> usize {
+    let line = line_of_node(text, node);
+    header_line(text, "[[node.record]]", record, line).unwrap_or(line)
+}
+
 /// How many lines stand before those of a table, and the line of its header; 0 and 0 at the top.
 fn table_start(text: &str, place: Place) -> (usize, usize) {
     let Some((table, index)) = place.table else {

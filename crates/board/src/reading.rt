@@ -1,12 +1,12 @@
 //! Reading a board from its TOML text.
 use crate::board::{Board, BoardBus, BoardNode, BoardPool, BoardPort, BoardRow};
 use crate::fault::BoardError;
-use crate::given::Given;
+use crate::given::{Given, nearest_of};
 use crate::items::{index_of, read_eids, read_port, read_row};
 use crate::places::Place;
 use crate::record_words::read_records;
 use net_plan::{Kind, is_name};
-use std::alloc::Global;
+use std::alloc::{AllocError, Global};
 use toml::{Table, Value};
 
 /// The most buses, and the most nodes.
@@ -15,6 +15,10 @@ const MOST: usize = 64;
 const A_NAME: &str = "a name of 1 to 32 letters, digits, '-', '_' or '.'";
 
 const A_NODE: &str = "the name of a node";
+
+const A_PORT: &str = "a bus and an address in lower-case hex, as \"i2c0 1d\",";
+
+const A_ROW: &str = "endpoint IDs, a node and a port, as \"16-31 via switch port 0\",";
 
 const NODES: &str = "a list of at most 64 tables, each under [[node]],";
 
@@ -226,7 +230,7 @@ fn read_owner(given: &Given, names: Names) -> Result<Option<usize>, BoardError> 
     };
     match index_of(names.nodes, name) {
         Some(node) => Ok(Some(node)),
-        None => Err(given.fault("owner", None, A_NODE)),
+        None => Err(given.fault_near("owner", None, A_NODE, name, names.nodes)),
     }
 }
 
@@ -282,14 +286,33 @@ fn read_one_port(
     index: usize,
     value: &Value,
 ) -> Result<BoardPort, BoardError> {
-    let wanted = "a bus and an address in lower-case hex, as \"i2c0 1d\",";
-    let text = text_in(given, "ports", index, value, wanted)?;
+    let text = text_in(given, "ports", index, value, A_PORT)?;
     match read_port(text, names.buses) {
         Some((bus, address)) => Ok(BoardPort {
             bus,
             address: address.to_string(given.alloc)?,
         }),
-        None => Err(given.fault("ports", Some(index), wanted)),
+        None => Err(port_fault(given, names, index, text)),
+    }
+}
+
+/// That a text is no port, with that of the nearest bus, if one is near.
+fn port_fault(given: &Given, names: Names, index: usize, text: &str) -> BoardError {
+    let (bus, address) = text.split_once(' ').unwrap_or((text, ""));
+    match near_port(given, names, bus, address) {
+        Ok(wanted) => given.fault("ports", Some(index), &wanted),
+        Err(_) => BoardError::OutOfMemory,
+    }
+}
+
+fn near_port(given: &Given, names: Names, bus: &str, address: &str) -> Result<String, AllocError> {
+    match nearest_of(given.alloc, bus, names.buses)? {
+        Some(near) if near != bus => {
+            format!(in given.alloc;
+                "a bus and an address in lower-case hex, as \"{near} {address}\","
+            )
+        }
+        _ => A_PORT.to_string(given.alloc),
     }
 }
 
@@ -317,7 +340,7 @@ fn read_one_node(
     let name = text_in(given, "reaches", index, value, A_NODE)?;
     match index_of(names.nodes, name) {
         Some(node) => Ok(node),
-        None => Err(given.fault("reaches", Some(index), A_NODE)),
+        None => Err(given.fault_near("reaches", Some(index), A_NODE, name, names.nodes)),
     }
 }
 
@@ -339,10 +362,30 @@ fn read_one_row(
     index: usize,
     value: &Value,
 ) -> Result<BoardRow, BoardError> {
-    let wanted = "endpoint IDs, a node and a port, as \"16-31 via switch port 0\",";
-    let text = text_in(given, "rows", index, value, wanted)?;
+    let text = text_in(given, "rows", index, value, A_ROW)?;
     match read_row(text, names.nodes) {
         Some(row) => Ok(row),
-        None => Err(given.fault("rows", Some(index), wanted)),
+        None => Err(row_fault(given, names, index, text)),
+    }
+}
+
+/// That a text is no row, with that by the nearest node, if one is near.
+fn row_fault(given: &Given, names: Names, index: usize, text: &str) -> BoardError {
+    match near_row(given, names, text) {
+        Ok(wanted) => given.fault("rows", Some(index), &wanted),
+        Err(_) => BoardError::OutOfMemory,
+    }
+}
+
+fn near_row(given: &Given, names: Names, text: &str) -> Result<String, AllocError> {
+    let (eids, rest) = text.split_once(" via ").unwrap_or(("", ""));
+    let (node, port) = rest.split_once(" port ").unwrap_or(("", ""));
+    match nearest_of(given.alloc, node, names.nodes)? {
+        Some(near) if near != node => {
+            format!(in given.alloc;
+                "endpoint IDs, a node and a port, as \"{eids} via {near} port {port}\","
+            )
+        }
+        _ => A_ROW.to_string(given.alloc),
     }
 }

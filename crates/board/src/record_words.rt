@@ -19,6 +19,8 @@ const RECORDS: &str = "a list of at most 4096 tables, each under [[node.record]]
 const A_TYPE: &str =
     "\"terminus-locator\", \"numeric-sensor\", \"state-sensor\" or \"entity-association\"";
 
+const A_FILE: &str = "the path of a file, seen from the board's folder,";
+
 const A_FIELD: &str = "a number, a text or a list of these";
 
 /// The records of a node.
@@ -62,7 +64,7 @@ fn read_record(given: &Given, names: Names) -> Result<BoardRecord, BoardError> {
     let next = given.word("next", "a number from 0 to 4294967295")?;
     let content = match given.text("hex", "bytes in lower-case hex")? {
         Some(hex) => read_hex(given, hex)?,
-        None => read_fields(given, names)?,
+        None => read_file_or_fields(given, names)?,
     };
     Ok(BoardRecord {
         handle,
@@ -77,6 +79,24 @@ fn read_hex(given: &Given, hex: &str) -> Result<RecordContent, BoardError> {
         return Err(given.fault("hex", None, "bytes in lower-case hex"));
     }
     Ok(RecordContent::Hex(hex.to_string(given.alloc)?))
+}
+
+fn read_file_or_fields(given: &Given, names: Names) -> Result<RecordContent, BoardError> {
+    match given.text("file", A_FILE)? {
+        Some(file) => read_file(given, file),
+        None => read_fields(given, names),
+    }
+}
+
+fn read_file(given: &Given, file: &str) -> Result<RecordContent, BoardError> {
+    given.check_keys(
+        &["handle", "next", "file"],
+        "beside file only handle or next",
+    )?;
+    if file.is_empty() || file.bytes().any(|byte| byte == 0) {
+        return Err(given.fault("file", None, A_FILE));
+    }
+    Ok(RecordContent::File(file.to_string(given.alloc)?))
 }
 
 fn read_fields(given: &Given, names: Names) -> Result<RecordContent, BoardError> {
@@ -155,6 +175,12 @@ fn text_of(alloc: Global, number: i64) -> Result<String, BoardError> {
 fn read_eid(given: &Given, names: Names, said: &str) -> Result<FieldText, BoardError> {
     match index_of(names.nodes, said) {
         Some(node) => Ok(FieldText::EidOf(node)),
-        None => Err(given.fault("eid", None, "a number or the name of a node")),
+        None => Err(given.fault_near(
+            "eid",
+            None,
+            "a number or the name of a node",
+            said,
+            names.nodes,
+        )),
     }
 }

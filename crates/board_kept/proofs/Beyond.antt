@@ -1,7 +1,7 @@
 -- Behind the end of a list nothing stands.
 use Rattle.std.proofs.Common.{◌≡◌, ℕ, zero, suc, ◌≤◌, List, Option, Some, None, option_and_then, refl, arith}
 use Rattle.toml.specs.Data.{Data, string, integer, float, boolean, datetime, array, table, Items, no_items, item, at, get_item, get}
-use Rattle.board_kept.specs.Said.{item_at}
+use Rattle.board_values.specs.Said.{item_at}
 
 no_item_beyond : (ds : Items) (i j : ℕ) → get_item i ds ≡ None → i ≤ j → get_item j ds ≡ None
 no_item_beyond no_items i j none h = refl

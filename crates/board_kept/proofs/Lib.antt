@@ -7,3 +7,4 @@ pub mod Turning
 pub mod SameLists
 pub mod Named
 mod SameFrames
+pub mod CutOff

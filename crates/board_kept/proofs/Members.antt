@@ -4,7 +4,7 @@ use Rattle.toml.specs.View.{view, members_view}
 use Rattle.toml.specs.declared.value.Value.{Value}
 use Rattle.net_plan.specs.declared.plan.Plan.{Plan}
 use Rattle.record_fields.specs.Named.{Named}
-use Rattle.board_kept.specs.Said.{AreKeys}
+use Rattle.board_values.specs.Said.{AreKeys}
 use Rattle.board_kept.specs.Fields.{IsMemberGiven, AreMembersGiven}
 
 pub next_member : (plan : Plan) (fields : List Named) (k : String Global) (v : Value) (name : List ℕ) (entries rest : List (String Global × Value))

@@ -6,7 +6,7 @@ use Rattle.mctp_transport.specs.declared.address.Eid.{Eid}
 use Rattle.toml.specs.Data.{Data, as_str}
 use Rattle.net_plan.specs.declared.plan.Plan.{Plan}
 use Rattle.net_plan.specs.declared.nodes.Node.{Node}
-use Rattle.board_kept.specs.Said.{SaysText, item_at}
+use Rattle.board_values.specs.Said.{SaysText, item_at}
 use Rattle.net_plan.specs.declared.nodes.Row.{Row}
 use Rattle.board_kept.specs.Fields.{NamesHolder}
 use Rattle.board_kept.specs.Kept.{IsRowKeptAt, IsNameAt}

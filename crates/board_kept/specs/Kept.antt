@@ -3,6 +3,7 @@ use Rattle.std.specs.Prelude.{◌≡◌, ◌⊎◌, ℕ, ◌+◌, List, codes, l
 use Rattle.std.specs.Prelude.{slice_get, string_bytes}
 use Rattle.hex.specs.Hex.{encode_lower}
 use Rattle.toml.specs.Data.{Data, get}
+use Rattle.board.specs.declared.board.RecordFile.{RecordFile}
 use Rattle.net_plan.specs.declared.plan.Plan.{Plan}
 use Rattle.net_plan.specs.declared.nodes.Bus.{Bus}
 use Rattle.net_plan.specs.declared.nodes.Kind.{Kind}
@@ -12,10 +13,11 @@ use Rattle.net_plan.specs.declared.nodes.Port.{Port}
 use Rattle.net_plan.specs.declared.nodes.Row.{Row}
 use Rattle.net_plan.specs.declared.terminus.PlannedRecord.{PlannedRecord}
 use Rattle.net_plan.specs.declared.terminus.PlannedTerminus.{PlannedTerminus}
-use Rattle.board_kept.specs.Said.{SaysText, SaysNumber, SaysOr, SaysNoneOr, item_at, IsListAt, HasOnlyKeys}
-use Rattle.board_kept.specs.Said.{AreItemsKept}
-use Rattle.board_kept.specs.Keys.{IsBoardKey, IsBusKey, IsNodeKey, IsHexKey}
-use Rattle.board_kept.specs.Texts.{binding_word, kind_word, node_name, eids_text, port_text, row_text}
+use Rattle.board_values.specs.Said.{SaysText, SaysNumber, SaysOr, SaysNoneOr, item_at, IsListAt, HasOnlyKeys}
+use Rattle.board_values.specs.Said.{AreItemsKept}
+use Rattle.board_kept.specs.Keys.{IsBoardKey, IsBusKey, IsNodeKey, IsHexKey, IsFileKey}
+use Rattle.board_values.specs.Eids.{eids_text}
+use Rattle.board_kept.specs.Texts.{binding_word, kind_word, node_name, port_text, row_text}
 use Rattle.board_kept.specs.Fields.{AreFieldsGiven}
 
 -- the number of a binding, or its word
@@ -82,34 +84,53 @@ pub record AreNamesKept (plan : Plan) (d : Data) : Type 0 where
 abbrev pub next_handle : List PlannedRecord → ℕ → ℕ
 next_handle records j = unwrap_or (option_map (λ r. r.handle) (slice_get records (j + 1))) 0
 
--- the bytes of a record, in hex with nothing but its handles beside it, or by its fields
-abbrev pub AreBytesKept : Plan → List ℕ → Data → Type 0
-AreBytesKept plan bytes d = (HasOnlyKeys IsHexKey d × SaysText (get (codes "hex") d) (encode_lower bytes))
-    ⊎ ((type : List ℕ) × SaysText (get (codes "type") d) type × AreFieldsGiven plan type bytes d)
+-- the files have one of this name with these bytes
+abbrev pub HaveFile : List RecordFile → List ℕ → List ℕ → Type 0
+HaveFile files name bytes = (i : ℕ) × (file : RecordFile) × (slice_get files i ≡ Some file)
+    × (string_bytes file.name ≡ name) × (file.bytes.items ≡ bytes)
+
+-- the bytes stand there in hex
+abbrev pub IsHexKept : List ℕ → Data → Type 0
+IsHexKept bytes d = HasOnlyKeys IsHexKey d × SaysText (get (codes "hex") d) (encode_lower bytes)
+
+-- the bytes are those of the file that stands there
+abbrev pub IsFileKept : List RecordFile → List ℕ → Data → Type 0
+IsFileKept files bytes d = HasOnlyKeys IsFileKey d
+    × ((name : List ℕ) × SaysText (get (codes "file") d) name × HaveFile files name bytes)
+
+-- the bytes are a record's whose fields stand there
+abbrev pub AreFieldsKept : Plan → List ℕ → Data → Type 0
+AreFieldsKept plan bytes d =
+    (type : List ℕ) × SaysText (get (codes "type") d) type × AreFieldsGiven plan type bytes d
+
+-- the bytes of a record, in hex or a file with nothing but its handles beside it, or by its fields
+abbrev pub AreBytesKept : List RecordFile → Plan → List ℕ → Data → Type 0
+AreBytesKept files plan bytes d = IsHexKept bytes d ⊎ IsFileKept files bytes d ⊎ AreFieldsKept plan bytes d
 
 -- A record, and its place in the list: handles that are left out count from 1, and next handles that are left out
 -- follow the list.
-pub record IsRecordKept (plan : Plan) (records : List PlannedRecord) (j : ℕ) (r : PlannedRecord) (d : Data)
-    : Type 0 where
+pub record IsRecordKept (files : List RecordFile) (plan : Plan) (records : List PlannedRecord) (j : ℕ)
+    (r : PlannedRecord) (d : Data) : Type 0 where
   pub handle : SaysOr (j + 1) (get (codes "handle") d) r.handle
   pub next : SaysOr (next_handle records j) (get (codes "next") d) r.next
-  pub bytes : AreBytesKept plan r.bytes.items d
+  pub bytes : AreBytesKept files plan r.bytes.items d
 
 -- the record at an index, if there is one
-abbrev pub IsRecordKeptAt : Plan → List PlannedRecord → Data → ℕ → Type 0
-IsRecordKeptAt plan records d j = (r : PlannedRecord) → slice_get records j ≡ Some r
-    → (e : Data) × (item_at (codes "record") j d ≡ Some e) × IsRecordKept plan records j r e
+abbrev pub IsRecordKeptAt : List RecordFile → Plan → List PlannedRecord → Data → ℕ → Type 0
+IsRecordKeptAt files plan records d j = (r : PlannedRecord) → slice_get records j ≡ Some r
+    → (e : Data) × (item_at (codes "record") j d ≡ Some e) × IsRecordKept files plan records j r e
 
 -- the records of a list
-pub record AreRecordsKept (plan : Plan) (records : List PlannedRecord) (d : Data) : Type 0 where
-  pub list : IsListAt (codes "record") d
-  pub each : (j : ℕ) → IsRecordKeptAt plan records d j
-  pub no_more : item_at (codes "record") (length records) d ≡ None
+pub record AreRecordsKept (files : List RecordFile) (plan : Plan) (records : List PlannedRecord) (d : Data) : Type 0
+  where
+    pub list : IsListAt (codes "record") d
+    pub each : (j : ℕ) → IsRecordKeptAt files plan records d j
+    pub no_more : item_at (codes "record") (length records) d ≡ None
 
 -- a terminus: a terminus ID that is left out is 0
-pub record IsTerminusGiven (plan : Plan) (t : PlannedTerminus) (d : Data) : Type 0 where
+pub record IsTerminusGiven (files : List RecordFile) (plan : Plan) (t : PlannedTerminus) (d : Data) : Type 0 where
   pub tid : SaysOr 0 (get (codes "tid") d) t.tid
-  pub records : AreRecordsKept plan t.records.items d
+  pub records : AreRecordsKept files plan t.records.items d
 
 -- neither a terminus ID nor a record stands there
 pub record HasNoTerminus (d : Data) : Type 0 where
@@ -118,9 +139,9 @@ pub record HasNoTerminus (d : Data) : Type 0 where
   pub record_is : item_at (codes "record") 0 d ≡ None
 
 -- a node has a terminus exactly where a terminus ID or a record stands there
-abbrev pub IsTerminusKept : Plan → Option PlannedTerminus → Data → Type 0
-IsTerminusKept plan terminus d = (HasNoTerminus d × (terminus ≡ None))
-    ⊎ ((t : PlannedTerminus) × (terminus ≡ Some t) × ¬ HasNoTerminus d × IsTerminusGiven plan t d)
+abbrev pub IsTerminusKept : List RecordFile → Plan → Option PlannedTerminus → Data → Type 0
+IsTerminusKept files plan terminus d = (HasNoTerminus d × (terminus ≡ None))
+    ⊎ ((t : PlannedTerminus) × (terminus ≡ Some t) × ¬ HasNoTerminus d × IsTerminusGiven files plan t d)
 
 -- the name, the kind, the endpoint ID and the owner of a node
 pub record IsHeadKept (plan : Plan) (node : Node) (d : Data) : Type 0 where
@@ -130,19 +151,19 @@ pub record IsHeadKept (plan : Plan) (node : Node) (d : Data) : Type 0 where
   pub owner : IsOwnerKept plan node.owner (get (codes "owner") d)
 
 -- a node
-pub record IsNodeKept (plan : Plan) (node : Node) (d : Data) : Type 0 where
+pub record IsNodeKept (files : List RecordFile) (plan : Plan) (node : Node) (d : Data) : Type 0 where
   pub keys : HasOnlyKeys IsNodeKey d
   pub head : IsHeadKept plan node d
   pub pool : IsPoolKept node.pool (get (codes "pool") d)
   pub ports : AreItemsKept (IsPortKept plan) node.ports.items (codes "ports") d
   pub rows : AreRowsKept plan node.rows.items d
   pub reaches : AreNamesKept plan d
-  pub terminus : IsTerminusKept plan node.terminus d
+  pub terminus : IsTerminusKept files plan node.terminus d
 
 -- All that the board gives is in the plan: the unit, the buses and the nodes in their order, and of each node what is
--- given of it. Nothing else stands in the board's tables.
-pub record Keeps (board : Data) (plan : Plan) : Type 0 where
+-- given of it. Nothing else stands in the board's tables. The bytes of files that its records name are given beside it.
+pub record Keeps (files : List RecordFile) (board : Data) (plan : Plan) : Type 0 where
   pub keys : HasOnlyKeys IsBoardKey board
   pub unit : SaysOr 64 (get (codes "unit") board) plan.unit
   pub buses : AreItemsKept IsBusKept plan.buses.items (codes "bus") board
-  pub nodes : AreItemsKept (IsNodeKept plan) plan.nodes.items (codes "node") board
+  pub nodes : AreItemsKept (IsNodeKept files plan) plan.nodes.items (codes "node") board

@@ -1,7 +1,7 @@
 -- The keys of a board's tables.
 use Rattle.std.specs.Prelude.{◌≡◌, ◌⊎◌, ℕ, List, codes}
 use Rattle.board_kept.specs.declared.keys.Level.{Level}
-use Rattle.board_kept.specs.declared.keys.Level.TheVariants.{Top, OfBus, OfNode, OfHex}
+use Rattle.board_kept.specs.declared.keys.Level.TheVariants.{Top, OfBus, OfNode, OfHex, OfFile}
 
 -- at the top
 abbrev pub IsBoardKey : List ℕ → Type 0
@@ -29,9 +29,14 @@ IsNodeKey key = IsHeadKey key ⊎ IsPartKey key
 abbrev pub IsHexKey : List ℕ → Type 0
 IsHexKey key = (key ≡ codes "handle") ⊎ (key ≡ codes "next") ⊎ (key ≡ codes "hex")
 
+-- of a record in a file
+abbrev pub IsFileKey : List ℕ → Type 0
+IsFileKey key = (key ≡ codes "handle") ⊎ (key ≡ codes "next") ⊎ (key ≡ codes "file")
+
 -- of a table of the level
 abbrev pub IsKeyOf : Level → List ℕ → Type 0
 IsKeyOf Top key = IsBoardKey key
 IsKeyOf OfBus key = IsBusKey key
 IsKeyOf OfNode key = IsNodeKey key
 IsKeyOf OfHex key = IsHexKey key
+IsKeyOf OfFile key = IsFileKey key

@@ -1,4 +1,3 @@
-pub mod Said
 pub mod Texts
 pub mod Fields
 pub mod Keys

@@ -1,5 +1,5 @@
 -- How a board writes what stands in a plan.
-use Rattle.std.specs.Prelude.{ℕ, ◌+◌, ◌-◌, nat_eq, if◌then◌else◌, List, [], ◌++◌, codes, length, Option, Some}
+use Rattle.std.specs.Prelude.{ℕ, nat_eq, if◌then◌else◌, List, [], ◌++◌, codes, length, Option, Some}
 use Rattle.std.specs.Prelude.{None, option_map, unwrap_or, slice_get, string_bytes}
 use Rattle.std.specs.Fmt.{decimal}
 use Rattle.hex.specs.Hex.{encode_lower}
@@ -8,6 +8,7 @@ use Rattle.net_plan.specs.declared.nodes.Kind.{Kind}
 use Rattle.net_plan.specs.declared.nodes.Kind.TheVariants.{Bridge, Endpoint}
 use Rattle.net_plan.specs.declared.nodes.Port.{Port}
 use Rattle.net_plan.specs.declared.nodes.Row.{Row}
+use Rattle.board_values.specs.Eids.{eids_text}
 
 -- the word of a physical transport binding identifier (DSP0239)
 abbrev pub binding_word : ℕ → Option (List ℕ)
@@ -27,11 +28,6 @@ node_name plan n = option_map (λ node. string_bytes node.name.text) (slice_get 
 -- a bus' name; none beyond the plan
 abbrev pub bus_name : Plan → ℕ → Option (List ℕ)
 bus_name plan b = option_map (λ bus. string_bytes bus.name.text) (slice_get plan.buses.items b)
-
--- endpoint IDs, one after another: the first and, where there are several, a dash and the last
-abbrev pub eids_text : ℕ → ℕ → List ℕ
-eids_text first size =
-    if nat_eq size 1 then decimal first else (decimal first ++ (codes "-" ++ decimal ((first + size) - 1)))
 
 -- the bus of a port and, where it has one, its address in hex
 abbrev pub port_text : Plan → Port → List ℕ

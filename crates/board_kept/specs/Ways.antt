@@ -41,6 +41,14 @@ abbrev pub ReachesBy : (ℕ → ℕ → ℕ → Type 0) → Plan → ℕ → ℕ
 ReachesBy Given plan a b = (e : ℕ) × (moves : ℕ) × Holds plan b e × ArrivesAfter plan e a moves
     × NoneFewer (Given e) plan a b moves
 
+-- no hops lead from a to b
+abbrev pub HasNoWay : (ℕ → ℕ → Type 0) → Plan → ℕ → ℕ → Type 0
+HasNoWay Given plan a b = (hops : ℕ) → ¬ ComesOver Given plan a hops b
+
+-- no hops lead from a to b with what is given for b's endpoint ID
+abbrev pub HasNoWayBy : (ℕ → ℕ → ℕ → Type 0) → Plan → ℕ → ℕ → Type 0
+HasNoWayBy Given plan a b = (e : ℕ) → Holds plan b e → HasNoWay (Given e) plan a b
+
 -- ---- searching
 
 -- the list has where what is given at n leads
@@ -96,3 +104,17 @@ IsRaised flags hops least raised =
 -- packets that are put in at a reach b, after as few hops as may be with these turns
 abbrev pub ReachesTurning : List (Option ℕ) → Plan → ℕ → ℕ → Type 0
 ReachesTurning turns plan a b = ReachesBy (λ e n k. TurnsTo turns n k) plan a b
+
+-- the flags have m, which sends on what comes from a
+abbrev pub IsPassing : Plan → ℕ → List Bool → ℕ → Type 0
+IsPassing plan a flags m = (slice_get flags m ≡ Some true) × ((m ≡ a) ⊎ IsBridge plan m)
+
+-- the flags have each node to which m sends on what comes from a
+abbrev pub IsClosedAt : List (Vec Bool Global) → List (Option ℕ) → Plan → ℕ → List Bool → ℕ → Type 0
+IsClosedAt near turns plan a flags m = IsPassing plan a flags m
+    → (n : ℕ) → n < length plan.nodes.items → IsStepIn near turns m n → slice_get flags n ≡ Some true
+
+-- so it is of each node
+abbrev pub AreClosed : List (Vec Bool Global) → List (Option ℕ) → Plan → ℕ → List Bool → Type 0
+AreClosed near turns plan a flags =
+    (m : ℕ) → m < length plan.nodes.items → IsClosedAt near turns plan a flags m

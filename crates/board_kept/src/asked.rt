@@ -1,12 +1,12 @@
 //! What a board asks for: who is to reach whom, and rows of its own.
-ghost use Rattle.std.specs.Prelude.{◌≡◌, IfOk, IfSome, IsTrue, Some, codes};
+ghost use Rattle.std.specs.Prelude.{◌≡◌, ◌↔◌, IfOk, IfSome, IsTrue, Some, codes};
 ghost use Rattle.toml.specs.View.{view};
-ghost use Rattle.board_kept.specs.Said.{SaysText, item_at};
+ghost use Rattle.board_values.specs.Said.{SaysText, item_at};
 ghost use Rattle.board_kept.specs.Turns.{AreTurns, AreTurnsTo};
 ghost use Rattle.board_kept.specs.Made.{ListsName, Asks, AsksFor, ListsRow, IsRowGiven, GivesStepAt, GivesStep};
 
-use crate::said::{has_item, is_left_out, is_text, item};
 use crate::texts::{node_name, row_text};
+use board_values::{has_item, is_left_out, is_text, item};
 use mctp_transport::Eid;
 use net_plan::{Plan, Row};
 use net_tables::lookup::{covers, eid_at, row_at, rows_at};
@@ -37,7 +37,7 @@ fn asks(said: &Value, plan: &Plan, to: usize) -> bool
 }
 
 /// The most nodes that are named.
-const MOST_NAMES: usize = 64;
+pub const MOST_NAMES: usize = 64;
 
 /// Whether the name stands in the list at `reaches`, or more names do than are looked at.
 fn lists_name(said: &Value, name: &str) -> bool
@@ -52,8 +52,9 @@ fn lists_name(said: &Value, name: &str) -> bool
     are_more
 }
 
-fn is_name_at(said: &Value, name: &str, index: usize) -> bool
-    ensures { SaysText (item_at (codes "reaches") index (view said.now)) name.now → IsTrue result }
+/// Whether a name stands at an index of the list at `reaches`.
+pub fn is_name_at(said: &Value, name: &str, index: usize) -> bool
+    ensures { IsTrue result ↔ SaysText (item_at (codes "reaches") index (view said.now)) name.now }
 {
     match item(said, "reaches", index) {
         Some(value) => is_text(value, name),

@@ -7,7 +7,7 @@ ghost use Rattle.record_fields.specs.Meanings.{named_of};
 ghost use Rattle.record_fields.specs.Named.{Named, named_fields};
 ghost use Rattle.record_fields.specs.Said.{Says};
 ghost use Rattle.board_kept.specs.Fields.{word_of, NamesHolder, StandsForText, IsSaidBy, value_at, AreNamed, AddsIfNamed, IsSaidOne, IsSaidAt, AreSaid, IsFieldGiven, IsMemberGiven, AreMembersGiven, IsRecordGiven, AreFieldsGiven};
-ghost use Rattle.board_kept.specs.Kept.{AreBytesKept};
+ghost use Rattle.board_kept.specs.Kept.{AreFieldsKept};
 
 use mctp_transport::{Eid, Wire};
 use net_plan::{Node, Plan};
@@ -23,7 +23,7 @@ pub fn are_fields_given(
     bytes: &[u8],
     given: &Value,
 ) -> Result<bool, AllocError>
-    ensures { IfOk result (λ answer. IsTrue answer → AreBytesKept plan.now bytes.now (view given.now)) }
+    ensures { IfOk result (λ answer. IsTrue answer → AreFieldsKept plan.now bytes.now (view given.now)) }
 {
     match type_of(given) {
         Some(kind) => are_fields_of(alloc, plan, kind, bytes, given),

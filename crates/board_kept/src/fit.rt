@@ -9,16 +9,22 @@ use crate::asked::{asks_for, turns_to};
 use crate::kept::keeps;
 use crate::pairs::{Known, judge_pair, least_in, near_in, turns_at};
 use crate::unfit::Unfit;
+use board::RecordFile;
 use net_check::Checked;
 use std::alloc::{AllocError, Global};
 use toml::Value;
 
 /// That a checked plan has all that a board gives, and that every node reaches those for which the board asks, in as few
 /// hops as the buses, the bridges and the rows that the board gives allow.
-pub fn judge(alloc: Global, board: &Value, checked: &Checked) -> Result<(), Unfit>
-    ensures { OnOk result (IsFitFor (view board.now) checked.now.0 checked.now.1) }
+pub fn judge(
+    alloc: Global,
+    files: &[RecordFile],
+    board: &Value,
+    checked: &Checked,
+) -> Result<(), Unfit>
+    ensures { OnOk result (IsFitFor files.now (view board.now) checked.now.0 checked.now.1) }
 {
-    if !keeps(alloc, board, checked.plan())? {
+    if !keeps(alloc, files, board, checked.plan())? {
         return Err(Unfit::NotKept);
     }
     let near = near_in(alloc, checked)?;

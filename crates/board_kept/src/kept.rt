@@ -2,25 +2,31 @@
 ghost use Rattle.std.specs.Prelude.{◌≡◌, IfOk, IsTrue, codes};
 ghost use Rattle.toml.specs.Data.{get};
 ghost use Rattle.toml.specs.View.{view};
-ghost use Rattle.board_kept.specs.Said.{IsItemKept, AreItemsKept};
+ghost use Rattle.board_values.specs.Said.{IsItemKept, AreItemsKept};
 ghost use Rattle.board_kept.specs.Kept.{SaysBinding, IsBusKept, IsNodeKept, Keeps};
 
 use crate::keys::{Level, has_only_keys};
 use crate::nodes::keeps_node;
-use crate::said::{is_list_at, item, says_number, says_or, says_text};
 use crate::texts::binding_word;
+use board::RecordFile;
+use board_values::{is_list_at, item, says_number, says_or, says_text};
 use net_plan::{Bus, Plan};
 use std::alloc::{AllocError, Global};
 use toml::Value;
 
-/// Whether all that a board gives is in the plan.
-pub fn keeps(alloc: Global, board: &Value, plan: &Plan) -> Result<bool, AllocError>
-    ensures { IfOk result (λ answer. IsTrue answer → Keeps (view board.now) plan.now) }
+/// Whether all that a board gives is in the plan. Its records may name these files.
+pub fn keeps(
+    alloc: Global,
+    files: &[RecordFile],
+    board: &Value,
+    plan: &Plan,
+) -> Result<bool, AllocError>
+    ensures { IfOk result (λ answer. IsTrue answer → Keeps files.now (view board.now) plan.now) }
 {
     let head = has_only_keys(board, Level::Top)
         && says_or(board, "unit", u32::from(plan.unit), 64)
         && keeps_buses(board, &plan.buses);
-    Ok(keeps_nodes(alloc, board, plan)? && head)
+    Ok(keeps_nodes(alloc, files, board, plan)? && head)
 }
 
 fn keeps_buses(board: &Value, buses: &[Bus]) -> bool
@@ -67,11 +73,16 @@ fn says_binding(said: &Value, number: u8) -> bool
     }
 }
 
-fn keeps_nodes(alloc: Global, board: &Value, plan: &Plan) -> Result<bool, AllocError>
-    ensures { IfOk result (λ answer. IsTrue answer → AreItemsKept (IsNodeKept plan.now) plan.now.nodes.items (codes "node") (view board.now)) }
+fn keeps_nodes(
+    alloc: Global,
+    files: &[RecordFile],
+    board: &Value,
+    plan: &Plan,
+) -> Result<bool, AllocError>
+    ensures { IfOk result (λ answer. IsTrue answer → AreItemsKept (IsNodeKept files.now plan.now) plan.now.nodes.items (codes "node") (view board.now)) }
 {
     for index in 0..plan.nodes.len() {
-        if !keeps_node_at(alloc, board, plan, index)? {
+        if !keeps_node_at(alloc, files, board, plan, index)? {
             return Ok(false);
         }
     }
@@ -80,15 +91,16 @@ fn keeps_nodes(alloc: Global, board: &Value, plan: &Plan) -> Result<bool, AllocE
 
 fn keeps_node_at(
     alloc: Global,
+    files: &[RecordFile],
     board: &Value,
     plan: &Plan,
     index: usize,
 ) -> Result<bool, AllocError>
-    ensures { IfOk result (λ answer. IsTrue answer → IsItemKept (IsNodeKept plan.now) plan.now.nodes.items (codes "node") (view board.now) index) }
+    ensures { IfOk result (λ answer. IsTrue answer → IsItemKept (IsNodeKept files.now plan.now) plan.now.nodes.items (codes "node") (view board.now) index) }
 {
     match plan.nodes.get(index) {
         Some(node) => match item(board, "node", index) {
-            Some(said) => keeps_node(alloc, plan, node, said),
+            Some(said) => keeps_node(alloc, files, plan, node, said),
             None => Ok(false),
         },
         None => Ok(true),

@@ -1,8 +1,8 @@
 //! The keys of a board's tables.
 ghost use Rattle.std.specs.Prelude.{◌≡◌, IsTrue};
 ghost use Rattle.toml.specs.View.{view, table_view};
-ghost use Rattle.board_kept.specs.Said.{AreKeys, HasOnlyKeys};
-ghost use Rattle.board_kept.specs.Keys.{IsBoardKey, IsBusKey, IsHeadKey, IsPartKey, IsNodeKey, IsHexKey, IsKeyOf};
+ghost use Rattle.board_values.specs.Said.{AreKeys, HasOnlyKeys};
+ghost use Rattle.board_kept.specs.Keys.{IsBoardKey, IsBusKey, IsHeadKey, IsPartKey, IsNodeKey, IsHexKey, IsFileKey, IsKeyOf};
 
 use toml::{Table, Value};
 
@@ -15,6 +15,8 @@ pub enum Level {
     OfNode,
     /// A record that is given in hex.
     OfHex,
+    /// A record that is given by a file.
+    OfFile,
 }
 
 /// Whether nothing stands in the table but at keys of the level.
@@ -46,6 +48,7 @@ fn is_key_of(level: Level, key: &str) -> bool
         Level::OfBus => is_bus_key(key),
         Level::OfNode => is_node_key(key),
         Level::OfHex => is_hex_key(key),
+        Level::OfFile => is_file_key(key),
     }
 }
 
@@ -85,4 +88,10 @@ fn is_hex_key(key: &str) -> bool
     ensures { IsTrue result → IsHexKey key.now }
 {
     key == "handle" || key == "next" || key == "hex"
+}
+
+fn is_file_key(key: &str) -> bool
+    ensures { IsTrue result → IsFileKey key.now }
+{
+    key == "handle" || key == "next" || key == "file"
 }

@@ -2,22 +2,30 @@
 ghost use Rattle.std.specs.Prelude.{◌≡◌, IfOk, IsTrue, codes, option_map, slice_get, Some};
 ghost use Rattle.toml.specs.Data.{get};
 ghost use Rattle.toml.specs.View.{view};
-ghost use Rattle.board_kept.specs.Said.{IsItemKept, AreItemsKept};
+ghost use Rattle.board_values.specs.Said.{IsItemKept, AreItemsKept};
 ghost use Rattle.board_kept.specs.Kept.{IsKindKept, IsOwnerKept, SaysPool, IsPoolKept, IsPortKept, IsAmongRows, IsRowKeptAt, AreRowsKept, NamesNode, IsNameAt, AreNamesKept, IsHeadKept, IsNodeKept};
 
 use crate::keys::{Level, has_only_keys};
 use crate::records::keeps_terminus;
-use crate::said::{
-    has_item, is_left_out, is_list_at, is_text, item, says_none_or, says_number, says_text,
+use crate::texts::{kind_word, node_name, port_text, row_text};
+use board::RecordFile;
+use board_values::{
+    eids_text, has_item, is_left_out, is_list_at, is_text, item, says_none_or, says_number,
+    says_text,
 };
-use crate::texts::{eids_text, kind_word, node_name, port_text, row_text};
 use net_plan::{Kind, Node, Plan, Pool, Port, Row};
 use std::alloc::{AllocError, Global};
 use toml::Value;
 
 /// Whether what is said of a node is so of it.
-pub fn keeps_node(alloc: Global, plan: &Plan, node: &Node, said: &Value) -> Result<bool, AllocError>
-    ensures { IfOk result (λ answer. IsTrue answer → IsNodeKept plan.now node.now (view said.now)) }
+pub fn keeps_node(
+    alloc: Global,
+    files: &[RecordFile],
+    plan: &Plan,
+    node: &Node,
+    said: &Value,
+) -> Result<bool, AllocError>
+    ensures { IfOk result (λ answer. IsTrue answer → IsNodeKept files.now plan.now node.now (view said.now)) }
 {
     if !has_only_keys(said, Level::OfNode) || !keeps_head(plan, node, said) {
         return Ok(false);
@@ -31,7 +39,7 @@ pub fn keeps_node(alloc: Global, plan: &Plan, node: &Node, said: &Value) -> Resu
     if !keeps_rows(alloc, plan, &node.rows, said)? || !keeps_names(plan, said) {
         return Ok(false);
     }
-    Ok(keeps_terminus(alloc, plan, node, said)?)
+    Ok(keeps_terminus(alloc, files, plan, node, said)?)
 }
 
 /// Whether the name, the kind, the endpoint ID and the owner are what stands there.
@@ -76,7 +84,7 @@ fn keeps_pool(alloc: Global, pool: Option<Pool>, said: &Value) -> Result<bool, A
 fn says_pool(alloc: Global, pool: Pool, said: &Value) -> Result<bool, AllocError>
     ensures { IfOk result (λ answer. IsTrue answer → SaysPool pool (get (codes "pool") (view said.now))) }
 {
-    let eids = eids_text(alloc, pool.first, pool.size)?;
+    let eids = eids_text(alloc, pool.first.value, pool.size)?;
     Ok(says_text(said, "pool", &eids) || says_number(said, "pool", u32::from(pool.size)))
 }
 

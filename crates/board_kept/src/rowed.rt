@@ -117,7 +117,7 @@ fn turns_before(
 }
 
 /// Where the rows of the other plan lead for the endpoint ID of a node. Nothing is answered where there are none.
-fn turns_to(
+pub fn turns_to(
     alloc: Global,
     before: &Plan,
     plan: &Plan,

@@ -1,8 +1,8 @@
 //! How a board writes what stands in a plan.
 ghost use Rattle.std.specs.Prelude.{◌≡◌, IfOk, [], Some, None, option_map, unwrap_or, string_bytes};
-ghost use Rattle.board_kept.specs.Texts.{binding_word, kind_word, node_name, bus_name, eids_text, port_text, row_text};
+ghost use Rattle.board_kept.specs.Texts.{binding_word, kind_word, node_name, bus_name, port_text, row_text};
 
-use mctp_transport::Eid;
+use board_values::eids_text;
 use net_plan::{Kind, Plan, Port, Row};
 use std::alloc::{AllocError, Global};
 
@@ -51,18 +51,6 @@ fn bus_name(plan: &Plan, bus: usize) -> Option<&str>
     }
 }
 
-/// Endpoint IDs, one after another: the first and, where there are several, the last.
-pub fn eids_text(alloc: Global, first: Eid, size: u8) -> Result<String, AllocError>
-    ensures { IfOk result (λ text. string_bytes text ≡ eids_text first.value size) }
-{
-    let first = first.value;
-    if size == 1 {
-        return format!(in alloc; "{first}");
-    }
-    let last = (u16::from(first) + u16::from(size)).saturating_sub(1);
-    format!(in alloc; "{first}-{last}")
-}
-
 /// The bus of a port and, where it has one, its address in hex.
 pub fn port_text(alloc: Global, plan: &Plan, port: &Port) -> Result<String, AllocError>
     ensures { IfOk result (λ text. string_bytes text ≡ port_text plan.now port.now) }
@@ -79,7 +67,7 @@ pub fn port_text(alloc: Global, plan: &Plan, port: &Port) -> Result<String, Allo
 pub fn row_text(alloc: Global, plan: &Plan, row: &Row) -> Result<String, AllocError>
     ensures { IfOk result (λ text. string_bytes text ≡ row_text plan.now row.now) }
 {
-    let eids = eids_text(alloc, row.first, row.size)?;
+    let eids = eids_text(alloc, row.first.value, row.size)?;
     let next = node_name(plan, row.next).unwrap_or("");
     let port = row.port;
     format!(in alloc; "{eids} via {next} port {port}")

@@ -78,7 +78,7 @@ fn raised_at(least: &[usize], reached: &[bool], hops: usize, index: usize) -> us
 }
 
 /// The node itself, reached with no hop.
-fn first_reached(alloc: Global, plan: &Plan, from: usize) -> Result<Vec<bool>, AllocError>
+pub fn first_reached(alloc: Global, plan: &Plan, from: usize) -> Result<Vec<bool>, AllocError>
     ensures { IfOk result (λ flags. (n : ℕ) → n < length plan.now.nodes.items → from ≡ n → slice_get flags.items n ≡ Some true) }
 {
     let mut flags = Vec::new(alloc);
@@ -151,7 +151,7 @@ fn is_sender(plan: &Plan, reached: &[bool], hops: usize, node: usize) -> bool
 }
 
 /// Whether one of the nodes sends on to another.
-fn is_next(near: &[Vec<bool>], senders: &[usize], turns: &[Option<usize>], node: usize) -> bool
+pub fn is_next(near: &[Vec<bool>], senders: &[usize], turns: &[Option<usize>], node: usize) -> bool
     ensures { (i m : ℕ) → slice_get senders.now i ≡ Some m → IsStepIn near.now turns.now m node → IsTrue result }
 {
     for index in 0..senders.len() {
@@ -192,7 +192,7 @@ fn sends_on(plan: &Plan, hops: usize, node: usize) -> bool
 }
 
 /// Whether a node has a port on a bus of another, and nothing that is given leads elsewhere.
-fn is_step(near: &[Vec<bool>], turns: &[Option<usize>], one: usize, other: usize) -> bool
+pub fn is_step(near: &[Vec<bool>], turns: &[Option<usize>], one: usize, other: usize) -> bool
     ensures { IsStepIn near.now turns.now one other → IsTrue result }
 {
     !turns_away(turns, one, other) && is_near(near, one, other)

@@ -1,33 +1,54 @@
 -- What is answered for a board is answered to its text, and how lines are worded.
-use Rattle.std.proofs.Common.{◌≡◌, ◌≢◌, ℕ, List, ◌++◌, Some, Result, Ok, Err, inl, subst}
-use Rattle.std.specs.Prelude.{IfOk, codes}
+use Rattle.std.proofs.Common.{◌≡◌, ◌≢◌, ℕ, List, ◌++◌, String, Global, Option, Some, None, Result, Ok, Err, inl, inr, subst, sym}
+use Rattle.std.specs.Prelude.{IfOk, IfSome, codes, string_bytes}
 use Rattle.toml.specs.Data.{Data}
 use Rattle.net_plan.specs.declared.plan.Plan.{Plan}
 use Rattle.net_rules.specs.declared.certify_error.CertifyError.{CertifyError}
 use Rattle.net_rules.specs.declared.certify_error.CertifyError.TheVariants as error
 use Rattle.net_rules.specs.Certificates.{NamesObstacle, RulesOutCertificates}
 use Rattle.plan_texts.specs.Lines.{obstacle_text}
-use Rattle.board_kept.specs.Said.{IsTomlOf}
+use Rattle.board.specs.declared.board.RecordFile.{RecordFile}
+use Rattle.board_values.specs.Said.{IsTomlOf}
+use Rattle.board_values.specs.Lines.{IsNodeTold}
 use Rattle.board_made.specs.declared.answer.BoardAnswer.{BoardAnswer}
 use Rattle.board_made.specs.declared.answer.BoardAnswer.TheVariants.{Made, NoPlan, Unread}
-use Rattle.board_made.specs.Made.{TellsObstacle, IsReason, IsOtherReason, IsUnreadLine, IsAnswerTo, IsAnswerFor}
+use Rattle.board_kept.specs.Rowed.{IsSameButRows, LeadsAlready}
+use Rattle.board_kept.specs.Ways.{HasNoWayBy}
+use Rattle.board_made.specs.Made.{IsUnreadLine, IsAnswerTo, IsAnswerFor}
+use Rattle.board_made.specs.Reasons.{TellsObstacle, IsRuledOut, IsCutToldOf, IsUnfound, IsWayTold, IsWayToldOf, reason_line, way_words}
 
-pub answered : (text : List ℕ) (board : Data) (answer : BoardAnswer) → IsTomlOf text board → IsAnswerFor board answer → IsAnswerTo text answer
-answered text board (Made made) toml fit = record { board = board; toml = toml; fit = fit }
-answered text board (NoPlan reason) toml told = record { board = board; toml = toml; reason = told }
-answered text board (Unread line) toml worded = worded
+pub answered : (files : List RecordFile) (text : List ℕ) (board : Data) (answer : BoardAnswer) → IsTomlOf text board → IsAnswerFor files board answer
+    → IsAnswerTo files text answer
+answered files text board (Made made) toml fit = record { board = board; toml = toml; fit = fit }
+answered files text board (NoPlan reason) toml told = record { board = board; toml = toml; reason = told }
+answered files text board (Unread line) toml worded = worded
 
 -- ---- lines
 
-pub other_worded : {A E : Type 0} (bytes : A → List ℕ) (words : List ℕ) (r : Result A E) → IfOk r (λ t. bytes t ≡ codes "no plan: no " ++ (words ++ codes "\n"))
-    → IfOk r (λ t. IsOtherReason (bytes t))
-other_worded bytes words (Ok t) written = (words, written)
-other_worded bytes words (Err e) written = tt
+pub unfound_worded : {A E : Type 0} (bytes : A → List ℕ) (words : List ℕ) (r : Result A E)
+    → IfOk r (λ t. bytes t ≡ codes "no plan: none was found: no " ++ (words ++ codes "\n")) → IfOk r (λ t. IsUnfound (bytes t))
+unfound_worded bytes words (Ok t) written = (words, written)
+unfound_worded bytes words (Err e) written = tt
+
+-- a way between nodes that are told
+pub way_told : {A E : Type 0} (board : Data) (a b : ℕ) (bytes : A → List ℕ) (one other said also : List ℕ) (r : Result A E) → IsNodeTold board a one
+    → IsNodeTold board b other → said ≡ one → also ≡ other → IfOk r (λ t. bytes t ≡ reason_line (way_words said also))
+    → IfOk r (λ t. IsWayTold board a b (bytes t))
+way_told board a b bytes one other said also (Ok t) told told_other same alike written =
+    (said, also, subst (λ w. IsNodeTold board a w) (sym same) told, subst (λ w. IsNodeTold board b w) (sym alike) told_other, written)
+way_told board a b bytes one other said also (Err e) told told_other same alike written = tt
 
 pub unread_worded : {A E : Type 0} (bytes : A → List ℕ) (words : List ℕ) (r : Result A E) → IfOk r (λ t. bytes t ≡ codes "unreadable board: " ++ (words ++ codes "\n"))
     → IfOk r (λ t. IsUnreadLine (bytes t))
 unread_worded bytes words (Ok t) written = (words, written)
 unread_worded bytes words (Err e) written = tt
+
+-- so it is of a plan with rows
+pub cut_told_of : (before plan : Plan) (a b : ℕ) (found : Option (String Global)) → IsSameButRows before plan → HasNoWayBy (LeadsAlready before) plan a b
+    → IfSome found (λ line. IsWayToldOf plan a b (string_bytes line)) → IfSome found (λ line. IsCutToldOf before (string_bytes line))
+cut_told_of before plan a b None given cut told = tt
+cut_told_of before plan a b (Some line) given cut told =
+    record { plan = plan; one = a; other = b; given = given; cut = cut; told = told }
 
 -- ---- obstacles
 
@@ -39,12 +60,12 @@ not_memory plan obstacle text told is =
 
 -- what rules certificates out of a plan of which something holds
 pub ruled_out : (IsGiven : Plan → Type 0) (plan : Plan) (obstacle : CertifyError) (text : List ℕ) → IsGiven plan → NamesObstacle plan obstacle
-    → RulesOutCertificates plan obstacle → TellsObstacle plan obstacle text → IsReason IsGiven text
-ruled_out IsGiven plan obstacle text given first none told = inl (record {
+    → RulesOutCertificates plan obstacle → TellsObstacle plan obstacle text → IsRuledOut IsGiven text
+ruled_out IsGiven plan obstacle text given first none told = record {
   plan = plan;
   obstacle = obstacle;
   given = given;
   first = first;
   none = none (not_memory plan obstacle told.line told.worded);
   told = told;
-})
+}

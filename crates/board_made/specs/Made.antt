@@ -1,6 +1,7 @@
 -- What is answered of a board.
-use Rattle.std.specs.Prelude.{◌≡◌, ◌⊎◌, ℕ, List, ◌++◌, codes, Some, string_bytes}
+use Rattle.std.specs.Prelude.{◌≡◌, ℕ, List, ◌++◌, codes, string_bytes}
 use Rattle.toml.specs.Data.{Data}
+use Rattle.board.specs.declared.board.RecordFile.{RecordFile}
 use Rattle.net_plan.specs.declared.plan.Plan.{Plan}
 use Rattle.net_plan.specs.declared.certificate.Certificate.{Certificate}
 use Rattle.net_plan.specs.CertificateValues.{certificate_value}
@@ -9,13 +10,10 @@ use Rattle.net_json.specs.CertificateJson.{certificate_text}
 use Rattle.net_json.specs.CertificateText.{IsCertificateOf}
 use Rattle.net_json.specs.PlanText.{IsPlanOf}
 use Rattle.net_json.specs.Texts.{StandsFor}
-use Rattle.net_rules.specs.declared.certify_error.CertifyError.{CertifyError}
-use Rattle.net_rules.specs.Certificates.{IsExact, NamesObstacle, HasNoCertificate}
-use Rattle.plan_texts.specs.Explanations.{IsObstacleTold}
-use Rattle.plan_texts.specs.Lines.{obstacle_text}
-use Rattle.board_kept.specs.Said.{IsTomlOf}
-use Rattle.board_kept.specs.Kept.{Keeps}
+use Rattle.net_rules.specs.Certificates.{IsExact}
+use Rattle.board_values.specs.Said.{IsTomlOf}
 use Rattle.board_kept.specs.Made.{IsFitFor}
+use Rattle.board_made.specs.Reasons.{IsReason}
 use Rattle.board_made.specs.declared.answer.BoardAnswer.{BoardAnswer}
 use Rattle.board_made.specs.declared.answer.BoardAnswer.TheVariants.{Made, NoPlan, Unread}
 
@@ -27,64 +25,39 @@ pub record IsCertificateText (plan : Plan) (certificate : Certificate) (text : L
   pub reads_back : StandsFor (IsCertificateOf (plan_value plan)) text (certificate_value certificate)
 
 -- One text reads as a plan, and the other is that of its certificate, with which the plan is fit for the board.
-pub record IsFitText (board : Data) (text certified : List ℕ) : Type 0 where
+pub record IsFitText (files : List RecordFile) (board : Data) (text certified : List ℕ) : Type 0 where
   pub plan : Plan
   pub certificate : Certificate
   pub reads : StandsFor IsPlanOf text (plan_value plan)
   pub written : IsCertificateText plan certificate certified
-  pub fit : IsFitFor board plan certificate
-
--- The text tells this obstacle: its line, a place in the board or none, and an explanation.
-pub record TellsObstacle (plan : Plan) (obstacle : CertifyError) (text : List ℕ) : Type 0 where
-  pub line : List ℕ
-  pub place : List ℕ
-  pub told : List ℕ
-  pub worded : obstacle_text plan obstacle ≡ Some line
-  pub explained : IsObstacleTold plan obstacle told
-  pub written : text ≡ codes "no plan: " ++ (line ++ (place ++ told))
-
--- The text tells what comes first, in the order of the rules, of what rules certificates out of a plan of which this
--- holds.
-pub record IsRuledOut (IsGiven : Plan → Type 0) (text : List ℕ) : Type 0 where
-  pub plan : Plan
-  pub obstacle : CertifyError
-  pub given : IsGiven plan
-  pub first : NamesObstacle plan obstacle
-  pub none : HasNoCertificate plan
-  pub told : TellsObstacle plan obstacle text
-
--- another reason, which no line of an obstacle begins like; nothing more is promised of it
-abbrev pub IsOtherReason : List ℕ → Type 0
-IsOtherReason text = (words : List ℕ) × (text ≡ codes "no plan: no " ++ (words ++ codes "\n"))
-
--- why no plan is made: of one of which this holds its obstacle, or another reason
-abbrev pub IsReason : (Plan → Type 0) → List ℕ → Type 0
-IsReason IsGiven text = IsRuledOut IsGiven text ⊎ IsOtherReason text
+  pub fit : IsFitFor files board plan certificate
 
 -- a line that says why a board can't be read; nothing more is promised of it
 abbrev pub IsUnreadLine : List ℕ → Type 0
 IsUnreadLine text = (words : List ℕ) × (text ≡ codes "unreadable board: " ++ (words ++ codes "\n"))
 
 -- what is answered of a board that was read
-abbrev pub IsAnswerFor : Data → BoardAnswer → Type 0
-IsAnswerFor board (Made made) = IsFitText board (string_bytes made.plan) (string_bytes made.certificate)
-IsAnswerFor board (NoPlan reason) = IsReason (Keeps board) (string_bytes reason)
-IsAnswerFor board (Unread line) = IsUnreadLine (string_bytes line)
+abbrev pub IsAnswerFor : List RecordFile → Data → BoardAnswer → Type 0
+IsAnswerFor files board (Made made) = IsFitText files board (string_bytes made.plan) (string_bytes made.certificate)
+IsAnswerFor files board (NoPlan reason) = IsReason files board (string_bytes reason)
+IsAnswerFor files board (Unread line) = IsUnreadLine (string_bytes line)
 
--- The one text is a TOML document; of what stands in it the others are a plan that is fit for it, and the certificate.
-pub record IsMadeOf (board_text text certified : List ℕ) : Type 0 where
+-- The one text is a TOML document; of what stands in it, and of the files that its records name, the others are a plan
+-- that is fit for it, and the certificate.
+pub record IsMadeOf (files : List RecordFile) (board_text text certified : List ℕ) : Type 0 where
   pub board : Data
   pub toml : IsTomlOf board_text board
-  pub fit : IsFitText board text certified
+  pub fit : IsFitText files board text certified
 
 -- The one text is a TOML document, and the other says why no plan is made of what stands in it.
-pub record IsUnmadeOf (board_text text : List ℕ) : Type 0 where
+pub record IsUnmadeOf (files : List RecordFile) (board_text text : List ℕ) : Type 0 where
   pub board : Data
   pub toml : IsTomlOf board_text board
-  pub reason : IsReason (Keeps board) text
+  pub reason : IsReason files board text
 
 -- what is answered of a text, so of one that is no TOML document a line that says why it can't be read
-abbrev pub IsAnswerTo : List ℕ → BoardAnswer → Type 0
-IsAnswerTo board_text (Made made) = IsMadeOf board_text (string_bytes made.plan) (string_bytes made.certificate)
-IsAnswerTo board_text (NoPlan reason) = IsUnmadeOf board_text (string_bytes reason)
-IsAnswerTo board_text (Unread line) = IsUnreadLine (string_bytes line)
+abbrev pub IsAnswerTo : List RecordFile → List ℕ → BoardAnswer → Type 0
+IsAnswerTo files board_text (Made made) =
+    IsMadeOf files board_text (string_bytes made.plan) (string_bytes made.certificate)
+IsAnswerTo files board_text (NoPlan reason) = IsUnmadeOf files board_text (string_bytes reason)
+IsAnswerTo files board_text (Unread line) = IsUnreadLine (string_bytes line)

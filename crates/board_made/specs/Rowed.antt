@@ -5,10 +5,10 @@ use Rattle.net_plan.specs.declared.certificate.Certificate.{Certificate}
 use Rattle.net_plan.specs.PlanValues.{plan_value}
 use Rattle.net_json.specs.PlanText.{IsPlanOf}
 use Rattle.net_json.specs.Texts.{StandsFor}
-use Rattle.board_kept.specs.Rowed.{IsSameButRows, IsRowedFrom}
+use Rattle.board_kept.specs.Rowed.{IsRowedFrom}
 use Rattle.board_made.specs.declared.rowed.RowsAnswer.{RowsAnswer}
 use Rattle.board_made.specs.declared.rowed.RowsAnswer.TheVariants.{Made, NoPlan}
-use Rattle.board_made.specs.Made.{IsReason}
+use Rattle.board_made.specs.Reasons.{IsRowsReason}
 
 -- The text reads as a plan that is the given one with rows, by a certificate.
 pub record IsRowedText (before : Plan) (text : List ℕ) : Type 0 where
@@ -16,10 +16,6 @@ pub record IsRowedText (before : Plan) (text : List ℕ) : Type 0 where
   pub certificate : Certificate
   pub reads : StandsFor IsPlanOf text (plan_value plan)
   pub rowed : IsRowedFrom before plan certificate
-
--- the text says why no such plan is made
-abbrev pub IsRowsReason : Plan → List ℕ → Type 0
-IsRowsReason before text = IsReason (IsSameButRows before) text
 
 -- what is answered of the plan
 abbrev pub IsRowsAnswer : Plan → RowsAnswer → Type 0

@@ -1,13 +1,13 @@
 //! What is answered of the text of a board.
 ghost use Rattle.std.specs.Prelude.{IfOk, string_bytes};
 ghost use Rattle.toml.specs.View.{view};
-ghost use Rattle.board_kept.specs.Said.{IsTomlOf};
+ghost use Rattle.board_values.specs.Said.{IsTomlOf};
 ghost use Rattle.board_made.specs.Made.{IsAnswerTo, IsAnswerFor, IsUnreadLine};
 
 use crate::judged::judged;
 use crate::reasons::{no_plan_line, place_line, unread_line};
-use board::{Board, BoardError, made_plan, read_board};
-use board_kept::board_of_text;
+use board::{Board, BoardError, RecordFile, made_plan, named_files, read_board};
+use board_values::board_of_text;
 use std::alloc::{AllocError, Global};
 use toml::Value;
 
@@ -29,21 +29,25 @@ pub struct MadePlan {
     pub certificate: String,
 }
 
-/// The plan that is made of the text of a board, or why there is none.
-pub fn answer_board(alloc: Global, text: &[u8]) -> Result<BoardAnswer, AllocError>
-    ensures { IfOk result (λ answer. IsAnswerTo text.now answer) }
+/// The plan that is made of the text of a board, whose records may name these files, or why there is none.
+pub fn answer_board(
+    alloc: Global,
+    text: &[u8],
+    files: &[RecordFile],
+) -> Result<BoardAnswer, AllocError>
+    ensures { IfOk result (λ answer. IsAnswerTo files.now text.now answer) }
 {
     match std::str::from_utf8(text) {
-        Ok(text) => answer_text(alloc, text),
+        Ok(text) => answer_text(alloc, text, files),
         Err(_) => Ok(BoardAnswer::Unread(unread_line(alloc, "the text is not UTF-8")?)),
     }
 }
 
-fn answer_text(alloc: Global, text: &str) -> Result<BoardAnswer, AllocError>
-    ensures { IfOk result (λ answer. IsAnswerTo text.now answer) }
+fn answer_text(alloc: Global, text: &str, files: &[RecordFile]) -> Result<BoardAnswer, AllocError>
+    ensures { IfOk result (λ answer. IsAnswerTo files.now text.now answer) }
 {
     match board_of_text(alloc, text) {
-        Ok(board) => Ok(answer_value(alloc, text, &board)?),
+        Ok(board) => Ok(answer_value(alloc, text, files, &board)?),
         Err(error) => Ok(BoardAnswer::Unread(syntax_line(alloc, text, &error)?)),
     }
 }
@@ -75,11 +79,16 @@ fn line_and_column(text: &str, at: usize) -> (usize, usize) {
 }
 
 /// The plan that is made of a board's table, or why there is none.
-fn answer_value(alloc: Global, text: &str, board: &Value) -> Result<BoardAnswer, AllocError>
-    ensures { IfOk result (λ answer. IsAnswerFor (view board.now) answer) }
+fn answer_value(
+    alloc: Global,
+    text: &str,
+    files: &[RecordFile],
+    board: &Value,
+) -> Result<BoardAnswer, AllocError>
+    ensures { IfOk result (λ answer. IsAnswerFor files.now (view board.now) answer) }
 {
     match read_value(alloc, text, board) {
-        Ok(given) => answer_given(alloc, text, board, &given),
+        Ok(given) => answer_given(alloc, text, files, board, &given),
         Err(error) => Ok(BoardAnswer::Unread(error_line(alloc, error)?)),
     }
 }
@@ -107,13 +116,38 @@ fn error_line(alloc: Global, error: BoardError) -> Result<String, AllocError>
 fn answer_given(
     alloc: Global,
     text: &str,
+    files: &[RecordFile],
     board: &Value,
     given: &Board,
 ) -> Result<BoardAnswer, AllocError>
-    ensures { IfOk result (λ answer. IsAnswerFor (view board.now) answer) }
+    ensures { IfOk result (λ answer. IsAnswerFor files.now (view board.now) answer) }
 {
-    match made_plan(alloc, given) {
-        Ok(made) => judged(alloc, text, board, made),
-        Err(why) => Ok(BoardAnswer::NoPlan(no_plan_line(alloc, Some(text), given, why)?)),
+    match made_plan(alloc, given, files) {
+        Ok(made) => judged(alloc, text, files, board, made),
+        Err(why) => Ok(BoardAnswer::NoPlan(no_plan_line(alloc, text, files, board, given, why)?)),
     }
+}
+
+/// The names of the files that the records of a board name, if it can be read. Nothing is promised of them.
+pub fn files_of_board(alloc: Global, text: &[u8]) -> Result<Vec<String>, AllocError> {
+    let Ok(text) = std::str::from_utf8(text) else {
+        return Ok(Vec::new(alloc));
+    };
+    let Ok(board) = board_of_text(alloc, text) else {
+        return Ok(Vec::new(alloc));
+    };
+    match read_value(alloc, text, &board) {
+        Ok(given) => named_files(alloc, &given),
+        Err(_) => Ok(Vec::new(alloc)),
+    }
+}
+
+/// Says that a file that a record of a board names can't be had.
+pub fn unread_file(alloc: Global, name: &str, why: &str) -> Result<String, AllocError>
+    ensures { IfOk result (λ line. IsUnreadLine (string_bytes line)) }
+{
+    unread_line(
+        alloc,
+        &format!(in alloc; "the file \"{name}\" of a record {why}")?,
+    )
 }

@@ -7,13 +7,14 @@ ghost use Rattle.net_plan.specs.WellFormed.{IsWellFormed};
 ghost use Rattle.net_json.specs.PlanText.{IsPlanOf};
 ghost use Rattle.net_json.specs.Texts.{StandsFor};
 ghost use Rattle.net_rules.specs.Certificates.{IsExact, NamesObstacle, RulesOutCertificates};
-ghost use Rattle.board_kept.specs.Kept.{Keeps};
 ghost use Rattle.board_kept.specs.Made.{IsFitFor};
-ghost use Rattle.board_made.specs.Made.{IsAnswerFor, IsCertificateText, IsOtherReason, IsReason};
+ghost use Rattle.board_made.specs.Made.{IsAnswerFor, IsCertificateText};
+ghost use Rattle.board_made.specs.Reasons.{IsCutTold, IsReason, IsUnfound};
 
 use crate::answer::{BoardAnswer, MadePlan};
-use crate::reasons::{lacking, obstacle_reason, other_reason, unfit_line};
-use board_kept::{judge, keeps};
+use crate::reasons::{lacking, obstacle_reason, unfit_line, unfound, way_line};
+use board::{Cut, Made, RecordFile};
+use board_kept::{is_cut_off, judge, keeps};
 use net_check::{CertifyError, CheckError, certify, check};
 use net_json::{PlanError, plan_of_text, text_of_certificate};
 use net_plan::{Certificate, Plan};
@@ -24,35 +25,84 @@ use toml::Value;
 pub fn judged(
     alloc: Global,
     text: &str,
+    files: &[RecordFile],
     board: &Value,
-    made: String,
+    made: Made,
 ) -> Result<BoardAnswer, AllocError>
-    ensures { IfOk result (λ answer. IsAnswerFor (view board.now) answer) }
+    ensures { IfOk result (λ answer. IsAnswerFor files.now (view board.now) answer) }
 {
-    match plan_of_text(alloc, made.as_str().as_bytes()) {
-        Ok(plan) => Ok(judged_plan(alloc, text, board, made, &plan)?),
+    match plan_of_text(alloc, made.text.as_str().as_bytes()) {
+        Ok(plan) => Ok(judged_plan(alloc, text, files, board, made, &plan)?),
         Err(PlanError::OutOfMemory) => Err(AllocError),
-        Err(_) => Ok(BoardAnswer::NoPlan(other_reason(
-            alloc,
-            "text that was made reads as a plan",
-        )?)),
+        Err(_) => Ok(BoardAnswer::NoPlan(unfound(alloc, "text that was made reads as a plan")?)),
     }
 }
 
 fn judged_plan(
     alloc: Global,
     text: &str,
+    files: &[RecordFile],
+    board: &Value,
+    made: Made,
+    plan: &Plan,
+) -> Result<BoardAnswer, AllocError>
+    requires { StandsFor IsPlanOf (string_bytes made.text) (plan_value plan.now) }
+    ensures { IfOk result (λ answer. IsAnswerFor files.now (view board.now) answer) }
+{
+    match cut_reason(alloc, text, files, board, plan, made.cut)? {
+        Some(reason) => Ok(BoardAnswer::NoPlan(reason)),
+        None => judged_text(alloc, text, files, board, made.text, plan),
+    }
+}
+
+/// Why no plan is made where no way leads from a node to another, if that is so.
+fn cut_reason(
+    alloc: Global,
+    text: &str,
+    files: &[RecordFile],
+    board: &Value,
+    plan: &Plan,
+    cut: Option<Cut>,
+) -> Result<Option<String>, AllocError>
+    ensures { IfOk result (λ found. IfSome found (λ reason. IsCutTold files.now (view board.now) (string_bytes reason))) }
+{
+    match cut {
+        Some(cut) => reason_if_cut(alloc, text, files, board, plan, cut),
+        None => Ok(None),
+    }
+}
+
+fn reason_if_cut(
+    alloc: Global,
+    text: &str,
+    files: &[RecordFile],
+    board: &Value,
+    plan: &Plan,
+    cut: Cut,
+) -> Result<Option<String>, AllocError>
+    ensures { IfOk result (λ found. IfSome found (λ reason. IsCutTold files.now (view board.now) (string_bytes reason))) }
+{
+    if !keeps(alloc, files, board, plan)? || !is_cut_off(alloc, board, plan, cut.from, cut.to)? {
+        return Ok(None);
+    }
+    Ok(Some(way_line(alloc, text, board, cut.from, cut.to)?))
+}
+
+fn judged_text(
+    alloc: Global,
+    text: &str,
+    files: &[RecordFile],
     board: &Value,
     made: String,
     plan: &Plan,
 ) -> Result<BoardAnswer, AllocError>
     requires { StandsFor IsPlanOf (string_bytes made) (plan_value plan.now) }
-    ensures { IfOk result (λ answer. IsAnswerFor (view board.now) answer) }
+    ensures { IfOk result (λ answer. IsAnswerFor files.now (view board.now) answer) }
 {
     match certify(alloc, plan) {
-        Ok(certificate) => Ok(judged_with(alloc, text, board, made, plan, &certificate)?),
+        Ok(certificate) => Ok(judged_with(alloc, text, files, board, made, plan, &certificate)?),
         Err(obstacle) => Ok(BoardAnswer::NoPlan(why_ruled_out(
-            alloc, text, board, plan, &obstacle,
+            alloc, text, files, board, plan, &obstacle,
         )?)),
     }
 }
@@ -61,15 +111,16 @@ fn judged_plan(
 fn why_ruled_out(
     alloc: Global,
     text: &str,
+    files: &[RecordFile],
     board: &Value,
     plan: &Plan,
     obstacle: &CertifyError,
 ) -> Result<String, AllocError>
     requires names { NamesObstacle plan.now obstacle.now }
     requires none { RulesOutCertificates plan.now obstacle.now }
-    ensures { IfOk result (λ reason. IsReason (Keeps (view board.now)) (string_bytes reason)) }
+    ensures { IfOk result (λ reason. IsReason files.now (view board.now) (string_bytes reason)) }
 {
-    if keeps(alloc, board, plan)? {
+    if keeps(alloc, files, board, plan)? {
         Ok(obstacle_reason(alloc, Some(text), plan, obstacle)?)
     } else {
         Ok(lacking(alloc)?)
@@ -79,6 +130,7 @@ fn why_ruled_out(
 fn judged_with(
     alloc: Global,
     text: &str,
+    files: &[RecordFile],
     board: &Value,
     made: String,
     plan: &Plan,
@@ -87,10 +139,10 @@ fn judged_with(
     requires reads { StandsFor IsPlanOf (string_bytes made) (plan_value plan.now) }
     requires exact { IsExact plan.now certificate.now }
     requires well_formed { IsWellFormed (plan_value plan.now) (certificate_value certificate.now) }
-    ensures { IfOk result (λ answer. IsAnswerFor (view board.now) answer) }
+    ensures { IfOk result (λ answer. IsAnswerFor files.now (view board.now) answer) }
 {
     let certified = certified_text(alloc, plan, certificate)?;
-    match why_unfit(alloc, text, board, plan, certificate)? {
+    match why_unfit(alloc, text, files, board, plan, certificate)? {
         Some(reason) => Ok(BoardAnswer::NoPlan(reason)),
         None => Ok(BoardAnswer::Made(MadePlan {
             plan: made,
@@ -115,19 +167,20 @@ fn certified_text(
 fn why_unfit(
     alloc: Global,
     text: &str,
+    files: &[RecordFile],
     board: &Value,
     plan: &Plan,
     certificate: &Certificate,
 ) -> Result<Option<String>, AllocError>
-    ensures fit { IfOk result (λ why. why ≡ None → IsFitFor (view board.now) plan.now certificate.now) }
-    ensures reason { IfOk result (λ why. IfSome why (λ reason. IsOtherReason (string_bytes reason))) }
+    ensures fit { IfOk result (λ why. why ≡ None → IsFitFor files.now (view board.now) plan.now certificate.now) }
+    ensures reason { IfOk result (λ why. IfSome why (λ reason. IsUnfound (string_bytes reason))) }
 {
     match check(alloc, plan, certificate) {
-        Ok(checked) => match judge(alloc, board, &checked) {
+        Ok(checked) => match judge(alloc, files, board, &checked) {
             Ok(()) => Ok(None),
             Err(unfit) => Ok(Some(unfit_line(alloc, Some(text), plan, unfit)?)),
         },
-        Err(CheckError::Fault(_)) => Ok(Some(other_reason(
+        Err(CheckError::Fault(_)) => Ok(Some(unfound(
             alloc,
             "certificate that was made meets every rule",
         )?)),

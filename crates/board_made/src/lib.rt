@@ -6,5 +6,6 @@ mod judged;
 mod reasons;
 mod rowed;
 
-pub use answer::{BoardAnswer, MadePlan, answer_board};
+pub use answer::{BoardAnswer, MadePlan, answer_board, files_of_board, unread_file};
+pub use board::RecordFile;
 pub use rowed::{RowsAnswer, answer_rows};

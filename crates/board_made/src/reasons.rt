@@ -1,14 +1,18 @@
 //! The lines that say why a board can't be read, or why no plan is made of it.
-ghost use Rattle.std.specs.Prelude.{IfOk, string_bytes};
+ghost use Rattle.std.specs.Prelude.{◌≡◌, IfOk, IfSome, string_bytes};
+ghost use Rattle.toml.specs.View.{view};
 ghost use Rattle.net_rules.specs.Certificates.{NamesObstacle};
-ghost use Rattle.board_made.specs.Made.{IsUnreadLine, IsOtherReason, TellsObstacle};
+ghost use Rattle.board_made.specs.Made.{IsUnreadLine};
+ghost use Rattle.board_made.specs.Reasons.{reason_line, way_words, name_words, IsReason, IsUnfound, IsWayTold, IsWayToldOf, TellsObstacle};
 
-use board::{Board, NoPlan, line_of_node};
-use board_kept::Unfit;
+use board::{Board, NoPlan, RecordFile};
+use board_kept::{Unfit, node_name};
+use board_values::{lacking_words, lacks, node_text as told_node};
 use net_check::CertifyError;
 use net_plan::Plan;
 use plan_texts::{obstacle_line, obstacle_lines};
 use std::alloc::{AllocError, Global};
+use toml::Value;
 
 /// Says why a board can't be read, and where.
 pub fn place_line(
@@ -32,18 +36,25 @@ pub fn unread_line(alloc: Global, reason: &str) -> Result<String, AllocError>
     format!(in alloc; "unreadable board: {reason}\n")
 }
 
-/// Says why no plan is made of a board: there is no such thing.
-pub fn other_reason(alloc: Global, lacking: &str) -> Result<String, AllocError>
-    ensures { IfOk result (λ reason. IsOtherReason (string_bytes reason)) }
+/// Says why no plan is made: there is no such thing.
+fn named_reason(alloc: Global, lacking: &str) -> Result<String, AllocError>
+    ensures { IfOk result (λ reason. string_bytes reason ≡ reason_line lacking.now) }
 {
     format!(in alloc; "no plan: no {lacking}\n")
 }
 
+/// Says that no plan was found, and what was lacking.
+pub fn unfound(alloc: Global, lacking: &str) -> Result<String, AllocError>
+    ensures { IfOk result (λ reason. IsUnfound (string_bytes reason)) }
+{
+    format!(in alloc; "no plan: none was found: no {lacking}\n")
+}
+
 /// Says that the plan that was made lacks something.
 pub fn lacking(alloc: Global) -> Result<String, AllocError>
-    ensures { IfOk result (λ reason. IsOtherReason (string_bytes reason)) }
+    ensures { IfOk result (λ reason. IsUnfound (string_bytes reason)) }
 {
-    other_reason(alloc, "plan that was made has all that is given")
+    unfound(alloc, "plan that was made has all that is given")
 }
 
 /// A node by its name and the line of its table, where there is the text of a board.
@@ -55,22 +66,10 @@ fn node_text(
 ) -> Result<String, AllocError> {
     match text {
         Some(text) => {
-            let line = line_of_node(text, node);
+            let line = board::line_of_node(text, node);
             format!(in alloc; "node \"{name}\" (line {line})")
         }
         None => format!(in alloc; "node \"{name}\""),
-    }
-}
-
-fn node_of_board(
-    alloc: Global,
-    text: Option<&str>,
-    board: &Board,
-    node: usize,
-) -> Result<String, AllocError> {
-    match board.nodes.get(node) {
-        Some(own) => node_text(alloc, text, own.name.as_str(), node),
-        None => node_text(alloc, text, "", node),
     }
 }
 
@@ -86,94 +85,94 @@ fn node_of_plan(
     }
 }
 
-/// Why no plan is made of a board.
+/// Why no plan is made of a board. `given` is what was read of it.
 pub fn no_plan_line(
     alloc: Global,
-    text: Option<&str>,
-    board: &Board,
+    text: &str,
+    files: &[RecordFile],
+    board: &Value,
+    given: &Board,
     why: NoPlan,
 ) -> Result<String, AllocError>
-    ensures { IfOk result (λ reason. IsOtherReason (string_bytes reason)) }
+    ensures { IfOk result (λ reason. IsReason files.now (view board.now) (string_bytes reason)) }
 {
-    other_reason(alloc, &lacking_text(alloc, text, board, why)?)
-}
-
-/// What is lacking for a plan.
-fn lacking_text(
-    alloc: Global,
-    text: Option<&str>,
-    board: &Board,
-    why: NoPlan,
-) -> Result<String, AllocError> {
-    match why {
-        NoPlan::NoPool { node, owner } => {
-            let node = node_of_board(alloc, text, board, node)?;
-            let owner = node_of_board(alloc, text, board, owner)?;
-            format!(in alloc;
-                "pool stands at {owner}, from which {node} is to take its endpoint ID"
-            )
-        }
-        NoPlan::NoEid { node, owner } => {
-            let node = node_of_board(alloc, text, board, node)?;
-            let whose = pool_text(alloc, text, board, owner)?;
-            format!(in alloc; "endpoint ID of {whose} is left for {node}")
-        }
-        NoPlan::NoRun { node, size, owner } => {
-            let node = node_of_board(alloc, text, board, node)?;
-            let whose = pool_text(alloc, text, board, owner)?;
-            format!(in alloc;
-                "{size} endpoint IDs of {whose}, one after another, are left for the pool of {node}"
-            )
-        }
-        NoPlan::NoWay { from, to } => {
-            let from = node_of_board(alloc, text, board, from)?;
-            let to = node_of_board(alloc, text, board, to)?;
-            format!(in alloc; "way over buses, bridges and given rows leads from {from} to {to}")
-        }
-        _ => lacking_at(alloc, text, board, why),
+    let words = lacking_words(alloc, board, text, why)?;
+    if lacks(alloc, board, given, why)? {
+        return named_reason(alloc, &words);
     }
+    unfound(alloc, &words)
 }
 
-/// What is lacking at one node.
-fn lacking_at(
-    alloc: Global,
-    text: Option<&str>,
-    board: &Board,
-    why: NoPlan,
-) -> Result<String, AllocError> {
+/// Why no rows are made.
+pub fn no_rows_line(alloc: Global, plan: &Plan, why: NoPlan) -> Result<String, AllocError>
+    ensures { IfOk result (λ reason. IsUnfound (string_bytes reason)) }
+{
     match why {
-        NoPlan::OwnerLoop { node } => {
-            let node = node_of_board(alloc, text, board, node)?;
-            format!(in alloc; "node stands above all owners of {node}: they go round in a circle")
-        }
         NoPlan::TooManyRows { node } => {
-            let node = node_of_board(alloc, text, board, node)?;
-            format!(in alloc; "room is left for the rows of {node}: it would have more than 256")
-        }
-        NoPlan::WrongRecord { node, record } => {
-            let node = node_of_board(alloc, text, board, node)?;
-            format!(in alloc;
-                "bytes spell record {record} of {node}: it gives a field that its type doesn't have, or what the field can't hold"
+            let node = node_of_plan(alloc, None, plan, node)?;
+            unfound(
+                alloc,
+                &format!(in alloc;
+                    "room is left for the rows of {node}: it would have more than 256"
+                )?,
             )
         }
-        _ => Err(AllocError),
+        NoPlan::OutOfMemory => Err(AllocError),
+        _ => unfound(alloc, "plan with rows was made"),
     }
 }
 
-/// The pool that an owner gives from.
-fn pool_text(
+/// Says that no way leads from a node of a board to another.
+pub fn way_line(
     alloc: Global,
-    text: Option<&str>,
-    board: &Board,
-    owner: Option<usize>,
-) -> Result<String, AllocError> {
-    match owner {
-        Some(owner) => {
-            let owner = node_of_board(alloc, text, board, owner)?;
-            format!(in alloc; "the pool of {owner}")
-        }
-        None => "8 to 254".to_string(alloc),
+    text: &str,
+    board: &Value,
+    from: usize,
+    to: usize,
+) -> Result<String, AllocError>
+    ensures { IfOk result (λ line. IsWayTold (view board.now) from to (string_bytes line)) }
+{
+    let one = told_node(alloc, board, text, from)?;
+    let other = told_node(alloc, board, text, to)?;
+    way_reason(alloc, &one, &other)
+}
+
+fn way_reason(alloc: Global, one: &str, other: &str) -> Result<String, AllocError>
+    ensures { IfOk result (λ line. string_bytes line ≡ reason_line (way_words one.now other.now)) }
+{
+    named_reason(
+        alloc,
+        &format!(in alloc; "way over buses, bridges and given rows leads from {one} to {other}")?,
+    )
+}
+
+/// Says that no way leads from a node of a plan to another.
+pub fn way_line_of(
+    alloc: Global,
+    plan: &Plan,
+    from: usize,
+    to: usize,
+) -> Result<Option<String>, AllocError>
+    ensures { IfOk result (λ found. IfSome found (λ line. IsWayToldOf plan.now from to (string_bytes line))) }
+{
+    match (node_name(plan, from), node_name(plan, to)) {
+        (Some(one), Some(other)) => Ok(Some(named_way(alloc, one, other)?)),
+        _ => Ok(None),
     }
+}
+
+fn named_way(alloc: Global, one: &str, other: &str) -> Result<String, AllocError>
+    ensures { IfOk result (λ line. string_bytes line ≡ reason_line (way_words (name_words one.now) (name_words other.now))) }
+{
+    let one = named(alloc, one)?;
+    let other = named(alloc, other)?;
+    way_reason(alloc, &one, &other)
+}
+
+fn named(alloc: Global, name: &str) -> Result<String, AllocError>
+    ensures { IfOk result (λ words. string_bytes words ≡ name_words name.now) }
+{
+    format!(in alloc; "node \"{name}\"")
 }
 
 /// What rules certificates of the made plan out, with the node's line of the board, if there is one, and the explanation.
@@ -220,9 +219,9 @@ pub fn unfit_line(
     plan: &Plan,
     unfit: Unfit,
 ) -> Result<String, AllocError>
-    ensures { IfOk result (λ reason. IsOtherReason (string_bytes reason)) }
+    ensures { IfOk result (λ reason. IsUnfound (string_bytes reason)) }
 {
-    other_reason(alloc, &unfit_text(alloc, text, plan, unfit)?)
+    unfound(alloc, &unfit_text(alloc, text, plan, unfit)?)
 }
 
 fn unfit_text(

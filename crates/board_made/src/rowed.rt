@@ -5,12 +5,12 @@ ghost use Rattle.net_json.specs.PlanText.{IsPlanOf};
 ghost use Rattle.net_json.specs.Texts.{StandsFor};
 ghost use Rattle.net_rules.specs.Certificates.{NamesObstacle, RulesOutCertificates};
 ghost use Rattle.board_kept.specs.Rowed.{IsRowedFrom};
-ghost use Rattle.board_made.specs.Made.{IsOtherReason};
-ghost use Rattle.board_made.specs.Rowed.{IsRowsAnswer, IsRowsReason};
+ghost use Rattle.board_made.specs.Reasons.{IsCutToldOf, IsRowsReason, IsUnfound};
+ghost use Rattle.board_made.specs.Rowed.{IsRowsAnswer};
 
-use crate::reasons::{lacking, no_plan_line, obstacle_reason, other_reason, unfit_line};
-use board::{board_of_plan, made_plan};
-use board_kept::{is_same_but_rows, judge_rows};
+use crate::reasons::{lacking, no_rows_line, obstacle_reason, unfit_line, unfound, way_line_of};
+use board::{Cut, Made, board_of_plan, made_plan};
+use board_kept::{is_cut_off_with, is_same_but_rows, judge_rows};
 use net_check::{CertifyError, CheckError, certify, check};
 use net_json::{PlanError, plan_of_text};
 use net_plan::{Certificate, Plan};
@@ -30,26 +30,67 @@ pub fn answer_rows(alloc: Global, before: &Plan) -> Result<RowsAnswer, AllocErro
     ensures { IfOk result (λ answer. IsRowsAnswer before.now answer) }
 {
     let board = board_of_plan(alloc, before)?;
-    match made_plan(alloc, &board) {
+    match made_plan(alloc, &board, &[]) {
         Ok(made) => judged(alloc, before, made),
-        Err(why) => Ok(RowsAnswer::NoPlan(no_plan_line(alloc, None, &board, why)?)),
+        Err(why) => Ok(RowsAnswer::NoPlan(no_rows_line(alloc, before, why)?)),
     }
 }
 
-fn judged(alloc: Global, before: &Plan, made: String) -> Result<RowsAnswer, AllocError>
+fn judged(alloc: Global, before: &Plan, made: Made) -> Result<RowsAnswer, AllocError>
     ensures { IfOk result (λ answer. IsRowsAnswer before.now answer) }
 {
-    match plan_of_text(alloc, made.as_str().as_bytes()) {
+    match plan_of_text(alloc, made.text.as_str().as_bytes()) {
         Ok(plan) => Ok(judged_plan(alloc, before, made, &plan)?),
         Err(PlanError::OutOfMemory) => Err(AllocError),
-        Err(_) => Ok(RowsAnswer::NoPlan(other_reason(
-            alloc,
-            "text that was made reads as a plan",
-        )?)),
+        Err(_) => Ok(RowsAnswer::NoPlan(unfound(alloc, "text that was made reads as a plan")?)),
     }
 }
 
 fn judged_plan(
+    alloc: Global,
+    before: &Plan,
+    made: Made,
+    plan: &Plan,
+) -> Result<RowsAnswer, AllocError>
+    requires { StandsFor IsPlanOf (string_bytes made.text) (plan_value plan.now) }
+    ensures { IfOk result (λ answer. IsRowsAnswer before.now answer) }
+{
+    match cut_reason(alloc, before, plan, made.cut)? {
+        Some(reason) => Ok(RowsAnswer::NoPlan(reason)),
+        None => judged_text(alloc, before, made.text, plan),
+    }
+}
+
+/// Why no rows are made where no way leads from a node to another, if that is so.
+fn cut_reason(
+    alloc: Global,
+    before: &Plan,
+    plan: &Plan,
+    cut: Option<Cut>,
+) -> Result<Option<String>, AllocError>
+    ensures { IfOk result (λ found. IfSome found (λ reason. IsCutToldOf before.now (string_bytes reason))) }
+{
+    match cut {
+        Some(cut) => reason_if_cut(alloc, before, plan, cut),
+        None => Ok(None),
+    }
+}
+
+fn reason_if_cut(
+    alloc: Global,
+    before: &Plan,
+    plan: &Plan,
+    cut: Cut,
+) -> Result<Option<String>, AllocError>
+    ensures { IfOk result (λ found. IfSome found (λ reason. IsCutToldOf before.now (string_bytes reason))) }
+{
+    if !is_same_but_rows(before, plan) || !is_cut_off_with(alloc, before, plan, cut.from, cut.to)? {
+        return Ok(None);
+    }
+    Ok(way_line_of(alloc, plan, cut.from, cut.to)?)
+}
+
+fn judged_text(
     alloc: Global,
     before: &Plan,
     made: String,
@@ -106,14 +147,14 @@ fn why_unfit(
     certificate: &Certificate,
 ) -> Result<Option<String>, AllocError>
     ensures rowed { IfOk result (λ why. why ≡ None → IsRowedFrom before.now plan.now certificate.now) }
-    ensures reason { IfOk result (λ why. IfSome why (λ reason. IsOtherReason (string_bytes reason))) }
+    ensures reason { IfOk result (λ why. IfSome why (λ reason. IsUnfound (string_bytes reason))) }
 {
     match check(alloc, plan, certificate) {
         Ok(checked) => match judge_rows(alloc, before, &checked) {
             Ok(()) => Ok(None),
             Err(unfit) => Ok(Some(unfit_line(alloc, None, plan, unfit)?)),
         },
-        Err(CheckError::Fault(_)) => Ok(Some(other_reason(
+        Err(CheckError::Fault(_)) => Ok(Some(unfound(
             alloc,
             "certificate that was made meets every rule",
         )?)),

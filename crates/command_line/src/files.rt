@@ -2,15 +2,17 @@
 ghost use Rattle.std.specs.Io.{ReadsAtMost, WritesAtMost};
 ghost use Rattle.std.specs.Io.KnownBytes.{ReadConsumes};
 ghost use Rattle.std.specs.Option.{option_and_then};
-ghost use Rattle.std.specs.Prelude.{◌≡◌, None};
+ghost use Rattle.std.specs.Prelude.{◌≡◌, None, ⊤};
 ghost use Rattle.either.specs.Either.{either};
 ghost use Rattle.net_json.specs.Stream.{HasRoom};
 
 use either::Either;
-use net_json::{Counted, Failed, Sink, write_whole};
-use std::alloc::Global;
+use net_json::{Counted, Failed, Sink, TextFault, read_within, write_whole};
+use plan_commands::RecordFiles;
+use std::alloc::{AllocError, Global};
 use std::fs::File;
 use std::io::{self, Input, Read, Write};
+use std::path::Path;
 use std::rt::Files;
 use step_files::TextFiles;
 
@@ -203,4 +205,41 @@ impl<R: Files> TextFiles for FilesAtPaths<'_, R> {
             }
         }
     }
+}
+
+/// The files beside a board, by their paths from its folder. A path from the root is taken as it is.
+#[derive(Drop)]
+pub struct FilesBeside<'a, R: Files + Input> {
+    rt: &'a R,
+    board: &'a str,
+}
+
+impl<'a, R: Files + Input> FilesBeside<'a, R> {
+    /// The files beside the board at this path. Nothing is opened yet.
+    pub fn new(rt: &'a R, board: &'a str) -> FilesBeside<'a, R> {
+        FilesBeside { rt, board }
+    }
+}
+
+/// The most bytes of a record (DSP0248): its header, and as many as a length of two bytes tells.
+const MOST_BYTES: usize = 65_545;
+
+impl<R: Files + Input> RecordFiles for FilesBeside<'_, R> {
+    // What files hold isn't known.
+    ghost holds = { λ s name bytes. ⊤ };
+
+    fn read(&self, alloc: Global, name: &str) -> Result<Vec<u8>, TextFault> {
+        let path = path_beside(alloc, self.board, name)?;
+        let mut file = Counted::new(FileAtPath::new(self.rt, &path));
+        read_within(alloc, &mut file, MOST_BYTES)
+    }
+}
+
+/// The path of a file in the folder of another.
+fn path_beside(alloc: Global, other: &str, name: &str) -> Result<String, AllocError> {
+    let folder = match Path::new(other).parent() {
+        Some(folder) if !folder.as_str().is_empty() => folder,
+        _ => Path::new("."),
+    };
+    Ok(folder.join(alloc, name)?.into_string())
 }

@@ -114,6 +114,9 @@ fn wrong_argument(alloc: Global, command: &str, words: &[String]) -> Result<Stri
         ("walk", [_, _, _, _, _, count]) => count_hint(alloc, count),
         ("export", [_, _, form, others @ ..]) => form_hint(alloc, form, others),
         ("script", [_, _, _, _, what, _, eid, count, ..]) => script_hint(alloc, what, eid, count),
+        ("explain", [_, _, others @ ..]) if has_option(others, "--move") => {
+            "the other form is explain OLD --move NEW\n".to_string(alloc)
+        }
         ("draw", [.., option, eid]) if option.as_str() == "--rows" => eid_hint(alloc, eid),
         ("code", [_, _, code]) if text_of(code).is_none() => {
             format!(in alloc; "there is no code {code}\n")
@@ -150,13 +153,15 @@ fn form_hint(alloc: Global, form: &str, others: &[String]) -> Result<String, All
     if form_of(form).is_none() {
         return format!(in alloc; "{form} is none of linux, c, entries and records\n");
     }
-    if others
-        .iter()
-        .any(|word| word.as_str().starts_with("--link"))
-    {
+    if has_option(others, "--link") {
         return "--link is for linux, as --link b0=mctpi2c0, once for each bus\n".to_string(alloc);
     }
     Ok(String::new(alloc))
+}
+
+/// Whether one of the words is this option.
+fn has_option(words: &[String], option: &str) -> bool {
+    words.iter().any(|word| word.as_str().starts_with(option))
 }
 
 fn count_hint(alloc: Global, count: &str) -> Result<String, AllocError> {

@@ -5,7 +5,7 @@ mod files;
 mod hints;
 mod subcommand;
 
-pub use files::{FileAtPath, FileToWrite, FilesAtPaths};
+pub use files::{FileAtPath, FileToWrite, FilesAtPaths, FilesBeside};
 pub use hints::{hint_node, hint_nodes, hint_record, hint_words};
 pub use program_texts::{GUIDE, VERSION};
 pub use subcommand::{Subcommand, links_of_words, parse_command};

@@ -29,6 +29,11 @@ pub enum Subcommand<'a> {
         plan: &'a str,
         certificate: Option<&'a str>,
     },
+    /// What does `certifymove` say of the plans in two files, and why?
+    ExplainMove {
+        before: &'a str,
+        after: &'a str,
+    },
     /// How does the plan in a file stand once edits are made that take away what rules certificates out?
     Fix {
         plan: &'a str,
@@ -242,8 +247,9 @@ const ALL: &str = "all";
 const REPEATED: &str = "link";
 
 /// The options of commands, and what each means where no value follows it, if it may stand alone.
-const OPTIONS: [(&str, &str, Option<&str>); 6] = [
+const OPTIONS: [(&str, &str, Option<&str>); 7] = [
     ("draw", "rows", Some(ALL)),
+    ("explain", "move", None),
     ("export", REPEATED, None),
     ("make", "certificate", None),
     ("rollout", "write", None),
@@ -547,10 +553,16 @@ fn listing<'a>(arguments: &ArgMatches<'a>) -> Option<Subcommand<'a>> {
 }
 
 fn explaining<'a>(arguments: &ArgMatches<'a>) -> Option<Subcommand<'a>> {
-    Some(Subcommand::Explain {
-        plan: arguments.get_str("plan")?,
-        certificate: arguments.get_str("certificate"),
-    })
+    let plan = arguments.get_str("plan")?;
+    let certificate = arguments.get_str("certificate");
+    match (arguments.get_str("move"), certificate) {
+        (None, certificate) => Some(Subcommand::Explain { plan, certificate }),
+        (Some(after), None) => Some(Subcommand::ExplainMove {
+            before: plan,
+            after,
+        }),
+        (Some(_), Some(_)) => None,
+    }
 }
 
 fn fixing<'a>(arguments: &ArgMatches<'a>) -> Option<Subcommand<'a>> {

@@ -17,7 +17,7 @@ use Rattle.command_answers.specs.declared.refused.Refused.{Refused}
 use Rattle.command_answers.specs.declared.status.Status.{Status}
 use Rattle.command_answers.specs.declared.status.Status.TheVariants as status
 use Rattle.command_answers.specs.Answers.{Stream, GavePlanText, GaveCertificate}
-use Rattle.explain_commands.specs.Explaining.{IsExplained, ExplainsSo, IsObstacleText, IsToldWithEdits, AreMoreTold, IsFaultTold, both_words, IsBothExplained, IsExplainedWith, ExplainsWithSo, IsFaultExplained, IsRemedyTold, remedy_text}
+use Rattle.explain_commands.specs.Explaining.{IsExplained, ExplainsSo, IsExplainedThere, IsObstacleText, IsToldWithEdits, AreMoreTold, IsFaultTold, both_words, IsBothExplained, IsExplainedWith, ExplainsWithSo, IsFaultExplained, IsRemedyTold, remedy_text}
 use Rattle.command_answers.specs.UnreadInputs.{IsNoPlanBy, IsNoCertificateBy}
 use Rattle.explain_commands.specs.UnreadTexts.{IsUnreadText, IsUnreadCertificateText}
 use Rattle.command_answers.specs.Certifying.{IsRuledOutBy}
@@ -39,23 +39,34 @@ pub of_nothing : (name : List ℕ) (plans : Stream) (u : Unread) (result : Resul
 of_nothing name plans u (Ok a) by h = inr (h.0, h.1 plans by)
 of_nothing name plans u (Err why) by h = tt
 
--- the lines of what rules certificates out
-pub obstacle_written : {A E : Type 0} (bytes : A → List ℕ) (name text : List ℕ) (plan : Plan) (obstacle : CertifyError) (line place told more : List ℕ) (r : Result A E)
-    → IsRuledOutBy plan obstacle line → IsPlaceTold name text (obstacle_pointer plan obstacle) place → IsToldWithEdits plan obstacle told → AreMoreTold plan None obstacle name more
-    → IfOk r (λ t. bytes t ≡ line ++ (place ++ (told ++ more))) → IfOk r (λ t. IsObstacleText name text plan (bytes t))
-obstacle_written bytes name text plan obstacle line place told more (Ok t) out placed explained others written = record {
-  obstacle = obstacle;
-  line = line;
+-- what explains an obstacle, between its place and how many more faults there are
+pub there_written : {A E : Type 0} (bytes : A → List ℕ) (name text : List ℕ) (plan : Plan) (obstacle : CertifyError) (place told more : List ℕ) (r : Result A E)
+    → IsPlaceTold name text (obstacle_pointer plan obstacle) place → IsToldWithEdits plan obstacle told → AreMoreTold plan None obstacle name more
+    → IfOk r (λ t. bytes t ≡ place ++ (told ++ more)) → IfOk r (λ t. IsExplainedThere name text plan obstacle (bytes t))
+there_written bytes name text plan obstacle place told more (Ok t) placed explained others written = record {
   place = place;
   told = told;
   more = more;
-  ruled_out = out;
   placed = placed;
   explained = explained;
   others = others;
   written = written;
 }
-obstacle_written bytes name text plan obstacle line place told more (Err e) out placed explained others written = tt
+there_written bytes name text plan obstacle place told more (Err e) placed explained others written = tt
+
+-- the lines of what rules certificates out
+pub obstacle_written : {A E : Type 0} (bytes : A → List ℕ) (name text : List ℕ) (plan : Plan) (obstacle : CertifyError) (line rest : List ℕ) (r : Result A E)
+    → IsRuledOutBy plan obstacle line → IsExplainedThere name text plan obstacle rest
+    → IfOk r (λ t. bytes t ≡ line ++ rest) → IfOk r (λ t. IsObstacleText name text plan (bytes t))
+obstacle_written bytes name text plan obstacle line rest (Ok t) out explained written = record {
+  obstacle = obstacle;
+  line = line;
+  rest = rest;
+  ruled_out = out;
+  explained = explained;
+  written = written;
+}
+obstacle_written bytes name text plan obstacle line rest (Err e) out explained written = tt
 
 -- ---- of a plan and its certificate
 

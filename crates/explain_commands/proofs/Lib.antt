@@ -1,3 +1,7 @@
 mod UnreadTexts
 mod Explained
 mod Mended
+mod Differing
+mod Hops
+mod ExplainedMoves
+mod MovedTexts

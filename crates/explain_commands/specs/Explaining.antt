@@ -65,19 +65,27 @@ abbrev pub AreMoreTold : Plan → Option Certificate → CertifyError → List �
 AreMoreTold plan cert obstacle words line = (runs : List FaultRun) × AreFaults plan cert runs
     × (line ≡ more_text words (others_of obstacle (length runs)))
 
--- The lines are that of what comes first, in the order of the rules, of what rules certificates of the plan out; where
--- that stands in the text of this name; what explains it and proposes edits; and how many more faults there are.
-pub record IsObstacleText (name text : List ℕ) (plan : Plan) (lines : List ℕ) : Type 0 where
-  pub obstacle : CertifyError
-  pub line : List ℕ
+-- The lines explain an obstacle of the plan: where it stands in the text of this name; why it is one, with edits; and
+-- how many more faults there are.
+pub record IsExplainedThere (name text : List ℕ) (plan : Plan) (obstacle : CertifyError)
+    (lines : List ℕ) : Type 0 where
   pub place : List ℕ
   pub told : List ℕ
   pub more : List ℕ
-  pub ruled_out : IsRuledOutBy plan obstacle line
   pub placed : IsPlaceTold name text (obstacle_pointer plan obstacle) place
   pub explained : IsToldWithEdits plan obstacle told
   pub others : AreMoreTold plan None obstacle name more
-  pub written : lines ≡ line ++ (place ++ (told ++ more))
+  pub written : lines ≡ place ++ (told ++ more)
+
+-- The lines are that of what comes first, in the order of the rules, of what rules certificates of the plan out, and
+-- what explains it.
+pub record IsObstacleText (name text : List ℕ) (plan : Plan) (lines : List ℕ) : Type 0 where
+  pub obstacle : CertifyError
+  pub line : List ℕ
+  pub rest : List ℕ
+  pub ruled_out : IsRuledOutBy plan obstacle line
+  pub explained : IsExplainedThere name text plan obstacle rest
+  pub written : lines ≡ line ++ rest
 
 -- the text says yes and sums the plan up, with the most hops that the certificate allows between two nodes
 abbrev pub IsSummedUp : Plan → Certificate → List ℕ → Type 0

@@ -1,3 +1,6 @@
 pub mod UnreadTexts
 pub mod Explaining
 pub mod Fixing
+pub mod MoveRows
+pub mod MoveDifferences
+pub mod ExplainingMoves

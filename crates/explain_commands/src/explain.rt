@@ -6,11 +6,12 @@ ghost use Rattle.net_json.specs.Stream.{HasRoom};
 ghost use Rattle.command_answers.specs.declared.status.Status.TheVariants.{Yes, Fault, Unreadable, NoMemory};
 ghost use Rattle.command_answers.specs.declared.refused.Refused.TheVariants as refused;
 ghost use Rattle.command_answers.specs.Answers.{stream, BreaksOff};
-ghost use Rattle.explain_commands.specs.Explaining.{AreEditsTold, AreMoreTold, IsObstacleText, IsToldWithEdits, IsSummedUp, IsExplained, ExplainsSo, others_of};
+ghost use Rattle.explain_commands.specs.Explaining.{AreEditsTold, AreMoreTold, IsExplainedThere, IsObstacleText, IsToldWithEdits, IsSummedUp, IsExplained, ExplainsSo, others_of};
 ghost use Rattle.command_answers.specs.Told.{Gives, IsSomeAnswer, Ends};
 ghost use Rattle.command_answers.specs.UnreadInputs.{IsTextOf};
 
 pub mod certified;
+pub mod moved;
 pub mod unread;
 
 use command_answers::{Answer, PlanText, Refused, Status, YES, plan_or_text, tell};
@@ -82,8 +83,7 @@ fn sound_text(alloc: Global, plan: &Plan, certificate: &Certificate) -> Result<S
     Ok(text)
 }
 
-/// Says what rules certificates of a plan out and where, explains it, proposes edits, and says how many more faults there
-/// are.
+/// Says what rules certificates of a plan out, and explains it.
 fn obstacle_text(
     alloc: Global,
     name: &str,
@@ -96,10 +96,39 @@ fn obstacle_text(
     ensures { IfOk result (λ text. IsObstacleText name.now given.now.text.items given.now.plan (string_bytes text)) }
 {
     let line = obstacle_line(alloc, &given.plan, obstacle)?;
-    let place = obstacle_place(alloc, name, given.text.as_slice(), &given.plan, obstacle)?;
+    let rest = explained_there(alloc, name, given, obstacle)?;
+    format!(in alloc; "{line}{rest}")
+}
+
+/// Explains what rules certificates of a plan out: where that stands, why, edits, and how many more faults there are.
+fn explained_there(
+    alloc: Global,
+    name: &str,
+    given: &PlanText,
+    obstacle: &CertifyError,
+) -> Result<String, AllocError>
+    requires names { NamesObstacle given.now.plan obstacle.now }
+    requires text { IsTextOf given.now.text.items given.now.plan }
+    ensures { IfOk result (λ lines. IsExplainedThere name.now given.now.text.items given.now.plan obstacle.now (string_bytes lines)) }
+{
     let told = explained_text(alloc, given, obstacle)?;
+    told_there(alloc, name, given, obstacle, &told)
+}
+
+/// What explains an obstacle, with its place before and how many more faults there are behind.
+fn told_there(
+    alloc: Global,
+    name: &str,
+    given: &PlanText,
+    obstacle: &CertifyError,
+    told: &str,
+) -> Result<String, AllocError>
+    requires { IsToldWithEdits given.now.plan obstacle.now told.now }
+    ensures { IfOk result (λ lines. IsExplainedThere name.now given.now.text.items given.now.plan obstacle.now (string_bytes lines)) }
+{
+    let place = obstacle_place(alloc, name, given.text.as_slice(), &given.plan, obstacle)?;
     let more = more_faults(alloc, name, &given.plan, None, obstacle)?;
-    format!(in alloc; "{line}{place}{told}{more}")
+    format!(in alloc; "{place}{told}{more}")
 }
 
 /// Says how many more faults a plan has than the one that is told, or a plan and a certificate, and by which words they are

@@ -5,5 +5,6 @@ mod explain;
 mod fix;
 
 pub use explain::certified::run_explain_certified;
+pub use explain::moved::run_explain_move;
 pub use explain::run_explain;
 pub use fix::run_fix;

@@ -1,1 +1,2 @@
 mod RunLines
+pub mod RuledOutMoves

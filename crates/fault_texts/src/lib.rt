@@ -5,4 +5,6 @@ mod fault_lists;
 mod places;
 
 pub use fault_lists::{fault_lines, more_line, obstacle_list};
-pub use places::{obstacle_place, part_pointer, record_pointer, row_pointer};
+pub use places::{
+    obstacle_place, part_pointer, pointer_place, record_pointer, row_pointer, way_pointer,
+};

@@ -32,7 +32,7 @@ pub fn obstacle_place(
 }
 
 /// The line that tells where in its text a pointer leads.
-fn pointer_place(
+pub fn pointer_place(
     alloc: Global,
     name: &str,
     text: &[u8],
@@ -250,7 +250,7 @@ fn entry_pointer(
 }
 
 /// The pointer to a row, or to its node where none is given.
-fn way_pointer(
+pub fn way_pointer(
     alloc: Global,
     node: usize,
     row: Option<usize>,

@@ -7,10 +7,10 @@ use audit_commands::run_audit;
 use byte_commands::{ShownKind, WordQuestion, run_decode, run_show, run_worded};
 use command_answers::{Refused, Status, refuse, run_known};
 use command_line::{
-    FileAtPath, FileToWrite, FilesAtPaths, Subcommand, hint_node, hint_nodes, hint_record,
-    hint_words, links_of_words, parse_command,
+    FileAtPath, FileToWrite, FilesAtPaths, FilesBeside, Subcommand, hint_node, hint_nodes,
+    hint_record, hint_words, links_of_words, parse_command,
 };
-use explain_commands::{run_explain, run_explain_certified, run_fix};
+use explain_commands::{run_explain, run_explain_certified, run_explain_move, run_fix};
 use export_commands::{Export, run_export};
 use net_json::Counted;
 use plan_commands::{
@@ -71,6 +71,7 @@ fn run_command<'a>(rt: &'a HostRuntime, command: Subcommand<'a>) -> Status {
             plan,
             certificate: None,
         } => explain(rt, plan),
+        Subcommand::ExplainMove { before, after } => explain_move(rt, before, after),
         Subcommand::Fix { plan } => fix(rt, plan),
         Subcommand::Require {
             plan,
@@ -219,16 +220,18 @@ fn require<'a>(
 
 /// Makes a plan of a board.
 fn make<'a>(rt: &'a HostRuntime, board: &'a str) -> Status {
+    let files = FilesBeside::new(rt, board);
     let mut board = file(rt, board);
     let mut output = Counted::new(rt.stdout());
     let mut errors = Counted::new(rt.stderr());
-    run_make(rt.alloc(), &mut board, &mut output, &mut errors)
+    run_make(rt.alloc(), &mut board, &files, &mut output, &mut errors)
 }
 
 /// Makes a plan of a board, and writes its certificate to a file. Where that fails, standard error tells the path and the
 /// system's reason.
 fn make_certified<'a>(rt: &'a HostRuntime, board: &'a str, path: &'a str) -> Status {
     let alloc = rt.alloc();
+    let files = FilesBeside::new(rt, board);
     let mut board = file(rt, board);
     let mut certificate = Counted::new(FileToWrite::new(rt, path));
     let mut output = Counted::new(rt.stdout());
@@ -236,6 +239,7 @@ fn make_certified<'a>(rt: &'a HostRuntime, board: &'a str, path: &'a str) -> Sta
     let status = run_make_certified(
         alloc,
         &mut board,
+        &files,
         &mut certificate,
         &mut output,
         &mut errors,
@@ -556,6 +560,31 @@ fn explain_certified<'a>(rt: &'a HostRuntime, name: &'a str, certified_by: &'a s
     plan.inner()
         .tell_failure(alloc, &mut Counted::new(rt.stderr()));
     certificate
+        .inner()
+        .tell_failure(alloc, &mut Counted::new(rt.stderr()));
+    status
+}
+
+/// The same of a move from one plan to another.
+fn explain_move<'a>(rt: &'a HostRuntime, name: &'a str, new_name: &'a str) -> Status {
+    let alloc = rt.alloc();
+    let mut before = file(rt, name);
+    let mut after = file(rt, new_name);
+    let mut output = Counted::new(rt.stdout());
+    let mut errors = Counted::new(rt.stderr());
+    let status = run_explain_move(
+        alloc,
+        name,
+        new_name,
+        &mut before,
+        &mut after,
+        &mut output,
+        &mut errors,
+    );
+    before
+        .inner()
+        .tell_failure(alloc, &mut Counted::new(rt.stderr()));
+    after
         .inner()
         .tell_failure(alloc, &mut Counted::new(rt.stderr()));
     status

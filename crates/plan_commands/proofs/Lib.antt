@@ -1,7 +1,7 @@
 mod Named
 mod Exchanging
-mod MoveCertified
 mod FaultListed
 mod Drawn
 mod Required
 mod Questions
+pub mod Held

@@ -1,14 +1,18 @@
 -- What the end of `make` says of the board that it read, and of the plan and the certificate that it wrote.
-use Rattle.std.specs.Prelude.{◌≡◌, ◌⊎◌, ℕ, List, codes, string_bytes}
+use Rattle.std.specs.Prelude.{◌≡◌, ◌⊎◌, ℕ, List, Some, codes, slice_get, string_bytes, ⊤}
 use Rattle.std.specs.Io.KnownBytes.{Appends}
 use Rattle.net_json.specs.declared.error.PlanError.TheVariants as error
 use Rattle.net_json.specs.Stream.{TakesMoreThan}
 use Rattle.net_json.specs.Texts.{Gave}
+use Rattle.board.specs.declared.board.RecordFile.{RecordFile}
 use Rattle.board_made.specs.declared.answer.BoardAnswer.{BoardAnswer}
 use Rattle.board_made.specs.declared.answer.BoardAnswer.TheVariants.{Made, NoPlan, Unread}
 use Rattle.net_plan.specs.declared.plan.Plan.{Plan}
-use Rattle.board_made.specs.Made.{IsMadeOf, IsUnmadeOf, IsUnreadLine, IsAnswerTo}
-use Rattle.board_made.specs.Rowed.{IsRowedText, IsRowsReason}
+use Rattle.plan_commands.specs.declared.make.FileFault.{FileFault}
+use Rattle.plan_commands.specs.declared.make.FileFault.TheVariants as fault
+use Rattle.board_made.specs.Made.{IsMadeOf, IsUnmadeOf, IsUnreadLine}
+use Rattle.board_made.specs.Reasons.{IsRowsReason}
+use Rattle.board_made.specs.Rowed.{IsRowedText}
 use Rattle.command_answers.specs.declared.refused.Input.TheVariants as input
 use Rattle.command_answers.specs.declared.refused.Refused.{Refused}
 use Rattle.command_answers.specs.declared.refused.Refused.TheVariants as refused
@@ -34,44 +38,71 @@ IsUngivenBoard boards (Made made) = ⊥
 IsUngivenBoard boards (NoPlan reason) = ⊥
 IsUngivenBoard boards (Unread line) = IsWithoutBoard boards (string_bytes line)
 
+-- the fault of a file is a line that says so, or too little memory
+abbrev pub IsFileUnread : FileFault → Type 0
+IsFileUnread (fault.Unread line) = IsUnreadLine (string_bytes line)
+IsFileUnread fault.OutOfMemory = ⊤
+
+-- each of the files holds its bytes, by its name
+abbrev pub AreHeld : (List ℕ → List ℕ → Type 0) → List RecordFile → Type 0
+AreHeld Holds files =
+    (i : ℕ) (file : RecordFile) → slice_get files i ≡ Some file → Holds (string_bytes file.name) file.bytes.items
+
+-- a plan that is made of the board, and of files that hold what its records name, with its certificate
+abbrev pub IsMadeBy : (List ℕ → List ℕ → Type 0) → List ℕ → List ℕ → List ℕ → Type 0
+IsMadeBy Holds board text certified =
+    (files : List RecordFile) × AreHeld Holds files × IsMadeOf files board text certified
+
+-- why no plan is made of them
+abbrev pub IsUnmadeBy : (List ℕ → List ℕ → Type 0) → List ℕ → List ℕ → Type 0
+IsUnmadeBy Holds board text = (files : List RecordFile) × AreHeld Holds files × IsUnmadeOf files board text
+
+-- what is answered of a board and of files that hold what its records name; or why they can't be had
+abbrev pub IsAnswerWith : (List ℕ → List ℕ → Type 0) → List ℕ → BoardAnswer → Type 0
+IsAnswerWith Holds board (Made made) = IsMadeBy Holds board (string_bytes made.plan) (string_bytes made.certificate)
+IsAnswerWith Holds board (NoPlan reason) = IsUnmadeBy Holds board (string_bytes reason)
+IsAnswerWith Holds board (Unread line) = IsUnreadLine (string_bytes line)
+
 -- what is answered of the board that a source gave, or why it gave none
-abbrev pub IsAnswerOf : Stream → BoardAnswer → Type 0
-IsAnswerOf boards answer = Gave 16777216 boards.before.bytes boards.after.bytes (λ bytes. IsAnswerTo bytes answer)
+abbrev pub IsAnswerOf : (List ℕ → List ℕ → Type 0) → Stream → BoardAnswer → Type 0
+IsAnswerOf Holds boards answer =
+    Gave 16777216 boards.before.bytes boards.after.bytes (λ bytes. IsAnswerWith Holds bytes answer)
     ⊎ IsUngivenBoard boards answer
 
 -- ---- make BOARD
 
 -- The text answers for a board, in a run that ends so: it is a plan that is made of the board, or the reason why none
 -- is. Of a text that is no TOML document there is neither.
-abbrev pub Makes : List ℕ → Status → List ℕ → Type 0
-Makes board status.Yes text = (certified : List ℕ) × IsMadeOf board text certified
-Makes board status.Fault text = IsUnmadeOf board text
-Makes board status.Unreadable text = IsUnreadLine text
-Makes board status.NoMemory text = ⊥
+abbrev pub Makes : (List ℕ → List ℕ → Type 0) → List ℕ → Status → List ℕ → Type 0
+Makes Holds board status.Yes text = (certified : List ℕ) × IsMadeBy Holds board text certified
+Makes Holds board status.Fault text = IsUnmadeBy Holds board text
+Makes Holds board status.Unreadable text = IsUnreadLine text
+Makes Holds board status.NoMemory text = ⊥
 
 -- the same of the board that a source gave, or why it gave none
-abbrev pub MakesSo : Stream → Status → List ℕ → Type 0
-MakesSo boards ended text = Gave 16777216 boards.before.bytes boards.after.bytes (λ bytes. Makes bytes ended text)
+abbrev pub MakesSo : (List ℕ → List ℕ → Type 0) → Stream → Status → List ℕ → Type 0
+MakesSo Holds boards ended text =
+    Gave 16777216 boards.before.bytes boards.after.bytes (λ bytes. Makes Holds bytes ended text)
     ⊎ ((ended ≡ status.Unreadable) × IsWithoutBoard boards text)
 
 -- ---- make BOARD --certificate FILE
 
 -- a plan that is made of the board, whose certificate was written to a stream
-abbrev pub IsMadeWith : Stream → List ℕ → List ℕ → Type 0
-IsMadeWith certificates board text = (certified : List ℕ) × IsMadeOf board text certified
+abbrev pub IsMadeWith : (List ℕ → List ℕ → Type 0) → Stream → List ℕ → List ℕ → Type 0
+IsMadeWith Holds certificates board text = (certified : List ℕ) × IsMadeBy Holds board text certified
     × Appends certificates.before.bytes certificates.after.bytes certified
 
 -- The text answers for a board, as without a certificate.
-abbrev pub MakesWith : Stream → List ℕ → Status → List ℕ → Type 0
-MakesWith certificates board status.Yes text = IsMadeWith certificates board text
-MakesWith certificates board status.Fault text = IsUnmadeOf board text
-MakesWith certificates board status.Unreadable text = IsUnreadLine text
-MakesWith certificates board status.NoMemory text = ⊥
+abbrev pub MakesWith : (List ℕ → List ℕ → Type 0) → Stream → List ℕ → Status → List ℕ → Type 0
+MakesWith Holds certificates board status.Yes text = IsMadeWith Holds certificates board text
+MakesWith Holds certificates board status.Fault text = IsUnmadeBy Holds board text
+MakesWith Holds certificates board status.Unreadable text = IsUnreadLine text
+MakesWith Holds certificates board status.NoMemory text = ⊥
 
 -- the same of the board that a source gave, or why it gave none
-abbrev pub MakesWithSo : Stream → Stream → Status → List ℕ → Type 0
-MakesWithSo boards certificates ended text =
-    Gave 16777216 boards.before.bytes boards.after.bytes (λ bytes. MakesWith certificates bytes ended text)
+abbrev pub MakesWithSo : (List ℕ → List ℕ → Type 0) → Stream → Stream → Status → List ℕ → Type 0
+MakesWithSo Holds boards certificates ended text =
+    Gave 16777216 boards.before.bytes boards.after.bytes (λ bytes. MakesWith Holds certificates bytes ended text)
     ⊎ ((ended ≡ status.Unreadable) × IsWithoutBoard boards text)
 
 -- why there is no answer: memory is wanting, or the stream for the certificate failed

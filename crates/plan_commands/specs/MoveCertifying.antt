@@ -1,5 +1,5 @@
 -- What `certifymove` prints of two plans.
-use Rattle.std.specs.Prelude.{◌≡◌, ◌≤◌, ℕ, List, length, Some}
+use Rattle.std.specs.Prelude.{◌≡◌, ◌≤◌, ℕ, List, length}
 use Rattle.net_plan.specs.declared.plan.Plan.{Plan}
 use Rattle.net_plan.specs.declared.certificate.Certificate.{Certificate}
 use Rattle.net_json.specs.CertificateJson.{certificate_text}
@@ -9,12 +9,12 @@ use Rattle.net_plan.specs.PlanValues.{node_names, plan_value}
 use Rattle.net_json.specs.Texts.{StandsFor}
 use Rattle.net_plan.specs.WellFormed.{IsWellFormed}
 use Rattle.net_rules.specs.declared.move_obstacle.MoveObstacle.{MoveObstacle}
-use Rattle.net_rules.specs.MoveObstacles.{IsExactForMove, NamesMoveObstacle, HasNoMoveCertificate}
+use Rattle.net_rules.specs.MoveObstacles.{IsExactForMove}
 use Rattle.net_rules.specs.MoveRules.{AcceptsMove}
 use Rattle.command_answers.specs.declared.status.Status.{Status}
 use Rattle.command_answers.specs.declared.status.Status.TheVariants as status
 use Rattle.command_answers.specs.Answers.{Stream, GavePlan}
-use Rattle.plan_texts.specs.MoveLines.{move_obstacle_text}
+use Rattle.fault_texts.specs.RuledOutMoves.{IsMoveRuledOutBy}
 
 -- Every rule of a move holds of the plans and the certificate; the certificate gives each level and place as the plan
 -- before has them and each rank as the rows of both have it; and the text is the certificate's, read for the plan
@@ -26,13 +26,6 @@ pub record IsMoveCertifiedBy (before after : Plan) (certificate : Certificate) (
   pub written : text ≡ certificate_text (node_names (plan_value before).nodes) (certificate_value certificate)
   pub reads_back : StandsFor (IsCertificateOf (plan_value before)) text (certificate_value certificate)
   pub short : length text ≤ 2097152
-
--- The text tells what comes first, in the order in which moves are checked, of what rules certificates of the move out,
--- and there is none.
-pub record IsMoveRuledOutBy (before after : Plan) (obstacle : MoveObstacle) (text : List ℕ) : Type 0 where
-  pub first : NamesMoveObstacle before after obstacle
-  pub none : HasNoMoveCertificate before after
-  pub written : move_obstacle_text before obstacle ≡ Some text
 
 -- the text answers for the move, in a run that ends so: it is that of a certificate of it, or the line of what rules
 -- certificates of it out

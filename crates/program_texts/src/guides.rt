@@ -28,6 +28,7 @@ trace PLAN CERT FROM TO      the way of a packet from a node to another, or to a
 draw PLAN [CERT] [--rows [EID]]
                              the planned network, or where its rows lead, as a drawing for Graphviz
 explain PLAN [CERT]          what certify says of the plan, or check of both, and why
+explain OLD --move NEW       what certifymove says of the move, and why
 faults PLAN [CERT]           every fault of the plan, or of both, and how many they are
 fix PLAN                     the plan with edits made, until it has a certificate
 lint PLAN                    what is lawful in the plan and still looks wrong, or clean
@@ -96,14 +97,16 @@ Prints a plan that is made of what an engineer decides: the buses, the nodes on 
 What the board leaves out is found, as endpoint IDs, pools, rows and the bytes of records; what it
 gives is kept. The plan is judged before it is printed: it has a certificate, all that the board
 gives is in it, and each node reaches those that it is to reach. docs/BOARD.md says what may stand
-in a board.
+in a board, and what each reason means. Files that its records name are read from the board's
+folder, or from the working folder where the board is -.
 
 With --certificate the certificate that certify makes of the plan is written to FILE, before the
 plan is printed. Where no plan is made, FILE is left as it is.
 
 Status 0: the plan.
 Status 1: why no plan can be made.
-Status 2: where the board can't be read, with what stands there and what may.
+Status 2: where the board, or a file that it names, can't be read, with what stands there and what
+may.
 
   $ mctpplan make examples/board/riser.toml --certificate certificate.json > plan.json
   $ mctpplan check plan.json certificate.json
@@ -500,6 +503,35 @@ Status 2: here also why a text can't be read.
   then: yes
   Edit: set /nodes/2/eid of baseboard to 49
   then: yes
+
+mctpplan explain OLD --move NEW
+
+Prints the line that certifymove prints of the move from the old plan to the new one, and then why.
+What rules certificates of one of the plans out by itself is explained as explain does it of that
+plan, with its file. Of a loop along rows of both plans each hop is told: the file whose row it is,
+the line, the column and the JSON pointer, and then Old or New with the row, its node, its endpoint
+IDs, the next node and the port to it. Of M02 that is told of the row at fault, and where the next
+node has none in the other plan; of M01 what is not the same, and where that stands in each plan.
+Behind a loop and M02 it says whether the new plan has a certificate by itself, and what helps.
+
+In place of a certificate stands yes, and what sums the old plan up, with the most hops that the
+certificate of the move allows. Of two plans that can't be read the old one is told, and the new one
+is not read.
+
+Status 0: the move has a certificate.
+Status 1: why it has none.
+Status 2: here also why a text can't be read.
+
+  $ mctpplan explain examples/move/to-left.json --move examples/move/to-right.json
+  loop eid 17 nodes left right left by new old
+  examples/move/to-right.json:3:140: /nodes/1/rows/0
+  New row 0 of left: first 17 size 1 via right port 0
+  examples/move/to-left.json:4:141: /nodes/2/rows/0
+  Old row 0 of right: first 17 size 1 via left port 0
+  While the nodes of new rows have switched and those of old rows have not, what is for
+  endpoint ID 17 circles. The ranks of a certificate would have to fall all the way round.
+  By itself the new plan has a certificate.
+  Hint: look for several moves that lead there: mctpplan rollout examples/move/to-left.json examples/move/to-right.json
 "#;
 
 const OF_FAULTS: &str = r#"mctpplan faults PLAN [CERT]

@@ -886,9 +886,10 @@ const BOARD: &str = r##"{
         "handle": { "type": "integer", "minimum": 0, "maximum": 4294967295 },
         "next": { "type": "integer", "minimum": 0, "maximum": 4294967295 },
         "hex": { "type": "string", "pattern": "^([0-9a-f]{2})*$" },
+        "file": { "description": "The path of a file with the record's bytes, from the board's folder.", "type": "string", "minLength": 1 },
         "type": { "enum": ["terminus-locator", "numeric-sensor", "state-sensor", "entity-association"] }
       },
-      "oneOf": [{ "required": ["hex"] }, { "required": ["type"] }],
+      "oneOf": [{ "required": ["hex"] }, { "required": ["file"] }, { "required": ["type"] }],
       "additionalProperties": { "anyOf": [{ "$ref": "#/$defs/field" }, { "type": "array", "maxItems": 256, "items": { "$ref": "#/$defs/field" } }] }
     }
   }

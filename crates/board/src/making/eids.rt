@@ -14,7 +14,7 @@ pub const LAST: u8 = 254;
 pub struct Known {
     pub eid: Option<u8>,
     pub pool: Option<MadePool>,
-    /// How many owners stand above it.
+    /// How many owners stand above it; as many as there are nodes where these go round in a circle.
     pub level: usize,
 }
 
@@ -23,10 +23,13 @@ pub struct Known {
 pub fn choose_eids(alloc: Global, board: &Board) -> Result<Vec<Chosen>, NoPlan> {
     let mut known = Vec::new(alloc);
     for index in 0..board.nodes.len() {
-        known.push(given_of(board, index)?)?;
+        known.push(given_of(board, index))?;
     }
     for level in 0..board.nodes.len() {
         choose_level(board, &mut known, level)?;
+    }
+    if let Some(node) = first_unchosen(board, &known) {
+        return Err(NoPlan::OwnerLoop { node });
     }
     let mut chosen = Vec::new(alloc);
     for (index, node) in board.nodes.iter().enumerate() {
@@ -52,20 +55,38 @@ pub fn known_at(known: &[Known], index: usize) -> Known {
 }
 
 /// What the board gives of a node.
-fn given_of(board: &Board, index: usize) -> Result<Known, NoPlan> {
-    let level = level_of(board, index)?;
-    let Some(node) = board.nodes.get(index) else {
-        return Err(NoPlan::OutOfMemory);
-    };
-    let pool = match node.pool {
+fn given_of(board: &Board, index: usize) -> Known {
+    let pool = match pool_at(board, index) {
         Some(BoardPool::Range { first, size }) => Some(MadePool { first, size }),
         _ => None,
     };
-    Ok(Known {
-        eid: node.eid,
+    Known {
+        eid: eid_at(board, index),
         pool,
-        level,
-    })
+        level: level_of(board, index),
+    }
+}
+
+fn eid_at(board: &Board, index: usize) -> Option<u8> {
+    board.nodes.get(index)?.eid
+}
+
+fn pool_at(board: &Board, index: usize) -> Option<BoardPool> {
+    board.nodes.get(index)?.pool
+}
+
+/// The first node whose owners go round in a circle, where something is to be chosen for one of these.
+fn first_unchosen(board: &Board, known: &[Known]) -> Option<usize> {
+    let mut first = None;
+    let mut are_some = false;
+    for (index, own) in known.iter().enumerate() {
+        if own.level == board.nodes.len() {
+            first = first.or(Some(index));
+            let is_pool_left = own.pool.is_none() && pool_at(board, index).is_some();
+            are_some = are_some || own.eid.is_none() || is_pool_left;
+        }
+    }
+    if are_some { first } else { None }
 }
 
 /// The owner of a node.
@@ -73,16 +94,16 @@ pub fn owner_of(board: &Board, index: usize) -> Option<usize> {
     board.nodes.get(index)?.owner
 }
 
-/// How many owners stand above a node.
-fn level_of(board: &Board, index: usize) -> Result<usize, NoPlan> {
+/// How many owners stand above a node; as many as there are nodes where they go round in a circle.
+fn level_of(board: &Board, index: usize) -> usize {
     let mut at = index;
     for level in 0..board.nodes.len() {
         match owner_of(board, at) {
             Some(owner) => at = owner,
-            None => return Ok(level),
+            None => return level,
         }
     }
-    Err(NoPlan::OwnerLoop { node: index })
+    board.nodes.len()
 }
 
 /// Chooses for the nodes of a level: first endpoint IDs, then pools.

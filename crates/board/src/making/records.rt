@@ -1,6 +1,8 @@
 //! Making records: their handles, their chain and their bytes.
 use super::{Chosen, MadeRecord, NoPlan};
-use crate::board::{Board, BoardNode, BoardRecord, FieldText, FieldWord, RecordContent};
+use crate::board::{
+    Board, BoardNode, BoardRecord, FieldText, FieldWord, RecordContent, RecordFile,
+};
 use record_fields::{MakeError, made_record};
 use std::alloc::{AllocError, Global};
 
@@ -8,17 +10,19 @@ use std::alloc::{AllocError, Global};
 pub fn make_records(
     alloc: Global,
     board: &Board,
+    files: &[RecordFile],
     chosen: &[Chosen],
 ) -> Result<Vec<Vec<MadeRecord>>, NoPlan> {
     let mut all = Vec::new(alloc);
     for (index, node) in board.nodes.iter().enumerate() {
-        all.push(records_of(alloc, chosen, index, node)?)?;
+        all.push(records_of(alloc, files, chosen, index, node)?)?;
     }
     Ok(all)
 }
 
 fn records_of(
     alloc: Global,
+    files: &[RecordFile],
     chosen: &[Chosen],
     index: usize,
     node: &BoardNode,
@@ -30,7 +34,7 @@ fn records_of(
             None => following(&node.records, place),
         };
         let handle = handle_of(record, place);
-        let hex = match bytes_of(alloc, chosen, record, handle)? {
+        let hex = match bytes_of(alloc, files, chosen, record, handle)? {
             Some(hex) => hex,
             None => {
                 return Err(NoPlan::WrongRecord {
@@ -60,15 +64,20 @@ fn handle_of(record: &BoardRecord, place: usize) -> u32 {
     }
 }
 
-/// The bytes of a record in hex; none where its fields are not those of its type.
+/// The bytes of a record in hex; none where its fields are not those of its type, or its file was not given.
 fn bytes_of(
     alloc: Global,
+    files: &[RecordFile],
     chosen: &[Chosen],
     record: &BoardRecord,
     handle: u32,
 ) -> Result<Option<String>, AllocError> {
     match &record.content {
         RecordContent::Hex(hex) => Ok(Some(hex.clone()?)),
+        RecordContent::File(name) => match file_named(files, name.as_str()) {
+            Some(file) => Ok(Some(hex::encode(alloc, &file.bytes)?)),
+            None => Ok(None),
+        },
         RecordContent::Fields { kind, words } => {
             let words = words_of(alloc, chosen, words, handle)?;
             match made_record(alloc, kind.as_str(), &words) {
@@ -78,6 +87,38 @@ fn bytes_of(
             }
         }
     }
+}
+
+fn file_named<'f>(files: &'f [RecordFile], name: &str) -> Option<&'f RecordFile> {
+    for file in files {
+        if file.name.as_str() == name {
+            return Some(file);
+        }
+    }
+    None
+}
+
+/// The names of the files that the records of a board name, each once.
+pub fn named_files(alloc: Global, board: &Board) -> Result<Vec<String>, AllocError> {
+    let mut names = Vec::new(alloc);
+    for node in &board.nodes {
+        for record in &node.records {
+            if let RecordContent::File(name) = &record.content {
+                add_name(&mut names, name.as_str(), alloc)?;
+            }
+        }
+    }
+    Ok(names)
+}
+
+fn add_name(names: &mut Vec<String>, name: &str, alloc: Global) -> Result<(), AllocError> {
+    for own in names.iter() {
+        if own.as_str() == name {
+            return Ok(());
+        }
+    }
+    names.push(name.to_string(alloc)?)?;
+    Ok(())
 }
 
 /// The words of a record's fields, the handle's first.

@@ -1,33 +1,41 @@
 //! Making rows along ways of the fewest hops.
 use super::eids::{FIRST, LAST, is_in};
 use super::ways::{Link, Step, is_bridge, links_of_all, steps_to};
-use super::{Chosen, NoPlan, given_row};
+use super::{Chosen, Cut, NoPlan, given_row};
 use crate::board::{Board, BoardNode, BoardRow};
 use std::alloc::{AllocError, Global};
 
 /// The most rows of a node.
 const MOST_ROWS: usize = 256;
 
+/// The rows of each node, and two nodes between which no way was found.
+#[derive(Drop)]
+pub struct MadeRows {
+    pub rows: Vec<Vec<BoardRow>>,
+    pub cut: Option<Cut>,
+}
+
 /// The rows of each node: those that the board gives, and those that lead to the nodes that it is to reach.
-pub fn make_rows(
-    alloc: Global,
-    board: &Board,
-    chosen: &[Chosen],
-) -> Result<Vec<Vec<BoardRow>>, NoPlan> {
+pub fn make_rows(alloc: Global, board: &Board, chosen: &[Chosen]) -> Result<MadeRows, NoPlan> {
     let links = links_of_all(alloc, board)?;
     let mut rows = given_rows(alloc, board)?;
     let mut last = None;
+    let mut cut = None;
     for eid in FIRST..=LAST {
         if let Some(target) = target_of(board, chosen, eid) {
             let ways = ways_to(alloc, board, chosen, &links, target, last.take())?;
-            add_rows(alloc, board, chosen, &ways, &mut rows)?;
+            let from = add_rows(alloc, board, chosen, &ways, &mut rows)?;
+            cut = cut.or(from.map(|from| Cut {
+                from,
+                to: target.node,
+            }));
             last = Some(ways);
         }
     }
     for node in 0..rows.len() {
         sort_rows(&mut rows, node)?;
     }
-    Ok(rows)
+    Ok(MadeRows { rows, cut })
 }
 
 /// The rows that the board gives.
@@ -137,35 +145,40 @@ fn ways_to(
     })
 }
 
-/// Adds the rows for a target at each node from which it is to be reached, and along the ways from there.
+/// Adds the rows for a target at each node from which it is to be reached, and along the ways from there. Answers the first
+/// of these nodes from which no way leads to one that holds the endpoint ID.
 fn add_rows(
     alloc: Global,
     board: &Board,
     chosen: &[Chosen],
     ways: &Ways,
     rows: &mut Vec<Vec<BoardRow>>,
-) -> Result<(), NoPlan> {
-    let marked = marked_by(alloc, board, ways)?;
+) -> Result<Option<usize>, AllocError> {
+    let mut marked = Vec::new(alloc);
+    for _ in &board.nodes {
+        marked.push(false)?;
+    }
+    let cut = mark_all(board, ways, &mut marked);
     for (index, node) in board.nodes.iter().enumerate() {
         if is_set(&marked, index) && given_row(node, ways.target.eid).is_none() {
             add_row(chosen, ways, node, index, rows)?;
         }
     }
-    Ok(())
+    Ok(cut)
 }
 
-/// Which nodes send on what is for a target.
-fn marked_by(alloc: Global, board: &Board, ways: &Ways) -> Result<Vec<bool>, NoPlan> {
-    let mut marked = Vec::new(alloc);
-    for _ in &board.nodes {
-        marked.push(false)?;
-    }
+/// Marks the nodes that send on what is for a target.
+fn mark_all(board: &Board, ways: &Ways, marked: &mut Vec<bool>) -> Option<usize> {
+    let mut cut = None;
     for (index, node) in board.nodes.iter().enumerate() {
         if index != ways.target.node && asks(node, ways.target) {
-            mark_way(ways, index, &mut marked)?;
+            let comes = mark_way(ways, index, marked);
+            if !comes && ways.target.is_held && cut.is_none() {
+                cut = Some(index);
+            }
         }
     }
-    Ok(marked)
+    cut
 }
 
 /// Whether a target is to be reached from a node: the board asks for it, or gives a row for it there.
@@ -179,29 +192,22 @@ fn asks(node: &BoardNode, target: Target) -> bool {
     }
 }
 
-/// Marks the nodes on the way from a node to a target.
-fn mark_way(ways: &Ways, from: usize, marked: &mut Vec<bool>) -> Result<(), NoPlan> {
+/// Marks the nodes on the way from a node to a target, and tells whether there is one.
+fn mark_way(ways: &Ways, from: usize, marked: &mut Vec<bool>) -> bool {
     let mut at = from;
     for _ in 0..ways.steps.len() {
         if at == ways.target.node || is_set(marked, at) {
-            return Ok(());
+            return true;
         }
         let Some(Some(step)) = ways.steps.get(at) else {
-            return if ways.target.is_held {
-                Err(NoPlan::NoWay {
-                    from,
-                    to: ways.target.node,
-                })
-            } else {
-                Ok(())
-            };
+            return false;
         };
         if at < marked.len() {
             marked[at] = true;
         }
         at = step.link.next;
     }
-    Ok(())
+    true
 }
 
 fn is_set(marked: &[bool], index: usize) -> bool {

@@ -5,7 +5,7 @@ use std::alloc::{AllocError, Global};
 use std::test::Fail;
 
 /// Lists of words with bars between, the program's name first.
-const USAGE: [&str; 91] = [
+const USAGE: [&str; 95] = [
     "mctpplan",
     "mctpplan|",
     "mctpplan||a|b",
@@ -30,6 +30,10 @@ const USAGE: [&str; 91] = [
     "mctpplan|certify|a|b",
     "mctpplan|explain",
     "mctpplan|explain|a|b|c",
+    "mctpplan|explain|--move|b",
+    "mctpplan|explain|a|--move",
+    "mctpplan|explain|a|b|--move|c",
+    "mctpplan|explain|a|--move|b|--move|c",
     "mctpplan|faults",
     "mctpplan|faults|a|b|c",
     "mctpplan|lint",

@@ -181,7 +181,7 @@ fn lines_of(
 }
 
 /// Explains a fault of a plan by its cause, and proposes edits.
-fn cause_text(
+pub fn cause_text(
     alloc: Global,
     given: &PlanText,
     fault: &Fault,

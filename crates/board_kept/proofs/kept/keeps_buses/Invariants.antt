@@ -1,6 +1,6 @@
 use Rattle.std.proofs.Common.{ℕ, ◌<◌, codes}
 use Rattle.toml.specs.View.{view}
-use Rattle.board_kept.specs.Said.{IsItemKept}
+use Rattle.board_values.specs.Said.{IsItemKept}
 use Rattle.board_kept.specs.Kept.{IsBusKept}
 use Rattle.board_kept.proofs.kept.keeps_buses.Given as goal
 

@@ -1,5 +1,5 @@
 use Rattle.toml.specs.View.{members_view, table_view}
-use Rattle.board_kept.specs.Said.{AreKeys}
+use Rattle.board_values.specs.Said.{AreKeys}
 use Rattle.board_kept.specs.Keys.{IsKeyOf}
 use Rattle.board_kept.proofs.keys.are_keys.Given as goal
 

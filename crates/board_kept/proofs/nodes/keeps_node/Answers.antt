@@ -1,6 +1,6 @@
 use Rattle.std.proofs.Common.{rules, codes, subst}
 use Rattle.toml.specs.View.{view}
-use Rattle.board_kept.specs.Said.{AreItemsKept}
+use Rattle.board_values.specs.Said.{AreItemsKept}
 use Rattle.board_kept.specs.Kept.{IsPortKept, AreRowsKept}
 use Rattle.board_kept.proofs.nodes.keeps_node.Goals as goal
 

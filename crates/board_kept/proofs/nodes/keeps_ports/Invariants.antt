@@ -1,6 +1,6 @@
 use Rattle.std.proofs.Common.{ℕ, ◌<◌, codes}
 use Rattle.toml.specs.View.{view}
-use Rattle.board_kept.specs.Said.{IsItemKept}
+use Rattle.board_values.specs.Said.{IsItemKept}
 use Rattle.board_kept.specs.Kept.{IsPortKept}
 use Rattle.board_kept.proofs.nodes.keeps_ports.Given as goal
 

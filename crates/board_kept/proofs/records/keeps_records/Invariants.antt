@@ -4,4 +4,4 @@ use Rattle.board_kept.specs.Kept.{IsRecordKeptAt}
 use Rattle.board_kept.proofs.records.keeps_records.Given as goal
 
 abbrev pub invariant-loop-index : goal.invariant-loop-index
-invariant-loop-index l = (j : ℕ) → j < l.index → IsRecordKeptAt l.plan l.records (view l.said) j
+invariant-loop-index l = (j : ℕ) → j < l.index → IsRecordKeptAt l.files l.plan l.records (view l.said) j

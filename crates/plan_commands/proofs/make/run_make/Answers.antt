@@ -9,11 +9,11 @@ pub returns-clause-tells : goal.returns-clause-tells
 returns-clause-tells g c =
     let answered = c.answer_make-answered in
     let boards = stream g.B.Source.account c.args.board.now answered.new.board in
-    ends_so (MakesSo boards) c.tell.result _ _ (λ why. why ≡ refused.NoMemory) answered.result answered.ensures.answers answered.ensures.refused
+    ends_so (MakesSo (g.F.RecordFiles.holds c.args.files.now) boards) c.tell.result _ _ (λ why. why ≡ refused.NoMemory) answered.result answered.ensures.answers answered.ensures.refused
     c.tell.ensures.told c.tell.ensures.refuses
 
 pub returns-clause-unwritten : goal.returns-clause-unwritten
 returns-clause-unwritten g c =
     let answered = c.answer_make-answered in
     let boards = stream g.B.Source.account c.args.board.now answered.new.board in
-    breaks_or_gives (MakesSo boards) c.tell.result _ _ answered.result answered.ensures.answers answered.ensures.refused c.tell.ensures.told c.tell.ensures.refuses
+    breaks_or_gives (MakesSo (g.F.RecordFiles.holds c.args.files.now) boards) c.tell.result _ _ answered.result answered.ensures.answers answered.ensures.refused c.tell.ensures.told c.tell.ensures.refuses

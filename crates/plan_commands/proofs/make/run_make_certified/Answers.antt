@@ -9,7 +9,7 @@ returns-clause-tells g c =
     let answered = c.answer_certified-answered in
     let boards = stream g.B.Source.account c.args.board.now answered.new.board in
     let certificates = stream g.C.Sink.account c.args.certificate.now answered.new.certificate in
-    ends_so (MakesWithSo boards certificates) c.tell.result _ _ (λ why. IsUnwrittenBy certificates why) answered.result answered.ensures.answers answered.ensures.refused
+    ends_so (MakesWithSo (g.F.RecordFiles.holds c.args.files.now) boards certificates) c.tell.result _ _ (λ why. IsUnwrittenBy certificates why) answered.result answered.ensures.answers answered.ensures.refused
     c.tell.ensures.told c.tell.ensures.refuses
 
 pub returns-clause-unwritten : goal.returns-clause-unwritten
@@ -19,5 +19,5 @@ returns-clause-unwritten g c =
     let certificates = stream g.C.Sink.account c.args.certificate.now answered.new.certificate in
     let output = stream g.O.Sink.account c.args.output.now c.tell.new.output in
     let errors = stream g.E.Sink.account c.args.errors.now c.tell.new.errors in
-    same_gives_or_breaks (MakesWithSo boards certificates) c.tell.result output errors _ answered.result answered.ensures.answers c.tell.ensures.told
+    same_gives_or_breaks (MakesWithSo (g.F.RecordFiles.holds c.args.files.now) boards certificates) c.tell.result output errors _ answered.result answered.ensures.answers c.tell.ensures.told
     c.tell.ensures.untouched

@@ -2,7 +2,7 @@
 ghost use Rattle.std.specs.Prelude.{◌≡◌, ◌↔◌, IfOk, IsTrue, Some, None, false, option_map};
 ghost use Rattle.toml.specs.Data.{Items, at, get, as_array};
 ghost use Rattle.toml.specs.View.{view};
-ghost use Rattle.board_kept.specs.Said.{IsTomlOf, SaysText, SaysNumber, SaysOr, SaysNoneOr, IsListAt, item_at};
+ghost use Rattle.board_values.specs.Said.{IsTomlOf, SaysText, SaysNumber, SaysOr, SaysNoneOr, IsListAt, item_at};
 
 use std::alloc::Global;
 use toml::Value;
@@ -71,7 +71,7 @@ pub fn is_text(value: &Value, text: &str) -> bool
 }
 
 /// Whether the value is this number.
-fn is_number(value: &Value, number: u32) -> bool
+pub fn is_number(value: &Value, number: u32) -> bool
     ensures { IsTrue result ↔ SaysNumber (Some (view value.now)) number }
 {
     match value.as_integer() {

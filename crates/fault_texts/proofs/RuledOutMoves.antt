@@ -1,4 +1,4 @@
--- What the end of `certifymove` tells of the plans that were given.
+-- What rules certificates of a move out.
 use Rattle.std.proofs.Common.{◌≡◌, ◌≢◌, ℕ, List, Some, subst}
 use Rattle.net_plan.specs.declared.plan.Plan.{Plan}
 use Rattle.net_rules.specs.declared.move_obstacle.MoveObstacle.{MoveObstacle}

@@ -1,0 +1,100 @@
+-- Why no plan is made of a board, or of a plan that is to have rows.
+use Rattle.std.specs.Prelude.{◌≡◌, ◌⊎◌, ℕ, List, ◌++◌, codes, Some}
+use Rattle.toml.specs.Data.{Data}
+use Rattle.net_plan.specs.declared.plan.Plan.{Plan}
+use Rattle.net_rules.specs.declared.certify_error.CertifyError.{CertifyError}
+use Rattle.net_rules.specs.Certificates.{NamesObstacle, HasNoCertificate}
+use Rattle.plan_texts.specs.Explanations.{IsObstacleTold}
+use Rattle.plan_texts.specs.Lines.{obstacle_text}
+use Rattle.board.specs.declared.board.RecordFile.{RecordFile}
+use Rattle.board.specs.declared.making.NoPlan.{NoPlan}
+use Rattle.board_values.specs.Lacks.{Lacks}
+use Rattle.board_values.specs.Lines.{IsNodeTold, IsWorded}
+use Rattle.board_kept.specs.Texts.{node_name}
+use Rattle.board_kept.specs.Kept.{Keeps}
+use Rattle.board_kept.specs.Made.{IsCutOff}
+use Rattle.board_kept.specs.Rowed.{IsSameButRows, LeadsAlready}
+use Rattle.board_kept.specs.Ways.{HasNoWayBy}
+
+-- The text tells this obstacle: its line, a place in the board or none, and an explanation.
+pub record TellsObstacle (plan : Plan) (obstacle : CertifyError) (text : List ℕ) : Type 0 where
+  pub line : List ℕ
+  pub place : List ℕ
+  pub told : List ℕ
+  pub worded : obstacle_text plan obstacle ≡ Some line
+  pub explained : IsObstacleTold plan obstacle told
+  pub written : text ≡ codes "no plan: " ++ (line ++ (place ++ told))
+
+-- The text tells what comes first, in the order of the rules, of what rules certificates out of a plan of which this
+-- holds.
+pub record IsRuledOut (IsGiven : Plan → Type 0) (text : List ℕ) : Type 0 where
+  pub plan : Plan
+  pub obstacle : CertifyError
+  pub given : IsGiven plan
+  pub first : NamesObstacle plan obstacle
+  pub none : HasNoCertificate plan
+  pub told : TellsObstacle plan obstacle text
+
+-- the line that says what is lacking
+abbrev pub reason_line : List ℕ → List ℕ
+reason_line words = codes "no plan: no " ++ (words ++ codes "\n")
+
+-- the words that say that no way leads from one node to another
+abbrev pub way_words : List ℕ → List ℕ → List ℕ
+way_words one other = codes "way over buses, bridges and given rows leads from " ++ (one ++ (codes " to " ++ other))
+
+-- the text says so of these nodes of a board
+abbrev pub IsWayTold : Data → ℕ → ℕ → List ℕ → Type 0
+IsWayTold board a b text = (one other : List ℕ) × IsNodeTold board a one × IsNodeTold board b other
+    × (text ≡ reason_line (way_words one other))
+
+-- The text says that no way leads from one node to another, for which the board asks; and so it is in a plan that has
+-- all that the board gives.
+pub record IsCutTold (files : List RecordFile) (board : Data) (text : List ℕ) : Type 0 where
+  pub plan : Plan
+  pub one : ℕ
+  pub other : ℕ
+  pub given : Keeps files board plan
+  pub cut : IsCutOff board plan one other
+  pub told : IsWayTold board one other text
+
+-- The text says that the board lacks something, and so it does.
+pub record IsLackTold (board : Data) (text : List ℕ) : Type 0 where
+  pub why : NoPlan
+  pub lacks : Lacks board why
+  pub words : List ℕ
+  pub worded : IsWorded board why words
+  pub written : text ≡ reason_line words
+
+-- a line that says that no plan was found; of what stands behind that nothing is promised
+abbrev pub IsUnfound : List ℕ → Type 0
+IsUnfound text = (words : List ℕ) × (text ≡ codes "no plan: none was found: no " ++ (words ++ codes "\n"))
+
+-- why no plan is made of a board
+abbrev pub IsReason : List RecordFile → Data → List ℕ → Type 0
+IsReason files board text =
+    IsRuledOut (Keeps files board) text ⊎ IsCutTold files board text ⊎ IsLackTold board text ⊎ IsUnfound text
+
+-- ---- rows PLAN
+
+-- a node of a plan by its name
+abbrev pub name_words : List ℕ → List ℕ
+name_words name = codes "node \"" ++ (name ++ codes "\"")
+
+-- the text says of these nodes of a plan that no way leads from one to the other
+abbrev pub IsWayToldOf : Plan → ℕ → ℕ → List ℕ → Type 0
+IsWayToldOf plan a b text = (one other : List ℕ) × (node_name plan a ≡ Some one) × (node_name plan b ≡ Some other)
+    × (text ≡ reason_line (way_words (name_words one) (name_words other)))
+
+-- The text says so, and so it is in a plan that is the given one but for its rows, with the rows of the given one.
+pub record IsCutToldOf (before : Plan) (text : List ℕ) : Type 0 where
+  pub plan : Plan
+  pub one : ℕ
+  pub other : ℕ
+  pub given : IsSameButRows before plan
+  pub cut : HasNoWayBy (LeadsAlready before) plan one other
+  pub told : IsWayToldOf plan one other text
+
+-- why no plan with rows is made
+abbrev pub IsRowsReason : Plan → List ℕ → Type 0
+IsRowsReason before text = IsRuledOut (IsSameButRows before) text ⊎ IsCutToldOf before text ⊎ IsUnfound text

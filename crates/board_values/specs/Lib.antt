@@ -1,0 +1,5 @@
+pub mod Said
+pub mod Eids
+pub mod Owners
+pub mod Lacks
+pub mod Lines
