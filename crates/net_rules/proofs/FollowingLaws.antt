@@ -1,25 +1,19 @@
 -- What is found by halving among items that follow one another.
-use Rattle.std.proofs.Common.{◌≡◌, ℕ, zero, suc, ◌+◌, ◌<◌, ◌≤◌, List, [], ◌∷◌, length, get_or, true, false, Some, None, take, refl, sym, ◌∙◌, ap, subst, arith, inl, inr}
+use Rattle.std.proofs.Common.{◌≡◌, ℕ, zero, suc, ◌+◌, ◌<◌, ◌≤◌, List, [], ◌∷◌, length, get_or, true, false, Some, refl, sym, ◌∙◌, ap, subst, arith, inl, inr}
 use Rattle.std.specs.Prelude.{slice_get, nat_le, nat_lt}
 use Rattle.std.specs.List.{AllWithin}
 use Rattle.std.specs.List.Sorted.{IsNonDecreasingBy, IsPartitionedBy}
 use Rattle.std.proofs.Math.Dec.{leb}
 use Rattle.std.proofs.lemmas.Bool.{cases_lt, cases_Bool, and_parts, and_from, ltb-true, leb-true, lt-ltb, le-leb}
 use Rattle.std.proofs.lemmas.Bool.Decides.{nat_tests}
-use Rattle.std.proofs.lemmas.List.{get_or-take, length-take-le}
 use Rattle.std.proofs.lemmas.List.Sorted.{IsPartitionedBy-leb}
 use Rattle.std.proofs.lemmas.Option.{same_Some, slice_get_within, slice_get-get_or, get_or_from_slice_get}
-use Rattle.net_plan.specs.declared.nodes.Row.{Row}
 use Rattle.net_plan.specs.declared.certificate.RankRange.{RankRange}
-use Rattle.net_plan.specs.declared.plan.Plan.{Plan}
-use Rattle.net_tables.specs.Routing.{OfItem, HasRow, rows_of}
+use Rattle.net_tables.specs.Routing.{OfItem}
 use Rattle.net_tables.specs.Ranks.{rank_in, is_in_range}
-use Rattle.net_tables.specs.Rows.{AreApart, IsApartFromEarlier}
-use Rattle.net_rules.specs.Search.{IsFirstItem}
 use Rattle.net_rules.specs.Stretches.{IsStretch, HasOneRank}
-use Rattle.net_rules.specs.Following.{Follow, EndedBy, RowsFollow, RangesFollow, HaveRowsFor}
-use Rattle.net_rules.proofs.StretchLaws.{IsBetween, rank_alike, row_alike}
-use Rattle.net_tables.proofs.RowSearches.{no_row_for}
+use Rattle.net_rules.specs.Following.{Follow, EndedBy, RangesFollow}
+use Rattle.net_rules.proofs.StretchLaws.{IsBetween, rank_alike}
 
 low_test : (n e : ℕ) → leb n e ≡ true → n ≤ e
 low_test n e h = grind (arith, nat_tests)
@@ -219,67 +213,3 @@ module _ (ranges : List RankRange) (follow : RangesFollow ranges) (e count : ℕ
     border_later before =
         rank_alike ranges (length ranges) e y.first.value (omega arith) before
         (λ k lt. alike_before (λ (range : RankRange). range.first.value) (λ (range : RankRange). range.first.value + range.size) grows ranges follow e count by y here before k)
-
--- rows
-module _ (plan : Plan) (n : ℕ) (rows : List Row) (same : rows ≡ rows_of plan n) (follow : RowsFollow rows) where
-  row_grows : (row : Row) → row.first.value ≤ row.first.value + row.size
-  row_grows row = omega arith
-
-  module _ (e count : ℕ) (by : EndedBy (λ (row : Row). row.first.value + row.size) rows e count) where
-    pub no_row_past : length rows ≤ count → ¬ HasRow plan n e
-    no_row_past all = no_row_for plan n e rows same (λ r row is covers.
-        none_past (λ (row : Row). row.first.value) (λ (row : Row). row.first.value + row.size) row_grows rows follow e count by all r row is (covers.0, covers.1))
-
-    pub row_border_past : length rows ≤ count → e < 256 → IsStretch (HasRow plan n) e 256
-    row_border_past all some =
-        row_alike plan rows (length rows) n e 256 same (omega arith) some (omega arith)
-        (λ k lt. alike_past (λ (row : Row). row.first.value) (λ (row : Row). row.first.value + row.size) row_grows rows follow e count by all 256 some k)
-
-    module _ (y : Row) (here : slice_get rows count ≡ Some y) where
-      row_ends : e < y.first.value + y.size
-      row_ends = by.left count (omega arith) y here
-
-      pub row_here : e ≤ 255 → y.first.value ≤ e → HasRow plan n e
-      row_here small from = let P : List Row → Type 0 = λ rs. slice_get rs count ≡ Some y in (y.next, (count, y, subst P same here, (from, row_ends, small), refl))
-
-      pub no_row_later : e < y.first.value → ¬ HasRow plan n e
-      no_row_later before = no_row_for plan n e rows same (λ r row is covers.
-          let one = alone (λ (row : Row). row.first.value) (λ (row : Row). row.first.value + row.size) row_grows rows follow e count by y here r row is (covers.0, covers.1) in
-          let from = ap (λ (r : Row). r.first.value) one in
-          absurd (omega (arith, from, covers.0, before)))
-
-      pub row_border_later : e < y.first.value → y.first.value ≤ 256 → IsStretch (HasRow plan n) e y.first.value
-      row_border_later before most =
-          row_alike plan rows (length rows) n e y.first.value same (omega arith) before most
-          (λ k lt. alike_before (λ (row : Row). row.first.value) (λ (row : Row). row.first.value + row.size) row_grows rows follow e count by y here before k)
-
--- a row that begins where the ones before it end
-pub joins : (rows : List Row) (first end place : ℕ) (row : Row) → HaveRowsFor rows first end → slice_get rows place ≡ Some row → row.first.value ≡ end
-    → HaveRowsFor rows first (row.first.value + row.size)
-joins rows first end place row before here same e from less small = elim (cases_lt e end) [
-  | inl old ↦ before e from old small
-  | inr new ↦ (place, row, here, (omega arith, less, small))
-]
-
-pub joined_border : (plan : Plan) (n : ℕ) (rows : List Row) (e end : ℕ) → rows ≡ rows_of plan n → e < end → end ≤ 256 → HaveRowsFor rows e end → IsStretch (HasRow plan n) e end
-joined_border plan n rows e end same some most joined =
-    let has : (d : ℕ) → e ≤ d → d < end → HasRow plan n d = λ d low high. (
-    let found = joined d low high (omega arith) in
-    let P : List Row → Type 0 = λ rs. slice_get rs found.0 ≡ Some found.1 in
-    (found.1.next, (found.0, found.1, subst P same found.2, found.3, refl))) in
-    (some, λ d low high. (λ _. has e (omega arith) some, λ _. has d low high))
-
--- rows that follow one another lie apart
-apart_rows : (row other : Row) → other.first.value + other.size ≤ row.first.value → AreApart row other
-unfolding AreApart
-apart_rows row other le e covers there = absurd (omega (arith, covers.0, there.1))
-
-pub rows_apart : (rows : List Row) → RowsFollow rows → IsFirstItem rows (IsApartFromEarlier rows) None
-unfolding IsApartFromEarlier
-rows_apart rows follow r row is k d lt =
-    let within = slice_get_within rows r row is in
-    let less : k < r = omega (arith, length-take-le r rows (omega arith), lt) in
-    let there = slice_get-get_or rows k d (omega arith) in
-    let same : get_or (take r rows) k d ≡ get_or rows k d = get_or-take r rows k d less in
-    let P : Row → Type 0 = AreApart row in
-    subst P (sym same) (apart_rows row (get_or rows k d) (follow k r (get_or rows k d) row less there is))

@@ -3,6 +3,7 @@ pub mod SharedBuses
 mod OtherSpots
 pub mod OtherSearches
 mod StretchLaws
+mod CoveredLaws
 mod FollowingLaws
 mod HolderLaws
 mod RecordSpots

@@ -9,6 +9,7 @@ mod certified_ranks;
 mod certify_error;
 mod certifying;
 mod certifying_move;
+mod covered_eids;
 mod fault;
 mod fault_run;
 mod first_fault;

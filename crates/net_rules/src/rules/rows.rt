@@ -4,7 +4,7 @@ ghost use Rattle.net_tables.specs.Rows.{IsInRange, AreApart, IsApartFromEarlier,
 ghost use Rattle.net_rules.specs.Rules.{PlanDemands};
 ghost use Rattle.net_rules.specs.Search.{IsFirstItem, IsFirstSpot};
 
-use crate::rows_in_force::rows_follow;
+use crate::covered_eids::CoveredEids;
 use crate::rule::Rule;
 use crate::spot::Spot;
 use net_plan::{Plan, Row};
@@ -53,25 +53,15 @@ pub(crate) fn is_in_range(row: &Row) -> bool
 }
 
 /// The first row that overlaps an earlier one.
-#[tactic(auto, using(crate::proofs::FollowingLaws::rows_apart))]
 fn first_overlapping(rows: &[Row]) -> Option<usize>
     ensures { IsFirstItem rows.now (IsApartFromEarlier rows.now) result }
 {
-    if rows_follow(rows) {
-        return None;
-    }
-    search_overlapping(rows)
-}
-
-/// The first row that overlaps an earlier one, where they stand in any order: each is compared with those before it.
-#[tactic(auto, unfolding(net_tables::specs::Rows::IsApartFromEarlier))]
-fn search_overlapping(rows: &[Row]) -> Option<usize>
-    ensures { IsFirstItem rows.now (IsApartFromEarlier rows.now) result }
-{
+    let mut covered = CoveredEids::none();
     for (r, row) in rows.iter().enumerate() {
-        if !is_apart_from_all(row, &rows[..r]) {
+        if covered.has_one_of(row) {
             return Some(r);
         }
+        covered.add(row);
     }
     None
 }

@@ -1,7 +1,0 @@
-use Rattle.std.proofs.Common.{ℕ, ◌<◌}
-use Rattle.net_tables.specs.Routing.{OfItem}
-use Rattle.net_tables.specs.Rows.{IsApartFromEarlier}
-use Rattle.net_rules.proofs.rules.rows.search_overlapping.Given as goal
-
-abbrev pub invariant-loop-r : goal.invariant-loop-r
-invariant-loop-r l = (k : ℕ) → k < l.r → OfItem l.rows k (IsApartFromEarlier l.rows k)

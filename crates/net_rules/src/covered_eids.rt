@@ -1,0 +1,77 @@
+//! Which endpoint IDs rows cover, with a mark for each.
+ghost use Rattle.std.specs.Prelude.{◌≡◌, ◌⊎◌, ◌↔◌, ℕ, IsTrue};
+ghost use Rattle.net_tables.specs.Routing.{Covers};
+ghost use Rattle.net_rules.specs.CoveredEids.{IsMarked, IsCovered};
+ghost use Rattle.net_rules.specs.Stretches.{IsStretch};
+
+use mctp_transport::Eid;
+use net_plan::Row;
+use net_tables::lookup::row_end;
+
+/// The endpoint IDs that some rows cover. The rows may stand in any order and overlap.
+#[derive(Clone, Copy, Debug)]
+pub struct CoveredEids {
+    /// By endpoint ID, whether it is covered.
+    marks: [bool; 256],
+}
+
+impl CoveredEids {
+    /// Those of no row.
+    pub fn none() -> Self
+        ensures { (e : ℕ) → ¬ IsMarked result e }
+    {
+        CoveredEids {
+            marks: [false; 256],
+        }
+    }
+
+    /// Adds those of a row.
+    pub fn add(&mut self, row: &Row)
+        ensures { (e : ℕ) → IsMarked self.new e ↔ (IsMarked self.old e ⊎ Covers row.now e) }
+    {
+        for eid in u16::from(row.first.value)..row_end(row).min(256) {
+            self.marks[usize::from(eid)] = true;
+        }
+    }
+
+    /// Adds those of rows.
+    pub fn add_all(&mut self, rows: &[Row])
+        ensures { (e : ℕ) → IsMarked self.new e ↔ (IsMarked self.old e ⊎ IsCovered rows.now e) }
+    {
+        for row in rows {
+            self.add(row);
+        }
+    }
+
+    /// Whether the endpoint ID is covered.
+    pub fn has(&self, eid: Eid) -> bool
+        ensures { IsTrue result ↔ IsMarked self.now eid.value }
+    {
+        self.marks[usize::from(eid.value)]
+    }
+
+    /// Whether one of the row's endpoint IDs is covered.
+    pub fn has_one_of(&self, row: &Row) -> bool
+        ensures { IsTrue result ↔ ((e : ℕ) × IsMarked self.now e × Covers row.now e) }
+    {
+        for eid in u16::from(row.first.value)..row_end(row).min(256) {
+            if self.marks[usize::from(eid)] {
+                return true;
+            }
+        }
+        false
+    }
+
+    /// The end of a stretch from the endpoint ID on that is covered, or that isn't.
+    pub fn border(&self, eid: Eid) -> u16
+        ensures { IsStretch (IsMarked self.now) eid.value result }
+    {
+        let is_covered = self.has(eid);
+        for next in u16::from(eid.value) + 1..256 {
+            if self.marks[usize::from(next)] != is_covered {
+                return next;
+            }
+        }
+        256
+    }
+}
