@@ -1,4 +1,4 @@
-"""The bounds in the schemas of plans and certificates, of the table in crates/net_json/src/tables.rt.
+"""The bounds in the schemas of plans, certificates and events, of the table in crates/net_json/src/tables.rt.
 
 Numbers, the most items of lists, and the keys that an object has to have come from the table, whose definition in specs/
 is proved to say the same. All else in docs/schema is written by hand.
@@ -34,6 +34,16 @@ class Reading:
             self.next(")")
         return None if token == "None" else int(token.replace("_", ""))
 
+    def fields(self):
+        """Keys, or words of a choice, and what may stand at each; a comma stands before each."""
+        found = {}
+        while self.tokens[0] == ",":
+            self.next(",")
+            key = self.next().strip('"')
+            self.next(":")
+            found[key] = self.shape()
+        return found
+
     def shape(self):
         """What may stand at one place: a tuple that begins with the word for it."""
         token = self.next()
@@ -52,12 +62,13 @@ class Reading:
             found = ("list", most, self.shape())
         elif token == "object!":
             self.next()
-            found = ("object", {})
-            while self.tokens[0] == ",":
-                self.next(",")
-                key = self.next().strip('"')
-                self.next(":")
-                found[1][key] = self.shape()
+            found = ("object", self.fields())
+        elif token == "event_of!":
+            self.next()
+            found = ("object", {"do": ("word",), **self.fields()})
+        elif token == "any_event!":
+            self.tokens.insert(0, ",")
+            found = ("choice", self.fields())
         elif token == "Shape::Optional":
             found = ("optional", self.shape())
         else:
@@ -74,7 +85,9 @@ def table():
     """What each name in the table stands for."""
     text = (TOP / TABLES).read_text(encoding="utf-8")
     found = {}
+    (of_events,) = re.findall(r"macro_rules! events_of \{\s*\(\$event:expr\) => \{\s*(.*?)\s*\};", text, re.S)
     for name, shape in re.findall(r"(?m)^(?:const|static) (\w+): Shape\s*=\s*([^;]*);", text):
+        shape = re.sub(r"^events_of!\((.*)\)$", lambda it: of_events.replace("$event", it[1]), shape, flags=re.S)
         found[name] = Reading(shape, found).shape()
     return found
 
@@ -111,6 +124,25 @@ def written(name, shape):
     return path, told(schema)
 
 
+def events(found):
+    """The text of the schema of events: of each format the words that it has, and of each word its keys."""
+    path = "docs/schema/events.schema.json"
+    schema = json.loads((TOP / path).read_text(encoding="utf-8"))
+    formats = [found[name][1] for name in ("EVENTS_ONE", "EVENTS_TWO", "EVENTS_THREE")]
+    _, least, most = formats[-1]["format"]
+    schema["properties"]["format"]["enum"] = [*range(least, most + 1)]
+    schema["properties"]["events"]["maxItems"] = formats[-1]["events"][1]
+    schema["required"] = [*formats[-1]]
+    for number, (case, fields) in enumerate(zip(schema["allOf"], formats, strict=True), least):
+        words = fields["events"][2][1]
+        case["if"]["properties"]["format"]["const"] = number
+        case["then"]["properties"]["events"]["items"]["anyOf"] = [{"$ref": f"#/$defs/{word}"} for word in words]
+    for word, shape in words.items():
+        part = bounded(schema["$defs"][word], shape, schema["$defs"])
+        part["properties"]["do"]["const"] = word
+    return path, told(schema)
+
+
 def told(schema):
     return json.dumps(schema, indent=2, ensure_ascii=False) + "\n"
 
@@ -123,4 +155,4 @@ def made():
     schema = json.loads(text)
     schema["properties"]["format"]["enum"] = [it[1]["format"][1] for it in (one, two)]
     schema["required"] = [*one[1]]
-    return {path: told(schema), **dict([written("certificate", found["CERTIFICATE"])])}
+    return {path: told(schema), **dict([written("certificate", found["CERTIFICATE"]), events(found)])}

@@ -1,5 +1,6 @@
 mod UnreadTexts
 mod Explained
+mod ExplainedEvents
 mod Mended
 mod Differing
 mod Hops

@@ -1,5 +1,6 @@
 pub mod UnreadTexts
 pub mod Explaining
+pub mod ExplainingEvents
 pub mod Fixing
 pub mod MoveRows
 pub mod MoveDifferences

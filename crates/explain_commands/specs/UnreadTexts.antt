@@ -7,13 +7,13 @@ use Rattle.net_json.specs.PlanReading.{plan}
 use Rattle.net_plan.specs.PlanValues.{plan_value, node_names}
 use Rattle.net_json.specs.Stream.{TakesMoreThan}
 use Rattle.net_json.specs.Texts.{Gave}
-use Rattle.net_json.specs.Unread.{GaveNoPlan, GaveNoCertificate}
+use Rattle.net_json.specs.Unread.{GaveNoPlan, GaveNoCertificate, GaveNoEvents}
 use Rattle.command_answers.specs.declared.refused.Input.{Input}
 use Rattle.command_answers.specs.declared.refused.Input.TheVariants as input
 use Rattle.command_answers.specs.Answers.{Stream, Fails, GaveNothing}
 use Rattle.command_answers.specs.Statuses.{role_of}
 use Rattle.reading_texts.specs.ReadingLines.{unread_line}
-use Rattle.reading_texts.specs.TroubleLines.{IsPlanTextTold, IsCertificateTextTold}
+use Rattle.reading_texts.specs.TroubleLines.{IsPlanTextTold, IsCertificateTextTold, IsEventsTextTold}
 
 abbrev pub failed_line : List ℕ
 failed_line = codes "The file can't be opened or read.\n"
@@ -52,3 +52,9 @@ abbrev pub IsUnreadCertificateText : Plan → Stream → List ℕ → Type 0
 IsUnreadCertificateText plan certificates text =
     IsTextOfUnread input.Certificate (GaveNoCertificate (plan_value plan))
     (IsCertificateTextTold (node_names (plan_value plan).nodes)) certificates text
+
+-- the same of events at the nodes of a plan
+abbrev pub IsUnreadEventsText : Plan → Stream → List ℕ → Type 0
+IsUnreadEventsText plan happenings text =
+    IsTextOfUnread input.Events (GaveNoEvents (plan_value plan))
+    (IsEventsTextTold (node_names (plan_value plan).nodes)) happenings text

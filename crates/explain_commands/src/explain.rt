@@ -11,6 +11,7 @@ ghost use Rattle.command_answers.specs.Told.{Gives, IsSomeAnswer, Ends};
 ghost use Rattle.command_answers.specs.UnreadInputs.{IsTextOf};
 
 pub mod certified;
+pub mod events;
 pub mod moved;
 pub mod unread;
 
@@ -147,7 +148,7 @@ pub fn more_faults(
 }
 
 /// How many of so many lines of faults are there beside what is told.
-fn others_of(obstacle: &CertifyError, count: usize) -> usize
+pub fn others_of(obstacle: &CertifyError, count: usize) -> usize
     ensures { result ≡ others_of obstacle.now count }
 {
     match obstacle {

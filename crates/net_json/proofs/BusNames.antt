@@ -2,12 +2,9 @@
 use Rattle.std.proofs.Common.{◌≡◌, ℕ, List, [], ◌∷◌, map, refl, ap}
 use Rattle.serde_json.specs.Data.{Data}
 use Rattle.net_json.specs.Trees.{Tree, view, items_view}
-use Rattle.net_json.specs.EventReading.{event}
-use Rattle.net_json.specs.Json.{list_within}
-use Rattle.net_json.specs.Made.{within_in, node_made, certificate_made}
+use Rattle.net_json.specs.Made.{within_in, node_made, certificate_made, events_made}
 use Rattle.net_json.specs.Names.{index_among, text_at, each_text_at}
 use Rattle.net_plan.specs.PlanValues.{name_bytes, bus_value, bus_names, node_value, node_names}
-use Rattle.net_json.specs.declared.event_text.Format.{Format}
 use Rattle.net_plan.specs.declared.nodes.Bus.{Bus}
 use Rattle.net_plan.specs.declared.nodes.Node.{Node}
 
@@ -32,7 +29,6 @@ nodes_found buses names find_bus find_node d b n = λ i. within_in 64 (node_made
 pub certificate_found : (names : List (List ℕ)) (find : List ℕ → ℕ) (d : Data) → ((q : List ℕ) → find q ≡ index_among names q) → certificate_made find d ≡ certificate_made (index_among names) d
 certificate_found names find d n = λ i. certificate_made (λ q. n q i) d
 
--- events read by what finds the indices of these names
-pub events_found : (f : Format) (names : List (List ℕ)) (find : List ℕ → ℕ) (d : Data) → ((q : List ℕ) → find q ≡ index_among names q)
-    → list_within 100000 (event f find) d ≡ list_within 100000 (event f (index_among names)) d
-events_found f names find d n = λ i. list_within 100000 (event f (λ q. n q i)) d
+-- events by what finds the indices of these names
+pub events_found : (names : List (List ℕ)) (find : List ℕ → ℕ) (d : Data) → ((q : List ℕ) → find q ≡ index_among names q) → events_made find d ≡ events_made (index_among names) d
+events_found names find d n = λ i. events_made (λ q. n q i) d

@@ -1,27 +1,32 @@
 -- What is read of events is what the relation tells.
-use Rattle.std.proofs.Common.{◌≡◌, ◌≢◌, ℕ, zero, suc, ◌≤◌, ◌==◌, List, length, Bool, true, false, Result, Ok, Err, refl, sym, ap, ◌∙◌, subst, cond, codes, arith}
+use Rattle.std.proofs.Common.{◌≡◌, ◌≢◌, ℕ, zero, suc, ◌≤◌, ◌==◌, ◌||◌, List, [], ◌∷◌, length, Bool, true, false, nat_lt, Some, None, Ok, Err, refl, sym, ap, ◌∙◌, subst, cond, codes, arith, true≢false}
 use Rattle.std.proofs.lemmas.Slice.Eq.{bytes_eq-Decides}
 use Rattle.std.specs.List.{list_all}
 use Rattle.std.specs.Str.{bytes_eq}
-use Rattle.serde_json.specs.Data.{Data, null, boolean, number, string, array, object}
-use Rattle.net_json.specs.EventReading.{format, format_of, has_switches, has_walks, verb_in, verb_of, verb, put_event, move_event, lose_event, expire_event, answer_event, switch_event, walk_event, ask_event, collected_event, event_of, event, events}
+use Rattle.serde_json.specs.Data.{Data, string}
+use Rattle.net_json.specs.EventReading.{format_of, events_format, events_tested, events}
 use Rattle.net_json.specs.EventText.{Does, IsPutOf, IsMoveOf, IsLoseOf, IsBit, IsExpireOf, IsAnswerOf, IsSwitchOf, IsWalkOf, IsAskOf, IsCollectedOf, IsEventOf, IsFormat, AreEventsOf}
 use Rattle.net_plan.specs.EventValues.{EventEntry, put, move, lose, expire, answer, switch, walk, ask, collected, is_known_event}
-use Rattle.net_json.specs.Json.{keyed, some_object, at_key, list_within, demand, reference, whole_number, truth, hex_text}
-use Rattle.net_json.specs.JsonWords.{HasKeys, At, IsShortListOf, IsNumberWithin, IsTruth, IsText}
-use Rattle.net_json.specs.Keys.{events_keys, put_keys, move_keys, lose_keys, expire_keys, answer_keys, switch_keys, walk_keys, ask_keys, collected_keys}
-use Rattle.net_json.specs.Names.{index_among}
-use Rattle.net_json.specs.PlanReading.{byte, word}
+use Rattle.net_json.specs.Finding.{first_fault, refused}
+use Rattle.net_json.specs.Fitting.{IsOneOf, HasAt, Either, Fits, ChoiceFits}
+use Rattle.net_json.specs.Grammar.{Grammar, keys_of, a_list, Known}
+use Rattle.net_json.specs.Json.{is_among, demand}
+use Rattle.net_json.specs.JsonWords.{At, IsShortListOf, IsNumberWithin, IsTruth, IsHex, IsIndexOfName}
+use Rattle.net_json.specs.Made.{number_at, truth_at, hex_at, node_at, word_at, expire_made, walk_made, event_by, event_made, events_made}
+use Rattle.net_json.specs.Names.{index_among, text_of, text_found}
+use Rattle.net_json.specs.PlanText.{IsByte, IsWord}
+use Rattle.net_json.specs.Tables.{a_number, a_node_name, a_word, a_byte, a_truth, a_hex, a_put, a_move, a_lose, an_expire, an_answer, a_switch, a_walk, an_ask, a_collected, event_choices, later_events, an_event, events_in}
 use Rattle.net_plan.specs.PlanValues.{PlanValue, node_names}
+use Rattle.net_json.specs.Reading.{then_with}
 use Rattle.net_json.specs.declared.error.ValueFault.{ValueFault}
-use Rattle.net_json.specs.declared.error.ValueFault.TheVariants.{OutOfRange, UnknownName}
-use Rattle.net_json.specs.declared.event_text.Format.{Format}
-use Rattle.net_json.specs.declared.event_text.Format.TheVariants.{One, Two, Three}
-use Rattle.net_json.specs.declared.event_text.Verb.{Verb}
-use Rattle.net_json.specs.declared.event_text.Verb.TheVariants.{Put, Move, Lose, Expire, Answer, Switch, Walk, Ask, Collected}
-use Rattle.net_json.proofs.KeysLaw.{keys_sound, keys_whole}
-use Rattle.net_json.proofs.WordsLaw.{number_at, hex_at, reference_at}
-use Rattle.net_json.proofs.Telling.{Tells, any, no_value, same_Ok, then_Ok, demanded, at_key_tells, within_tells, number_tells, truth_tells}
+use Rattle.net_json.specs.declared.error.ValueFault.TheVariants.{UnknownName}
+use Rattle.net_json.specs.declared.event_format.Format.{Format}
+use Rattle.net_json.specs.declared.event_format.Format.TheVariants.{One, Two, Three}
+use Rattle.net_json.specs.declared.shape.Named.TheVariants.{Nodes}
+use Rattle.net_json.proofs.Fitting.{none_fits, fits_none, forget, unrefused}
+use Rattle.net_json.proofs.KeysLaw.{among_Contains, Contains_among}
+use Rattle.net_json.proofs.Makes.{Made, MadeAt, number_made, truth_made, hex_made, index_made, at_makes, within_makes}
+use Rattle.net_json.proofs.Telling.{Tells, any, same_Ok, then_Ok, demanded}
 
 -- ---- the format
 
@@ -32,349 +37,373 @@ format_found d (suc (suc zero)) h = h.0
 format_found d (suc (suc (suc zero))) h = h.0
 format_found d (suc (suc (suc (suc n)))) h = let high : suc (suc (suc (suc n))) ≤ 3 = h.2 in absurd (omega arith)
 
-format_sound : (d : Data) (f : Format) → format d ≡ Ok f → IsFormat d f
-format_sound d f e =
-    let n = then_Ok (whole_number 1 3 d) _ f e in
-    subst (IsFormat d) (same_Ok n.2) (format_found d n.0 ((number_tells 1 3).sound d n.0 n.1 refl))
+abbrev number_of : Format → ℕ
+number_of One = 1
+number_of Two = 2
+number_of Three = 3
 
-format_whole : (d : Data) (f : Format) → IsFormat d f → format d ≡ Ok f
-format_whole d One h = ap format h
-format_whole d Two h = ap format h
-format_whole d Three h = ap format h
+numbered : (d : Data) (f : Format) → IsFormat d f → IsNumberWithin 1 3 d (number_of f)
+numbered d One h = (h, omega arith, omega arith)
+numbered d Two h = (h, omega arith, omega arith)
+numbered d Three h = (h, omega arith, omega arith)
 
-format_at : Tells (at_key (codes "format") format) any (At (codes "format") IsFormat)
-format_at = at_key_tells (codes "format") format any IsFormat (record { sound = λ d f e pass. format_sound d f e; whole = format_whole; passes = λ d f h. refl })
+number_back : (f : Format) → format_of (number_of f) ≡ f
+number_back One = refl
+number_back Two = refl
+number_back Three = refl
 
--- ---- what happens
+format_at : (k : Known) → MadeAt k (codes "format") (a_number 1 3) (number_at (codes "format") 1 3) any (IsNumberWithin 1 3)
+format_at k = number_made k (codes "format") 1 3
 
-abbrev word_of : Verb → List ℕ
-word_of Put = codes "put"
-word_of Move = codes "move"
-word_of Lose = codes "lose"
-word_of Expire = codes "expire"
-word_of Answer = codes "answer"
-word_of Switch = codes "switch"
-word_of Walk = codes "walk"
-word_of Ask = codes "ask"
-word_of Collected = codes "collected"
-
--- the format has this word
-abbrev Allows : Format → Verb → Type 0
-Allows f Switch = f ≢ One
-Allows f Walk = f ≡ Three
-Allows f Ask = f ≡ Three
-Allows f Collected = f ≡ Three
-Allows f _ = Unit {0}
-
-abbrev IsVerb : Format → Data → Verb → Type 0
-IsVerb f d v = IsText (word_of v) d × Allows f v
-
--- a word that is tested, and the words after it
-word_step : (s : List ℕ) (u v : Verb) (rest : Result Verb ValueFault) → cond (bytes_eq s (word_of u)) (Ok u) rest ≡ Ok v → (rest ≡ Ok v → s ≡ word_of v) → s ≡ word_of v
-word_step s u v rest e after = by (bytes_eq s (word_of u)) refl e
-  where
-    by : (b : Bool) → bytes_eq s (word_of u) ≡ b → cond b (Ok u) rest ≡ Ok v → s ≡ word_of v
-    by true same e = subst (λ w. s ≡ word_of w) (same_Ok e) ((bytes_eq-Decides s (word_of u)).0 same)
-    by false other e = after e
-
-word_sound : (s : List ℕ) (v : Verb) → verb_of s ≡ Ok v → s ≡ word_of v
-word_sound s v e = word_step s Put v _ e (λ e. word_step s Move v _ e (λ e. word_step s Lose v _ e (λ e. word_step s Expire v _ e (λ e. word_step s Answer v _ e
-    (λ e. word_step s Switch v _ e (λ e. word_step s Walk v _ e (λ e. word_step s Ask v _ e (λ e. word_step s Collected v _ e (λ e. absurd (no_value e))))))))))
-
--- the format of a switch
-switch_sound : (f : Format) (v : Verb) → verb_in f Switch ≡ Ok v → (Switch ≡ v) × (f ≢ One)
-switch_sound One v e = absurd (no_value e)
-switch_sound Two v e = (same_Ok e, λ h. cc)
-switch_sound Three v e = (same_Ok e, λ h. cc)
-
-later_has : (f : Format) → f ≢ One → has_switches f ≡ true
-later_has One h = absurd (h refl)
-later_has Two h = refl
-later_has Three h = refl
-
--- the format of a walk's event
-walks_sound : (f : Format) (u v : Verb) → cond (has_walks f) (Ok u) (Err OutOfRange) ≡ Ok v → (u ≡ v) × (f ≡ Three)
-walks_sound One u v e = absurd (no_value e)
-walks_sound Two u v e = absurd (no_value e)
-walks_sound Three u v e = (same_Ok e, refl)
-
-in_sound : (f : Format) (u v : Verb) → verb_in f u ≡ Ok v → (u ≡ v) × Allows f u
-in_sound f Put v e = (same_Ok e, tt)
-in_sound f Move v e = (same_Ok e, tt)
-in_sound f Lose v e = (same_Ok e, tt)
-in_sound f Expire v e = (same_Ok e, tt)
-in_sound f Answer v e = (same_Ok e, tt)
-in_sound f Switch v e = switch_sound f v e
-in_sound f Walk v e = walks_sound f Walk v e
-in_sound f Ask v e = walks_sound f Ask v e
-in_sound f Collected v e = walks_sound f Collected v e
-
-verb_sound : (f : Format) (d : Data) (v : Verb) → verb f d ≡ Ok v → IsVerb f d v
-verb_sound f (string s) v e =
-    let u = then_Ok (verb_of s) (verb_in f) v e in
-    let h = in_sound f u.0 v u.2 in
-    subst (IsVerb f (string s)) h.0 (ap string (word_sound s u.0 u.1), h.1)
-verb_sound f null v e = absurd (no_value e)
-verb_sound f (boolean b) v e = absurd (no_value e)
-verb_sound f (number n) v e = absurd (no_value e)
-verb_sound f (array ds) v e = absurd (no_value e)
-verb_sound f (object ms) v e = absurd (no_value e)
-
-verb_whole : (f : Format) (d : Data) (v : Verb) → IsVerb f d v → verb f d ≡ Ok v
-verb_whole f d Put h = ap (verb f) h.0
-verb_whole f d Move h = ap (verb f) h.0
-verb_whole f d Lose h = ap (verb f) h.0
-verb_whole f d Expire h = ap (verb f) h.0
-verb_whole f d Answer h = ap (verb f) h.0
-verb_whole f d Switch h = ap (verb f) h.0 ∙ ap (λ b. cond b (Ok Switch) (Err OutOfRange)) (later_has f h.1)
-verb_whole f d Walk h = ap (verb f) h.0 ∙ ap (λ g. verb_in g Walk) h.1
-verb_whole f d Ask h = ap (verb f) h.0 ∙ ap (λ g. verb_in g Ask) h.1
-verb_whole f d Collected h = ap (verb f) h.0 ∙ ap (λ g. verb_in g Collected) h.1
-
-verb_at : (f : Format) → Tells (at_key (codes "do") (verb f)) any (At (codes "do") (IsVerb f))
-verb_at f = at_key_tells (codes "do") (verb f) any (IsVerb f) (record { sound = λ d v e pass. verb_sound f d v e; whole = verb_whole f; passes = λ d v h. refl })
-
--- where the word stands, the format has it
-said : (f : Format) (d : Data) (v : Verb) → Does (word_of v) d → Allows f v → At (codes "do") (IsVerb f) d v
-said f d v does allows = (does.0, does.1, (does.2, allows))
+format_same : (k : Known) (d : Data) (f : Format) → At (codes "format") IsFormat d f → events_format d ≡ f
+format_same k d f h = ap format_of ((format_at k).same d (number_of f) (h.0, h.1, numbered h.0 f h.2)) ∙ number_back f
 
 -- ---- the owner's bit
 
-bit_sound : (d : Data) (n : ℕ) → IsNumberWithin 0 1 d n → IsBit d (n == 1)
-bit_sound d zero h = h.0
-bit_sound d (suc zero) h = h.0
-bit_sound d (suc (suc n)) h = let high : suc (suc n) ≤ 1 = h.2 in absurd (omega arith)
+bit_found : (d : Data) (n : ℕ) → IsNumberWithin 0 1 d n → IsBit d (n == 1)
+bit_found d zero h = h.0
+bit_found d (suc zero) h = h.0
+bit_found d (suc (suc n)) h = let high : suc (suc n) ≤ 1 = h.2 in absurd (omega arith)
 
 abbrev bit : Bool → ℕ
 bit true = 1
 bit false = 0
 
-bit_back : (b : Bool) → (bit b == 1) ≡ b
-bit_back true = refl
-bit_back false = refl
-
 bit_within : (d : Data) (b : Bool) → IsBit d b → IsNumberWithin 0 1 d (bit b)
 bit_within d true h = (h, omega arith, omega arith)
 bit_within d false h = (h, omega arith, omega arith)
 
+bit_back : (b : Bool) → (bit b == 1) ≡ b
+bit_back true = refl
+bit_back false = refl
+
+-- ---- what happens
+
+-- one word
+only : (w : List ℕ) (d : Data) → HasAt (codes "do") (IsOneOf (w ∷ [])) d → Does w d
+only w d h = (h.0, h.1, h.2.1 ∙ ap string (same (Contains_among (w ∷ []) h.2.0 h.2.2)))
+  where
+    same : (bytes_eq h.2.0 w || false) ≡ true → h.2.0 ≡ w
+    same e = by (bytes_eq h.2.0 w) refl e
+      where
+        by : (b : Bool) → bytes_eq h.2.0 w ≡ b → (b || false) ≡ true → h.2.0 ≡ w
+        by true is e = (bytes_eq-Decides h.2.0 w).0 is
+        by false is e = absurd (true≢false (sym e))
+
+one : (w : List ℕ) (d : Data) → Does w d → HasAt (codes "do") (IsOneOf (w ∷ [])) d
+one w d h = (h.0, h.1, (w, h.2, among_Contains (w ∷ []) w (ap (λ b. b || false) ((bytes_eq-Decides w w).1 refl))))
+
+-- the first of two where a word is that of the first choice, else what is known of the later ones
+step : {F G : Type 0} (P : EventEntry → Type 0) (b a : Bool) (x y : EventEntry) → (b || a) ≡ true → Either b F G → (F → P x) → (a ≡ true → G → P y) → P (cond b x y)
+step P true a x y among h here later = here h
+step P false a x y among h here later = later among h
+
+-- the same of what is known where the event made passes a test
+stepped : {F G H I : Type 0} (t : EventEntry → Bool) (b : Bool) (x y : EventEntry) → Either b F G → t (cond b x y) ≡ true → (F → t x ≡ true → H) → (G → t y ≡ true → I) → Either b H I
+stepped t true x y h pass here later = here h pass
+stepped t false x y h pass here later = later h pass
+
+last : {F : Type 0} (b : Bool) → (b || false) ≡ true → Either b F (Unit {0}) → F
+last true among h = h
+last false among h = absurd (true≢false (sym among))
+
 -- ---- events
 
-truth_at : (key : List ℕ) → Tells (at_key key truth) any (At key IsTruth)
-truth_at key = at_key_tells key truth any IsTruth truth_tells
+module _ (nodes : List (List ℕ)) where
+  abbrev known : Known
+  known = record { buses = []; nodes = nodes }
 
-is_object : (keys : List (List ℕ)) (d : Data) → HasKeys keys d → some_object d ≡ Ok tt
-is_object keys d h = ap some_object h.1
+  abbrev find : List ℕ → ℕ
+  find = index_among nodes
 
-module _ (format : Format) (nodes : List (List ℕ)) where
-  abbrev Known : EventEntry → Type 0
-  Known e = is_known_event (length nodes) e ≡ true
+  abbrev is_known : ℕ → Bool
+  is_known node = nat_lt node (length nodes)
 
-  put_sound : (d : Data) (e : EventEntry) → Does (codes "put") d → put_event (index_among nodes) d ≡ Ok e → Known e → IsEventOf format nodes d e
-  put_sound d e does said known =
-      let k = then_Ok (keyed put_keys d) _ e said in
-      let n = then_Ok (at_key (codes "node") (reference (index_among nodes)) d) _ e k.2 in
-      let b = then_Ok (at_key (codes "bytes") hex_text d) _ e n.2 in
-      let same : put n.0 b.0 ≡ e = same_Ok b.2 in
-      let here : IsPutOf nodes d n.0 b.0 = record {
-        keys = keys_sound put_keys d k.0 k.1;
-        does = does;
-        at_node = (reference_at nodes (codes "node")).sound d n.0 n.1 (ap (is_known_event (length nodes)) same ∙ known);
-        packet = (hex_at (codes "bytes")).sound d b.0 b.1 refl;
-      } in
-      subst (IsEventOf format nodes d) same here
+  abbrev passes : EventEntry → Bool
+  passes = is_known_event (length nodes)
 
-  move_sound : (d : Data) (e : EventEntry) → Does (codes "move") d → move_event d ≡ Ok e → IsEventOf format nodes d e
-  move_sound d e does said =
-      let k = then_Ok (keyed move_keys d) _ e said in
-      let f = then_Ok (at_key (codes "flight") word d) _ e k.2 in
-      let t = then_Ok (at_key (codes "keep") truth d) _ e f.2 in
-      let same : move f.0 t.0 ≡ e = same_Ok t.2 in
-      let here : IsMoveOf d f.0 t.0 = record {
-        keys = keys_sound move_keys d k.0 k.1;
-        does = does;
-        number = (number_at (codes "flight") 0 4294967295).sound d f.0 f.1 refl;
-        kept = (truth_at (codes "keep")).sound d t.0 t.1 refl;
-      } in
-      subst (IsEventOf format nodes d) same here
+  node_law : MadeAt known (codes "node") a_node_name (node_at find) is_known (IsIndexOfName nodes)
+  node_law = index_made known (codes "node") Nodes
 
-  lose_sound : (d : Data) (e : EventEntry) → Does (codes "lose") d → lose_event d ≡ Ok e → IsEventOf format nodes d e
-  lose_sound d e does said =
-      let k = then_Ok (keyed lose_keys d) _ e said in
-      let f = then_Ok (at_key (codes "flight") word d) _ e k.2 in
-      let same : lose f.0 ≡ e = same_Ok f.2 in
-      let here : IsLoseOf d f.0 = record {
-        keys = keys_sound lose_keys d k.0 k.1;
-        does = does;
-        number = (number_at (codes "flight") 0 4294967295).sound d f.0 f.1 refl;
-      } in
-      subst (IsEventOf format nodes d) same here
+  bytes_law : MadeAt known (codes "bytes") a_hex hex_at any IsHex
+  bytes_law = hex_made known
 
-  owner_sound : (d : Data) (n : ℕ) → at_key (codes "owner") (whole_number 0 1) d ≡ Ok n → At (codes "owner") IsBit d (n == 1)
-  owner_sound d n e = let h = (number_at (codes "owner") 0 1).sound d n e refl in (h.0, h.1, bit_sound h.0 n h.2)
+  keep_law : MadeAt known (codes "keep") a_truth (truth_at (codes "keep")) any IsTruth
+  keep_law = truth_made known (codes "keep")
 
-  expire_sound : (d : Data) (e : EventEntry) → Does (codes "expire") d → expire_event (index_among nodes) d ≡ Ok e → Known e → IsEventOf format nodes d e
-  expire_sound d e does said known =
-      let k = then_Ok (keyed expire_keys d) _ e said in
-      let n = then_Ok (at_key (codes "node") (reference (index_among nodes)) d) _ e k.2 in
-      let s = then_Ok (at_key (codes "source") byte d) _ e n.2 in
-      let t = then_Ok (at_key (codes "tag") (whole_number 0 7) d) _ e s.2 in
-      let o = then_Ok (at_key (codes "owner") (whole_number 0 1) d) _ e t.2 in
-      let same : expire n.0 s.0 t.0 (o.0 == 1) ≡ e = same_Ok o.2 in
-      let here : IsExpireOf nodes d n.0 s.0 t.0 (o.0 == 1) = record {
-        keys = keys_sound expire_keys d k.0 k.1;
-        does = does;
-        at_node = (reference_at nodes (codes "node")).sound d n.0 n.1 (ap (is_known_event (length nodes)) same ∙ known);
-        from = (number_at (codes "source") 0 255).sound d s.0 s.1 refl;
-        tagged = (number_at (codes "tag") 0 7).sound d t.0 t.1 refl;
-        owned = owner_sound d o.0 o.1;
-      } in
-      subst (IsEventOf format nodes d) same here
+  flight_law : MadeAt known (codes "flight") a_word (word_at (codes "flight")) any IsWord
+  flight_law = number_made known (codes "flight") 0 4294967295
 
-  answer_sound : (d : Data) (e : EventEntry) → Does (codes "answer") d → answer_event (index_among nodes) d ≡ Ok e → Known e → IsEventOf format nodes d e
-  answer_sound d e does said known =
-      let k = then_Ok (keyed answer_keys d) _ e said in
-      let n = then_Ok (at_key (codes "node") (reference (index_among nodes)) d) _ e k.2 in
-      let same : answer n.0 ≡ e = same_Ok n.2 in
-      let here : IsAnswerOf nodes d n.0 = record {
-        keys = keys_sound answer_keys d k.0 k.1;
-        does = does;
-        at_node = (reference_at nodes (codes "node")).sound d n.0 n.1 (ap (is_known_event (length nodes)) same ∙ known);
-      } in
-      subst (IsEventOf format nodes d) same here
+  walker_law : MadeAt known (codes "walker") a_word (word_at (codes "walker")) any IsWord
+  walker_law = number_made known (codes "walker") 0 4294967295
 
-  switch_event_sound : (d : Data) (e : EventEntry) → format ≢ One → Does (codes "switch") d → switch_event (index_among nodes) d ≡ Ok e → Known e → IsEventOf format nodes d e
-  switch_event_sound d e later does said known =
-      let k = then_Ok (keyed switch_keys d) _ e said in
-      let n = then_Ok (at_key (codes "node") (reference (index_among nodes)) d) _ e k.2 in
-      let same : switch n.0 ≡ e = same_Ok n.2 in
-      let here : IsSwitchOf format nodes d n.0 = record {
-        later = later;
-        keys = keys_sound switch_keys d k.0 k.1;
-        does = does;
-        at_node = (reference_at nodes (codes "node")).sound d n.0 n.1 (ap (is_known_event (length nodes)) same ∙ known);
-      } in
-      subst (IsEventOf format nodes d) same here
+  source_law : MadeAt known (codes "source") a_byte (number_at (codes "source") 0 255) any IsByte
+  source_law = number_made known (codes "source") 0 255
 
-  walk_sound : (d : Data) (e : EventEntry) → format ≡ Three → Does (codes "walk") d → walk_event (index_among nodes) d ≡ Ok e → Known e → IsEventOf format nodes d e
-  walk_sound d e third does said known =
-      let k = then_Ok (keyed walk_keys d) _ e said in
-      let n = then_Ok (at_key (codes "node") (reference (index_among nodes)) d) _ e k.2 in
-      let a = then_Ok (at_key (codes "eid") (whole_number 8 254) d) _ e n.2 in
-      let t = then_Ok (at_key (codes "tag") (whole_number 0 7) d) _ e a.2 in
-      let c = then_Ok (at_key (codes "count") (whole_number 8 4079) d) _ e t.2 in
-      let same : walk n.0 a.0 t.0 c.0 ≡ e = same_Ok c.2 in
-      let here : IsWalkOf format nodes d n.0 a.0 t.0 c.0 = record {
-        third = third;
-        keys = keys_sound walk_keys d k.0 k.1;
-        does = does;
-        at_node = (reference_at nodes (codes "node")).sound d n.0 n.1 (ap (is_known_event (length nodes)) same ∙ known);
-        asked = (number_at (codes "eid") 8 254).sound d a.0 a.1 refl;
-        tagged = (number_at (codes "tag") 0 7).sound d t.0 t.1 refl;
-        counted = (number_at (codes "count") 8 4079).sound d c.0 c.1 refl;
-      } in
-      subst (IsEventOf format nodes d) same here
+  tag_law : MadeAt known (codes "tag") (a_number 0 7) (number_at (codes "tag") 0 7) any (IsNumberWithin 0 7)
+  tag_law = number_made known (codes "tag") 0 7
 
-  ask_sound : (d : Data) (e : EventEntry) → format ≡ Three → Does (codes "ask") d → ask_event d ≡ Ok e → IsEventOf format nodes d e
-  ask_sound d e third does said =
-      let k = then_Ok (keyed ask_keys d) _ e said in
-      let w = then_Ok (at_key (codes "walker") word d) _ e k.2 in
-      let same : ask w.0 ≡ e = same_Ok w.2 in
-      let here : IsAskOf format d w.0 = record {
-        third = third;
-        keys = keys_sound ask_keys d k.0 k.1;
-        does = does;
-        number = (number_at (codes "walker") 0 4294967295).sound d w.0 w.1 refl;
-      } in
-      subst (IsEventOf format nodes d) same here
+  owner_law : MadeAt known (codes "owner") (a_number 0 1) (number_at (codes "owner") 0 1) any (IsNumberWithin 0 1)
+  owner_law = number_made known (codes "owner") 0 1
 
-  collected_sound : (d : Data) (e : EventEntry) → format ≡ Three → Does (codes "collected") d → collected_event d ≡ Ok e → IsEventOf format nodes d e
-  collected_sound d e third does said =
-      let k = then_Ok (keyed collected_keys d) _ e said in
-      let w = then_Ok (at_key (codes "walker") word d) _ e k.2 in
-      let same : collected w.0 ≡ e = same_Ok w.2 in
-      let here : IsCollectedOf format d w.0 = record {
-        third = third;
-        keys = keys_sound collected_keys d k.0 k.1;
-        does = does;
-        number = (number_at (codes "walker") 0 4294967295).sound d w.0 w.1 refl;
-      } in
-      subst (IsEventOf format nodes d) same here
+  eid_law : MadeAt known (codes "eid") (a_number 8 254) (number_at (codes "eid") 8 254) any (IsNumberWithin 8 254)
+  eid_law = number_made known (codes "eid") 8 254
 
-  of_sound : (v : Verb) (d : Data) (e : EventEntry) → Does (word_of v) d → Allows format v → event_of v (index_among nodes) d ≡ Ok e → Known e → IsEventOf format nodes d e
-  of_sound Put d e does allows said known = put_sound d e does said known
-  of_sound Move d e does allows said known = move_sound d e does said
-  of_sound Lose d e does allows said known = lose_sound d e does said
-  of_sound Expire d e does allows said known = expire_sound d e does said known
-  of_sound Answer d e does allows said known = answer_sound d e does said known
-  of_sound Switch d e does allows said known = switch_event_sound d e allows does said known
-  of_sound Walk d e does allows said known = walk_sound d e allows does said known
-  of_sound Ask d e does allows said known = ask_sound d e allows does said
-  of_sound Collected d e does allows said known = collected_sound d e allows does said
+  count_law : MadeAt known (codes "count") (a_number 8 4079) (number_at (codes "count") 8 4079) any (IsNumberWithin 8 4079)
+  count_law = number_made known (codes "count") 8 4079
 
-  event_sound : (d : Data) (e : EventEntry) → event format (index_among nodes) d ≡ Ok e → Known e → IsEventOf format nodes d e
-  unfolding event
-  event_sound d e said known =
-      let o = then_Ok (some_object d) _ e said in
-      let v = then_Ok (at_key (codes "do") (verb format) d) _ e o.2 in
-      let h = (verb_at format).sound d v.0 v.1 refl in
-      of_sound v.0 d e (h.0, h.1, h.2.0) h.2.1 v.2 known
+  -- ---- there
 
-  event_whole : (d : Data) (e : EventEntry) → IsEventOf format nodes d e → event format (index_among nodes) d ≡ Ok e
-  unfolding event
-  event_whole d (put node bytes) h =
-      rw (is_object put_keys d h.keys, (verb_at format).whole d Put (said format d Put h.does tt), keys_whole put_keys d h.keys, (reference_at nodes (codes "node")).whole d node h.at_node, (hex_at (codes "bytes")).whole d bytes h.packet) refl
-  event_whole d (move flight keep) h =
-      rw (is_object move_keys d h.keys, (verb_at format).whole d Move (said format d Move h.does tt), keys_whole move_keys d h.keys, (number_at (codes "flight") 0 4294967295).whole d flight h.number, (truth_at (codes "keep")).whole d keep h.kept) refl
-  event_whole d (lose flight) h =
-      rw (is_object lose_keys d h.keys, (verb_at format).whole d Lose (said format d Lose h.does tt), keys_whole lose_keys d h.keys, (number_at (codes "flight") 0 4294967295).whole d flight h.number) refl
-  event_whole d (expire node source tag owner) h =
-      let o = (number_at (codes "owner") 0 1).whole d (bit owner) (h.owned.0, h.owned.1, bit_within h.owned.0 owner h.owned.2) in
-      rw (is_object expire_keys d h.keys, (verb_at format).whole d Expire (said format d Expire h.does tt), keys_whole expire_keys d h.keys, (reference_at nodes (codes "node")).whole d node h.at_node, (number_at (codes "source") 0 255).whole d source h.from, (number_at (codes "tag") 0 7).whole d tag h.tagged, o)
-      (ap (λ b. Ok (expire node source tag b)) (bit_back owner))
-  event_whole d (answer node) h =
-      rw (is_object answer_keys d h.keys, (verb_at format).whole d Answer (said format d Answer h.does tt), keys_whole answer_keys d h.keys, (reference_at nodes (codes "node")).whole d node h.at_node) refl
-  event_whole d (switch node) h =
-      rw (is_object switch_keys d h.keys, (verb_at format).whole d Switch (said format d Switch h.does h.later), keys_whole switch_keys d h.keys, (reference_at nodes (codes "node")).whole d node h.at_node) refl
-  event_whole d (walk node eid tag count) h =
-      rw (is_object walk_keys d h.keys, (verb_at format).whole d Walk (said format d Walk h.does h.third), keys_whole walk_keys d h.keys, (reference_at nodes (codes "node")).whole d node h.at_node, (number_at (codes "eid") 8 254).whole d eid h.asked, (number_at (codes "tag") 0 7).whole d tag h.tagged, (number_at (codes "count") 8 4079).whole d count h.counted) refl
-  event_whole d (ask walker) h =
-      rw (is_object ask_keys d h.keys, (verb_at format).whole d Ask (said format d Ask h.does h.third), keys_whole ask_keys d h.keys, (number_at (codes "walker") 0 4294967295).whole d walker h.number) refl
-  event_whole d (collected walker) h =
-      rw (is_object collected_keys d h.keys, (verb_at format).whole d Collected (said format d Collected h.does h.third), keys_whole collected_keys d h.keys, (number_at (codes "walker") 0 4294967295).whole d walker h.number) refl
+  put_there : (d : Data) → Fits (Some known) a_put d → IsPutOf nodes d (node_at find d) (hex_at d)
+  put_there d h = record { keys = h.0; does = only (codes "put") d h.1.0; at_node = node_law.there d h.1.1.0; packet = bytes_law.there d h.1.1.1.0 }
 
-  event_passes : (d : Data) (e : EventEntry) → IsEventOf format nodes d e → Known e
-  event_passes d (put node bytes) h = (reference_at nodes (codes "node")).passes d node h.at_node
-  event_passes d (move flight keep) h = refl
-  event_passes d (lose flight) h = refl
-  event_passes d (expire node source tag owner) h = (reference_at nodes (codes "node")).passes d node h.at_node
-  event_passes d (answer node) h = (reference_at nodes (codes "node")).passes d node h.at_node
-  event_passes d (switch node) h = (reference_at nodes (codes "node")).passes d node h.at_node
-  event_passes d (walk node eid tag count) h = (reference_at nodes (codes "node")).passes d node h.at_node
-  event_passes d (ask walker) h = refl
-  event_passes d (collected walker) h = refl
+  move_there : (d : Data) → Fits (Some known) a_move d → IsMoveOf d (word_at (codes "flight") d) (truth_at (codes "keep") d)
+  move_there d h = record { keys = h.0; does = only (codes "move") d h.1.0; number = flight_law.there d h.1.1.0; kept = keep_law.there d h.1.1.1.0 }
 
-  list_at : Tells (at_key (codes "events") (list_within 100000 (event format (index_among nodes)))) (list_all (is_known_event (length nodes))) (At (codes "events") (IsShortListOf 100000 (IsEventOf format nodes)))
-  list_at = at_key_tells (codes "events") (list_within 100000 (event format (index_among nodes))) (list_all (is_known_event (length nodes))) (IsShortListOf 100000 (IsEventOf format nodes))
-      (within_tells (event format (index_among nodes)) (is_known_event (length nodes)) (IsEventOf format nodes) (record { sound = event_sound; whole = event_whole; passes = event_passes }) 100000)
+  lose_there : (d : Data) → Fits (Some known) a_lose d → IsLoseOf d (word_at (codes "flight") d)
+  lose_there d h = record { keys = h.0; does = only (codes "lose") d h.1.0; number = flight_law.there d h.1.1.0 }
+
+  expire_there : (d : Data) → Fits (Some known) an_expire d → IsExpireOf nodes d (node_at find d) (number_at (codes "source") 0 255 d) (number_at (codes "tag") 0 7 d) (number_at (codes "owner") 0 1 d == 1)
+  expire_there d h =
+      let o = owner_law.there d h.1.1.1.1.1.0 in
+      record {
+        keys = h.0;
+        does = only (codes "expire") d h.1.0;
+        at_node = node_law.there d h.1.1.0;
+        from = source_law.there d h.1.1.1.0;
+        tagged = tag_law.there d h.1.1.1.1.0;
+        owned = (o.0, o.1, bit_found o.0 (number_at (codes "owner") 0 1 d) o.2);
+      }
+
+  answer_there : (d : Data) → Fits (Some known) an_answer d → IsAnswerOf nodes d (node_at find d)
+  answer_there d h = record { keys = h.0; does = only (codes "answer") d h.1.0; at_node = node_law.there d h.1.1.0 }
+
+  switch_there : (f : Format) (d : Data) → f ≢ One → Fits (Some known) a_switch d → IsSwitchOf f nodes d (node_at find d)
+  switch_there f d later h = record { later = later; keys = h.0; does = only (codes "switch") d h.1.0; at_node = node_law.there d h.1.1.0 }
+
+  walk_there : (d : Data) → Fits (Some known) a_walk d → IsWalkOf Three nodes d (node_at find d) (number_at (codes "eid") 8 254 d) (number_at (codes "tag") 0 7 d) (number_at (codes "count") 8 4079 d)
+  walk_there d h = record {
+    third = refl;
+    keys = h.0;
+    does = only (codes "walk") d h.1.0;
+    at_node = node_law.there d h.1.1.0;
+    asked = eid_law.there d h.1.1.1.0;
+    tagged = tag_law.there d h.1.1.1.1.0;
+    counted = count_law.there d h.1.1.1.1.1.0;
+  }
+
+  ask_there : (d : Data) → Fits (Some known) an_ask d → IsAskOf Three d (word_at (codes "walker") d)
+  ask_there d h = record { third = refl; keys = h.0; does = only (codes "ask") d h.1.0; number = walker_law.there d h.1.1.0 }
+
+  collected_there : (d : Data) → Fits (Some known) a_collected d → IsCollectedOf Three d (word_at (codes "walker") d)
+  collected_there d h = record { third = refl; keys = h.0; does = only (codes "collected") d h.1.0; number = walker_law.there d h.1.1.0 }
+
+  -- what is made where the word is none of format 1
+  abbrev later_by : List ℕ → Data → EventEntry
+  later_by w d =
+      cond (bytes_eq w (codes "switch")) (switch (node_at find d))
+      (cond (bytes_eq w (codes "walk")) (walk_made find d) (cond (bytes_eq w (codes "ask")) (ask (word_at (codes "walker") d)) (collected (word_at (codes "walker") d))))
+
+  -- P of the event that is made, where it is one
+  module _ (P : Data → EventEntry → Type 0) where
+    record Each (f : Format) : Type 0 where
+      puts : (d : Data) → Fits (Some known) a_put d → P d (put (node_at find d) (hex_at d))
+      moves : (d : Data) → Fits (Some known) a_move d → P d (move (word_at (codes "flight") d) (truth_at (codes "keep") d))
+      loses : (d : Data) → Fits (Some known) a_lose d → P d (lose (word_at (codes "flight") d))
+      expires : (d : Data) → Fits (Some known) an_expire d → P d (expire_made find d)
+      answers : (d : Data) → Fits (Some known) an_answer d → P d (answer (node_at find d))
+      switches : (d : Data) → f ≢ One → Fits (Some known) a_switch d → P d (switch (node_at find d))
+      walks : (d : Data) → f ≡ Three → Fits (Some known) a_walk d → P d (walk_made find d)
+      asks : (d : Data) → f ≡ Three → Fits (Some known) an_ask d → P d (ask (word_at (codes "walker") d))
+      collects : (d : Data) → f ≡ Three → Fits (Some known) a_collected d → P d (collected (word_at (codes "walker") d))
+
+    later_made : (f : Format) → Each f → (w : List ℕ) (d : Data) → is_among (keys_of (later_events f)) w ≡ true → ChoiceFits (Some known) (later_events f) w d → P d (later_by w d)
+    later_made One e w d among h = absurd (true≢false (sym among))
+    later_made Two e w d among h = step (P d) (bytes_eq w (codes "switch")) false _ _ among h (e.switches d (λ e. cc)) (λ none. absurd (true≢false (sym none)))
+    later_made Three e w d among h =
+        step (P d) (bytes_eq w (codes "switch")) _ _ _ among h (e.switches d (λ e. cc))
+        (λ among h. step (P d) (bytes_eq w (codes "walk")) _ _ _ among h (e.walks d refl)
+        (λ among h. step (P d) (bytes_eq w (codes "ask")) _ _ _ among h (e.asks d refl)
+        (λ among h. e.collects d refl (last (bytes_eq w (codes "collected")) among h))))
+
+    by_word : (f : Format) → Each f → (w : List ℕ) (d : Data) → is_among (keys_of (event_choices f)) w ≡ true → ChoiceFits (Some known) (event_choices f) w d → P d (event_by w find d)
+    by_word f e w d among h =
+        step (P d) (bytes_eq w (codes "put")) _ _ _ among h (e.puts d)
+        (λ among h. step (P d) (bytes_eq w (codes "move")) _ _ _ among h (e.moves d)
+        (λ among h. step (P d) (bytes_eq w (codes "lose")) _ _ _ among h (e.loses d)
+        (λ among h. step (P d) (bytes_eq w (codes "expire")) _ _ _ among h (e.expires d)
+        (λ among h. step (P d) (bytes_eq w (codes "answer")) _ _ _ among h (e.answers d) (later_made f e w d)))))
+
+    event_is : (f : Format) → Each f → (d : Data) → Fits (Some known) (an_event f) d → P d (event_made find d)
+    event_is f e d h =
+        let word : text_of h.0 ≡ h.2.0.0 = ap text_of h.2.0.1 in
+        let among : is_among (keys_of (event_choices f)) (text_of h.0) ≡ true = ap (is_among (keys_of (event_choices f))) word ∙ Contains_among (keys_of (event_choices f)) h.2.0.0 h.2.0.2 in
+        subst (λ o. P d (event_by (text_found o) find d)) (sym h.1) (by_word f e (text_of h.0) d among h.2.1)
+
+  event_there : (f : Format) (d : Data) → Fits (Some known) (an_event f) d → IsEventOf f nodes d (event_made find d)
+  event_there f d h = event_is (IsEventOf f nodes) f (record {
+    puts = put_there;
+    moves = move_there;
+    loses = lose_there;
+    expires = expire_there;
+    answers = answer_there;
+    switches = switch_there f;
+    walks = λ d third h. subst (λ f. IsEventOf f nodes d (walk_made find d)) (sym third) (walk_there d h);
+    asks = λ d third h. subst (λ f. IsEventOf f nodes d (ask (word_at (codes "walker") d))) (sym third) (ask_there d h);
+    collects = λ d third h. subst (λ f. IsEventOf f nodes d (collected (word_at (codes "walker") d))) (sym third) (collected_there d h);
+  }) d h
+
+  event_passes : (f : Format) (d : Data) → Fits (Some known) (an_event f) d → passes (event_made find d) ≡ true
+  event_passes f d h = event_is (λ d e. passes e ≡ true) f (record {
+    puts = λ d h. node_law.passes d h.1.1.0;
+    moves = λ d h. refl;
+    loses = λ d h. refl;
+    expires = λ d h. node_law.passes d h.1.1.0;
+    answers = λ d h. node_law.passes d h.1.1.0;
+    switches = λ d later h. node_law.passes d h.1.1.0;
+    walks = λ d third h. node_law.passes d h.1.1.0;
+    asks = λ d third h. refl;
+    collects = λ d third h. refl;
+  }) d h
+
+  -- ---- back
+
+  put_back : (d : Data) (n : ℕ) (b : List ℕ) → IsPutOf nodes d n b → Fits (Some known) a_put d
+  put_back d n b h = (h.keys, (one (codes "put") d h.does, (node_law.back d n h.at_node, (bytes_law.back d b h.packet, tt))), tt)
+
+  move_back : (d : Data) (n : ℕ) (b : Bool) → IsMoveOf d n b → Fits (Some known) a_move d
+  move_back d n b h = (h.keys, (one (codes "move") d h.does, (flight_law.back d n h.number, (keep_law.back d b h.kept, tt))), tt)
+
+  lose_back : (d : Data) (n : ℕ) → IsLoseOf d n → Fits (Some known) a_lose d
+  lose_back d n h = (h.keys, (one (codes "lose") d h.does, (flight_law.back d n h.number, tt)), tt)
+
+  expire_back : (d : Data) (n s t : ℕ) (o : Bool) → IsExpireOf nodes d n s t o → Fits (Some known) an_expire d
+  expire_back d n s t o h = (
+    h.keys,
+    (one (codes "expire") d h.does, (node_law.back d n h.at_node, (source_law.back d s h.from, (tag_law.back d t h.tagged, (owner_law.back d (bit o) (h.owned.0, h.owned.1, bit_within h.owned.0 o h.owned.2), tt))))),
+    tt,
+  )
+
+  answer_back : (d : Data) (n : ℕ) → IsAnswerOf nodes d n → Fits (Some known) an_answer d
+  answer_back d n h = (h.keys, (one (codes "answer") d h.does, (node_law.back d n h.at_node, tt)), tt)
+
+  switch_back : (f : Format) (d : Data) (n : ℕ) → IsSwitchOf f nodes d n → Fits (Some known) a_switch d
+  switch_back f d n h = (h.keys, (one (codes "switch") d h.does, (node_law.back d n h.at_node, tt)), tt)
+
+  walk_back : (f : Format) (d : Data) (n e t c : ℕ) → IsWalkOf f nodes d n e t c → Fits (Some known) a_walk d
+  walk_back f d n e t c h = (
+    h.keys,
+    (one (codes "walk") d h.does, (node_law.back d n h.at_node, (eid_law.back d e h.asked, (tag_law.back d t h.tagged, (count_law.back d c h.counted, tt))))),
+    tt,
+  )
+
+  ask_back : (f : Format) (d : Data) (n : ℕ) → IsAskOf f d n → Fits (Some known) an_ask d
+  ask_back f d n h = (h.keys, (one (codes "ask") d h.does, (walker_law.back d n h.number, tt)), tt)
+
+  collected_back : (f : Format) (d : Data) (n : ℕ) → IsCollectedOf f d n → Fits (Some known) a_collected d
+  collected_back f d n h = (h.keys, (one (codes "collected") d h.does, (walker_law.back d n h.number, tt)), tt)
+
+  -- an event with a word that its format has
+  chosen : (f : Format) (w : List ℕ) (d : Data) → Does w d → is_among (keys_of (event_choices f)) w ≡ true → ChoiceFits (Some known) (event_choices f) w d → Fits (Some known) (an_event f) d
+  chosen f w d does among h = (does.0, does.1, ((w, does.2, among_Contains (keys_of (event_choices f)) w among), subst (λ e. ChoiceFits (Some known) (event_choices f) (text_of e) d) (sym does.2) h))
+
+  walks_back : (f : Format) (w : List ℕ) (d : Data) → f ≡ Three → Does w d → is_among (keys_of (event_choices Three)) w ≡ true → ChoiceFits (Some known) (event_choices Three) w d → Fits (Some known) (an_event f) d
+  walks_back f w d third does among h = subst (λ f. Fits (Some known) (an_event f) d) (sym third) (chosen Three w d does among h)
+
+  event_back : (f : Format) (d : Data) (e : EventEntry) → IsEventOf f nodes d e → Fits (Some known) (an_event f) d
+  event_back f d (put n b) h = chosen f (codes "put") d h.does refl (put_back d n b h)
+  event_back f d (move n b) h = chosen f (codes "move") d h.does refl (move_back d n b h)
+  event_back f d (lose n) h = chosen f (codes "lose") d h.does refl (lose_back d n h)
+  event_back f d (expire n s t o) h = chosen f (codes "expire") d h.does refl (expire_back d n s t o h)
+  event_back f d (answer n) h = chosen f (codes "answer") d h.does refl (answer_back d n h)
+  event_back One d (switch n) h = absurd (h.later refl)
+  event_back Two d (switch n) h = chosen Two (codes "switch") d h.does refl (switch_back Two d n h)
+  event_back Three d (switch n) h = chosen Three (codes "switch") d h.does refl (switch_back Three d n h)
+  event_back f d (walk n e t c) h = walks_back f (codes "walk") d h.third h.does refl (walk_back f d n e t c h)
+  event_back f d (ask n) h = walks_back f (codes "ask") d h.third h.does refl (ask_back f d n h)
+  event_back f d (collected n) h = walks_back f (codes "collected") d h.third h.does refl (collected_back f d n h)
+
+  -- ---- the same
+
+  said : (w : List ℕ) (d : Data) → Does w d → event_made find d ≡ event_by w find d
+  said w d does = ap (λ o. event_by (text_found o) find d) does.1 ∙ ap (λ e. event_by (text_of e) find d) does.2
+
+  event_same : (f : Format) (d : Data) (e : EventEntry) → IsEventOf f nodes d e → event_made find d ≡ e
+  event_same f d (put n b) h = said (codes "put") d h.does ∙ rw (node_law.same d n h.at_node, bytes_law.same d b h.packet) refl
+  event_same f d (move n b) h = said (codes "move") d h.does ∙ rw (flight_law.same d n h.number, keep_law.same d b h.kept) refl
+  event_same f d (lose n) h = said (codes "lose") d h.does ∙ ap lose (flight_law.same d n h.number)
+  event_same f d (expire n s t o) h =
+      let owner = owner_law.same d (bit o) (h.owned.0, h.owned.1, bit_within h.owned.0 o h.owned.2) in
+      said (codes "expire") d h.does ∙ rw (node_law.same d n h.at_node, source_law.same d s h.from, tag_law.same d t h.tagged, owner) (ap (expire n s t) (bit_back o))
+  event_same f d (answer n) h = said (codes "answer") d h.does ∙ ap answer (node_law.same d n h.at_node)
+  event_same f d (switch n) h = said (codes "switch") d h.does ∙ ap switch (node_law.same d n h.at_node)
+  event_same f d (walk n e t c) h = said (codes "walk") d h.does ∙ rw (node_law.same d n h.at_node, eid_law.same d e h.asked, tag_law.same d t h.tagged, count_law.same d c h.counted) refl
+  event_same f d (ask n) h = said (codes "ask") d h.does ∙ ap ask (walker_law.same d n h.number)
+  event_same f d (collected n) h = said (codes "collected") d h.does ∙ ap collected (walker_law.same d n h.number)
+
+  -- ---- names that are known
+
+  later_known : (f : Format) (w : List ℕ) (d : Data) → ChoiceFits None (later_events f) w d → passes (later_by w d) ≡ true → ChoiceFits (Some known) (later_events f) w d
+  later_known One w d h pass = tt
+  later_known Two w d h pass = stepped passes (bytes_eq w (codes "switch")) _ _ h pass (λ h pass. (h.0, (h.1.0, (node_law.known d h.1.1.0 pass, tt)), tt)) (λ h pass. tt)
+  later_known Three w d h pass =
+      stepped passes (bytes_eq w (codes "switch")) _ _ h pass (λ h pass. (h.0, (h.1.0, (node_law.known d h.1.1.0 pass, tt)), tt))
+      (λ h pass. stepped passes (bytes_eq w (codes "walk")) _ _ h pass (λ h pass. (h.0, (h.1.0, (node_law.known d h.1.1.0 pass, h.1.1.1)), tt)) (λ h pass. h))
+
+  choices_known : (f : Format) (w : List ℕ) (d : Data) → ChoiceFits None (event_choices f) w d → passes (event_by w find d) ≡ true → ChoiceFits (Some known) (event_choices f) w d
+  choices_known f w d h pass =
+      stepped passes (bytes_eq w (codes "put")) _ _ h pass (λ h pass. (h.0, (h.1.0, (node_law.known d h.1.1.0 pass, h.1.1.1)), tt))
+      (λ h pass. stepped passes (bytes_eq w (codes "move")) _ _ h pass (λ h pass. h)
+      (λ h pass. stepped passes (bytes_eq w (codes "lose")) _ _ h pass (λ h pass. h)
+      (λ h pass. stepped passes (bytes_eq w (codes "expire")) _ _ h pass (λ h pass. (h.0, (h.1.0, (node_law.known d h.1.1.0 pass, h.1.1.1)), tt))
+      (λ h pass. stepped passes (bytes_eq w (codes "answer")) _ _ h pass (λ h pass. (h.0, (h.1.0, (node_law.known d h.1.1.0 pass, tt)), tt)) (later_known f w d)))))
+
+  event_known : (f : Format) (d : Data) → Fits None (an_event f) d → passes (event_made find d) ≡ true → Fits (Some known) (an_event f) d
+  event_known f d h pass = (h.0, h.1, (h.2.0, choices_known f (text_of h.0) d h.2.1 (sym (ap (λ o. passes (event_by (text_found o) find d)) h.1) ∙ pass)))
+
+  event_makes : (f : Format) → Made known (an_event f) (event_made find) passes (IsEventOf f nodes)
+  event_makes f = record { there = event_there f; back = event_back f; same = event_same f; known = event_known f; passes = event_passes f }
+
+  list_at : (f : Format) → MadeAt known (codes "events") (a_list (Some 100000) (an_event f)) (events_made find) (list_all passes) (IsShortListOf 100000 (IsEventOf f nodes))
+  list_at f = at_makes (codes "events") [] (within_makes (event_makes f) 100000)
+
+  -- the names of events by the format that stands there are known where all events pass
+  pub strictly : (d : Data) → Fits None (events_in (events_format d)) d → list_all passes (events_made find d) ≡ true → Fits (Some known) (events_in (events_format d)) d
+  strictly d h pass = (h.0, (h.1.0, ((list_at (events_format d)).known d h.1.1.0 pass, tt)), tt)
+
+  pub pass : (d : Data) → Fits (Some known) (events_in (events_format d)) d → list_all passes (events_made find d) ≡ true
+  pass d h = (list_at (events_format d)).passes d h.1.1.0
 
 events_sound : (p : PlanValue) (d : Data) (es : List EventEntry) → events (node_names p.nodes) d ≡ Ok es → AreEventsOf p d es
 events_sound p d es e =
     let nodes = node_names p.nodes in
-    let k = then_Ok (keyed events_keys d) _ es e in
-    let f = then_Ok (at_key (codes "format") format d) _ es k.2 in
-    let l = then_Ok (at_key (codes "events") (list_within 100000 (event f.0 (index_among nodes))) d) _ es f.2 in
-    let u = then_Ok (demand UnknownName (list_all (is_known_event (length nodes)) l.0)) _ es l.2 in
-    subst (AreEventsOf p d) (same_Ok u.2) (record {
-      keys = keys_sound events_keys d k.0 k.1;
-      format = f.0;
-      numbered = format_at.sound d f.0 f.1 refl;
-      events = (list_at f.0 nodes).sound d l.0 l.1 (demanded UnknownName (list_all (is_known_event (length nodes)) l.0) u.0 u.1);
+    let f = events_format d in
+    let made = events_made (index_among nodes) d in
+    let s = then_Ok (refused (first_fault None (events_in f) d)) (λ _. events_tested (length nodes) made) es e in
+    let n = then_Ok (demand UnknownName (list_all (is_known_event (length nodes)) made)) (λ _. Ok made) es s.2 in
+    let loose = none_fits None (events_in f) d (unrefused (first_fault None (events_in f) d) s.0 s.1) in
+    let strict = strictly nodes d loose (demanded UnknownName (list_all (is_known_event (length nodes)) made) n.0 n.1) in
+    let number = (format_at (known nodes)).there d strict.1.0 in
+    subst (AreEventsOf p d) (same_Ok n.2) (record {
+      keys = strict.0;
+      format = f;
+      numbered = (number.0, number.1, format_found number.0 (number_at (codes "format") 1 3 d) number.2);
+      events = (list_at nodes f).there d strict.1.1.0;
     })
 
 events_whole : (p : PlanValue) (d : Data) (es : List EventEntry) → AreEventsOf p d es → events (node_names p.nodes) d ≡ Ok es
 events_whole p d es h =
     let nodes = node_names p.nodes in
-    rw (keys_whole events_keys d h.keys, format_at.whole d h.format h.numbered, (list_at h.format nodes).whole d es h.events, (list_at h.format nodes).passes d es h.events) refl
+    let k = known nodes in
+    let f = events_format d in
+    let is : h.format ≡ f = sym (format_same k d h.format h.numbered) in
+    let listed = subst (λ f. At (codes "events") (IsShortListOf 100000 (IsEventOf f nodes)) d es) is h.events in
+    let number = (format_at k).back d (number_of h.format) (h.numbered.0, h.numbered.1, numbered h.numbered.0 h.format h.numbered.2) in
+    let strict : Fits (Some k) (events_in f) d = (h.keys, (number, ((list_at nodes f).back d es listed, tt)), tt) in
+    let none : first_fault None (events_in f) d ≡ None = fits_none None (events_in f) d (forget k (events_in f) d strict) in
+    let same : events_made (index_among nodes) d ≡ es = (list_at nodes f).same d es listed in
+    let all : list_all (is_known_event (length nodes)) es ≡ true = ap (list_all (is_known_event (length nodes))) (sym same) ∙ pass nodes d strict in
+    rw (none) (ap (events_tested (length nodes)) same ∙ rw (all) refl)
 
 pub events_tells : (p : PlanValue) → Tells (events (node_names p.nodes)) any (AreEventsOf p)
 events_tells p = record { sound = λ d es e pass. events_sound p d es e; whole = events_whole p; passes = λ d es h. refl }
@@ -382,8 +411,30 @@ events_tells p = record { sound = λ d es e pass. events_sound p d es e; whole =
 -- events that were read are at nodes of their plan
 pub events_known : (nodes : List (List ℕ)) (d : Data) (es : List EventEntry) → events nodes d ≡ Ok es → list_all (is_known_event (length nodes)) es ≡ true
 events_known nodes d es e =
-    let k = then_Ok (keyed events_keys d) _ es e in
-    let f = then_Ok (at_key (codes "format") format d) _ es k.2 in
-    let l = then_Ok (at_key (codes "events") (list_within 100000 (event f.0 (index_among nodes))) d) _ es f.2 in
-    let u = then_Ok (demand UnknownName (list_all (is_known_event (length nodes)) l.0)) _ es l.2 in
-    ap (list_all (is_known_event (length nodes))) (sym (same_Ok u.2)) ∙ demanded UnknownName (list_all (is_known_event (length nodes)) l.0) u.0 u.1
+    let made = events_made (index_among nodes) d in
+    let s = then_Ok (refused (first_fault None (events_in (events_format d)) d)) (λ _. events_tested (length nodes) made) es e in
+    let n = then_Ok (demand UnknownName (list_all (is_known_event (length nodes)) made)) (λ _. Ok made) es s.2 in
+    ap (list_all (is_known_event (length nodes))) (sym (same_Ok n.2)) ∙ demanded UnknownName (list_all (is_known_event (length nodes)) made) n.0 n.1
+
+-- ---- the tests one after another
+
+module _ (nodes : List (List ℕ)) (d : Data) (g : Grammar) (is : g ≡ events_in (events_format d)) where
+  abbrev made : List EventEntry
+  made = events_made (index_among nodes) d
+
+  values : events nodes d ≡ then_with (refused (first_fault None g d)) (λ _. events_tested (length nodes) made)
+  values = ap (λ g. then_with (refused (first_fault None g d)) (λ _. events_tested (length nodes) made)) (sym is)
+
+  tested : (u : Unit {0}) → refused (first_fault None g d) ≡ Ok u → events nodes d ≡ events_tested (length nodes) made
+  tested u e = values ∙ ap (λ r. then_with r (λ _. events_tested (length nodes) made)) e
+
+  pub wrong_value : (e : ValueFault) → refused (first_fault None g d) ≡ Err e → events nodes d ≡ Err e
+  wrong_value e told = values ∙ ap (λ r. then_with r (λ _. events_tested (length nodes) made)) told
+
+  pub unknown_events : (u : Unit {0}) (e : ValueFault) (es : List EventEntry) → refused (first_fault None g d) ≡ Ok u → es ≡ made → Err e ≡ demand UnknownName (list_all (is_known_event (length nodes)) es) → events nodes d ≡ Err e
+  unknown_events u e es well same told =
+      tested u well ∙ ap (λ es. events_tested (length nodes) es) (sym same) ∙ ap (λ r. then_with r (λ _. Ok es)) (sym told)
+
+  pub known_events : (u v : Unit {0}) (es : List EventEntry) → refused (first_fault None g d) ≡ Ok u → es ≡ made → Ok v ≡ demand UnknownName (list_all (is_known_event (length nodes)) es) → events nodes d ≡ Ok es
+  known_events u v es well same told =
+      tested u well ∙ ap (λ es. events_tested (length nodes) es) (sym same) ∙ ap (λ r. then_with r (λ _. Ok es)) (sym told)

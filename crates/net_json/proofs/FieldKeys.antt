@@ -7,7 +7,7 @@ use Rattle.serde_json.specs.Find.{get_member}
 use Rattle.net_json.specs.Json.{has_unknown_key, lacks_key}
 use Rattle.net_json.specs.Trees.{Tree, members_view}
 use Rattle.net_json.proofs.Keys.{list_any-map, unknown_members}
-use Rattle.net_json.specs.Grammar.{Grammar, a_list, an_object, Fields, keys_of, no_fields, field, fields_view, field_view, grammar, step, field_step}
+use Rattle.net_json.specs.Grammar.{Grammar, a_list, an_object, a_choice, Fields, keys_of, no_fields, field, fields_view, field_view, grammar, step, field_step}
 use Rattle.net_json.specs.declared.shape.Shape.{Shape, fold-Shape, the_lemmas}
 use Rattle.net_json.specs.declared.shape.Shape as shape
 use Rattle.net_json.specs.declared.shape.Rule.{Rule}
@@ -53,6 +53,13 @@ seen_list most item = search (rules, the_lemmas)
 seen_object : (rule : Rule) (fields : Bor (List Field)) → grammar (shape.Object rule fields) ≡ an_object rule (fields_view fields.now)
 seen_object rule fields = search (rules, the_lemmas)
 
+seen_choice : (at : Bor Field) (choices : Bor (List Field)) → grammar (shape.Choice at choices) ≡ a_choice (field_view at.now).0 (field_view at.now).1 (fields_view choices.now)
+seen_choice at choices = search (rules, the_lemmas)
+
+-- an object whose word decides, as the search goes through it
+pub seen_by : (at : Bor Field) (choices : Bor (List Field)) → grammar (shape.Choice at choices) ≡ a_choice (out-Field at.now).key.now (grammar (out-Field at.now).shape) (fields_view choices.now)
+seen_by at choices = seen_choice at choices ∙ ap (λ p. a_choice p.0 p.1 (fields_view choices.now)) (field_seen at.now)
+
 -- ---- a table, part by part
 
 pub record Shows (s : Shape) (g : Grammar) : Type 0 where
@@ -66,6 +73,15 @@ object_shows rule fields gs h = record { is = seen_object rule fields ∙ ap (an
 
 pub list_shows : (most : Option ℕ) (item : Bor Shape) (g : Grammar) → Shows item.now g → Shows (shape.List most item) (a_list most g)
 list_shows most item g h = record { is = seen_list most item ∙ ap (a_list most) h.is }
+
+pub choice_shows : (r : Field-F Shape Field) (choices : Bor (List Field)) (at : Bor Field) (key : List ℕ) (g : Grammar) (gs : Fields) → at.now ≡ roll-Field r → r.key.now ≡ key → Shows r.shape g → AllShow choices.now gs
+    → Shows (shape.Choice at choices) (a_choice key g gs)
+choice_shows r choices at key g gs is same h all = record {
+  is =
+      seen_choice at choices ∙ ap (λ f. a_choice (field_view f).0 (field_view f).1 (fields_view choices.now)) is
+      ∙ ap (λ p. a_choice p.0 p.1 (fields_view choices.now)) (fold-roll-Field Grammar (List ℕ × Grammar) step field_step r)
+      ∙ ap (λ k. a_choice k (grammar r.shape) (fields_view choices.now)) same ∙ ap (λ g. a_choice key g (fields_view choices.now)) h.is ∙ ap (a_choice key g) all.are;
+}
 
 pub none_show : AllShow [] no_fields
 none_show = record { are = refl }

@@ -1,5 +1,5 @@
 -- Nothing is wrong with a value exactly where it is one of the grammar.
-use Rattle.std.proofs.Common.{◌≡◌, ◌⊎◌, inl, inr, ℕ, suc, is_some, ◌||◌, ◌≤◌, List, Bool, true, false, not, nat_lt, Option, Some, None, option_map, option_and_then, MatchOption, IfOk, Result, Ok, Err, refl, sym, ap, ◌∙◌, true≢false}
+use Rattle.std.proofs.Common.{◌≡◌, ◌⊎◌, inl, inr, ℕ, suc, cond, is_some, ◌||◌, ◌≤◌, List, Bool, true, false, not, nat_lt, Option, Some, None, option_map, option_and_then, MatchOption, IfOk, Result, Ok, Err, refl, sym, ap, ◌∙◌, true≢false}
 use Rattle.std.proofs.lemmas.Bool.{leb-true, le-leb, ltb-false, le-ltb}
 use Rattle.std.proofs.lemmas.Option.{none-some}
 use Rattle.std.proofs.lemmas.Slice.Eq.{bytes_eq-Decides}
@@ -7,18 +7,19 @@ use Rattle.std.specs.Option.{option_or}
 use Rattle.std.specs.Str.{bytes_eq}
 use Rattle.serde_json.specs.Data.{Data, null, boolean, number, string, array, object, Items, no_items, item}
 use Rattle.serde_json.specs.Find.{get}
-use Rattle.net_json.specs.Json.{demand, items_count, keyed, is_among, name_text}
+use Rattle.net_json.specs.Json.{demand, items_count, keyed, found, is_among, name_text}
 use Rattle.net_json.specs.JsonWords.{HasKeys}
 use Rattle.net_json.specs.Reading.{then_with}
 use Rattle.net_json.specs.declared.error.ValueFault.{ValueFault}
 use Rattle.net_json.specs.declared.error.ValueFault.TheVariants.{OutOfRange, OverLimit, UnknownName}
 use Rattle.net_json.proofs.KeysLaw.{keys_sound, keys_whole, among_Contains, Contains_among, or_true}
 use Rattle.net_json.proofs.WordsLaw.{name_tells, hex_tells, address_tells, kind_tells}
-use Rattle.net_json.proofs.Telling.{Tells, any, no_value, number_tells}
-use Rattle.net_json.specs.Finding.{fault_of, names_of, known_name, word_fault, is_within, short_list, unless_null, range_end, is_late, passes, own_fault}
-use Rattle.net_json.specs.Finding.{Step, key, index, Located, located, under, here, in_items, in_list, inside, in_fields, first_fault, refused}
-use Rattle.net_json.specs.Fitting.{IsWord, EachIs, IsWithin, Passes, Fits, FieldsFit}
-use Rattle.net_json.specs.Grammar.{Grammar, plain, a_list, an_optional, an_object, Fields, no_fields, field, keys_of, Known}
+use Rattle.net_json.proofs.Telling.{Tells, any, no_value, number_tells, truth_tells}
+use Rattle.net_json.specs.Finding.{fault_of, names_of, known_name, word_fault, word_among, has_key, is_within, short_list, unless_null, range_end, is_late, passes, own_fault}
+use Rattle.net_json.specs.Finding.{Step, key, index, Located, located, under, here, in_items, in_list, inside, in_fields, in_choices, first_fault, refused}
+use Rattle.net_json.specs.Fitting.{IsWord, IsOneOf, EachIs, IsWithin, Passes, Either, Fits, FieldsFit, ChoiceFits}
+use Rattle.net_json.specs.Grammar.{Grammar, plain, one_of, a_list, an_optional, an_object, a_choice, Fields, no_fields, field, keys_of, Known}
+use Rattle.net_json.specs.Names.{text_of}
 use Rattle.net_json.specs.declared.found.Found.{Found}
 use Rattle.net_json.specs.declared.shape.Named.{Named}
 use Rattle.net_json.specs.declared.shape.Rule.{Rule}
@@ -84,6 +85,7 @@ word_sound : (known : Option Known) (w : Word) (d : Data) → word_fault known w
 word_sound known (word.Number least most) d e = told (number_tells least most) d e
 word_sound known word.Name d e = told name_tells d e
 word_sound known (word.Named names) d e = named_sound known names d e
+word_sound known word.Truth d e = told truth_tells d e
 word_sound known word.Kind d e = told kind_tells d e
 word_sound known word.Hex d e = told hex_tells d e
 word_sound known word.Address d e = told address_tells d e
@@ -92,9 +94,21 @@ word_whole : (known : Option Known) (w : Word) (d : Data) → IsWord known w d �
 word_whole known (word.Number least most) d h = untold (number_tells least most) d h.0 h.1
 word_whole known word.Name d h = untold name_tells d h.0 h.1
 word_whole known (word.Named names) d h = named_whole known names d h
+word_whole known word.Truth d h = untold truth_tells d h.0 h.1
 word_whole known word.Kind d h = untold kind_tells d h.0 h.1
 word_whole known word.Hex d h = untold hex_tells d h.0 h.1
 word_whole known word.Address d h = untold address_tells d h.0 h.1
+
+among_sound : (words : List (List ℕ)) (d : Data) → fault_of (word_among words d) ≡ None → IsOneOf words d
+among_sound words (string s) e = (s, refl, among_Contains words s (demanded OutOfRange (is_among words s) e))
+among_sound words null e = absurd (none-some _ (sym e))
+among_sound words (boolean b) e = absurd (none-some _ (sym e))
+among_sound words (number n) e = absurd (none-some _ (sym e))
+among_sound words (array ds) e = absurd (none-some _ (sym e))
+among_sound words (object ms) e = absurd (none-some _ (sym e))
+
+among_whole : (words : List (List ℕ)) (d : Data) → IsOneOf words d → fault_of (word_among words d) ≡ None
+among_whole words d h = ap (λ v. fault_of (word_among words v)) h.1 ∙ ap (λ b. fault_of (demand OutOfRange b)) (Contains_among words h.0 h.2)
 
 -- ---- lists
 
@@ -172,6 +186,28 @@ passes_whole rule.EndsInTime d h = by (range_end d) refl
     by (Err f) is = refl
     by (Ok end) is = let low : end ≤ 256 = h end is in let b : nat_lt 256 end ≡ false = le-ltb 256 end low in rw (b) refl
 
+-- ---- choices
+
+has_sound : (k : List ℕ) (d : Data) → fault_of (has_key k d) ≡ None → (stands : Data) × (get k d ≡ Some stands)
+has_sound k (object ms) e = by (get k (object ms)) refl e
+  where
+    by : (o : Option Data) → get k (object ms) ≡ o → fault_of (then_with (found o) (λ _. Ok (tt {0}))) ≡ None → (stands : Data) × (get k (object ms) ≡ Some stands)
+    by (Some stands) is e = (stands, is)
+    by None is e = absurd (none-some _ (sym e))
+has_sound k null e = absurd (none-some _ (sym e))
+has_sound k (boolean b) e = absurd (none-some _ (sym e))
+has_sound k (number n) e = absurd (none-some _ (sym e))
+has_sound k (string s) e = absurd (none-some _ (sym e))
+has_sound k (array ds) e = absurd (none-some _ (sym e))
+
+has_whole : (k : List ℕ) (d stands : Data) → get k d ≡ Some stands → fault_of (has_key k d) ≡ None
+has_whole k (object ms) stands is = ap (λ o. fault_of (then_with (found o) (λ _. Ok (tt {0})))) is
+has_whole k null stands is = absurd (none-some _ is)
+has_whole k (boolean b) stands is = absurd (none-some _ is)
+has_whole k (number n) stands is = absurd (none-some _ is)
+has_whole k (string s) stands is = absurd (none-some _ is)
+has_whole k (array ds) stands is = absurd (none-some _ is)
+
 -- ---- `null`
 
 no_keys : (known : Option Known) (fs : Fields) (d : Data) → ((k : List ℕ) → get k d ≡ None) → in_fields known fs d ≡ None
@@ -180,9 +216,11 @@ no_keys known (field k g fs) d none = rw (none k) (no_keys known fs d none)
 
 pub inside_null : (known : Option Known) (g : Grammar) → inside known g null ≡ None
 inside_null known (plain w) = refl
+inside_null known (one_of words) = refl
 inside_null known (a_list most g) = refl
 inside_null known (an_optional g) = inside_null known g
 inside_null known (an_object rule fs) = no_keys known fs null (λ k. refl)
+inside_null known (a_choice k g cs) = refl
 
 -- a value is `null`, or it is not
 optional_sound : (o : Option ValueFault) (d : Data) → unless_null d o ≡ None → (d ≡ null) ⊎ (o ≡ None)
@@ -212,6 +250,7 @@ joined known g d p q = nothing (here g (own_fault known g d)) (inside known g d)
 mutual
   sound : (known : Option Known) (g : Grammar) (d : Data) → own_fault known g d ≡ None → inside known g d ≡ None → Fits known g d
   sound known (plain w) d own deep = word_sound known w d own
+  sound known (one_of words) d own deep = among_sound words d own
   sound known (a_list most g) d own deep =
       let p = short_sound most d own in
       (p.0, p.1, p.2, items_sound (first_fault known g) (λ e. Fits known g e) (λ e none. let p = parted known g e none in sound known g e p.0 p.1) 0 p.0 (sym (ap (in_list (first_fault known g)) p.1) ∙ deep))
@@ -223,6 +262,12 @@ mutual
   sound known (an_object rule fs) d own deep =
       let p = object_sound rule fs d own in
       (p.0, fields_sound known fs d (all_there fs d p.0) deep, passes_sound rule d p.1)
+  sound known (a_choice k g cs) d own deep =
+      let there = has_sound k d own in
+      let p = neither (under (key k) (first_fault known g there.0)) (in_choices known cs (text_of there.0) d)
+      (sym (ap (option_and_then (λ e. option_or (under (key k) (first_fault known g e)) (in_choices known cs (text_of e) d))) there.1) ∙ deep) in
+      let q = parted known g there.0 (not_under (key k) (first_fault known g there.0) p.0) in
+      (there.0, there.1, (sound known g there.0 q.0 q.1, choices_sound known cs (text_of there.0) d p.1))
 
   fields_sound : (known : Option Known) (fs : Fields) (d : Data) → There fs d → in_fields known fs d ≡ None → FieldsFit known fs d
   fields_sound known no_fields d there e = tt
@@ -232,6 +277,15 @@ mutual
       let q = parted known g there.0.0 none in
       ((there.0.0, there.0.1, sound known g there.0.0 q.0 q.1), fields_sound known fs d there.1 p.1)
 
+  choices_sound : (known : Option Known) (cs : Fields) (word : List ℕ) (d : Data) → in_choices known cs word d ≡ None → ChoiceFits known cs word d
+  choices_sound known no_fields word d e = tt
+  choices_sound known (field w g cs) word d e = by (bytes_eq word w) (λ e. let p = parted known g d e in sound known g d p.0 p.1) (choices_sound known cs word d) e
+    where
+      by : (b : Bool) → (first_fault known g d ≡ None → Fits known g d) → (in_choices known cs word d ≡ None → ChoiceFits known cs word d)
+          → cond b (first_fault known g d) (in_choices known cs word d) ≡ None → Either b (Fits known g d) (ChoiceFits known cs word d)
+      by true here later e = here e
+      by false here later e = later e
+
 -- where no fault is found, the value is one of the grammar
 pub none_fits : (known : Option Known) (g : Grammar) (d : Data) → first_fault known g d ≡ None → Fits known g d
 none_fits known g d e = let p = parted known g d e in sound known g d p.0 p.1
@@ -239,18 +293,26 @@ none_fits known g d e = let p = parted known g d e in sound known g d p.0 p.1
 mutual
   pub own_whole : (known : Option Known) (g : Grammar) (d : Data) → Fits known g d → own_fault known g d ≡ None
   own_whole known (plain w) d h = word_whole known w d h
+  own_whole known (one_of words) d h = among_whole words d h
   own_whole known (a_list most g) d h = ap (λ e. fault_of (short_list most e)) h.1 ∙ ap (λ b. fault_of (demand OverLimit b)) (within_whole most (items_count h.0) h.2)
   own_whole known (an_optional g) d (inl e) = ap (λ v. unless_null v (own_fault known g v)) e
   own_whole known (an_optional g) d (inr h) = optional_whole (own_fault known g d) d (own_whole known g d h)
   own_whole known (an_object rule fs) d h = ap (λ r. fault_of (then_with r (λ _. passes rule d))) (keys_whole (keys_of fs) d h.0) ∙ passes_whole rule d h.2
+  own_whole known (a_choice k g cs) d h = has_whole k d h.0 h.1
 
   inside_whole : (known : Option Known) (g : Grammar) (d : Data) → Fits known g d → inside known g d ≡ None
   inside_whole known (plain w) d h = refl
+  inside_whole known (one_of words) d h = refl
   inside_whole known (a_list most g) d h =
       ap (in_list (first_fault known g)) h.1 ∙ items_whole (first_fault known g) (λ e. Fits known g e) (λ e fits. joined known g e (own_whole known g e fits) (inside_whole known g e fits)) 0 h.0 h.3
   inside_whole known (an_optional g) d (inl e) = ap (inside known g) e ∙ inside_null known g
   inside_whole known (an_optional g) d (inr h) = inside_whole known g d h
   inside_whole known (an_object rule fs) d h = fields_whole known fs d h.1
+  inside_whole known (a_choice k g cs) d h =
+      ap (option_and_then (λ e. option_or (under (key k) (first_fault known g e)) (in_choices known cs (text_of e) d))) h.1
+      ∙ nothing (under (key k) (first_fault known g h.0)) (in_choices known cs (text_of h.0) d)
+      (ap (under (key k)) (joined known g h.0 (own_whole known g h.0 h.2.0) (inside_whole known g h.0 h.2.0)))
+      (choices_whole known cs (text_of h.0) d h.2.1)
 
   fields_whole : (known : Option Known) (fs : Fields) (d : Data) → FieldsFit known fs d → in_fields known fs d ≡ None
   fields_whole known no_fields d h = refl
@@ -258,6 +320,16 @@ mutual
       nothing (under (key k) (option_and_then (first_fault known g) (get k d))) (in_fields known fs d)
       (ap (λ o. under (key k) (option_and_then (first_fault known g) o)) h.0.1 ∙ ap (under (key k)) (joined known g h.0.0 (own_whole known g h.0.0 h.0.2) (inside_whole known g h.0.0 h.0.2)))
       (fields_whole known fs d h.1)
+
+  choices_whole : (known : Option Known) (cs : Fields) (word : List ℕ) (d : Data) → ChoiceFits known cs word d → in_choices known cs word d ≡ None
+  choices_whole known no_fields word d h = refl
+  choices_whole known (field w g cs) word d h =
+      by (bytes_eq word w) (λ fits. joined known g d (own_whole known g d fits) (inside_whole known g d fits)) (choices_whole known cs word d) h
+    where
+      by : (b : Bool) → (Fits known g d → first_fault known g d ≡ None) → (ChoiceFits known cs word d → in_choices known cs word d ≡ None)
+          → Either b (Fits known g d) (ChoiceFits known cs word d) → cond b (first_fault known g d) (in_choices known cs word d) ≡ None
+      by true here later h = here h
+      by false here later h = later h
 
 -- in a value of the grammar no fault is found
 pub fits_none : (known : Option Known) (g : Grammar) (d : Data) → Fits known g d → first_fault known g d ≡ None
@@ -268,6 +340,7 @@ word_forget : (k : Known) (w : Word) (d : Data) → IsWord (Some k) w d → IsWo
 word_forget k (word.Number least most) d h = h
 word_forget k word.Name d h = h
 word_forget k (word.Named names) d h = (h.0, h.1, tt)
+word_forget k word.Truth d h = h
 word_forget k word.Kind d h = h
 word_forget k word.Hex d h = h
 word_forget k word.Address d h = h
@@ -279,14 +352,25 @@ each_forget P Q h (item d ds) each = (h d each.0, each_forget P Q h ds each.1)
 mutual
   pub forget : (k : Known) (g : Grammar) (d : Data) → Fits (Some k) g d → Fits None g d
   forget k (plain w) d h = word_forget k w d h
+  forget k (one_of words) d h = h
   forget k (a_list most g) d h = (h.0, h.1, h.2, each_forget (λ e. Fits (Some k) g e) (λ e. Fits None g e) (λ e fits. forget k g e fits) h.0 h.3)
   forget k (an_optional g) d (inl e) = inl e
   forget k (an_optional g) d (inr h) = inr (forget k g d h)
   forget k (an_object rule fs) d h = (h.0, forget_fields k fs d h.1, h.2)
+  forget k (a_choice name g cs) d h = (h.0, h.1, (forget k g h.0 h.2.0, forget_choices k cs (text_of h.0) d h.2.1))
 
   forget_fields : (k : Known) (fs : Fields) (d : Data) → FieldsFit (Some k) fs d → FieldsFit None fs d
   forget_fields k no_fields d h = tt
   forget_fields k (field name g fs) d h = ((h.0.0, h.0.1, forget k g h.0.0 h.0.2), forget_fields k fs d h.1)
+
+  forget_choices : (k : Known) (cs : Fields) (word : List ℕ) (d : Data) → ChoiceFits (Some k) cs word d → ChoiceFits None cs word d
+  forget_choices k no_fields word d h = tt
+  forget_choices k (field w g cs) word d h = by (bytes_eq word w) (forget k g d) (forget_choices k cs word d) h
+    where
+      by : (b : Bool) → (Fits (Some k) g d → Fits None g d) → (ChoiceFits (Some k) cs word d → ChoiceFits None cs word d)
+          → Either b (Fits (Some k) g d) (ChoiceFits (Some k) cs word d) → Either b (Fits None g d) (ChoiceFits None cs word d)
+      by true here later h = here h
+      by false here later h = later h
 
 found_or_fits : (known : Option Known) (g : Grammar) (d : Data) (o : Option Located) → o ≡ first_fault known g d → MatchOption o (Fits known g d) (λ _. ¬ Fits known g d)
 found_or_fits known g d None e = none_fits known g d (sym e)

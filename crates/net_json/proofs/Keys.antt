@@ -1,5 +1,5 @@
 -- The keys of an object, as the reader looks through them.
-use Rattle.std.proofs.Common.{◌≡◌, ℕ, List, [], ◌∷◌, map, Bool, true, false, not, ◌||◌, Bor, Ordering, Less, Equal, Greater, nat_cmp, is_eq, is_some, refl, sym, ap, ◌∙◌}
+use Rattle.std.proofs.Common.{◌≡◌, ℕ, List, [], ◌∷◌, map, Bool, true, false, not, ◌||◌, Bor, Ordering, Less, Equal, Greater, nat_cmp, is_eq, refl, sym, ap, ◌∙◌}
 use Rattle.std.proofs.lemmas.Map.Text.{is_eq-slice_cmp}
 use Rattle.std.proofs.lemmas.Slice.Eq.{bytes_eq-Decides}
 use Rattle.std.specs.Cmp.Lexicographic.{slice_cmp}
@@ -8,9 +8,8 @@ use Rattle.std.specs.Ordering.{match_ordering}
 use Rattle.std.specs.Str.{bytes_eq}
 use Rattle.json.specs.Value as seen
 use Rattle.serde_json.specs.Data.{Data, Members, no_members, member, put}
-use Rattle.serde_json.specs.Find.{get_member}
 use Rattle.net_json.specs.Trees.{Tree, data_of, members_of, members_view}
-use Rattle.net_json.specs.Json.{is_among, has_unknown_key, lacks_key}
+use Rattle.net_json.specs.Json.{is_among, has_unknown_key}
 
 pub list_any-map : {A B : Type 0} (p : B → Bool) (f : A → B) (xs : List A) → list_any p (map f xs) ≡ list_any (λ x. p (f x)) xs
 list_any-map p f [] = refl
@@ -62,6 +61,3 @@ among_each keys (m ∷ ms) = rw (list_any-map (λ other. bytes_eq m.0.now other)
 pub unknown_members : (keys : List (Bor (List ℕ))) (ms : List (Bor (List ℕ) × Tree)) → has_unknown_key (map (λ key. key.now) keys) (members_view ms)
     ≡ list_any (λ m. not (list_any (λ other. bytes_eq m.0.now other.now) keys)) ms
 unknown_members keys ms = unknown_of (map (λ key. key.now) keys) ms no_members ∙ no_more _ ∙ among_each keys ms
-
-pub lacked_members : (keys : List (Bor (List ℕ))) (ms : Members) → lacks_key (map (λ key. key.now) keys) ms ≡ list_any (λ key. not (is_some (get_member key.now ms))) keys
-lacked_members keys ms = list_any-map (λ key. not (is_some (get_member key ms))) (λ key. key.now) keys

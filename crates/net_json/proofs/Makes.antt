@@ -9,11 +9,11 @@ use Rattle.net_json.specs.Finding.{names_of}
 use Rattle.net_json.specs.Fitting.{EachIs, HasAt, IsListThat, Fits}
 use Rattle.net_json.specs.Grammar.{Grammar, plain, Known}
 use Rattle.net_json.specs.Json.{is_among, items_count}
-use Rattle.net_json.specs.JsonWords.{At, AreItems, IsListOf, IsShortListOf, IsOptional, IsNumber, IsNumberWithin, IsName, IsHex, IsAddress, IsIndexOfName, IsFirstOf}
-use Rattle.net_json.specs.Made.{read_or, number_in, index_in, kind_in, address_in, each_made, each_in, within_in, optional_in, found_or, made_at, number_at, index_at, name_at, hex_at}
+use Rattle.net_json.specs.JsonWords.{At, AreItems, IsListOf, IsShortListOf, IsOptional, IsNumber, IsNumberWithin, IsTruth, IsName, IsHex, IsAddress, IsIndexOfName, IsFirstOf}
+use Rattle.net_json.specs.Made.{read_or, number_in, index_in, kind_in, address_in, each_made, each_in, within_in, optional_in, found_or, made_at, number_at, truth_at, index_at, name_at, hex_at}
 use Rattle.net_json.specs.Names.{index_among, text_of}
 use Rattle.net_json.specs.PlanText.{IsKindOf}
-use Rattle.net_json.specs.Tables.{a_number, a_name, a_kind, a_hex, an_address}
+use Rattle.net_json.specs.Tables.{a_number, a_truth, a_name, a_kind, a_hex, an_address}
 use Rattle.net_plan.specs.Placed.{is_none_or}
 use Rattle.net_plan.specs.declared.nodes.Kind.TheVariants.{Endpoint}
 use Rattle.net_json.specs.declared.error.ValueFault.{ValueFault}
@@ -21,7 +21,7 @@ use Rattle.net_json.specs.declared.shape.Named.{Named}
 use Rattle.net_json.specs.declared.shape.Word.TheVariants as word
 use Rattle.net_json.proofs.KeysLaw.{among_Contains, Contains_among, or_true}
 use Rattle.net_json.proofs.WordsLaw.{first_within, first_only, name_tells, hex_tells, address_tells, kind_tells}
-use Rattle.net_json.proofs.Telling.{Tells, any, both, number_tells}
+use Rattle.net_json.proofs.Telling.{Tells, any, both, number_tells, truth_tells}
 
 -- Of a value that is `strict` what R tells is made, and nothing else is R to it. A value that is `loose` is `strict` where
 -- what is made of it passes the test.
@@ -63,6 +63,9 @@ at_makes {A} {loose} {strict} {f} {test} {R} key other m = record {
 
 pub number_makes : (k : Known) (least most : ℕ) → Made k (a_number least most) (number_in least most) any (IsNumberWithin least most)
 number_makes k least most = told_makes least (number_tells least most)
+
+pub truth_made : (k : Known) (key : List ℕ) → MadeAt k key a_truth (truth_at key) any IsTruth
+truth_made k key = at_makes key false (told_makes false truth_tells)
 
 pub name_made : (k : Known) → MadeAt k (codes "name") a_name name_at any IsName
 name_made k = at_makes (codes "name") (codes "-") (told_makes (codes "-") name_tells)

@@ -16,8 +16,8 @@ use Rattle.net_json.specs.NameIndexes.{noted, IsIndexOf}
 use Rattle.net_plan.specs.PlanValues.{node_names}
 use Rattle.net_json.specs.Trees.{data_of}
 use Rattle.net_plan.specs.declared.event.Event.{Event}
-use Rattle.net_json.specs.declared.event_text.Format.{Format}
-use Rattle.net_json.specs.declared.event_text.Format.TheVariants.{One, Two, Three}
+use Rattle.net_json.specs.declared.event_format.Format.{Format}
+use Rattle.net_json.specs.declared.event_format.Format.TheVariants.{One, Two, Three}
 use Rattle.net_json.specs.declared.plain_events.EventsParts.{EventsParts}
 use Rattle.net_json.specs.declared.name_index.NameIndex.{NameIndex}
 use Rattle.net_json.proofs.Gathered.{gathered_now, gathered_other, none_plain, plain_last, object_plain, all_keys, at_gathered, not_yet, is_some_map}

@@ -1,13 +1,12 @@
 -- A function from JSON values that answers what a relation tells, and nothing else.
-use Rattle.std.proofs.Common.{◌≡◌, ◌≢◌, ℕ, suc, ◌≤◌, List, [], ◌∷◌, length, Bool, true, false, nat_le, ◌&&◌, Option, Some, None, Result, Ok, Err, refl, sym, ap, ◌∙◌, subst, cond, true≢false}
+use Rattle.std.proofs.Common.{◌≡◌, ℕ, List, Bool, true, false, nat_le, ◌&&◌, Option, Some, None, Result, Ok, Err, refl, sym, ap, ◌∙◌, subst, cond, true≢false}
 use Rattle.std.proofs.lemmas.Bool.{leb-true, le-leb}
-use Rattle.std.specs.List.{list_all}
-use Rattle.serde_json.specs.Data.{Num, Data, null, boolean, number, string, array, object, unsigned, negative, float, Items, no_items, item}
+use Rattle.serde_json.specs.Data.{Num, Data, null, boolean, number, string, array, object, unsigned, negative, float}
 use Rattle.serde_json.specs.Find.{get, as_u64}
 use Rattle.net_json.specs.declared.error.ValueFault.{ValueFault}
-use Rattle.net_json.specs.declared.error.ValueFault.TheVariants.{OutOfRange, OverLimit}
-use Rattle.net_json.specs.Json.{each, items_count, list_within, demand, found, at_key, whole_number, number_within, truth}
-use Rattle.net_json.specs.JsonWords.{At, AreItems, IsShortListOf, IsNumberWithin, IsTruth}
+use Rattle.net_json.specs.declared.error.ValueFault.TheVariants.{OutOfRange}
+use Rattle.net_json.specs.Json.{demand, found, at_key, whole_number, number_within, truth}
+use Rattle.net_json.specs.JsonWords.{At, IsNumberWithin, IsTruth}
 use Rattle.net_json.specs.Reading.{then_with}
 
 -- what f reads and passes the test is what R tells
@@ -53,57 +52,6 @@ at_key_tells key f test R t = record {
   whole = λ d x h. ap (λ o. then_with (found o) f) h.1 ∙ t.whole h.0 x h.2;
   passes = λ d x h. t.passes h.0 x h.2;
 }
-
-module _ {A : Type 0} (f : Data → Result A ValueFault) (test : A → Bool) (R : Data → A → Type 0) (t : Tells f test R) where
-  items_sound : (ds : Items) (xs : List A) → each f ds ≡ Ok xs → list_all test xs ≡ true → AreItems R ds xs
-  items_sound no_items [] e pass = tt
-  items_sound no_items (x ∷ xs) e pass = cc
-  items_sound (item d ds) xs e pass =
-      let p = then_Ok (f d) (λ a. then_with (each f ds) (λ rest. Ok (a ∷ rest))) xs e in
-      let q = then_Ok (each f ds) (λ rest. Ok (p.0 ∷ rest)) xs p.2 in
-      let same : p.0 ∷ q.0 ≡ xs = same_Ok q.2 in
-      let pass = both (test p.0) (list_all test q.0) (ap (list_all test) same ∙ pass) in
-      subst (AreItems R (item d ds)) same (t.sound d p.0 p.1 pass.0, items_sound ds q.0 q.1 pass.1)
-
-  items_whole : (ds : Items) (xs : List A) → AreItems R ds xs → each f ds ≡ Ok xs
-  items_whole no_items [] h = refl
-  items_whole no_items (x ∷ xs) h = absurd h
-  items_whole (item d ds) [] h = absurd h
-  items_whole (item d ds) (x ∷ xs) h =
-      ap (λ r. then_with r (λ a. then_with (each f ds) (λ rest. Ok (a ∷ rest)))) (t.whole d x h.0) ∙ ap (λ r. then_with r (λ rest. Ok (x ∷ rest))) (items_whole ds xs h.1)
-
-  items_pass : (ds : Items) (xs : List A) → AreItems R ds xs → list_all test xs ≡ true
-  items_pass no_items [] h = refl
-  items_pass no_items (x ∷ xs) h = absurd h
-  items_pass (item d ds) [] h = absurd h
-  items_pass (item d ds) (x ∷ xs) h = ap (λ b. b && list_all test xs) (t.passes d x h.0) ∙ items_pass ds xs h.1
-
-  items_length : (ds : Items) (xs : List A) → AreItems R ds xs → items_count ds ≡ length xs
-  items_length no_items [] h = refl
-  items_length no_items (x ∷ xs) h = absurd h
-  items_length (item d ds) [] h = absurd h
-  items_length (item d ds) (x ∷ xs) h = ap suc (items_length ds xs h.1)
-
-  within_sound : (most : ℕ) (d : Data) (xs : List A) → list_within most f d ≡ Ok xs → list_all test xs ≡ true → IsShortListOf most R d xs
-  within_sound most (array ds) xs e pass = by (nat_le (items_count ds) most) refl e
-    where
-      by : (b : Bool) → nat_le (items_count ds) most ≡ b → cond b (each f ds) (Err OverLimit) ≡ Ok xs → IsShortListOf most R (array ds) xs
-      by true few e = let h = items_sound ds xs e pass in ((ds, refl, h), subst (λ n. n ≤ most) (items_length ds xs h) (leb-true (items_count ds) most few))
-      by false few e = absurd (no_value e)
-  within_sound most null xs e pass = absurd (no_value e)
-  within_sound most (boolean b) xs e pass = absurd (no_value e)
-  within_sound most (number n) xs e pass = absurd (no_value e)
-  within_sound most (string s) xs e pass = absurd (no_value e)
-  within_sound most (object ms) xs e pass = absurd (no_value e)
-
-  pub within_tells : (most : ℕ) → Tells (list_within most f) (list_all test) (IsShortListOf most R)
-  within_tells most = record {
-    sound = within_sound most;
-    whole = λ d xs h.
-        let few : nat_le (items_count h.0.0) most ≡ true = le-leb (items_count h.0.0) most (subst (λ n. n ≤ most) (sym (items_length h.0.0 xs h.0.2)) h.1) in
-        ap (list_within most f) h.0.1 ∙ ap (λ b. cond b (each f h.0.0) (Err OverLimit)) few ∙ items_whole h.0.0 xs h.0.2;
-    passes = λ d xs h. items_pass h.0.0 xs h.0.2;
-  }
 
 number_sound : (least most : ℕ) (n : Num) (x : ℕ) → number_within least most (as_u64 n) ≡ Ok x → IsNumberWithin least most (number n) x
 number_sound least most (unsigned m) x e = by (nat_le least m) (nat_le m most) refl refl e

@@ -1,17 +1,16 @@
 -- What words of JSON say is what the relations tell.
-use Rattle.std.proofs.Common.{◌≡◌, ◌≢◌, ℕ, zero, suc, unwrap_or, ◌<◌, List, [], ◌∷◌, length, Bool, true, false, nat_le, nat_lt, Some, None, Result, Ok, Err, refl, sym, ap, ◌∙◌, subst, cond, true≢false, codes, slice_get, arith}
-use Rattle.std.proofs.lemmas.Bool.{leb-true, le-leb, ltb-true, lt-ltb}
+use Rattle.std.proofs.Common.{◌≡◌, ◌≢◌, ℕ, zero, suc, unwrap_or, ◌<◌, List, [], ◌∷◌, length, Bool, true, false, nat_le, Some, None, Result, Ok, Err, refl, sym, ap, ◌∙◌, subst, cond, true≢false, codes, slice_get, arith}
+use Rattle.std.proofs.lemmas.Bool.{leb-true, le-leb}
 use Rattle.std.proofs.lemmas.Slice.Eq.{bytes_eq-Decides}
 use Rattle.std.specs.Str.{bytes_eq}
 use Rattle.hex.specs.Hex.{decode_of}
 use Rattle.hex.specs.declared.error.FromHexError.{FromHexError}
 use Rattle.serde_json.specs.Data.{Data, null, boolean, number, string, array, object}
-use Rattle.net_json.specs.Json.{at_key, demand, name_text, reference, whole_number, hex_text, address_text, kind_text, decoded}
-use Rattle.net_json.specs.JsonWords.{At, IsNumberWithin, IsName, IsHex, IsAddress, IsIndexOfName, IsFirstOf}
+use Rattle.net_json.specs.Json.{at_key, demand, name_text, whole_number, hex_text, address_text, kind_text, decoded}
+use Rattle.net_json.specs.JsonWords.{At, IsNumberWithin, IsName, IsHex, IsAddress, IsFirstOf}
 use Rattle.net_plan.specs.NameText.{is_name}
 use Rattle.net_json.specs.Names.{index_of, index_among}
 use Rattle.net_json.specs.PlanText.{IsKindOf}
-use Rattle.net_json.specs.Reading.{then_with}
 use Rattle.net_json.specs.declared.error.ValueFault.TheVariants.{OutOfRange, OverLimit}
 use Rattle.net_plan.specs.declared.nodes.Kind.{Kind}
 use Rattle.net_plan.specs.declared.nodes.Kind.TheVariants.{Bridge, Endpoint}
@@ -121,32 +120,7 @@ first_only (n ∷ ns) s (suc p) h =
     by true is e = absurd (h.first 0 (omega arith) (ap Some (sym ((bytes_eq-Decides s n).0 is))))
     by false is e = ap suc e
 
--- a place at which something stands is in the list
-within_list : {A : Type 0} (xs : List A) (k : ℕ) (x : A) → slice_get xs k ≡ Some x → k < length xs
-within_list [] k x is = absurd (no_Some is)
-within_list (y ∷ ys) zero x is = omega arith
-within_list (y ∷ ys) (suc k) x is = let rest = within_list ys k x is in omega arith
-
-module _ (names : List (List ℕ)) where
-  reference_sound : (d : Data) (k : ℕ) → reference (index_among names) d ≡ Ok k → nat_lt k (length names) ≡ true → IsIndexOfName names d k
-  reference_sound d k e pass =
-      let p = then_Ok (name_text d) _ k e in
-      let below : index_among names p.0 < length names = ltb-true (index_among names p.0) (length names) (ap (λ j. nat_lt j (length names)) (same_Ok p.2) ∙ pass) in
-      subst (IsIndexOfName names d) (same_Ok p.2) (p.0, name_sound d p.0 p.1, first_within names p.0 below)
-
-  reference_whole : (d : Data) (k : ℕ) → IsIndexOfName names d k → reference (index_among names) d ≡ Ok k
-  reference_whole d k h = ap (λ r. then_with r (λ name. Ok (index_among names name))) (name_tells.whole d h.0 h.1) ∙ ap Ok (first_only names h.0 k h.2)
-
-  pub reference_tells : Tells (reference (index_among names)) (λ k. nat_lt k (length names)) (IsIndexOfName names)
-  reference_tells = record { sound = reference_sound; whole = reference_whole; passes = λ d k h. lt-ltb k (length names) (within_list names k h.0 h.2.stands) }
-
-  pub reference_at : (key : List ℕ) → Tells (at_key key (reference (index_among names))) (λ k. nat_lt k (length names)) (At key (IsIndexOfName names))
-  reference_at key = at_key_tells key (reference (index_among names)) (λ k. nat_lt k (length names)) (IsIndexOfName names) reference_tells
-
 -- ---- what stands at a key
 
 pub number_at : (key : List ℕ) (least most : ℕ) → Tells (at_key key (whole_number least most)) any (At key (IsNumberWithin least most))
 number_at key least most = at_key_tells key (whole_number least most) any (IsNumberWithin least most) (number_tells least most)
-
-pub hex_at : (key : List ℕ) → Tells (at_key key hex_text) any (At key IsHex)
-hex_at key = at_key_tells key hex_text any IsHex hex_tells

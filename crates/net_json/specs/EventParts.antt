@@ -10,7 +10,7 @@ use Rattle.net_json.specs.NameIndexes.{IsIndexOf}
 use Rattle.net_json.specs.PlanText.{IsByte, IsWord}
 use Rattle.net_json.specs.Trees.{data_of}
 use Rattle.net_json.specs.declared.event_parts.EventParts.{EventParts}
-use Rattle.net_json.specs.declared.event_text.Format.TheVariants.{Three}
+use Rattle.net_json.specs.declared.event_format.Format.TheVariants.{Three}
 
 -- the keys of all events
 abbrev pub event_keys : List (List ℕ)

@@ -8,8 +8,8 @@ use Rattle.net_json.specs.Keys.{events_keys, put_keys, move_keys, lose_keys, exp
 use Rattle.net_json.specs.Keys.{answer_keys, switch_keys, walk_keys, ask_keys, collected_keys}
 use Rattle.net_json.specs.PlanText.{IsByte, IsWord}
 use Rattle.net_plan.specs.PlanValues.{PlanValue, node_names}
-use Rattle.net_json.specs.declared.event_text.Format.{Format}
-use Rattle.net_json.specs.declared.event_text.Format.TheVariants.{One, Two, Three}
+use Rattle.net_json.specs.declared.event_format.Format.{Format}
+use Rattle.net_json.specs.declared.event_format.Format.TheVariants.{One, Two, Three}
 
 -- what happens is this
 abbrev pub Does : List ℕ → Data → Type 0

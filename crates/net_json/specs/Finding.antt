@@ -1,16 +1,18 @@
 -- The first fault of a value, and where it stands.
 use Rattle.std.specs.Prelude.{ℕ, suc, ◌+◌, codes, List, [], ◌∷◌, map, ⊤, Bool, true, false, not, nat_le, nat_lt}
-use Rattle.std.specs.Prelude.{Option, Some, None, option_map, option_and_then, Result, Ok, Err}
+use Rattle.std.specs.Prelude.{if◌then◌else◌, Option, Some, None, option_map, option_and_then, Result, Ok, Err}
 use Rattle.std.specs.Option.{option_or}
+use Rattle.std.specs.Str.{bytes_eq}
 use Rattle.serde_json.specs.Data.{Data, null, boolean, number, string, array, object, Items, no_items, item}
 use Rattle.serde_json.specs.Find.{get}
-use Rattle.net_json.specs.Json.{demand, items_count, keyed, at_key, is_among}
-use Rattle.net_json.specs.Json.{name_text, hex_text, address_text, whole_number}
-use Rattle.net_json.specs.Json.{kind_text}
+use Rattle.net_json.specs.Json.{demand, items_count, keyed, some_object, found, at_key, is_among}
+use Rattle.net_json.specs.Json.{name_text, hex_text, address_text, whole_number, truth, kind_text}
+use Rattle.net_json.specs.Names.{text_of}
 use Rattle.net_json.specs.Reading.{then_with}
 use Rattle.net_json.specs.declared.error.ValueFault.{ValueFault}
 use Rattle.net_json.specs.declared.error.ValueFault.TheVariants.{WrongKind, OverLimit, OutOfRange, UnknownName}
-use Rattle.net_json.specs.Grammar.{Grammar, plain, a_list, an_optional, an_object, Fields, no_fields, field, keys_of}
+use Rattle.net_json.specs.Grammar.{Grammar, plain, one_of, a_list, an_optional, an_object, a_choice}
+use Rattle.net_json.specs.Grammar.{Fields, no_fields, field, keys_of}
 use Rattle.net_json.specs.Grammar.{Known, grammar}
 use Rattle.net_json.specs.declared.found.Found.{Found}
 use Rattle.net_json.specs.declared.found.PointerStep.{PointerStep}
@@ -42,9 +44,15 @@ abbrev pub word_fault : Option Known → Word → Data → Option ValueFault
 word_fault known (word.Number least most) d = fault_of (whole_number least most d)
 word_fault known word.Name d = fault_of (name_text d)
 word_fault known (word.Named names) d = fault_of (known_name (option_map (names_of names) known) d)
+word_fault known word.Truth d = fault_of (truth d)
 word_fault known word.Kind d = fault_of (kind_text d)
 word_fault known word.Hex d = fault_of (hex_text d)
 word_fault known word.Address d = fault_of (address_text d)
+
+-- one of these words
+abbrev pub word_among : List (List ℕ) → Data → Result ⊤ ValueFault
+word_among words (string s) = demand OutOfRange (is_among words s)
+word_among words _ = Err WrongKind
 
 -- at most so many; any number where no bound is given
 abbrev pub is_within : Option ℕ → ℕ → Bool
@@ -82,12 +90,18 @@ abbrev pub passes : Rule → Data → Result ⊤ ValueFault
 passes rule.None d = Ok tt
 passes rule.EndsInTime d = demand OutOfRange (not (is_late (range_end d)))
 
+-- an object that has the key
+abbrev pub has_key : List ℕ → Data → Result ⊤ ValueFault
+has_key key d = then_with (some_object d) (λ _. then_with (found (get key d)) (λ _. Ok tt))
+
 -- the fault that a value has in itself, whatever the items of a list are, or the values of an object
 abbrev pub own_fault : Option Known → Grammar → Data → Option ValueFault
 own_fault known (plain w) d = word_fault known w d
+own_fault known (one_of words) d = fault_of (word_among words d)
 own_fault known (a_list most g) d = fault_of (short_list most d)
 own_fault known (an_optional g) d = unless_null d (own_fault known g d)
 own_fault known (an_object rule fs) d = fault_of (then_with (keyed (keys_of fs) d) (λ _. passes rule d))
+own_fault known (a_choice k g cs) d = fault_of (has_key k d)
 
 -- a step of a JSON pointer (RFC 6901): to the value at a key, or to the item at an index, from 0
 pub data Step : Type 0 where
@@ -123,9 +137,16 @@ abbrev mutual
   -- the first fault of the parts of a value
   pub inside : Option Known → Grammar → Data → Option Located
   inside known (plain w) d = None
+  inside known (one_of words) d = None
   inside known (a_list most g) d = in_list (λ e. option_or (here g (own_fault known g e)) (inside known g e)) d
   inside known (an_optional g) d = inside known g d
   inside known (an_object rule fs) d = in_fields known fs d
+  inside known (a_choice k g cs) d =
+      option_and_then
+      (λ e. option_or
+      (under (key k) (option_or (here g (own_fault known g e)) (inside known g e)))
+      (in_choices known cs (text_of e) d))
+      (get k d)
 
   -- the first fault of the values at the keys of an object
   pub in_fields : Option Known → Fields → Data → Option Located
@@ -134,6 +155,13 @@ abbrev mutual
       option_or
       (under (key k) (option_and_then (λ e. option_or (here g (own_fault known g e)) (inside known g e)) (get k d)))
       (in_fields known fs d)
+
+  -- the first fault of an object by what the word asks of it
+  pub in_choices : Option Known → Fields → List ℕ → Data → Option Located
+  in_choices known no_fields word d = None
+  in_choices known (field w g cs) word d =
+      if bytes_eq word w then option_or (here g (own_fault known g d)) (inside known g d)
+      else in_choices known cs word d
 
 -- the first fault of a value in the order of tests
 abbrev pub first_fault : Option Known → Grammar → Data → Option Located

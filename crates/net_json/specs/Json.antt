@@ -1,11 +1,11 @@
 -- What a JSON value says, by functions: the value that it stands for, or its first fault in the order of tests.
-use Rattle.std.specs.Prelude.{ℕ, suc, ⊤, codes, is_some, ◌&&◌, ◌||◌, List, [], ◌∷◌, length, Bool, true}
+use Rattle.std.specs.Prelude.{ℕ, suc, ⊤, codes, is_some, ◌&&◌, ◌||◌, List, length, Bool, true}
 use Rattle.std.specs.Prelude.{false, not, nat_le, if◌then◌else◌, Option, Some, None, Result, Ok, Err}
 use Rattle.std.specs.List.{list_any}
 use Rattle.std.specs.Str.{bytes_eq}
 use Rattle.hex.specs.Hex.{decode_of}
 use Rattle.hex.specs.declared.error.FromHexError.{FromHexError}
-use Rattle.serde_json.specs.Data.{Data, null, boolean, number, string, array, object}
+use Rattle.serde_json.specs.Data.{Data, boolean, number, string, object}
 use Rattle.serde_json.specs.Data.{Items, no_items, item, Members, no_members, member}
 use Rattle.serde_json.specs.Find.{get, get_member, as_u64}
 use Rattle.net_plan.specs.NameText.{is_name}
@@ -16,19 +16,9 @@ use Rattle.net_json.specs.declared.error.ValueFault.TheVariants.{OutOfRange, Bad
 use Rattle.net_plan.specs.declared.nodes.Kind.{Kind}
 use Rattle.net_plan.specs.declared.nodes.Kind.TheVariants.{Bridge, Endpoint}
 
--- each item, one after another
-abbrev pub each : {A : Type 0} → (Data → Result A ValueFault) → Items → Result (List A) ValueFault
-each f no_items = Ok []
-each f (item d ds) = then_with (f d) (λ a. then_with (each f ds) (λ rest. Ok (a ∷ rest)))
-
 abbrev pub items_count : Items → ℕ
 items_count no_items = 0
 items_count (item d ds) = suc (items_count ds)
-
--- a list of at most so many items
-abbrev pub list_within : {A : Type 0} → ℕ → (Data → Result A ValueFault) → Data → Result (List A) ValueFault
-list_within most f (array ds) = if nat_le (items_count ds) most then each f ds else Err OverLimit
-list_within most f _ = Err WrongKind
 
 abbrev pub demand : ValueFault → Bool → Result ⊤ ValueFault
 demand fault true = Ok tt
@@ -89,10 +79,6 @@ truth _ = Err WrongKind
 abbrev pub name_text : Data → Result (List ℕ) ValueFault
 name_text (string s) = if is_name s then Ok s else Err OutOfRange
 name_text _ = Err WrongKind
-
--- the index of a name, by what finds the indices
-abbrev pub reference : (List ℕ → ℕ) → Data → Result ℕ ValueFault
-reference find d = then_with (name_text d) (λ name. Ok (find name))
 
 abbrev pub decoded : Result (List ℕ) FromHexError → Result (List ℕ) ValueFault
 decoded (Ok bytes) = Ok bytes

@@ -1,5 +1,7 @@
 -- What is made of a value that is one of the grammar. Of any other value something is made too, which nobody reads.
-use Rattle.std.specs.Prelude.{ℕ, ◌+◌, List, [], ◌∷◌, codes, nat_le, if◌then◌else◌, Option, Some, None, Result, Ok, Err}
+use Rattle.std.specs.Prelude.{ℕ, ◌+◌, ◌==◌, List, [], ◌∷◌, codes, Bool, false, nat_le, if◌then◌else◌}
+use Rattle.std.specs.Prelude.{Option, Some, None, Result, Ok, Err}
+use Rattle.std.specs.Str.{bytes_eq}
 use Rattle.serde_json.specs.Data.{Data, null, array, Items, no_items, item}
 use Rattle.serde_json.specs.Find.{get}
 use Rattle.net_plan.specs.CertificateValues.{LevelValue, PlacesValue, RangeValue, NodeRanksValue, CertificateValue}
@@ -7,8 +9,9 @@ use Rattle.net_plan.specs.PlanValues.{BusValue, PortValue, RowValue, PoolValue, 
 use Rattle.net_plan.specs.PlanValues.{TerminusValue, NodeValue, PlanValue, bus_names}
 use Rattle.net_plan.specs.declared.nodes.Kind.{Kind}
 use Rattle.net_plan.specs.declared.nodes.Kind.TheVariants.{Endpoint}
-use Rattle.net_json.specs.Json.{items_count, whole_number, name_text, hex_text, address_text, kind_text}
-use Rattle.net_json.specs.Names.{index_among, text_of, names_at}
+use Rattle.net_plan.specs.EventValues.{EventEntry, put, move, lose, expire, answer, switch, walk, ask, collected}
+use Rattle.net_json.specs.Json.{items_count, whole_number, truth, name_text, hex_text, address_text, kind_text}
+use Rattle.net_json.specs.Names.{index_among, text_of, text_at, names_at}
 use Rattle.net_json.specs.declared.error.ValueFault.{ValueFault}
 use Rattle.net_json.specs.declared.plan_format.PlanFormat.{PlanFormat}
 use Rattle.net_json.specs.declared.plan_format.PlanFormat.TheVariants.{One, Two}
@@ -25,6 +28,9 @@ number_in least most d = read_or least (whole_number least most d)
 
 abbrev pub name_in : Data → List ℕ
 name_in d = read_or (codes "-") (name_text d)
+
+abbrev pub truth_in : Data → Bool
+truth_in d = read_or false (truth d)
 
 abbrev pub kind_in : Data → Kind
 kind_in d = read_or Endpoint (kind_text d)
@@ -69,6 +75,9 @@ made_at other f key d = found_or other f (get key d)
 
 abbrev pub number_at : List ℕ → ℕ → ℕ → Data → ℕ
 number_at key least most d = made_at least (number_in least most) key d
+
+abbrev pub truth_at : List ℕ → Data → Bool
+truth_at key d = made_at false truth_in key d
 
 abbrev pub index_at : List ℕ → (List ℕ → ℕ) → Data → ℕ
 index_at key find d = made_at (find []) (index_in find) key d
@@ -190,3 +199,41 @@ certificate_made find d =
       places = each_at (codes "places") (places_made find) d;
       ranks = each_at (codes "ranks") (ranks_made find) d;
     }
+
+-- ---- events
+
+abbrev pub node_at : (List ℕ → ℕ) → Data → ℕ
+node_at find d = index_at (codes "node") find d
+
+-- a number of 32 bits
+abbrev pub word_at : List ℕ → Data → ℕ
+word_at key d = number_at key 0 4294967295 d
+
+abbrev pub expire_made : (List ℕ → ℕ) → Data → EventEntry
+expire_made find d =
+    expire (node_at find d) (number_at (codes "source") 0 255 d) (number_at (codes "tag") 0 7 d)
+    (number_at (codes "owner") 0 1 d == 1)
+
+abbrev pub walk_made : (List ℕ → ℕ) → Data → EventEntry
+walk_made find d =
+    walk (node_at find d) (number_at (codes "eid") 8 254 d) (number_at (codes "tag") 0 7 d)
+    (number_at (codes "count") 8 4079 d)
+
+-- of an event that does this, by what finds the indices of nodes
+abbrev pub event_by : List ℕ → (List ℕ → ℕ) → Data → EventEntry
+event_by word find d =
+    if bytes_eq word (codes "put") then put (node_at find d) (hex_at d)
+    else (if bytes_eq word (codes "move") then move (word_at (codes "flight") d) (truth_at (codes "keep") d)
+    else (if bytes_eq word (codes "lose") then lose (word_at (codes "flight") d)
+    else (if bytes_eq word (codes "expire") then expire_made find d
+    else (if bytes_eq word (codes "answer") then answer (node_at find d)
+    else (if bytes_eq word (codes "switch") then switch (node_at find d)
+    else (if bytes_eq word (codes "walk") then walk_made find d
+    else (if bytes_eq word (codes "ask") then ask (word_at (codes "walker") d)
+    else collected (word_at (codes "walker") d))))))))
+
+abbrev pub event_made : (List ℕ → ℕ) → Data → EventEntry
+event_made find d = event_by (text_at (codes "do") d) find d
+
+abbrev pub events_made : (List ℕ → ℕ) → Data → List EventEntry
+events_made find d = within_at (codes "events") 100000 (event_made find) d

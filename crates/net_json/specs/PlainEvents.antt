@@ -3,7 +3,7 @@ use Rattle.std.specs.Prelude.{ℕ, Bool, true, codes, List, map, Option, option_
 use Rattle.json.specs.Json.{Members}
 use Rattle.serde_json.specs.Data.{Data}
 use Rattle.net_json.specs.EventParts.{IsEventBy}
-use Rattle.net_json.specs.EventReading.{is_in}
+use Rattle.net_json.specs.EventReading.{has_switches, has_walks}
 use Rattle.net_json.specs.EventText.{IsFormat, AreEventsOf}
 use Rattle.net_plan.specs.EventValues.{EventEntry, put, move, lose, expire, answer}
 use Rattle.net_plan.specs.EventValues.{switch, walk, ask, collected, event_entry}
@@ -12,8 +12,7 @@ use Rattle.net_json.specs.JsonWords.{IsShortListOf}
 use Rattle.net_json.specs.Keys.{events_keys}
 use Rattle.net_json.specs.NameIndexes.{noted, IsIndexOf}
 use Rattle.net_plan.specs.PlanValues.{PlanValue, node_names}
-use Rattle.net_json.specs.declared.event_text.Format.{Format}
-use Rattle.net_json.specs.declared.event_text.Verb.TheVariants as verb
+use Rattle.net_json.specs.declared.event_format.Format.{Format}
 use Rattle.net_json.specs.declared.plain_events.EventsParts.{EventsParts}
 
 pub record AreEventsParts (p : EventsParts) (ms : Members) : Type 0 where
@@ -29,10 +28,10 @@ is_event_in f (move flight keep) = true
 is_event_in f (lose flight) = true
 is_event_in f (expire node source tag owner) = true
 is_event_in f (answer node) = true
-is_event_in f (switch node) = is_in f verb.Switch
-is_event_in f (walk node eid tag count) = is_in f verb.Walk
-is_event_in f (ask walker) = is_in f verb.Ask
-is_event_in f (collected walker) = is_in f verb.Collected
+is_event_in f (switch node) = has_switches f
+is_event_in f (walk node eid tag count) = has_walks f
+is_event_in f (ask walker) = has_walks f
+is_event_in f (collected walker) = has_walks f
 
 -- events at the nodes whose indices are found
 abbrev pub AreEventsBy : (List ℕ → Option ℕ) → Data → List EventEntry → Type 0

@@ -1,5 +1,5 @@
 -- The plan that a JSON value stands for, or its first fault in the order of tests, by functions.
-use Rattle.std.specs.Prelude.{ℕ, codes, length, None, if◌then◌else◌, is_ok, Result, Ok}
+use Rattle.std.specs.Prelude.{codes, length, None, if◌then◌else◌, is_ok, Result, Ok}
 use Rattle.serde_json.specs.Data.{Data}
 use Rattle.net_json.specs.Finding.{first_fault, refused}
 use Rattle.net_json.specs.Json.{at_key, demand, whole_number}
@@ -13,13 +13,6 @@ use Rattle.net_json.specs.declared.error.ValueFault.{ValueFault}
 use Rattle.net_json.specs.declared.error.ValueFault.TheVariants.{UnknownName, Doubled}
 use Rattle.net_json.specs.declared.plan_format.PlanFormat.{PlanFormat}
 use Rattle.net_json.specs.declared.plan_format.PlanFormat.TheVariants.{One, Two}
-
-abbrev pub byte : Data → Result ℕ ValueFault
-byte d = whole_number 0 255 d
-
--- a number of 32 bits
-abbrev pub word : Data → Result ℕ ValueFault
-word d = whole_number 0 4294967295 d
 
 -- the format by whose tests a plan is read: 2 where it says so, else 1
 abbrev pub plan_format : Data → PlanFormat

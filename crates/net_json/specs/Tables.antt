@@ -1,6 +1,9 @@
--- What may stand where in a plan, and in a certificate.
-use Rattle.std.specs.Prelude.{ℕ, codes, Some, None}
-use Rattle.net_json.specs.Grammar.{Grammar, plain, a_list, an_optional, an_object, Fields, no_fields, field}
+-- What may stand where in a plan, in a certificate, and in a list of events.
+use Rattle.std.specs.Prelude.{ℕ, codes, List, [], ◌∷◌, Some, None}
+use Rattle.net_json.specs.Grammar.{Grammar, plain, one_of, a_list, an_optional, an_object, a_choice}
+use Rattle.net_json.specs.Grammar.{Fields, no_fields, field, keys_of}
+use Rattle.net_json.specs.declared.event_format.Format.{Format}
+use Rattle.net_json.specs.declared.event_format.Format.TheVariants as format
 use Rattle.net_json.specs.declared.plan_format.PlanFormat.{PlanFormat}
 use Rattle.net_json.specs.declared.plan_format.PlanFormat.TheVariants.{One, Two}
 use Rattle.net_json.specs.declared.shape.Named.TheVariants.{Buses, Nodes}
@@ -28,6 +31,10 @@ a_bus_name = plain (word.Named Buses)
 -- the name of one of the plan's nodes
 abbrev pub a_node_name : Grammar
 a_node_name = plain (word.Named Nodes)
+
+-- `true` or `false`
+abbrev pub a_truth : Grammar
+a_truth = plain word.Truth
 
 -- the kind of a node
 abbrev pub a_kind : Grammar
@@ -125,3 +132,76 @@ a_certificate =
     (field (codes "levels") (a_list None a_level)
     (field (codes "places") (a_list None a_node_places)
     (field (codes "ranks") (a_list None a_node_ranks) no_fields))))
+
+-- ---- events
+
+-- an event that does this, and has these keys
+abbrev pub event_that : List ℕ → Fields → Grammar
+event_that word fs = object_of (field (codes "do") (one_of (word ∷ [])) fs)
+
+abbrev pub a_put : Grammar
+a_put = event_that (codes "put") (field (codes "node") a_node_name (field (codes "bytes") a_hex no_fields))
+
+abbrev pub a_move : Grammar
+a_move = event_that (codes "move") (field (codes "flight") a_word (field (codes "keep") a_truth no_fields))
+
+abbrev pub a_lose : Grammar
+a_lose = event_that (codes "lose") (field (codes "flight") a_word no_fields)
+
+abbrev pub an_expire : Grammar
+an_expire =
+    event_that (codes "expire")
+    (field (codes "node") a_node_name
+    (field (codes "source") a_byte
+    (field (codes "tag") (a_number 0 7)
+    (field (codes "owner") (a_number 0 1) no_fields))))
+
+abbrev pub an_answer : Grammar
+an_answer = event_that (codes "answer") (field (codes "node") a_node_name no_fields)
+
+abbrev pub a_switch : Grammar
+a_switch = event_that (codes "switch") (field (codes "node") a_node_name no_fields)
+
+-- the endpoint ID can be assigned, and a part of a record has 8 to 4079 bytes
+abbrev pub a_walk : Grammar
+a_walk =
+    event_that (codes "walk")
+    (field (codes "node") a_node_name
+    (field (codes "eid") (a_number 8 254)
+    (field (codes "tag") (a_number 0 7)
+    (field (codes "count") (a_number 8 4079) no_fields))))
+
+abbrev pub an_ask : Grammar
+an_ask = event_that (codes "ask") (field (codes "walker") a_word no_fields)
+
+abbrev pub a_collected : Grammar
+a_collected = event_that (codes "collected") (field (codes "walker") a_word no_fields)
+
+-- what format 3 alone has
+abbrev pub walk_events : Fields
+walk_events =
+    field (codes "walk") a_walk (field (codes "ask") an_ask (field (codes "collected") a_collected no_fields))
+
+-- what a format has beyond the first
+abbrev pub later_events : Format → Fields
+later_events format.One = no_fields
+later_events format.Two = field (codes "switch") a_switch no_fields
+later_events format.Three = field (codes "switch") a_switch walk_events
+
+-- what an event of a list of this format does, and its keys
+abbrev pub event_choices : Format → Fields
+event_choices f =
+    field (codes "put") a_put
+    (field (codes "move") a_move
+    (field (codes "lose") a_lose
+    (field (codes "expire") an_expire
+    (field (codes "answer") an_answer (later_events f)))))
+
+abbrev pub an_event : Format → Grammar
+an_event f = a_choice (codes "do") (one_of (keys_of (event_choices f))) (event_choices f)
+
+-- a list of events of a format
+abbrev pub events_in : Format → Grammar
+events_in f =
+    object_of
+    (field (codes "format") (a_number 1 3) (field (codes "events") (a_list (Some 100000) (an_event f)) no_fields))

@@ -4,15 +4,15 @@ ghost use Rattle.net_json.specs.Json.{keyed};
 ghost use Rattle.net_json.specs.Reading.{then_with};
 ghost use Rattle.net_json.specs.Trees.{view};
 ghost use Rattle.net_json.specs.declared.error.ValueFault.TheVariants.{OutOfMemory};
-ghost use Rattle.net_json.specs.Finding.{fault_of, own_fault, is_within, short_list, unless_null, first_fault, inside, in_fields, in_list, located, passes};
+ghost use Rattle.net_json.specs.Finding.{fault_of, own_fault, has_key, is_within, short_list, unless_null, first_fault, inside, in_fields, in_list, in_choices, located, passes};
 ghost use Rattle.net_json.specs.Fitting.{Fits};
 ghost use Rattle.net_json.specs.Grammar.{grammar, fields_view, keys_of, known_seen};
 
 use crate::error::ValueFault;
 use crate::field_keys::check_fields;
 use crate::found::{Found, PointerStep};
-use crate::json_value::at;
-use crate::plain_values::{check_rule, check_word};
+use crate::json_value::{at, check_object, text_of};
+use crate::plain_values::{check_among, check_rule, check_word};
 use crate::shape::{Field, KnownNames, Rule, Shape};
 use json::Value;
 use std::alloc::{AllocError, Global};
@@ -57,6 +57,7 @@ fn first_fault(
 
 /// The first fault of the parts of a value.
 #[cycle(first)]
+#[tactic(auto, using(crate::proofs::FieldKeys::seen_by))]
 fn fault_inside(
     alloc: Global,
     known: Option<&KnownNames<'_>>,
@@ -66,10 +67,19 @@ fn fault_inside(
     ensures { IfOk result (λ found. option_map located found ≡ inside (known_seen known.entry) (grammar shape.now) (view value.now)) }
 {
     match shape {
-        Shape::Plain(_) => Ok(None),
+        Shape::Plain(_) | Shape::OneOf(_) => Ok(None),
         Shape::List { most: _, item } => fault_in_list(alloc, known, item, value),
         Shape::Optional(other) => fault_inside(alloc, known, other, value),
         Shape::Object { rule: _, fields } => fault_in_fields(alloc, known, fields, value),
+        Shape::Choice { at: by, choices } => {
+            let Some(stands) = at(value, by.key) else {
+                return Ok(None);
+            };
+            if let Some(found) = first_fault(alloc, known, &by.shape, stands)? {
+                return Ok(Some(found.under(PointerStep::Key(by.key))?));
+            }
+            fault_by_word(alloc, known, choices, text_of(stands), value)
+        }
     }
 }
 
@@ -116,6 +126,26 @@ fn fault_in_fields(
     Ok(None)
 }
 
+/// The first fault of an object by the first choice that has a word.
+#[cycle(first)]
+#[tactic(auto, using(crate::proofs::FieldKeys::fields_cons))]
+fn fault_by_word(
+    alloc: Global,
+    known: Option<&KnownNames<'_>>,
+    choices: &'static [Field],
+    word: &str,
+    value: &Value<'_>,
+) -> Result<Option<Found>, AllocError>
+    ensures { IfOk result (λ found. option_map located found ≡ in_choices (known_seen known.entry) (fields_view choices.now) word.now (view value.now)) }
+{
+    for choice in choices {
+        if word == choice.key {
+            return first_fault(alloc, known, &choice.shape, value);
+        }
+    }
+    Ok(None)
+}
+
 /// The fault that a value has in itself, whatever the items of a list are, or the values of an object.
 pub fn own_fault(
     alloc: Global,
@@ -143,18 +173,31 @@ fn check(
 {
     match shape {
         Shape::Plain(word) => check_word(alloc, known, *word, value),
+        Shape::OneOf(words) => check_among(words, value),
         Shape::List { most, item: _ } => check_list(value, *most),
         Shape::Optional(other) => unless_null(value, check(alloc, known, other, value)),
-        Shape::Object { rule, fields } => check_object(*rule, fields, value),
+        Shape::Object { rule, fields } => check_fields_and_rule(*rule, fields, value),
+        Shape::Choice { at, choices: _ } => check_has(value, at.key),
     }
 }
 
 /// That a value is an object with exactly these keys, which keeps a rule.
-fn check_object(rule: Rule, fields: &[Field], value: &Value<'_>) -> Result<(), ValueFault>
+fn check_fields_and_rule(rule: Rule, fields: &[Field], value: &Value<'_>) -> Result<(), ValueFault>
     ensures { result ≡ then_with (keyed (keys_of (fields_view fields.now)) (view value.now)) (λ _. passes rule (view value.now)) }
 {
     check_fields(fields, value)?;
     check_rule(rule, value)
+}
+
+/// That a value is an object that has a key.
+fn check_has(value: &Value<'_>, key: &str) -> Result<(), ValueFault>
+    ensures { result ≡ has_key key.now (view value.now) }
+{
+    check_object(value)?;
+    match at(value, key) {
+        Some(_) => Ok(()),
+        None => Err(ValueFault::MissingKey),
+    }
 }
 
 /// That a value is a list of at most so many items.

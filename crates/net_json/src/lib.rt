@@ -4,6 +4,7 @@
 mod certificate_json;
 mod certificate_text;
 mod error;
+mod event_format;
 mod event_parts;
 mod event_text;
 mod field_keys;
@@ -40,9 +41,10 @@ mod words;
 mod writing;
 
 pub use error::{PlanError, ValueFault};
+pub use event_format::events_format;
 pub use find::{find_fault, own_fault};
 pub use found::{Found, PointerStep};
-pub use json_value::{at, check_keys, read_number, text_at};
+pub use json_value::{at, read_number, text_at};
 pub use plain_values::{byte_at, range_end};
 pub use plan_format::{PlanFormat, format_of};
 pub use reading::{
@@ -51,6 +53,6 @@ pub use reading::{
 };
 pub use shape::{Field, KnownNames, Named, Rule, Shape, Word, fields_of};
 pub use stream::{Counted, Failed, Sink, Source, TextFault, read_within, write_whole};
-pub use tables::{certificate_shape, plan_shape};
+pub use tables::{certificate_shape, events_shape, plan_shape};
 pub use words::{read_address, read_hex, read_kind};
 pub use writing::{read_back, text_of_certificate, write_certificate};

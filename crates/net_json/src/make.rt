@@ -3,16 +3,15 @@ ghost use Rattle.std.specs.Prelude.{◌≡◌, ◌≤◌, [], codes, map, length
 ghost use Rattle.serde_json.specs.Data.{Data};
 ghost use Rattle.net_json.specs.Finding.{first_fault, refused};
 ghost use Rattle.net_json.specs.Grammar.{grammar};
-ghost use Rattle.net_json.specs.Made.{number_in, number_at, index_in, index_at, name_in, name_at, hex_in, hex_at, each_made, each_at, within_in, within_at, optional_in, optional_at};
+ghost use Rattle.net_json.specs.Made.{number_in, number_at, truth_in, truth_at, index_in, index_at, name_in, name_at, hex_in, hex_at, each_made, each_at, within_in, within_at, optional_in, optional_at};
 ghost use Rattle.net_plan.specs.NodeValues.{name_bytes};
 ghost use Rattle.net_json.specs.NameIndexes.{find_in};
-ghost use Rattle.net_json.specs.Names.{text_of};
 ghost use Rattle.net_json.specs.Reading.{IsReadOf};
 ghost use Rattle.net_json.specs.Trees.{view, items_view};
 
 use crate::error::ValueFault;
 use crate::find::find_fault;
-use crate::json_value::{at, read_number};
+use crate::json_value::{at, read_number, read_truth, text_of};
 use crate::name_index::NameIndex;
 use crate::shape::Shape;
 use crate::words::{read_hex, read_name};
@@ -183,6 +182,26 @@ pub fn number_at(value: &Value<'_>, key: &str, least: u64, most: u64) -> u64
     }
 }
 
+/// Whether a value is `true`.
+fn truth_in(value: &Value<'_>) -> bool
+    ensures { result ≡ truth_in (view value.now) }
+{
+    match read_truth(value) {
+        Ok(truth) => truth,
+        Err(_) => false,
+    }
+}
+
+/// Whether `true` stands at a key.
+pub fn truth_at(value: &Value<'_>, key: &str) -> bool
+    ensures { result ≡ truth_at key.now (view value.now) }
+{
+    match at(value, key) {
+        Some(stands) => truth_in(stands),
+        None => false,
+    }
+}
+
 /// The index of a name.
 pub fn index_in(names: &NameIndex, value: &Value<'_>) -> usize
     ensures { result ≡ index_in (find_in names.now) (view value.now) }
@@ -197,16 +216,6 @@ pub fn index_at(names: &NameIndex, value: &Value<'_>, key: &str) -> usize
     match at(value, key) {
         Some(stands) => index_in(names, stands),
         None => names.find(""),
-    }
-}
-
-/// The text that a value is.
-fn text_of<'v>(value: &'v Value<'_>) -> &'v str
-    ensures { result.now ≡ text_of (view value.now) }
-{
-    match value {
-        Value::String(text) => text,
-        _ => "",
     }
 }
 

@@ -12,8 +12,9 @@ ghost use Rattle.net_plan.specs.PlanValues.{plan_value};
 ghost use Rattle.net_json.specs.Trees.{data_of};
 ghost use Rattle.net_json.specs.declared.name_index.NameIndex.{NameIndex};
 
+use crate::event_format::{Format, format_of};
 use crate::event_parts::NextEvent;
-use crate::event_text::{Format, MOST_EVENTS, Verb, format_of, is_in};
+use crate::event_text::MOST_EVENTS;
 use crate::gather::{Gather, next_list, read_text};
 use crate::name_index::NameIndex;
 use crate::naming::NodeName;
@@ -123,10 +124,8 @@ fn is_event_in(format: Format, event: &Event) -> bool
         | Event::Lose { .. }
         | Event::Expire { .. }
         | Event::Answer { .. } => true,
-        Event::Switch { .. } => is_in(format, Verb::Switch),
-        Event::Walk { .. } => is_in(format, Verb::Walk),
-        Event::Ask { .. } => is_in(format, Verb::Ask),
-        Event::Collected { .. } => is_in(format, Verb::Collected),
+        Event::Switch { .. } => format.has_switches(),
+        Event::Walk { .. } | Event::Ask { .. } | Event::Collected { .. } => format.has_walks(),
     }
 }
 

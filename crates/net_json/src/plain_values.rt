@@ -3,14 +3,14 @@ ghost use Rattle.std.specs.Prelude.{◌≡◌, ◌≢◌, ◌≤◌, Err, IfOk, 
 ghost use Rattle.std.specs.List.{list_any};
 ghost use Rattle.std.specs.Str.{bytes_eq};
 ghost use Rattle.net_json.specs.Json.{at_key, is_among, name_text, hex_text, address_text, whole_number};
-ghost use Rattle.net_json.specs.Json.{kind_text};
+ghost use Rattle.net_json.specs.Json.{truth, kind_text};
 ghost use Rattle.net_json.specs.Trees.{view};
 ghost use Rattle.net_json.specs.declared.error.ValueFault.TheVariants.{OutOfMemory};
-ghost use Rattle.net_json.specs.Finding.{fault_of, word_fault, known_name, names_of, range_end, passes};
+ghost use Rattle.net_json.specs.Finding.{fault_of, word_fault, word_among, known_name, names_of, range_end, passes};
 ghost use Rattle.net_json.specs.Grammar.{known_seen, known_view};
 
 use crate::error::ValueFault;
-use crate::json_value::{at, read_number};
+use crate::json_value::{at, demand, read_number, read_truth};
 use crate::shape::{KnownNames, Named, Rule, Word};
 use crate::words::{read_address, read_hex, read_kind};
 use json::Value;
@@ -30,6 +30,7 @@ pub fn check_word(
         Word::Number { least, most } => check_number(value, least, most),
         Word::Name => check_name(value),
         Word::Named(named) => check_named(known, named, value),
+        Word::Truth => check_truth(value),
         Word::Kind => check_kind(value),
         Word::Hex => check_hex(alloc, value),
         Word::Address => check_address(alloc, value),
@@ -72,6 +73,16 @@ fn check_known(names: &[&str], value: &Value<'_>) -> Result<(), ValueFault>
     }
 }
 
+/// That a value is the text of one of these words.
+pub fn check_among(words: &[&str], value: &Value<'_>) -> Result<(), ValueFault>
+    ensures { result ≡ word_among (map (λ word. word.now) words.now) (view value.now) }
+{
+    match value {
+        Value::String(text) => demand(ValueFault::OutOfRange, is_among(words, text)),
+        _ => Err(ValueFault::WrongKind),
+    }
+}
+
 #[tactic(auto, using(crate::proofs::FieldKeys::among_each))]
 fn is_among(names: &[&str], text: &str) -> bool
     ensures { result ≡ is_among (map (λ name. name.now) names.now) text.now }
@@ -101,6 +112,13 @@ fn check_name(value: &Value) -> Result<(), ValueFault>
         Value::String(_) => Err(ValueFault::OutOfRange),
         _ => Err(ValueFault::WrongKind),
     }
+}
+
+fn check_truth(value: &Value) -> Result<(), ValueFault>
+    ensures { fault_of result ≡ fault_of (truth (view value.now)) }
+{
+    read_truth(value)?;
+    Ok(())
 }
 
 fn check_kind(value: &Value) -> Result<(), ValueFault>

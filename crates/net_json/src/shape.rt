@@ -2,6 +2,8 @@
 ghost use Rattle.std.specs.Prelude.{◌≡◌};
 ghost use Rattle.net_json.specs.Grammar.{grammar, fields_of, fields_view};
 
+use std::slice::from_ref;
+
 /// What a name is the name of.
 #[derive(Clone, Copy, Debug, PartialEq, Eq)]
 pub enum Named {
@@ -18,6 +20,8 @@ pub enum Word {
     Name,
     /// The name of one of the plan's buses or nodes.
     Named(Named),
+    /// `true` or `false`.
+    Truth,
     /// The kind of a node.
     Kind,
     /// Hex text.
@@ -39,6 +43,8 @@ pub enum Rule {
 #[cycle(shape)]
 pub enum Shape {
     Plain(Word),
+    /// One of these words.
+    OneOf(&'static [&'static str]),
     /// A list of at most so many items; of any length where there is no bound.
     List {
         most: Option<usize>,
@@ -51,6 +57,11 @@ pub enum Shape {
         rule: Rule,
         fields: &'static [Field],
     },
+    /// An object that has this key, by whose word it is one of the choices. What a choice has for a key is its word.
+    Choice {
+        at: &'static Field,
+        choices: &'static [Field],
+    },
 }
 
 /// A key of an object, and what may stand at it.
@@ -61,14 +72,17 @@ pub struct Field {
     pub shape: Shape,
 }
 
-/// The keys of the object that may stand there, with what may stand at them. None where no object may.
+/// The keys of the object that may stand there, with what may stand at them; of a choice the key that decides, and none
+/// where no object may.
+#[tactic(auto, using(crate::proofs::FieldKeys::fields_cons))]
 pub fn fields_of(shape: &'static Shape) -> &'static [Field]
     ensures { fields_view result.now ≡ fields_of (grammar shape.now) }
 {
     match shape {
         Shape::Object { rule: _, fields } => fields,
         Shape::Optional(other) => fields_of(other),
-        Shape::Plain(_) | Shape::List { most: _, item: _ } => &[],
+        Shape::Choice { at, choices: _ } => from_ref(at),
+        Shape::Plain(_) | Shape::OneOf(_) | Shape::List { most: _, item: _ } => &[],
     }
 }
 

@@ -1,8 +1,9 @@
-//! The grammar of plans and certificates.
+//! The grammar of plans, certificates and events.
 ghost use Rattle.std.specs.Prelude.{◌≡◌};
 ghost use Rattle.net_json.specs.Grammar.{grammar};
-ghost use Rattle.net_json.specs.Tables.{a_plan, a_certificate};
+ghost use Rattle.net_json.specs.Tables.{a_plan, a_certificate, events_in};
 
+use crate::event_format::Format;
 use crate::plan_format::PlanFormat;
 use crate::shape::{Field, Named, Rule, Shape, Word};
 
@@ -27,6 +28,30 @@ macro_rules! object {
     };
 }
 
+/// An event that does this, and has these keys.
+macro_rules! event_of {
+    ($word:literal, $($key:literal: $shape:expr),*) => {
+        object!(Rule::None, "do": Shape::OneOf(&[$word]), $($key: $shape),*)
+    };
+}
+
+/// An event that does one of these.
+macro_rules! any_event {
+    ($($word:literal: $shape:expr),*) => {
+        Shape::Choice {
+            at: &Field { key: "do", shape: Shape::OneOf(&[$($word),*]) },
+            choices: &[$(Field { key: $word, shape: $shape }),*],
+        }
+    };
+}
+
+/// A list of such events.
+macro_rules! events_of {
+    ($event:expr) => {
+        object!(Rule::None, "format": number!(1, 3), "events": list!(Some(100_000), $event))
+    };
+}
+
 const BYTE: Shape = number!(0, 255);
 
 const ABOVE_ZERO: Shape = number!(1, 255);
@@ -38,6 +63,8 @@ const NAME: Shape = Shape::Plain(Word::Name);
 const NAMED_BUS: Shape = Shape::Plain(Word::Named(Named::Buses));
 
 const NAMED_NODE: Shape = Shape::Plain(Word::Named(Named::Nodes));
+
+const TRUTH: Shape = Shape::Plain(Word::Truth);
 
 const KIND: Shape = Shape::Plain(Word::Kind);
 
@@ -105,6 +132,62 @@ static CERTIFICATE: Shape = object!(
     "ranks": list!(None, NODE_RANKS)
 );
 
+const TAG: Shape = number!(0, 7);
+
+const PUT: Shape = event_of!("put", "node": NAMED_NODE, "bytes": HEX);
+
+const MOVE: Shape = event_of!("move", "flight": WORD, "keep": TRUTH);
+
+const LOSE: Shape = event_of!("lose", "flight": WORD);
+
+const EXPIRE: Shape =
+    event_of!("expire", "node": NAMED_NODE, "source": BYTE, "tag": TAG, "owner": number!(0, 1));
+
+const ANSWER: Shape = event_of!("answer", "node": NAMED_NODE);
+
+const SWITCH: Shape = event_of!("switch", "node": NAMED_NODE);
+
+const WALK: Shape = event_of!(
+    "walk",
+    "node": NAMED_NODE,
+    "eid": number!(8, 254),
+    "tag": TAG,
+    "count": number!(8, 4079)
+);
+
+const ASK: Shape = event_of!("ask", "walker": WORD);
+
+const COLLECTED: Shape = event_of!("collected", "walker": WORD);
+
+static EVENTS_ONE: Shape = events_of!(any_event!(
+    "put": PUT,
+    "move": MOVE,
+    "lose": LOSE,
+    "expire": EXPIRE,
+    "answer": ANSWER
+));
+
+static EVENTS_TWO: Shape = events_of!(any_event!(
+    "put": PUT,
+    "move": MOVE,
+    "lose": LOSE,
+    "expire": EXPIRE,
+    "answer": ANSWER,
+    "switch": SWITCH
+));
+
+static EVENTS_THREE: Shape = events_of!(any_event!(
+    "put": PUT,
+    "move": MOVE,
+    "lose": LOSE,
+    "expire": EXPIRE,
+    "answer": ANSWER,
+    "switch": SWITCH,
+    "walk": WALK,
+    "ask": ASK,
+    "collected": COLLECTED
+));
+
 /// What a plan of a format is.
 pub fn plan_shape(format: PlanFormat) -> &'static Shape
     ensures { grammar result.now ≡ a_plan format }
@@ -132,4 +215,33 @@ pub fn certificate_shape() -> &'static Shape
     ensures { grammar result.now ≡ a_certificate }
 {
     &CERTIFICATE
+}
+
+/// What a list of events of a format is.
+pub fn events_shape(format: Format) -> &'static Shape
+    ensures { grammar result.now ≡ events_in format }
+{
+    match format {
+        Format::One => events_one(),
+        Format::Two => events_two(),
+        Format::Three => events_three(),
+    }
+}
+
+fn events_one() -> &'static Shape
+    ensures { grammar result.now ≡ events_in Format.One }
+{
+    &EVENTS_ONE
+}
+
+fn events_two() -> &'static Shape
+    ensures { grammar result.now ≡ events_in Format.Two }
+{
+    &EVENTS_TWO
+}
+
+fn events_three() -> &'static Shape
+    ensures { grammar result.now ≡ events_in Format.Three }
+{
+    &EVENTS_THREE
 }

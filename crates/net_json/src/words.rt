@@ -1,32 +1,15 @@
 //! Texts of JSON that mean something: names, hex and words.
-ghost use Rattle.std.specs.Prelude.{◌≡◌, ◌≢◌, Ok, Err, MatchResult, IfOk, ◌≤◌, vec_len};
+ghost use Rattle.std.specs.Prelude.{◌≡◌, Ok, Err, IfOk, ◌≤◌, vec_len};
 ghost use Rattle.net_json.specs.Trees.{view};
 ghost use Rattle.net_plan.specs.NodeValues.{name_bytes};
 ghost use Rattle.net_json.specs.Reading.{IsReadOf};
-ghost use Rattle.net_json.specs.Json.{name_text, reference, hex_text, address_text};
-ghost use Rattle.net_json.specs.NameIndexes.{find_in};
-ghost use Rattle.net_json.specs.Json.{kind_text};
+ghost use Rattle.net_json.specs.Json.{name_text, hex_text, address_text, kind_text};
 
 use crate::error::ValueFault;
-use crate::name_index::NameIndex;
 use hex::FromHexError;
 use json::Value;
 use net_plan::{Kind, Name, is_name};
 use std::alloc::Global;
-
-/// The text of a name.
-fn name_text<'v>(value: &'v Value<'_>) -> Result<&'v str, ValueFault>
-    ensures { IsReadOf (λ text. text.now) (name_text (view value.now)) result }
-{
-    let Value::String(text) = value else {
-        return Err(ValueFault::WrongKind);
-    };
-    if is_name(text) {
-        Ok(text)
-    } else {
-        Err(ValueFault::OutOfRange)
-    }
-}
 
 /// A name.
 pub fn read_name(alloc: Global, value: &Value) -> Result<Name, ValueFault>
@@ -42,14 +25,6 @@ pub fn read_name(alloc: Global, value: &Value) -> Result<Name, ValueFault>
         Ok(text) => Ok(Name { text }),
         Err(_) => Err(ValueFault::OutOfMemory),
     }
-}
-
-/// The index of a name in a list; the length of the list for a name that isn't there.
-pub fn read_reference(index: &NameIndex, value: &Value) -> Result<usize, ValueFault>
-    ensures { IsReadOf (λ index. index) (reference (find_in index.now) (view value.now)) result }
-{
-    let name = name_text(value)?;
-    Ok(index.find(name))
 }
 
 /// Hex text.

@@ -1,12 +1,14 @@
 -- What may be wrong among names that are known with a value in which nothing else is.
-use Rattle.std.proofs.Common.{◌≡◌, inl, inr, ℕ, suc, List, Bool, true, false, Option, Some, None, option_and_then, Ok, refl, sym, ap, ◌∙◌, subst}
+use Rattle.std.proofs.Common.{◌≡◌, inl, inr, ℕ, suc, List, Bool, true, false, cond, Option, Some, None, option_and_then, Ok, refl, sym, ap, ◌∙◌, subst}
 use Rattle.std.proofs.lemmas.Option.{none-some, same_Some}
 use Rattle.std.specs.Option.{option_or}
+use Rattle.std.specs.Str.{bytes_eq}
 use Rattle.serde_json.specs.Data.{Data, null, boolean, number, string, array, object, Items, no_items, item}
 use Rattle.serde_json.specs.Find.{get}
-use Rattle.net_json.specs.Finding.{fault_of, names_of, known_name, word_fault, unless_null, own_fault, Step, key, index, Located, under, here, in_items, in_list, inside, in_fields, first_fault}
-use Rattle.net_json.specs.Fitting.{IsWord, EachIs, Fits, FieldsFit}
-use Rattle.net_json.specs.Grammar.{Grammar, plain, a_list, an_optional, an_object, Fields, no_fields, field, Known}
+use Rattle.net_json.specs.Finding.{fault_of, names_of, known_name, word_fault, unless_null, own_fault, Step, key, index, Located, under, here, in_items, in_list, inside, in_fields, in_choices, first_fault}
+use Rattle.net_json.specs.Fitting.{IsWord, EachIs, Either, Fits, FieldsFit, ChoiceFits}
+use Rattle.net_json.specs.Grammar.{Grammar, plain, one_of, a_list, an_optional, an_object, a_choice, Fields, no_fields, field, Known}
+use Rattle.net_json.specs.Names.{text_of}
 use Rattle.net_json.specs.Json.{demand, is_among}
 use Rattle.net_json.specs.Reading.{then_with}
 use Rattle.net_json.specs.declared.error.ValueFault.{ValueFault}
@@ -50,6 +52,7 @@ own_word : (k : Known) (w : Word) (d : Data) → IsWord None w d → AreNames (w
 own_word k (word.Number least most) d h = nothing _ (own_whole None (plain (word.Number least most)) d h)
 own_word k word.Name d h = nothing _ (own_whole None (plain word.Name) d h)
 own_word k (word.Named names) d h = own_named k names d h
+own_word k word.Truth d h = nothing _ (own_whole None (plain word.Truth) d h)
 own_word k word.Kind d h = nothing _ (own_whole None (plain word.Kind) d h)
 own_word k word.Hex d h = nothing _ (own_whole None (plain word.Hex) d h)
 own_word k word.Address d h = nothing _ (own_whole None (plain word.Address) d h)
@@ -64,10 +67,12 @@ or_null o (object ms) p = p
 
 own_left : (k : Known) (g : Grammar) (d : Data) → Fits None g d → AreNames (own_fault (Some k) g d)
 own_left k (plain w) d h = own_word k w d h
+own_left k (one_of words) d h = nothing _ (own_whole None (one_of words) d h)
 own_left k (a_list most g) d h = nothing _ (own_whole None (a_list most g) d h)
 own_left k (an_optional g) d (inl e) = subst (λ v. AreNames (unless_null v (own_fault (Some k) g v))) (sym e) (nothing None refl)
 own_left k (an_optional g) d (inr h) = or_null (own_fault (Some k) g d) d (own_left k g d h)
 own_left k (an_object rule fs) d h = nothing _ (own_whole None (an_object rule fs) d h)
+own_left k (a_choice name g cs) d h = nothing _ (own_whole None (a_choice name g cs) d h)
 
 items_left : (f : Data → Option Located) (P : Data → Type 0) → ((d : Data) → P d → IsName (f d)) → (n : ℕ) (ds : Items) → EachIs P ds → IsName (in_items f n ds)
 items_left f P h n no_items each = λ l e. absurd (none-some l e)
@@ -79,11 +84,16 @@ whole k g d h deep = either (here g (own_fault (Some k) g d)) (inside (Some k) g
 mutual
   inside_left : (k : Known) (g : Grammar) (d : Data) → Fits None g d → IsName (inside (Some k) g d)
   inside_left k (plain w) d h = λ l e. absurd (none-some l e)
+  inside_left k (one_of words) d h = λ l e. absurd (none-some l e)
   inside_left k (a_list most g) d h =
       subst (λ v. IsName (in_list (first_fault (Some k) g) v)) (sym h.1) (items_left (first_fault (Some k) g) (λ e. Fits None g e) (λ e fits. whole k g e fits (inside_left k g e fits)) 0 h.0 h.3)
   inside_left k (an_optional g) d (inl e) = subst (λ o. IsName o) (sym (ap (inside (Some k) g) e ∙ inside_null (Some k) g)) (λ l e. absurd (none-some l e))
   inside_left k (an_optional g) d (inr h) = inside_left k g d h
   inside_left k (an_object rule fs) d h = fields_left k fs d h.1
+  inside_left k (a_choice name g cs) d h =
+      subst (λ o. IsName (option_and_then (λ e. option_or (under (key name) (first_fault (Some k) g e)) (in_choices (Some k) cs (text_of e) d)) o)) (sym h.1)
+      (either (under (key name) (first_fault (Some k) g h.0)) (in_choices (Some k) cs (text_of h.0) d) (stepped (key name) (first_fault (Some k) g h.0) (whole k g h.0 h.2.0 (inside_left k g h.0 h.2.0)))
+      (choices_left k cs (text_of h.0) d h.2.1))
 
   fields_left : (k : Known) (fs : Fields) (d : Data) → FieldsFit None fs d → IsName (in_fields (Some k) fs d)
   fields_left k no_fields d h = λ l e. absurd (none-some l e)
@@ -91,6 +101,15 @@ mutual
       either (under (key name) (option_and_then (first_fault (Some k) g) (get name d))) (in_fields (Some k) fs d)
       (stepped (key name) (option_and_then (first_fault (Some k) g) (get name d)) (subst (λ o. IsName (option_and_then (first_fault (Some k) g) o)) (sym h.0.1) (whole k g h.0.0 h.0.2 (inside_left k g h.0.0 h.0.2))))
       (fields_left k fs d h.1)
+
+  choices_left : (k : Known) (cs : Fields) (word : List ℕ) (d : Data) → ChoiceFits None cs word d → IsName (in_choices (Some k) cs word d)
+  choices_left k no_fields word d h = λ l e. absurd (none-some l e)
+  choices_left k (field w g cs) word d h = by (bytes_eq word w) (λ fits. whole k g d fits (inside_left k g d fits)) (choices_left k cs word d) h
+    where
+      by : (b : Bool) → (Fits None g d → IsName (first_fault (Some k) g d)) → (ChoiceFits None cs word d → IsName (in_choices (Some k) cs word d))
+          → Either b (Fits None g d) (ChoiceFits None cs word d) → IsName (cond b (first_fault (Some k) g d) (in_choices (Some k) cs word d))
+      by true here later h = here h
+      by false here later h = later h
 
 -- a fault of a value that is one whatever its names are the names of is a name that is not known
 pub unknown_left : (k : Known) (g : Grammar) (d : Data) → Fits None g d → (l : Located) → first_fault (Some k) g d ≡ Some l → l.fault ≡ UnknownName

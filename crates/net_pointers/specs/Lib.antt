@@ -5,6 +5,7 @@ pub mod Plans
 pub mod Doubles
 pub mod PlanTroubles
 pub mod CertificateTroubles
+pub mod EventTroubles
 pub mod Ascending
 pub mod Positions
 pub mod PartTokens

@@ -3,7 +3,7 @@ use Rattle.std.specs.Prelude.{◌≡◌, ◌⊎◌, ℕ, List, [], ◌∷◌, Op
 use Rattle.serde_json.specs.Data.{Data}
 use Rattle.serde_json.specs.Find.{get, at}
 use Rattle.net_json.specs.Finding.{Step, key, index, Located, own_fault}
-use Rattle.net_json.specs.Grammar.{Grammar, plain, a_list, an_optional, an_object}
+use Rattle.net_json.specs.Grammar.{Grammar, plain, one_of, a_list, an_optional, an_object, a_choice}
 use Rattle.net_json.specs.Grammar.{Fields, no_fields, field, fields_of, Known}
 
 -- the value that one step leads to
@@ -24,19 +24,39 @@ HasField k t (field l g fs) = ((k ≡ l) × (t ≡ g)) ⊎ HasField k t fs
 -- what each item of the list is that may stand there; nothing where no list may
 abbrev pub item_of : Grammar → Option Grammar
 item_of (plain w) = None
+item_of (one_of words) = None
 item_of (a_list most g) = Some g
 item_of (an_optional g) = item_of g
 item_of (an_object rule fs) = None
+item_of (a_choice k g cs) = None
 
 -- what may stand where one step leads
 abbrev pub IsPart : Step → Grammar → Grammar → Type 0
 IsPart (key k) g t = HasField k t (fields_of g)
 IsPart (index i) g t = item_of g ≡ Some t
 
+abbrev mutual
+  -- where a word decides: what one of the words asks of the value
+  pub IsAskedByWord : Grammar → Grammar → Type 0
+  IsAskedByWord (plain w) t = ⊥
+  IsAskedByWord (one_of words) t = ⊥
+  IsAskedByWord (a_list most g) t = ⊥
+  IsAskedByWord (an_optional g) t = IsAskedByWord g t
+  IsAskedByWord (an_object rule fs) t = ⊥
+  IsAskedByWord (a_choice k g cs) t = IsAskedByOne cs t
+
+  pub IsAskedByOne : Fields → Grammar → Type 0
+  IsAskedByOne no_fields t = ⊥
+  IsAskedByOne (field w g cs) t = ((g ≡ t) ⊎ IsAskedByWord g t) ⊎ IsAskedByOne cs t
+
+-- what is asked of the value there
+abbrev pub IsAsked : Grammar → Grammar → Type 0
+IsAsked g t = (g ≡ t) ⊎ IsAskedByWord g t
+
 -- what may stand where a pointer leads
 abbrev pub MayStandAt : List Step → Grammar → Grammar → Type 0
-MayStandAt [] g t = g ≡ t
-MayStandAt (s ∷ ss) g t = (u : Grammar) × IsPart s g u × MayStandAt ss u t
+MayStandAt [] g t = IsAsked g t
+MayStandAt (s ∷ ss) g t = (v u : Grammar) × IsAsked g v × IsPart s v u × MayStandAt ss u t
 
 -- In a value of this grammar the pointer leads to a value that has the fault in itself, among the names that are known,
 -- and what is said of it may stand there.

@@ -3,6 +3,7 @@
 
 mod certificates;
 mod doubled;
+mod events;
 mod known;
 mod nearest;
 mod offset;
@@ -17,6 +18,7 @@ mod tokens;
 
 pub use certificates::{CertificateList, CertificateTrouble, certificate_trouble, list_key};
 pub use doubled::{DoubledKey, TwoIndices, doubled_key, first_doubled};
+pub use events::{EventsTrouble, events_trouble};
 pub use known::{known_names, names_at, names_of_nodes};
 pub use nearest::nearest_name;
 pub use offset::{offset_of_key, offset_of_pointer};
@@ -25,4 +27,4 @@ pub use plans::{PlanTrouble, plan_trouble};
 pub use position::{Position, position_of};
 pub use ranges::{Overlap, end_of_range, first_in_range, first_overlap};
 pub use syntax::{JsonFault, Wanted, json_fault};
-pub use texts::{TextTrouble, certificate_text_trouble, plan_text_trouble};
+pub use texts::{TextTrouble, certificate_text_trouble, events_text_trouble, plan_text_trouble};

@@ -15,6 +15,10 @@ use Rattle.serde_json.specs.Data.{Data}
 use Rattle.serde_json.specs.Find.{get, get_item}
 use Rattle.net_json.specs.CertificateText.{IsCertificateOf}
 use Rattle.net_plan.specs.CertificateValues.{CertificateValue}
+use Rattle.net_json.specs.EventReading.{events}
+use Rattle.net_json.specs.EventText.{AreEventsOf}
+use Rattle.net_plan.specs.EventValues.{EventEntry}
+use Rattle.net_json.proofs.EventLaw.{events_tells}
 use Rattle.net_json.specs.Finding.{Located, Step, step_value}
 use Rattle.net_json.specs.Grammar.{Fields, fields_of, fields_view, keys_of}
 use Rattle.net_json.specs.Json.{is_among, items_count}
@@ -36,7 +40,7 @@ use Rattle.net_json.specs.declared.shape.Field.{Field, out-Field}
 use Rattle.net_json.proofs.FieldKeys.{fields_cons}
 use Rattle.net_pointers.specs.Doubles.{item_at, member_at, part_at, part_after}
 use Rattle.net_pointers.specs.Pointers.{value_at, value_after}
-use Rattle.net_pointers.specs.TextTroubles.{IsJsonOf, IsToldOfPlanText, IsToldOfCertificateText}
+use Rattle.net_pointers.specs.TextTroubles.{IsJsonOf, IsToldOfPlanText, IsToldOfCertificateText, IsToldOfEventsText}
 use Rattle.net_pointers.specs.declared.texts.TextTrouble.{TextTrouble}
 use Rattle.reading_texts.specs.ReadingLines.{key_words, keys_words}
 use Rattle.reading_texts.specs.Standing.{IsShownLength, IsShownOf, IsShown, dots_after, printed}
@@ -44,7 +48,7 @@ use Rattle.reading_texts.specs.TroubleLines.{IsStandingTold, IsWrongTold, IsLine
 use Rattle.std.proofs.lemmas.Str.{IsUtf8-drop, IsCharBoundary-before_ascii}
 use Rattle.net_pointers.specs.Offsets.{LeadsTo}
 use Rattle.net_pointers.specs.declared.doubled.TwoIndices.{TwoIndices}
-use Rattle.reading_texts.specs.TroubleLines.{key_at, part_step, path_text, AreTroubleLines, IsPlanTextTold, IsCertificateTextTold}
+use Rattle.reading_texts.specs.TroubleLines.{key_at, part_step, path_text, AreTroubleLines, IsPlanTextTold, IsCertificateTextTold, IsEventsTextTold}
 
 -- ---- a text of which nothing is told is read
 
@@ -61,7 +65,18 @@ certificate_is_read p text (j, tree, json, (one, c, read)) none =
     let unique = single_read (λ (x : CertificateValue). x) (certificate (node_names p.nodes)) (IsCertificateOf p) (certificate_tells p) j r c read (ap (λ (b : Bool). unless_doubled b r) one) in
     none c (data_of j, json, (j, tree, unique.1), (certificate_tells p).sound (data_of j) c read refl)
 
+pub events_are_read : (p : PlanValue) (text : List ℕ) → IsToldOfEventsText (node_names p.nodes) text None
+    → ((es : List EventEntry) → ¬ StandsFor (AreEventsOf p) text es) → ⊥
+events_are_read p text (j, tree, json, (one, es, read)) none =
+    let r : Result (List EventEntry) ValueFault = Ok es in
+    let unique = single_read (λ (x : List EventEntry). x) (events (node_names p.nodes)) (AreEventsOf p) (events_tells p) j r es read (ap (λ (b : Bool). unless_doubled b r) one) in
+    none es (data_of j, json, (j, tree, unique.1), (events_tells p).sound (data_of j) es read refl)
+
 -- ---- the keys of a table
+
+pub words_same : (words : List (Bor (List ℕ))) → flat_map (λ (w : Bor (List ℕ)). key_words w.now) words ≡ flat_map key_words (map (λ (w : Bor (List ℕ)). w.now) words)
+words_same [] = refl
+words_same (w ∷ words) = ap (λ z. key_words w.now ++ z) (words_same words)
 
 pub keys_same : (fs : List Field) → flat_map (λ (f : Field). key_words (out-Field f).key.now) fs ≡ keys_words (fields_view fs)
 keys_same [] = refl
@@ -203,6 +218,12 @@ pub certificate_told : {A E : Type 0} (bytes : A → List ℕ) (nodes : List (Li
     → IfOk r (λ t. AreTroubleLines nodes text trouble (bytes t)) → IfOk r (λ t. IsCertificateTextTold nodes text (bytes t))
 certificate_told bytes nodes text trouble (Ok t) of_text h = (trouble, of_text, h)
 certificate_told bytes nodes text trouble (Err e) of_text h = tt
+
+pub events_told : {A E : Type 0} (bytes : A → List ℕ) (nodes : List (List ℕ)) (text : List ℕ) (trouble : TextTrouble) (r : Result A E)
+    → IsToldOfEventsText nodes text (Some trouble)
+    → IfOk r (λ t. AreTroubleLines nodes text trouble (bytes t)) → IfOk r (λ t. IsEventsTextTold nodes text (bytes t))
+events_told bytes nodes text trouble (Ok t) of_text h = (trouble, of_text, h)
+events_told bytes nodes text trouble (Err e) of_text h = tt
 
 -- ---- along a pointer, and along a path
 

@@ -5,7 +5,8 @@ use Rattle.std.specs.Fmt.{decimal}
 use Rattle.std.specs.List.{flat_map, slice_get}
 use Rattle.std.specs.Str.{bytes_eq}
 use Rattle.net_json.specs.Finding.{Step, key, index}
-use Rattle.net_json.specs.Grammar.{Grammar, plain, a_list, an_optional, an_object, Fields, no_fields, field}
+use Rattle.net_json.specs.Grammar.{Grammar, plain, one_of, a_list, an_optional, an_object, a_choice}
+use Rattle.net_json.specs.Grammar.{Fields, no_fields, field}
 use Rattle.net_json.specs.declared.error.PlanError.{PlanError}
 use Rattle.net_json.specs.declared.error.PlanError.TheVariants as error
 use Rattle.net_json.specs.declared.shape.Rule.{Rule}
@@ -98,9 +99,14 @@ abbrev pub word_words : List ℕ → Word → List ℕ
 word_words noun (word.Number least most) = number_words noun least most
 word_words noun word.Name = name_words
 word_words noun (word.Named names) = name_words
+word_words noun word.Truth = noun ++ codes " is true or false"
 word_words noun word.Kind = codes "a kind is \"bridge\" or \"endpoint\""
 word_words noun word.Hex = codes "bytes are in hex, two digits each"
 word_words noun word.Address = codes "an address has at most 8 bytes in hex, two digits each"
+
+-- one of these words
+abbrev pub among_words : List ℕ → List (List ℕ) → List ℕ
+among_words noun words = noun ++ (codes " is one of " ++ (flat_map key_words words ++ codes "and nothing else"))
 
 -- how long a list may be
 abbrev pub list_words : Option ℕ → List ℕ
@@ -115,9 +121,15 @@ abbrev pub rule_words : Rule → List ℕ
 rule_words rule.None = []
 rule_words rule.EndsInTime = codes ", and first + size is at most 256"
 
+-- an object that one of its keys tells apart
+abbrev pub choice_words : List ℕ → List ℕ
+choice_words k = codes "an object there has the key " ++ (k ++ codes ", whose word says which others")
+
 -- what may stand where a pointer leads that ends with this noun of a number
 abbrev pub shape_words : List ℕ → Grammar → List ℕ
 shape_words noun (plain w) = word_words noun w
+shape_words noun (one_of words) = among_words noun words
 shape_words noun (a_list most g) = list_words most
 shape_words noun (an_optional g) = codes "null stands there, or " ++ shape_words noun g
 shape_words noun (an_object rule fs) = object_words fs ++ rule_words rule
+shape_words noun (a_choice k g cs) = choice_words k

@@ -31,11 +31,13 @@ use Rattle.net_pointers.specs.KnownNames.{known_in}
 use Rattle.net_pointers.specs.Nearest.{IsNearest}
 use Rattle.net_pointers.specs.Offsets.{LeadsTo, LeadsToKey}
 use Rattle.net_pointers.specs.Pointers.{value_at}
-use Rattle.net_pointers.specs.TextTroubles.{IsJsonOf, IsToldOfPlanText, IsToldOfCertificateText}
+use Rattle.net_pointers.specs.TextTroubles.{IsJsonOf, IsToldOfPlanText, IsToldOfCertificateText, IsToldOfEventsText}
 use Rattle.net_pointers.specs.declared.certificates.CertificateTrouble.{CertificateTrouble}
 use Rattle.net_pointers.specs.declared.certificates.CertificateTrouble.TheVariants as of_certificate
 use Rattle.net_pointers.specs.declared.doubled.DoubledKey.{DoubledKey}
 use Rattle.net_pointers.specs.declared.doubled.TwoIndices.{TwoIndices}
+use Rattle.net_pointers.specs.declared.events.EventsTrouble.{EventsTrouble}
+use Rattle.net_pointers.specs.declared.events.EventsTrouble.TheVariants as of_events
 use Rattle.net_pointers.specs.declared.plans.PlanTrouble.{PlanTrouble}
 use Rattle.net_pointers.specs.declared.plans.PlanTrouble.TheVariants as of_plan
 use Rattle.net_pointers.specs.declared.ranges.Overlap.{Overlap}
@@ -44,7 +46,7 @@ use Rattle.net_pointers.specs.declared.syntax.JsonFault.TheVariants.{NotUtf8, Un
 use Rattle.net_pointers.specs.declared.syntax.Wanted.{Wanted}
 use Rattle.net_pointers.specs.declared.syntax.Wanted.TheVariants as wanted
 use Rattle.net_pointers.specs.declared.texts.TextTrouble.{TextTrouble}
-use Rattle.net_pointers.specs.declared.texts.TextTrouble.TheVariants.{TooLong, NotJson, Plan, Certificate}
+use Rattle.net_pointers.specs.declared.texts.TextTrouble.TheVariants.{TooLong, NotJson, Plan, Certificate, Events}
 use Rattle.reading_texts.specs.ReadingLines.{position_text, pointer_text, joined, number_noun, shape_words}
 use Rattle.reading_texts.specs.Standing.{IsShown, shown_key}
 use Rattle.reading_texts.specs.SyntaxCauses.{cause_line, encoding_line}
@@ -361,6 +363,13 @@ AreCertificateLines nodes text j (of_certificate.DoubledKey doubled) lines = IsD
 AreCertificateLines nodes text j (of_certificate.UnknownName found) lines =
     IsUnknownNameTold text (data_of j) (known_nodes nodes) (located found) lines
 
+-- the lines tell of what is wrong with the events that a tree is, at nodes of these names
+abbrev pub AreEventsLines : List (List ℕ) → List ℕ → Json → EventsTrouble → List ℕ → Type 0
+AreEventsLines nodes text j (of_events.Value found) lines = IsValueTold text j (located found) [] lines
+AreEventsLines nodes text j (of_events.DoubledKey doubled) lines = IsDoubledKeyTold text j doubled lines
+AreEventsLines nodes text j (of_events.UnknownName found) lines =
+    IsUnknownNameTold text (data_of j) (known_nodes nodes) (located found) lines
+
 -- the lines tell of what is wrong with a text
 abbrev pub AreTroubleLines : List (List ℕ) → List ℕ → TextTrouble → List ℕ → Type 0
 AreTroubleLines nodes text (TooLong count) lines = lines ≡ long_line count
@@ -368,6 +377,7 @@ AreTroubleLines nodes text (NotJson fault) lines = lines ≡ json_line text faul
 AreTroubleLines nodes text (Plan trouble) lines = IsJsonOf text (λ j. ArePlanLines text j trouble lines)
 AreTroubleLines nodes text (Certificate trouble) lines =
     IsJsonOf text (λ j. AreCertificateLines nodes text j trouble lines)
+AreTroubleLines nodes text (Events trouble) lines = IsJsonOf text (λ j. AreEventsLines nodes text j trouble lines)
 
 -- the lines tell of what is wrong with the text of a plan
 abbrev pub IsPlanTextTold : List ℕ → List ℕ → Type 0
@@ -377,4 +387,9 @@ IsPlanTextTold text lines = (trouble : TextTrouble) × IsToldOfPlanText text (So
 -- the lines tell of what is wrong with the text of a certificate among nodes of these names
 abbrev pub IsCertificateTextTold : List (List ℕ) → List ℕ → List ℕ → Type 0
 IsCertificateTextTold nodes text lines = (trouble : TextTrouble) × IsToldOfCertificateText nodes text (Some trouble)
+    × AreTroubleLines nodes text trouble lines
+
+-- the lines tell of what is wrong with the text of events at nodes of these names
+abbrev pub IsEventsTextTold : List (List ℕ) → List ℕ → List ℕ → Type 0
+IsEventsTextTold nodes text lines = (trouble : TextTrouble) × IsToldOfEventsText nodes text (Some trouble)
     × AreTroubleLines nodes text trouble lines

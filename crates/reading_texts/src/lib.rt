@@ -1,19 +1,22 @@
 //! The lines that tell why a text doesn't read, and where.
 #![tactic(auto)]
 
-ghost use Rattle.std.specs.Prelude.{◌≡◌, [], Some, IfOk, string_bytes};
+ghost use Rattle.std.specs.Prelude.{◌≡◌, List, [], Some, IfOk, string_bytes};
 ghost use Rattle.json.specs.Value.{value_view};
 ghost use Rattle.net_json.specs.CertificateText.{IsCertificateOf};
 ghost use Rattle.net_plan.specs.CertificateValues.{CertificateValue};
+ghost use Rattle.net_json.specs.EventText.{AreEventsOf};
 ghost use Rattle.net_json.specs.PlanText.{IsPlanOf};
+ghost use Rattle.net_plan.specs.EventValues.{EventEntry};
 ghost use Rattle.net_plan.specs.PlanValues.{PlanValue, plan_value, node_names};
 ghost use Rattle.net_json.specs.Texts.{StandsFor};
 ghost use Rattle.net_pointers.specs.CertificateTroubles.{IsToldOfCertificate};
+ghost use Rattle.net_pointers.specs.EventTroubles.{IsToldOfEvents};
 ghost use Rattle.net_pointers.specs.Offsets.{IsTextOf};
 ghost use Rattle.net_pointers.specs.PlanTroubles.{IsToldOfPlan};
-ghost use Rattle.net_pointers.specs.TextTroubles.{IsJsonOf, IsToldOfPlanText, IsToldOfCertificateText};
+ghost use Rattle.net_pointers.specs.TextTroubles.{IsJsonOf, IsToldOfPlanText, IsToldOfCertificateText, IsToldOfEventsText};
 ghost use Rattle.reading_texts.specs.ReadingLines.{unread_code, unread_line};
-ghost use Rattle.reading_texts.specs.TroubleLines.{long_line, ArePlanLines, AreCertificateLines, AreTroubleLines, IsPlanTextTold, IsCertificateTextTold};
+ghost use Rattle.reading_texts.specs.TroubleLines.{long_line, ArePlanLines, AreCertificateLines, AreEventsLines, AreTroubleLines, IsPlanTextTold, IsCertificateTextTold, IsEventsTextTold};
 
 mod joined;
 mod names;
@@ -30,8 +33,8 @@ use names::unknown_name_lines;
 use net_json::{PlanError, json_of};
 use net_plan::Plan;
 use net_pointers::{
-    CertificateTrouble, PlanTrouble, TextTrouble, certificate_text_trouble, known_names, list_key,
-    names_of_nodes, plan_text_trouble,
+    CertificateTrouble, EventsTrouble, PlanTrouble, TextTrouble, certificate_text_trouble,
+    events_text_trouble, known_names, list_key, names_of_nodes, plan_text_trouble,
 };
 pub use positions::pointer_text;
 use shapes::also_words;
@@ -93,7 +96,7 @@ fn plan_text_lines(alloc: Global, text: &[u8], trouble: &TextTrouble) -> Result<
         TextTrouble::TooLong(count) => long_line(alloc, *count),
         TextTrouble::NotJson(fault) => json_line(alloc, text, *fault),
         TextTrouble::Plan(trouble) => plan_lines(alloc, text, trouble),
-        TextTrouble::Certificate(_) => unreachable!(),
+        TextTrouble::Certificate(_) | TextTrouble::Events(_) => unreachable!(),
     }
 }
 
@@ -168,7 +171,7 @@ fn certificate_text_lines(
         TextTrouble::TooLong(count) => long_line(alloc, *count),
         TextTrouble::NotJson(fault) => json_line(alloc, text, *fault),
         TextTrouble::Certificate(trouble) => certificate_lines(alloc, plan, text, trouble),
-        TextTrouble::Plan(_) => unreachable!(),
+        TextTrouble::Plan(_) | TextTrouble::Events(_) => unreachable!(),
     }
 }
 
@@ -216,6 +219,72 @@ fn certificate_value_lines(
         CertificateTrouble::Overlap(overlap) => overlap_lines(alloc, text, value, *overlap),
         CertificateTrouble::DoubledKey(doubled) => doubled_key_lines(alloc, text, value, doubled),
         CertificateTrouble::UnknownName(found) => {
+            let known = names_of_nodes(alloc, plan.nodes.as_slice())?;
+            unknown_name_lines(alloc, text, value, &known, found)
+        }
+    }
+}
+
+/// Tells what is wrong with a text that is no list of events at a plan's nodes, as of a plan's text.
+pub fn events_reading_lines(alloc: Global, plan: &Plan, text: &[u8]) -> Result<String, AllocError>
+    requires { (es : List EventEntry) → ¬ StandsFor (AreEventsOf (plan_value plan.now)) text.now es }
+    ensures { IfOk result (λ lines. IsEventsTextTold (node_names (plan_value plan.now).nodes) text.now (string_bytes lines)) }
+{
+    match events_text_trouble(alloc, plan, text)? {
+        Some(trouble) => events_text_lines(alloc, plan, text, &trouble),
+        None => unreachable!(),
+    }
+}
+
+fn events_text_lines(
+    alloc: Global,
+    plan: &Plan,
+    text: &[u8],
+    trouble: &TextTrouble,
+) -> Result<String, AllocError>
+    requires { IsToldOfEventsText (node_names (plan_value plan.now).nodes) text.now (Some trouble.now) }
+    ensures { IfOk result (λ lines. AreTroubleLines (node_names (plan_value plan.now).nodes) text.now trouble.now (string_bytes lines)) }
+{
+    match trouble {
+        TextTrouble::TooLong(count) => long_line(alloc, *count),
+        TextTrouble::NotJson(fault) => json_line(alloc, text, *fault),
+        TextTrouble::Events(trouble) => events_lines(alloc, plan, text, trouble),
+        TextTrouble::Plan(_) | TextTrouble::Certificate(_) => unreachable!(),
+    }
+}
+
+fn events_lines(
+    alloc: Global,
+    plan: &Plan,
+    text: &[u8],
+    trouble: &EventsTrouble,
+) -> Result<String, AllocError>
+    requires { let nodes = node_names (plan_value plan.now).nodes in IsJsonOf text.now (λ j. IsToldOfEvents nodes j (Some trouble.now)) }
+    ensures { let nodes = node_names (plan_value plan.now).nodes in
+        IfOk result (λ lines. IsJsonOf text.now (λ j. AreEventsLines nodes text.now j trouble.now (string_bytes lines))) }
+{
+    let mut scratch = Scratch::new(alloc);
+    match json_of(alloc, text, &mut scratch) {
+        Ok(value) => events_value_lines(alloc, plan, text, &value, trouble),
+        Err(_) => Err(AllocError),
+    }
+}
+
+fn events_value_lines(
+    alloc: Global,
+    plan: &Plan,
+    text: &[u8],
+    value: &Value<'_>,
+    trouble: &EventsTrouble,
+) -> Result<String, AllocError>
+    requires text { IsTextOf text.now (value_view value.now) }
+    requires told { IsToldOfEvents (node_names (plan_value plan.now).nodes) (value_view value.now) (Some trouble.now) }
+    ensures { IfOk result (λ lines. AreEventsLines (node_names (plan_value plan.now).nodes) text.now (value_view value.now) trouble.now (string_bytes lines)) }
+{
+    match trouble {
+        EventsTrouble::Value(found) => value_line(alloc, text, value, found, ""),
+        EventsTrouble::DoubledKey(doubled) => doubled_key_lines(alloc, text, value, doubled),
+        EventsTrouble::UnknownName(found) => {
             let known = names_of_nodes(alloc, plan.nodes.as_slice())?;
             unknown_name_lines(alloc, text, value, &known, found)
         }

@@ -5,7 +5,7 @@ ghost use Rattle.net_json.specs.Finding.{step_value};
 ghost use Rattle.net_json.specs.Grammar.{grammar, fields_view};
 ghost use Rattle.net_json.specs.declared.shape.Field.{out-Field};
 ghost use Rattle.reading_texts.specs.TroubleLines.{also_at, also_words};
-ghost use Rattle.reading_texts.specs.ReadingLines.{key_words, key_noun, step_noun, number_noun, number_words, word_words, list_words, rule_words, object_words, shape_words};
+ghost use Rattle.reading_texts.specs.ReadingLines.{key_words, key_noun, step_noun, number_noun, number_words, word_words, among_words, choice_words, list_words, rule_words, object_words, shape_words};
 
 use net_json::{Field, PointerStep, Rule, Shape, Word};
 use std::alloc::{AllocError, Global};
@@ -19,6 +19,7 @@ pub fn shape_words(alloc: Global, noun: &str, shape: &'static Shape) -> Result<S
 {
     match shape {
         Shape::Plain(word) => word_words(alloc, noun, *word),
+        Shape::OneOf(words) => among_words(alloc, noun, words),
         Shape::List { most, item: _ } => list_words(alloc, *most),
         Shape::Optional(other) => {
             let words = shape_words(alloc, noun, other)?;
@@ -29,6 +30,7 @@ pub fn shape_words(alloc: Global, noun: &str, shape: &'static Shape) -> Result<S
             let rule = rule_words(*rule);
             format!(in alloc; "{words}{rule}")
         }
+        Shape::Choice { at, choices: _ } => choice_words(alloc, at.key),
     }
 }
 
@@ -38,6 +40,7 @@ fn word_words(alloc: Global, noun: &str, word: Word) -> Result<String, AllocErro
     match word {
         Word::Number { least, most } => number_words(alloc, noun, least, most),
         Word::Name | Word::Named(_) => NAME.to_string(alloc),
+        Word::Truth => format!(in alloc; "{noun} is true or false"),
         Word::Kind => "a kind is \"bridge\" or \"endpoint\"".to_string(alloc),
         Word::Hex => "bytes are in hex, two digits each".to_string(alloc),
         Word::Address => "an address has at most 8 bytes in hex, two digits each".to_string(alloc),
@@ -102,6 +105,31 @@ fn number_words(alloc: Global, noun: &str, least: u64, most: u64) -> Result<Stri
     format!(in alloc; "{noun} is {least} to {most}")
 }
 
+/// One of these words.
+fn among_words(alloc: Global, noun: &str, words: &[&str]) -> Result<String, AllocError>
+    ensures { IfOk result (λ text. string_bytes text ≡ among_words noun.now (map (λ word. word.now) words.now)) }
+{
+    let words = each_word(alloc, words)?;
+    format!(in alloc; "{noun} is one of {words}and nothing else")
+}
+
+fn each_word(alloc: Global, words: &[&str]) -> Result<String, AllocError>
+    ensures { IfOk result (λ text. string_bytes text ≡ flat_map (λ word. key_words word.now) words.now) }
+{
+    let mut text = String::new(alloc);
+    for word in words {
+        text.push_str(&key_words(alloc, word)?)?;
+    }
+    Ok(text)
+}
+
+/// An object that one of its keys tells apart.
+fn choice_words(alloc: Global, key: &str) -> Result<String, AllocError>
+    ensures { IfOk result (λ words. string_bytes words ≡ choice_words key.now) }
+{
+    format!(in alloc; "an object there has the key {key}, whose word says which others")
+}
+
 /// How long a list may be.
 fn list_words(alloc: Global, most: Option<usize>) -> Result<String, AllocError>
     ensures { IfOk result (λ words. string_bytes words ≡ list_words most) }
@@ -134,14 +162,13 @@ fn keys_words(alloc: Global, fields: &[Field]) -> Result<String, AllocError>
 {
     let mut words = String::new(alloc);
     for field in fields {
-        words.push_str(&key_words(alloc, field)?)?;
+        words.push_str(&key_words(alloc, field.key)?)?;
     }
     Ok(words)
 }
 
-fn key_words(alloc: Global, field: &Field) -> Result<String, AllocError>
-    ensures { IfOk result (λ words. string_bytes words ≡ key_words (out-Field field.now).key.now) }
+fn key_words(alloc: Global, key: &str) -> Result<String, AllocError>
+    ensures { IfOk result (λ words. string_bytes words ≡ key_words key.now) }
 {
-    let key = field.key;
     format!(in alloc; "{key}, ")
 }

@@ -117,7 +117,7 @@ fn answer_of_both(
 }
 
 /// The answer where a plan and its certificate are not accepted.
-fn explained(
+pub fn explained(
     alloc: Global,
     name: &str,
     certified_by: &str,

@@ -2,19 +2,23 @@
 ghost use Rattle.std.specs.Prelude.{◌≡◌, ◌++◌, IfOk, IfErr, string_bytes};
 ghost use Rattle.std.specs.Cow.{cow_str_bytes};
 ghost use Rattle.net_json.specs.CertificateText.{IsCertificateOf};
+ghost use Rattle.net_json.specs.EventText.{AreEventsOf};
 ghost use Rattle.net_json.specs.PlanText.{IsPlanOf};
 ghost use Rattle.net_plan.specs.PlanValues.{plan_value};
 ghost use Rattle.command_answers.specs.declared.status.Status.TheVariants.{Unreadable};
 ghost use Rattle.command_answers.specs.Answers.{Stream};
 ghost use Rattle.command_answers.specs.Statuses.{role_of};
 ghost use Rattle.command_answers.specs.UnreadInputs.{IsNoPlanBy, IsNoCertificateBy, StandsForNothing};
-ghost use Rattle.explain_commands.specs.UnreadTexts.{IsUnreadText, IsUnreadCertificateText};
+ghost use Rattle.explain_commands.specs.ExplainingEvents.{AreNoEventsBy};
+ghost use Rattle.explain_commands.specs.UnreadTexts.{IsUnreadText, IsUnreadCertificateText, IsUnreadEventsText};
 ghost use Rattle.reading_texts.specs.ReadingLines.{unread_line};
 
 use command_answers::{Answer, Input, Refused, Unread};
 use net_json::PlanError;
 use net_plan::Plan;
-use reading_texts::{certificate_reading_lines, plan_reading_lines, unread_line};
+use reading_texts::{
+    certificate_reading_lines, events_reading_lines, plan_reading_lines, unread_line,
+};
 use std::alloc::{AllocError, Global};
 
 /// What is said of a file that can't be opened or read.
@@ -34,7 +38,7 @@ pub fn unread_plan(alloc: Global, unread: &Unread) -> Result<Answer, Refused>
 }
 
 /// Says why a source gave no plan, and where its text has its first fault.
-fn plan_text(alloc: Global, unread: &Unread) -> Result<String, AllocError>
+pub fn plan_text(alloc: Global, unread: &Unread) -> Result<String, AllocError>
     requires { StandsForNothing IsPlanOf unread.now }
     ensures { IfOk result (λ text. (plans : Stream) → IsNoPlanBy plans unread.now → IsUnreadText plans (string_bytes text)) }
 {
@@ -61,7 +65,7 @@ pub fn unread_certificate(alloc: Global, plan: &Plan, unread: &Unread) -> Result
 }
 
 /// Says why a source gave no certificate, and where its text has its first fault.
-fn certificate_text(alloc: Global, plan: &Plan, unread: &Unread) -> Result<String, AllocError>
+pub fn certificate_text(alloc: Global, plan: &Plan, unread: &Unread) -> Result<String, AllocError>
     requires { StandsForNothing (IsCertificateOf (plan_value plan.now)) unread.now }
     ensures { IfOk result (λ text. (certificates : Stream) → IsNoCertificateBy plan.now certificates unread.now
         → IsUnreadCertificateText plan.now certificates (string_bytes text)) }
@@ -73,6 +77,34 @@ fn certificate_text(alloc: Global, plan: &Plan, unread: &Unread) -> Result<Strin
         Unread::Text { text, cause } => {
             let lines = certificate_reading_lines(alloc, plan, text)?;
             unread_lines(alloc, Input::Certificate, *cause, &lines)
+        }
+    }
+}
+
+/// The answer where a source gave no events at the nodes of a plan.
+pub fn unread_events(alloc: Global, plan: &Plan, unread: &Unread) -> Result<Answer, Refused>
+    requires { StandsForNothing (AreEventsOf (plan_value plan.now)) unread.now }
+    ensures answers { IfOk result (λ answer. (answer.status ≡ Unreadable)
+        × ((happenings : Stream) → AreNoEventsBy plan.now happenings unread.now
+        → IsUnreadEventsText plan.now happenings (cow_str_bytes answer.text))) }
+    ensures refused { IfErr result (λ why. why ≡ Refused.NoMemory) }
+{
+    Ok(Answer::unread(events_text(alloc, plan, unread)?))
+}
+
+/// Says why a source gave no events, and where its text has its first fault.
+fn events_text(alloc: Global, plan: &Plan, unread: &Unread) -> Result<String, AllocError>
+    requires { StandsForNothing (AreEventsOf (plan_value plan.now)) unread.now }
+    ensures { IfOk result (λ text. (happenings : Stream) → AreNoEventsBy plan.now happenings unread.now
+        → IsUnreadEventsText plan.now happenings (string_bytes text)) }
+{
+    match unread {
+        Unread::NoMemory => Err(AllocError),
+        Unread::Failed => unread_lines(alloc, Input::Events, PlanError::Device, FAILED),
+        Unread::TooLong => unread_lines(alloc, Input::Events, PlanError::OverLimit, LONG),
+        Unread::Text { text, cause } => {
+            let lines = events_reading_lines(alloc, plan, text)?;
+            unread_lines(alloc, Input::Events, *cause, &lines)
         }
     }
 }

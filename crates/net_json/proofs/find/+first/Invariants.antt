@@ -1,7 +1,7 @@
 -- What is left decides.
 use Rattle.std.proofs.Common.{◌≡◌, drop}
 use Rattle.net_json.specs.Trees.{view, items_view}
-use Rattle.net_json.specs.Finding.{first_fault, in_items, in_fields}
+use Rattle.net_json.specs.Finding.{first_fault, in_items, in_fields, in_choices}
 use Rattle.net_json.specs.Grammar.{grammar, fields_view, known_seen}
 use Rattle.net_json.proofs.find.+first.Given as goal
 
@@ -10,3 +10,6 @@ invariant-fault_in_fields-loop-field l = in_fields (known_seen l.known) (fields_
 
 abbrev pub invariant-fault_in_list-loop-index : goal.invariant-fault_in_list-loop-index
 invariant-fault_in_list-loop-index l = in_items (first_fault (known_seen l.known) (grammar l.item)) l.index (items_view (drop l.index l.value-items)) ≡ in_items (first_fault (known_seen l.known) (grammar l.item)) 0 (items_view l.value-items)
+
+abbrev pub invariant-fault_by_word-loop-choice : goal.invariant-fault_by_word-loop-choice
+invariant-fault_by_word-loop-choice l = in_choices (known_seen l.known) (fields_view (drop l.choice-index l.choices)) l.word (view l.value) ≡ in_choices (known_seen l.known) (fields_view l.choices) l.word (view l.value)

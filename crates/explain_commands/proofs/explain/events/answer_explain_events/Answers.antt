@@ -1,0 +1,25 @@
+use Rattle.command_answers.specs.Answers.{stream}
+use Rattle.explain_commands.proofs.ExplainedEvents.{with_plan, without_plan}
+use Rattle.command_answers.proofs.GivenTexts.{gave_plan}
+use Rattle.explain_commands.proofs.explain.events.answer_explain_events.Goals as goal
+
+pub returns-in-Ok-clause-answers : goal.returns-in-Ok-clause-answers
+returns-in-Ok-clause-answers g c =
+    let given = c.in-Ok.given in
+    let plans = stream g.P.Source.account c.args.plan.now c.plan_or_text.new.plan in
+    let certificates = stream g.C.Source.account c.args.certificate.now c.answer_of_plan.new.certificate in
+    let happenings = stream g.V.Source.account c.args.events.now c.answer_of_plan.new.events in
+    with_plan c.args.name.now c.args.certified_by.now given.text.items plans certificates happenings given.plan c.answer_of_plan.result c.in-Ok.ensures.given c.answer_of_plan.ensures.answers
+
+pub returns-in-Err-clause-answers : goal.returns-in-Err-clause-answers
+returns-in-Err-clause-answers g c =
+    let plans = stream g.P.Source.account c.args.plan.now c.plan_or_text.new.plan in
+    let certificates = stream g.C.Source.account c.args.certificate.now c.args.certificate.now in
+    let happenings = stream g.V.Source.account c.args.events.now c.args.events.now in
+    without_plan c.args.name.now c.args.certified_by.now plans certificates happenings c.in-Err.unread c.unread_plan.result c.in-Err.ensures.unread c.unread_plan.ensures.answers
+
+pub returns-in-Ok-clause-in_order : goal.returns-in-Ok-clause-in_order
+returns-in-Ok-clause-in_order g c = λ without.
+    let given = c.in-Ok.given in
+    let plans = stream g.P.Source.account c.args.plan.now c.plan_or_text.new.plan in
+    absurd (without given.plan (gave_plan plans given.text.items given.plan c.in-Ok.ensures.given))
