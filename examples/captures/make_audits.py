@@ -9,7 +9,7 @@ import pathlib
 import struct
 
 HERE = pathlib.Path(__file__).resolve().parent
-HOST, RISER, NIC = 8, 16, 17
+HOST, RISER, NIC, NOBODY = 8, 16, 17, 40
 FIRST, NEXT = 1, 0
 START, MIDDLE, END, WHOLE = 0, 1, 4, 5
 ENDPOINT, BRIDGE_AND_RANGE, BRIDGE = 0, 1, 2
@@ -111,6 +111,13 @@ WALKS = {
 }
 
 
+def strangers():
+    """On the bus behind the riser: the host asks the nic, the riser answers the host there, and nobody's packets."""
+    yield from packets(HOST, NIC, 0, 1, [2], [NIC, 0, 0])
+    yield bytes([1, HOST, RISER, 0xC0 | 1, 0, 2, 2, 0, RISER, 0x10, 0])
+    yield from [bytes([1, HOST, NOBODY, 0xC8 | 2, 0x7E])] * 2
+
+
 def write(name, packets_of_text):
     lines = [f"{it.hex(' ')}\n" for it in packets_of_text]
     (HERE / f"{name}.txt").write_text("".join(lines), encoding="ascii")
@@ -121,6 +128,7 @@ def main():
         write(name, exchanges(*said))
     for name, said in WALKS.items():
         write(name, walk(*said))
+    write("strangers", strangers())
 
 
 main()

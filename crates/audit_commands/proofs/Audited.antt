@@ -1,7 +1,7 @@
 -- What the end of `audit` tells of an answer.
 use Rattle.std.proofs.Common.{◌≡◌, ◌≢◌, ◌⊎◌, ℕ, zero, suc, List, Result, Ok, Err, inl, inr, refl, sym, subst}
 use Rattle.std.proofs.Math.Nat.{suc-ne-zero}
-use Rattle.std.specs.Prelude.{IfOk, IfErr, OnErr}
+use Rattle.std.specs.Prelude.{IfOk, IfErr, OnErr, Option, codes}
 use Rattle.std.specs.Cow.{cow_str_bytes}
 use Rattle.audited_captures.specs.Audits.{AreAudited, difference_count, audit_text}
 use Rattle.audited_captures.specs.Lines.{LineValue}
@@ -19,7 +19,8 @@ use Rattle.command_answers.specs.declared.status.Status.{Status}
 use Rattle.command_answers.specs.declared.status.Status.TheVariants as status
 use Rattle.command_answers.specs.Answers.{Stream, AreGiven, AreUnread, IsFaultText, BreaksOff}
 use Rattle.command_answers.specs.Told.{IsTold, IsSomeAnswer, Gives}
-use Rattle.audit_commands.specs.Auditing.{TellsCapture, AuditsCapture, AuditsOn, AuditsOf, AuditsSo}
+use Rattle.audit_commands.specs.Auditing.{TellsCapture, AuditsCapture, AuditsOn, AuditsOf, AuditsAt, AuditsSo}
+use Rattle.audit_commands.specs.Buses.{IsBusOf, NamesNoBus}
 
 -- an answer may tell why an input can't be read, and there may be none
 pub same_gives_or_breaks : (Answers : Status → List ℕ → Type 0) (ended : Status) (output errors : Stream) (Same : Type 0) (answered : Result Answer Refused)
@@ -32,48 +33,60 @@ same_gives_or_breaks Answers ended output errors Same (Ok a) answers (inr (is, f
     inr (inr (record { text = cow_str_bytes a.text; answer = (a.status, answers); fails = fails; beginning = part }))
 same_gives_or_breaks Answers ended output errors Same (Err why) answers told same unreadable = inl same
 
-module _ (plan : Plan) (cert : Certificate) (bytes text : List ℕ) (ended : Status) where
+module _ (plan : Plan) (cert : Certificate) (bus : Option ℕ) (bytes text : List ℕ) (ended : Status) where
   -- of a capture that was read whole
-  whole_so : (count : ℕ) → TellsCapture plan cert bytes end.Whole count text → (count ≡ 0 → ended ≡ status.Yes) → (count ≢ 0 → ended ≡ status.Fault) → AuditsCapture plan cert bytes ended text
-  whole_so zero tells matches differs = subst (λ (s : Status). AuditsCapture plan cert bytes s text) (sym (matches refl)) tells
+  whole_so : (count : ℕ) → TellsCapture plan cert bus bytes end.Whole count text → (count ≡ 0 → ended ≡ status.Yes) → (count ≢ 0 → ended ≡ status.Fault) → AuditsCapture plan cert bus bytes ended text
+  whole_so zero tells matches differs = subst (λ (s : Status). AuditsCapture plan cert bus bytes s text) (sym (matches refl)) tells
   whole_so (suc n) tells matches differs =
-      subst (λ (s : Status). AuditsCapture plan cert bytes s text) (sym (differs (suc-ne-zero n))) (suc n, suc-ne-zero n, tells)
+      subst (λ (s : Status). AuditsCapture plan cert bus bytes s text) (sym (differs (suc-ne-zero n))) (suc n, suc-ne-zero n, tells)
 
   -- of one that was not
-  broken_so : (how : End) (count : ℕ) → TellsCapture plan cert bytes how count text → how ≢ end.Whole → (how ≢ end.Whole → ended ≡ status.Unreadable) → AuditsCapture plan cert bytes ended text
-  broken_so how count tells other broken = subst (λ (s : Status). AuditsCapture plan cert bytes s text) (sym (broken other)) (how, count, other, tells)
+  broken_so : (how : End) (count : ℕ) → TellsCapture plan cert bus bytes how count text → how ≢ end.Whole → (how ≢ end.Whole → ended ≡ status.Unreadable) → AuditsCapture plan cert bus bytes ended text
+  broken_so how count tells other broken = subst (λ (s : Status). AuditsCapture plan cert bus bytes s text) (sym (broken other)) (how, count, other, tells)
 
-  ended_so : (how : End) (count : ℕ) → TellsCapture plan cert bytes how count text → (how ≡ end.Whole → count ≡ 0 → ended ≡ status.Yes)
-      → (how ≡ end.Whole → count ≢ 0 → ended ≡ status.Fault) → (how ≢ end.Whole → ended ≡ status.Unreadable) → AuditsCapture plan cert bytes ended text
+  ended_so : (how : End) (count : ℕ) → TellsCapture plan cert bus bytes how count text → (how ≡ end.Whole → count ≡ 0 → ended ≡ status.Yes)
+      → (how ≡ end.Whole → count ≢ 0 → ended ≡ status.Fault) → (how ≢ end.Whole → ended ≡ status.Unreadable) → AuditsCapture plan cert bus bytes ended text
   ended_so end.Whole count tells matches differs broken = whole_so count tells (matches refl) (differs refl)
   ended_so end.Full count tells matches differs broken = broken_so end.Full count tells (λ e. cc) broken
   ended_so (end.Broken place why) count tells matches differs broken = broken_so (end.Broken place why) count tells (λ e. cc) broken
 
-  pub audited_so : (entries : List EntryValue) (lines : List LineValue) (how : End) → IsCapture bytes entries how → AreAudited plan cert entries lines → text ≡ audit_text lines how
+  pub audited_so : (entries : List EntryValue) (lines : List LineValue) (how : End) → IsCapture bytes entries how → AreAudited plan cert bus entries lines → text ≡ audit_text lines how
       → (how ≡ end.Whole → difference_count lines ≡ 0 → ended ≡ status.Yes) → (how ≡ end.Whole → difference_count lines ≢ 0 → ended ≡ status.Fault)
-      → (how ≢ end.Whole → ended ≡ status.Unreadable) → AuditsCapture plan cert bytes ended text
+      → (how ≢ end.Whole → ended ≡ status.Unreadable) → AuditsCapture plan cert bus bytes ended text
   audited_so entries lines how captured audited told =
       ended_so how (difference_count lines) (record { entries = entries; lines = lines; captured = captured; audited = audited; counted = refl; told = told })
 
 module _ (plan : Plan) (cert : Certificate) where
-  pub given_so : (plans certificates captures : Stream) (result : Result Answer Refused) → AreGiven plans certificates plan cert
-      → IfOk result (λ (a : Answer). AuditsOf plan cert captures a.status (cow_str_bytes a.text))
-      → IfOk result (λ (a : Answer). AuditsSo plans certificates captures a.status (cow_str_bytes a.text))
-  given_so plans certificates captures (Ok a) given answers = (plan, cert, given, answers)
-  given_so plans certificates captures (Err why) given answers = tt
+  pub given_so : (name : Option (List ℕ)) (plans certificates captures : Stream) (result : Result Answer Refused) → AreGiven plans certificates plan cert
+      → IfOk result (λ (a : Answer). AuditsAt plan cert name captures a.status (cow_str_bytes a.text))
+      → IfOk result (λ (a : Answer). AuditsSo name plans certificates captures a.status (cow_str_bytes a.text))
+  given_so name plans certificates captures (Ok a) given answers = (plan, cert, given, answers)
+  given_so name plans certificates captures (Err why) given answers = tt
 
-  pub checked_so : (checked : Plan × Certificate) (bytes : List ℕ) (result : Result Answer Refused) → checked ≡ (plan, cert) → Accepts plan cert
-      → IfOk result (λ (a : Answer). AuditsCapture checked.0 checked.1 bytes a.status (cow_str_bytes a.text))
-      → IfOk result (λ (a : Answer). AuditsOn plan cert bytes a.status (cow_str_bytes a.text))
-  checked_so checked bytes (Ok a) same accepted answers =
-      inl (accepted, subst (λ (c : Plan × Certificate). AuditsCapture c.0 c.1 bytes a.status (cow_str_bytes a.text)) same answers)
-  checked_so checked bytes (Err why) same accepted answers = tt
+  pub at_bus : (name : Option (List ℕ)) (bus : Option ℕ) (captures : Stream) (result : Result Answer Refused) → IsBusOf plan name bus
+      → IfOk result (λ (a : Answer). AuditsOf plan cert bus captures a.status (cow_str_bytes a.text))
+      → IfOk result (λ (a : Answer). AuditsAt plan cert name captures a.status (cow_str_bytes a.text))
+  at_bus name bus captures (Ok a) is answers = inl (bus, is, answers)
+  at_bus name bus captures (Err why) is answers = tt
 
-  pub fault_so : (bytes : List ℕ) (result : Result Answer Refused)
+  pub no_bus : (name : Option (List ℕ)) (captures : Stream) (result : Result Answer Refused) → NamesNoBus plan name → captures.after ≡ captures.before
+      → IfOk result (λ (a : Answer). a.status ≡ status.Unreadable) → IfOk result (λ (a : Answer). cow_str_bytes a.text ≡ codes "unreadable bus: J06\n")
+      → IfOk result (λ (a : Answer). AuditsAt plan cert name captures a.status (cow_str_bytes a.text))
+  no_bus name captures (Ok a) none same ended text = inr (ended, none, same, text)
+  no_bus name captures (Err why) none same ended text = tt
+
+  pub checked_so : (bus : Option ℕ) (checked : Plan × Certificate) (bytes : List ℕ) (result : Result Answer Refused) → checked ≡ (plan, cert) → Accepts plan cert
+      → IfOk result (λ (a : Answer). AuditsCapture checked.0 checked.1 bus bytes a.status (cow_str_bytes a.text))
+      → IfOk result (λ (a : Answer). AuditsOn plan cert bus bytes a.status (cow_str_bytes a.text))
+  checked_so bus checked bytes (Ok a) same accepted answers =
+      inl (accepted, subst (λ (c : Plan × Certificate). AuditsCapture c.0 c.1 bus bytes a.status (cow_str_bytes a.text)) same answers)
+  checked_so bus checked bytes (Err why) same accepted answers = tt
+
+  pub fault_so : (bus : Option ℕ) (bytes : List ℕ) (result : Result Answer Refused)
       → IfOk result (λ (a : Answer). (a.status ≡ status.Fault) × IsFaultText plan cert (cow_str_bytes a.text))
-      → IfOk result (λ (a : Answer). AuditsOn plan cert bytes a.status (cow_str_bytes a.text))
-  fault_so bytes (Ok a) told = inr told
-  fault_so bytes (Err why) told = tt
+      → IfOk result (λ (a : Answer). AuditsOn plan cert bus bytes a.status (cow_str_bytes a.text))
+  fault_so bus bytes (Ok a) told = inr told
+  fault_so bus bytes (Err why) told = tt
 
 -- want of memory is why nothing more is said
 pub memory_so : (plans certificates : Stream) (result : Result Answer Refused) → IfErr result (λ why. why ≡ refused.NoMemory)

@@ -1,5 +1,5 @@
 -- What the end of `audit` says of the plan, the certificate and the capture that it read, and of what it wrote.
-use Rattle.std.specs.Prelude.{◌≡◌, ◌≢◌, ◌⊎◌, ℕ, List, Some}
+use Rattle.std.specs.Prelude.{◌≡◌, ◌≢◌, ◌⊎◌, ℕ, List, Option, Some, None, codes}
 use Rattle.audited_captures.specs.Audits.{AreAudited, difference_count, audit_text}
 use Rattle.audited_captures.specs.Lines.{LineValue}
 use Rattle.bus_captures.specs.Captures.{IsCapture}
@@ -15,41 +15,50 @@ use Rattle.net_json.specs.declared.stream.TextFault.{TextFault}
 use Rattle.net_plan.specs.declared.certificate.Certificate.{Certificate}
 use Rattle.net_plan.specs.declared.plan.Plan.{Plan}
 use Rattle.net_rules.specs.Rules.{Accepts}
+use Rattle.audit_commands.specs.Buses.{IsBusOf, NamesNoBus}
 
--- the text tells what was captured beside the plan, where reading the bytes ends so, and so many differences
-pub record TellsCapture (plan : Plan) (cert : Certificate) (bytes : List ℕ) (how : End) (count : ℕ)
+-- the text tells what was captured on the bus beside the plan, where reading the bytes ends so, and so many differences
+pub record TellsCapture (plan : Plan) (cert : Certificate) (bus : Option ℕ) (bytes : List ℕ) (how : End) (count : ℕ)
     (text : List ℕ) : Type 0 where
   pub entries : List EntryValue
   pub lines : List LineValue
   pub captured : IsCapture bytes entries how
-  pub audited : AreAudited plan cert entries lines
+  pub audited : AreAudited plan cert bus entries lines
   pub counted : count ≡ difference_count lines
   pub told : text ≡ audit_text lines how
 
 -- It does in a run that ends so: yes where all was read and nothing differs, a fault where all was read and something
 -- does, and unreadable where not all was read.
-abbrev pub AuditsCapture : Plan → Certificate → List ℕ → Status → List ℕ → Type 0
-AuditsCapture plan cert bytes status.Yes text = TellsCapture plan cert bytes end.Whole 0 text
-AuditsCapture plan cert bytes status.Fault text =
-    (count : ℕ) × (count ≢ 0) × TellsCapture plan cert bytes end.Whole count text
-AuditsCapture plan cert bytes status.Unreadable text =
-    (how : End) × (count : ℕ) × (how ≢ end.Whole) × TellsCapture plan cert bytes how count text
-AuditsCapture plan cert bytes status.NoMemory text = ⊥
+abbrev pub AuditsCapture : Plan → Certificate → Option ℕ → List ℕ → Status → List ℕ → Type 0
+AuditsCapture plan cert bus bytes status.Yes text = TellsCapture plan cert bus bytes end.Whole 0 text
+AuditsCapture plan cert bus bytes status.Fault text =
+    (count : ℕ) × (count ≢ 0) × TellsCapture plan cert bus bytes end.Whole count text
+AuditsCapture plan cert bus bytes status.Unreadable text =
+    (how : End) × (count : ℕ) × (how ≢ end.Whole) × TellsCapture plan cert bus bytes how count text
+AuditsCapture plan cert bus bytes status.NoMemory text = ⊥
 
 -- the same of a plan and a certificate, whose first fault is told where they are not accepted
-abbrev pub AuditsOn : Plan → Certificate → List ℕ → Status → List ℕ → Type 0
-AuditsOn plan certificate bytes ended text =
-    (Accepts plan certificate × AuditsCapture plan certificate bytes ended text)
+abbrev pub AuditsOn : Plan → Certificate → Option ℕ → List ℕ → Status → List ℕ → Type 0
+AuditsOn plan certificate bus bytes ended text =
+    (Accepts plan certificate × AuditsCapture plan certificate bus bytes ended text)
     ⊎ ((ended ≡ status.Fault) × IsFaultText plan certificate text)
 
 -- the same of a plan, a certificate and the capture that a source gave, or why it gave none
-abbrev pub AuditsOf : Plan → Certificate → Stream → Status → List ℕ → Type 0
-AuditsOf plan certificate captures ended text =
-    Gave 16777216 captures.before.bytes captures.after.bytes (λ bytes. AuditsOn plan certificate bytes ended text)
+abbrev pub AuditsOf : Plan → Certificate → Option ℕ → Stream → Status → List ℕ → Type 0
+AuditsOf plan certificate bus captures ended text =
+    Gave 16777216 captures.before.bytes captures.after.bytes (λ bytes. AuditsOn plan certificate bus bytes ended text)
     ⊎ ((ended ≡ status.Unreadable)
     × ((why : TextFault) × IsNotGiven why captures × (not_given why ≡ Some text)))
 
+-- The same of the bus that a name stands for. Where the plan has no bus of the name, this is told, and nothing of the
+-- capture was read.
+abbrev pub AuditsAt : Plan → Certificate → Option (List ℕ) → Stream → Status → List ℕ → Type 0
+AuditsAt plan certificate name captures ended text =
+    ((bus : Option ℕ) × IsBusOf plan name bus × AuditsOf plan certificate bus captures ended text)
+    ⊎ ((ended ≡ status.Unreadable) × NamesNoBus plan name × (captures.after ≡ captures.before)
+    × (text ≡ codes "unreadable bus: J06\n"))
+
 -- the same of the plan and the certificate that were given
-abbrev pub AuditsSo : Stream → Stream → Stream → Status → List ℕ → Type 0
-AuditsSo plans certificates captures ended text = (plan : Plan) × (certificate : Certificate)
-    × AreGiven plans certificates plan certificate × AuditsOf plan certificate captures ended text
+abbrev pub AuditsSo : Option (List ℕ) → Stream → Stream → Stream → Status → List ℕ → Type 0
+AuditsSo name plans certificates captures ended text = (plan : Plan) × (certificate : Certificate)
+    × AreGiven plans certificates plan certificate × AuditsAt plan certificate name captures ended text

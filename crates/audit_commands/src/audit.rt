@@ -1,5 +1,5 @@
 //! The command `audit`: what captured devices said, laid beside a checked plan.
-ghost use Rattle.std.specs.Prelude.{◌≡◌, ◌≢◌, ◌⊎◌, IfOk, IfErr, map, string_bytes};
+ghost use Rattle.std.specs.Prelude.{◌≡◌, ◌≢◌, ◌⊎◌, ℕ, Option, IfOk, IfErr, map, option_map, string_bytes, codes};
 ghost use Rattle.std.specs.Cow.{cow_str_bytes};
 ghost use Rattle.net_json.specs.Stream.{HasRoom};
 ghost use Rattle.command_answers.specs.declared.status.Status.TheVariants.{Yes, Fault, Unreadable, NoMemory};
@@ -8,8 +8,9 @@ ghost use Rattle.command_answers.specs.Answers.{stream, AreUnread, IsWithoutPlan
 ghost use Rattle.command_answers.specs.Told.{Gives, IsSomeAnswer, Ends};
 ghost use Rattle.audited_captures.specs.Audits.{difference_count};
 ghost use Rattle.audited_captures.specs.Lines.{line_value};
-ghost use Rattle.audit_commands.specs.Auditing.{AuditsCapture, AuditsOn, AuditsOf, AuditsSo};
+ghost use Rattle.audit_commands.specs.Auditing.{AuditsCapture, AuditsOn, AuditsOf, AuditsAt, AuditsSo};
 
+use crate::buses::bus_of;
 use crate::repositories::repositories_of;
 use audited_captures::{Line, audit_text, audited_lines, difference_count};
 use bus_captures::{End, read_capture};
@@ -20,11 +21,13 @@ use net_json::{Sink, Source, TEXT_LIMIT, read_within};
 use net_plan::{Certificate, Plan};
 use std::alloc::Global;
 
-/// Says on `output` what the devices of a capture said, laid beside a plan, or tells the fault of the plan and its
-/// certificate. A capture that can't be read to its end is told as far as it can. Where the plan or the certificate
-/// can't be read, says so on `errors`, and reads nothing more.
+/// Says on `output` what the devices of a capture said and which of its packets aren't planned, laid beside a plan, or
+/// tells the fault of the plan and its certificate. The capture was taken on the bus of the name, where one is given; where
+/// the plan has no bus of the name, says so on `output`, and reads no capture. A capture that can't be read to its end is
+/// told as far as it can. Where the plan or the certificate can't be read, says so on `errors`, and reads nothing more.
 pub fn run_audit<P: Source, C: Source, T: Source, O: Sink, E: Sink>(
     alloc: Global,
+    bus: Option<&str>,
     plan: &mut P,
     certificate: &mut C,
     capture: &mut T,
@@ -39,7 +42,7 @@ pub fn run_audit<P: Source, C: Source, T: Source, O: Sink, E: Sink>(
     ensures tells { let plans = stream P.account plan.old plan.new in
         let certificates = stream C.account certificate.old certificate.new in
         let captures = stream T.account capture.old capture.new in
-        Ends (AuditsSo plans certificates captures) (λ why. AreUnread why plans certificates) result
+        Ends (AuditsSo (option_map (λ name. name.now) bus.entry) plans certificates captures) (λ why. AreUnread why plans certificates) result
         (stream O.account output.old output.new) (stream E.account errors.old errors.new) }
     ensures silent { (result ≡ Yes) ⊎ (result ≡ Fault) → errors.new ≡ errors.old }
     ensures unwritten { let plans = stream P.account plan.old plan.new in
@@ -47,18 +50,19 @@ pub fn run_audit<P: Source, C: Source, T: Source, O: Sink, E: Sink>(
         let captures = stream T.account capture.old capture.new in
         let outputs = stream O.account output.old output.new in
         result ≡ Unreadable → (output.new ≡ output.old)
-        ⊎ Gives (AuditsSo plans certificates captures) Unreadable outputs
-        ⊎ BreaksOff (IsSomeAnswer (AuditsSo plans certificates captures)) outputs }
+        ⊎ Gives (AuditsSo (option_map (λ name. name.now) bus.entry) plans certificates captures) Unreadable outputs
+        ⊎ BreaksOff (IsSomeAnswer (AuditsSo (option_map (λ name. name.now) bus.entry) plans certificates captures)) outputs }
     ensures no_memory { result ≡ NoMemory → output.new ≡ output.old }
     ensures in_order { IsWithoutPlan (stream P.account plan.old plan.new)
         → (certificate.new ≡ certificate.old) × (capture.new ≡ capture.old) }
 {
-    let answered = answer_audit(alloc, plan, certificate, capture);
+    let answered = answer_audit(alloc, bus, plan, certificate, capture);
     tell(alloc, answered, output, errors)
 }
 
 fn answer_audit<P: Source, C: Source, T: Source>(
     alloc: Global,
+    bus: Option<&str>,
     plan: &mut P,
     certificate: &mut C,
     capture: &mut T,
@@ -69,7 +73,7 @@ fn answer_audit<P: Source, C: Source, T: Source>(
     ensures answers { let plans = stream P.account plan.old plan.new in
         let certificates = stream C.account certificate.old certificate.new in
         let captures = stream T.account capture.old capture.new in
-        IfOk result (λ answer. AuditsSo plans certificates captures answer.status (cow_str_bytes answer.text)) }
+        IfOk result (λ answer. AuditsSo (option_map (λ name. name.now) bus.entry) plans certificates captures answer.status (cow_str_bytes answer.text)) }
     ensures unread { let plans = stream P.account plan.old plan.new in
         let certificates = stream C.account certificate.old certificate.new in
         IfErr result (λ why. AreUnread why plans certificates) }
@@ -77,53 +81,89 @@ fn answer_audit<P: Source, C: Source, T: Source>(
         → (certificate.new ≡ certificate.old) × (capture.new ≡ capture.old) }
 {
     let (plan, certificate) = read_inputs(alloc, plan, certificate)?;
-    answer_capture(alloc, &plan, &certificate, capture)
+    answer_at_bus(alloc, bus, &plan, &certificate, capture)
 }
 
-/// The answer on a plan, a certificate and what a source gives.
-fn answer_capture<T: Source>(
+/// The answer on a plan, a certificate, the name of a bus and what a source gives.
+fn answer_at_bus<T: Source>(
     alloc: Global,
+    bus: Option<&str>,
     plan: &Plan,
     certificate: &Certificate,
     capture: &mut T,
 ) -> Result<Answer, Refused>
     requires { HasRoom (T.account capture.old) }
     ensures answers { let captures = stream T.account capture.old capture.new in
-        IfOk result (λ answer. AuditsOf plan.now certificate.now captures answer.status (cow_str_bytes answer.text)) }
+        IfOk result (λ answer. AuditsAt plan.now certificate.now (option_map (λ name. name.now) bus.entry) captures answer.status (cow_str_bytes answer.text)) }
+    ensures refused { IfErr result (λ why. why ≡ refused.NoMemory) }
+{
+    match bus_of(plan, bus) {
+        Ok(bus) => answer_capture(alloc, bus, plan, certificate, capture),
+        Err(_) => unknown_bus(alloc),
+    }
+}
+
+/// The answer where the plan has no bus of a name.
+fn unknown_bus(alloc: Global) -> Result<Answer, Refused>
+    ensures status { IfOk result (λ answer. answer.status ≡ Unreadable) }
+    ensures text { IfOk result (λ answer. cow_str_bytes answer.text ≡ codes "unreadable bus: J06\n") }
+    ensures refused { IfErr result (λ why. why ≡ refused.NoMemory) }
+{
+    let text = String::from_str(alloc, "unreadable bus: J06\n")?;
+    Ok(Answer::unread(text))
+}
+
+/// The answer on a plan, a certificate, a bus and what a source gives.
+fn answer_capture<T: Source>(
+    alloc: Global,
+    bus: Option<usize>,
+    plan: &Plan,
+    certificate: &Certificate,
+    capture: &mut T,
+) -> Result<Answer, Refused>
+    requires { HasRoom (T.account capture.old) }
+    ensures answers { let captures = stream T.account capture.old capture.new in
+        IfOk result (λ answer. AuditsOf plan.now certificate.now bus captures answer.status (cow_str_bytes answer.text)) }
     ensures refused { IfErr result (λ why. why ≡ refused.NoMemory) }
 {
     match read_within(alloc, capture, TEXT_LIMIT) {
-        Ok(bytes) => answer_bytes(alloc, plan, certificate, &bytes),
+        Ok(bytes) => answer_bytes(alloc, bus, plan, certificate, &bytes),
         Err(fault) => not_given(alloc, fault),
     }
 }
 
-/// The answer on a plan, a certificate and the bytes of a capture.
+/// The answer on a plan, a certificate, a bus and the bytes of a capture.
 fn answer_bytes(
     alloc: Global,
+    bus: Option<usize>,
     plan: &Plan,
     certificate: &Certificate,
     bytes: &[u8],
 ) -> Result<Answer, Refused>
     ensures answers { IfOk result
-        (λ answer. AuditsOn plan.now certificate.now bytes.now answer.status (cow_str_bytes answer.text)) }
+        (λ answer. AuditsOn plan.now certificate.now bus bytes.now answer.status (cow_str_bytes answer.text)) }
     ensures refused { IfErr result (λ why. why ≡ refused.NoMemory) }
 {
     match check(alloc, plan, certificate) {
-        Ok(checked) => audited(alloc, &checked, bytes),
+        Ok(checked) => audited(alloc, bus, &checked, bytes),
         Err(error) => fault_answer(alloc, plan, &error),
     }
 }
 
-/// The answer on a checked plan and the bytes of a capture.
-fn audited(alloc: Global, checked: &Checked, bytes: &[u8]) -> Result<Answer, Refused>
+/// The answer on a checked plan, a bus and the bytes of a capture.
+fn audited(
+    alloc: Global,
+    bus: Option<usize>,
+    checked: &Checked,
+    bytes: &[u8],
+) -> Result<Answer, Refused>
     ensures answers { IfOk result
-        (λ answer. AuditsCapture checked.now.0 checked.now.1 bytes.now answer.status (cow_str_bytes answer.text)) }
+        (λ answer. AuditsCapture checked.now.0 checked.now.1 bus bytes.now answer.status (cow_str_bytes answer.text)) }
     ensures refused { IfErr result (λ why. why ≡ refused.NoMemory) }
 {
     let capture = read_capture(alloc, bytes)?;
     let repositories = repositories_of(alloc, checked)?;
-    let lines = audited_lines(alloc, checked, &repositories, &capture)?;
+    let lines = audited_lines(alloc, checked, &repositories, bus, &capture)?;
     let text = audit_text(alloc, &lines, capture.end)?;
     Ok(answer_at(capture.end, &lines, text))
 }

@@ -2,6 +2,7 @@
 #![tactic(auto)]
 
 mod audit;
+mod buses;
 mod repositories;
 
 pub use audit::run_audit;

@@ -1,9 +1,8 @@
 -- The lines of one node, and of one node more.
 use Rattle.std.proofs.Common.{◌≡◌, ℕ, ◌+◌, List, ◌++◌, length, ap, sym, ◌∙◌, subst, map}
-use Rattle.std.specs.Prelude.{Result, Ok, Err, IfOk, Some, slice_get}
+use Rattle.std.specs.Prelude.{Result, Ok, Err, IfOk, Option, Some, slice_get}
 use Rattle.std.proofs.lemmas.List.{map-append}
-use Rattle.net_plan.specs.NodeValues.{name_bytes}
-use Rattle.bus_captures.specs.Values as bus
+use Rattle.bus_captures.specs.Values as captured
 use Rattle.net_plan.specs.declared.certificate.Certificate.{Certificate}
 use Rattle.net_plan.specs.declared.plan.Plan.{Plan}
 use Rattle.net_plan.specs.declared.nodes.Node.{Node}
@@ -13,8 +12,8 @@ use Rattle.plan_exports.specs.TableAnswers.{AreEntriesOf}
 use Rattle.audited_captures.specs.Repositories.{TellsRecords}
 use Rattle.audited_captures.specs.Lines.{LineValue, line_value}
 use Rattle.audited_captures.specs.declared.lines.Line.{Line}
-use Rattle.audited_captures.specs.RecordLines.{walks_lines}
-use Rattle.audited_captures.specs.Audits.{Heard, NodeFacts, AreFacts, AreNodeLines, AreLines, More, lines_of_node, AreBeside, AreAudited, AreRepositories}
+use Rattle.audited_captures.specs.TrafficLines.{IsTraffic}
+use Rattle.audited_captures.specs.Audits.{Heard, AreNodeLines, AreLines, More, lines_of_node, AreBeside, AreAudited, AreRepositories}
 
 -- three lists of lines joined
 pub joined : (a b c two all : List Line) (A B C : List LineValue) → two ≡ b ++ c → all ≡ a ++ two
@@ -42,7 +41,15 @@ pub next_node : (plan : Plan) (rs : List (List Entry)) (h : Heard) (n : ℕ) (ol
 next_node plan rs h n old more new are of_one joins =
     subst (λ ls. AreLines plan rs h (n + 1) ls) (sym (ap (map line_value) joins ∙ map-append line_value old more)) (More n (map line_value old) (map line_value more) are of_one)
 
-pub audited_if : {T E : Type 0} (lines_of : T → List LineValue) (plan : Plan) (cert : Certificate) (rs : List (List Entry)) (entries : List bus.EntryValue) (result : Result T E)
-    → AreRepositories plan cert (length plan.nodes.items) rs → IfOk result (λ t. AreBeside plan rs entries (lines_of t)) → IfOk result (λ t. AreAudited plan cert entries (lines_of t))
-audited_if lines_of plan cert rs entries (Ok t) placed beside = record { repositories = rs; placed = placed; beside = beside }
-audited_if lines_of plan cert rs entries (Err e) placed beside = tt
+pub audited_so : (plan : Plan) (cert : Certificate) (bus : Option ℕ) (rs : List (List Entry)) (entries : List captured.EntryValue) (answers traffic all : List Line)
+    → AreRepositories plan cert (length plan.nodes.items) rs → AreBeside plan rs entries (map line_value answers) → IsTraffic plan bus entries (map line_value traffic)
+    → all ≡ answers ++ traffic → AreAudited plan cert bus entries (map line_value all)
+audited_so plan cert bus rs entries answers traffic all placed beside passed joins = record {
+  repositories = rs;
+  answers = map line_value answers;
+  traffic = map line_value traffic;
+  placed = placed;
+  beside = beside;
+  passed = passed;
+  joined = ap (map line_value) joins ∙ map-append line_value answers traffic;
+}

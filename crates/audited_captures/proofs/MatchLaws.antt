@@ -1,5 +1,5 @@
 -- No line of a node tells a difference exactly where all that it said is planned.
-use Rattle.std.proofs.Common.{◌≡◌, ◌⊎◌, ℕ, ◌+◌, ◌<◌, ◌==◌, ◌&&◌, ◌||◌, not, Bool, true, false, List, [], ◌∷◌, ◌++◌, length, refl, ap, sym, ◌∙◌, subst, inl, inr, arith}
+use Rattle.std.proofs.Common.{◌≡◌, ◌⊎◌, ℕ, ◌+◌, ◌==◌, ◌&&◌, ◌||◌, not, Bool, true, false, List, [], ◌∷◌, ◌++◌, length, refl, ap, sym, ◌∙◌, subst, inl, inr, arith}
 use Rattle.std.specs.Prelude.{Option, Some, None, find, codes, if◌then◌else◌}
 use Rattle.std.specs.Fmt.{decimal}
 use Rattle.std.specs.List.{flat_map, list_any, filter}
@@ -14,9 +14,9 @@ use Rattle.net_plan.specs.NodeValues.{name_bytes}
 use Rattle.net_plan.specs.declared.nodes.Node.{Node}
 use Rattle.audited_captures.specs.AsPlanned.{IsAmong}
 use Rattle.pdr_repository.specs.Records.{Entry, handle_in}
-use Rattle.audited_captures.specs.Audits.{NodeFacts, difference_count, lines_of_node, answered_lines}
+use Rattle.audited_captures.specs.Audits.{NodeFacts, difference_count, lines_of_node}
 use Rattle.audited_captures.specs.Exchanges.{ExchangeValue}
-use Rattle.audited_captures.specs.Identities.{answered_by, kind_word, eid_line, kind_line, identity_lines, tells_eid, span_words, same_span, pool_line, pool_lines_of, tells_pool, told_lines, eid_lines, pool_lines, answers_of, answer_if, first_of, size_of, kind_number}
+use Rattle.audited_captures.specs.Identities.{answered_by, kind_word, eid_line, kind_line, identity_lines, tells_eid, span_words, same_span, pool_lines_of, tells_pool, told_lines, eid_lines, pool_lines, answers_of, answer_if, first_of, size_of, kind_number}
 use Rattle.audited_captures.specs.Lines.{LineValue, difference, note, differences_or}
 use Rattle.audited_captures.specs.RecordLines.{unlike_from, line_if_unlike_at, line_of_found, found_lines, is_found, missing_lines, unlike_records, are_planned, records_match, order_line, open_line, stopped_line, walk_lines, walks_lines}
 use Rattle.audited_captures.specs.Walking.{Walked, Whole, Open, Stopped}

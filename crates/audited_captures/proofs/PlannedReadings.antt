@@ -1,5 +1,5 @@
 -- A reading has no line of a difference exactly where its entries are those of the plan.
-use Rattle.std.proofs.Common.{◌≡◌, ◌⊎◌, ℕ, ◌==◌, ◌&&◌, ◌||◌, not, Bool, true, false, List, [], ◌∷◌, ◌++◌, refl, ap, sym, ◌∙◌, subst, inl, inr, cond, nat_eq}
+use Rattle.std.proofs.Common.{◌≡◌, ℕ, ◌==◌, ◌&&◌, ◌||◌, not, Bool, true, false, List, [], ◌∷◌, ◌++◌, refl, ap, sym, ◌∙◌, subst, inl, inr, cond, nat_eq}
 use Rattle.std.specs.Prelude.{Option, Some, None, find, codes, if◌then◌else◌}
 use Rattle.std.specs.Option.{option_or}
 use Rattle.std.specs.List.{flat_map, list_any}
@@ -10,7 +10,6 @@ use Rattle.std.proofs.lemmas.Option.{same_Some}
 use Rattle.hex.specs.Hex.{encode_lower}
 use Rattle.mctp_control.specs.RouteEntries.{EntryValue}
 use Rattle.audited_captures.specs.AsPlanned.{IsAmong, IsLike, AreOnce, AreAsPlanned, MatchesWhereAsPlanned}
-use Rattle.audited_captures.specs.Lines.{LineValue}
 use Rattle.audited_captures.proofs.Booleans.{both, both_left, both_right, not_true, either, or_right, not_both}
 use Rattle.audited_captures.specs.Routes.{same_range, has_range, two_words, unlike_number, unlike_address, unlike, line_if_unlike, line_beside, planned_lines, lines_if_extra, extra_line, extra_lines, unlike_lines}
 

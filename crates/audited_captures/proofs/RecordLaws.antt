@@ -1,12 +1,12 @@
 -- Records that were brought, beside the planned ones.
-use Rattle.std.proofs.Common.{◌≡◌, ◌≢◌, ℕ, suc, zero, ◌+◌, ◌<◌, ◌≤◌, ◌==◌, ◌&&◌, Bool, true, false, List, [], ◌∷◌, length, refl, ap, sym, ◌∙◌, nat_eq, map, take, drop, get_or, ◌++◌, inl, inr, arith, subst, add-one, cond}
-use Rattle.std.specs.Prelude.{Option, Some, None, Vec}
+use Rattle.std.proofs.Common.{◌≡◌, ◌≢◌, ℕ, suc, ◌+◌, ◌<◌, ◌≤◌, ◌==◌, ◌&&◌, Bool, true, false, List, [], ◌∷◌, length, refl, ap, sym, ◌∙◌, nat_eq, take, drop, get_or, ◌++◌, inl, inr, arith, add-one, cond}
+use Rattle.std.specs.Prelude.{Some, None, Vec}
 use Rattle.std.specs.List.{flat_map}
 use Rattle.std.proofs.lemmas.List.{append-nil}
 use Rattle.std.proofs.lemmas.Grind.{flat_map-append}
 use Rattle.std.specs.Cmp.Lexicographic.{pointwise, bytes_decides}
 use Rattle.std.proofs.Math.Seq.{drop-cons}
-use Rattle.std.proofs.lemmas.Bool.{cases_lt, cases_Bool}
+use Rattle.std.proofs.lemmas.Bool.{cases_lt}
 use Rattle.pdr_repository.specs.Records.{Entry, entry_of, entries, bytes_by_place}
 use Rattle.audited_captures.specs.Lines.{LineValue}
 use Rattle.audited_captures.specs.RecordLines.{are_planned, unlike_from, missing_lines}

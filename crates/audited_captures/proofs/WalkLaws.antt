@@ -1,7 +1,6 @@
 -- One part of a walk more, and one walk more.
 use Rattle.std.proofs.Common.{◌≡◌, ℕ, ◌<◌, ◌+◌, List, [], ◌∷◌, ◌++◌, length, refl, sym, ◌∙◌, ap, subst, map, drop, get_or, true, false, append_assoc}
-use Rattle.std.specs.Prelude.{Result, Ok, Err, IfOk, ◌==◌, Option, None, Some}
-use Rattle.std.specs.List.{flat_map}
+use Rattle.std.specs.Prelude.{Result, Ok, Err, IfOk, None, Some}
 use Rattle.std.proofs.lemmas.Option.{same_Some}
 use Rattle.std.proofs.lemmas.List.{append-nil}
 use Rattle.std.proofs.lemmas.Grind.{flat_map-append}
@@ -12,7 +11,7 @@ use Rattle.audited_captures.specs.RecordParts.{RecordPartValue, record_part_valu
 use Rattle.audited_captures.specs.declared.record_parts.RecordPart.{RecordPart}
 use Rattle.audited_captures.specs.Lines.{LineValue}
 use Rattle.audited_captures.specs.RecordLines.{walk_lines, walks_lines}
-use Rattle.audited_captures.specs.Walking.{Walked, Whole, Open, Stopped, Walks, NoMore, Other, Left, GoesOn, Ends, Stops, AreWalks, Empty, Within, Begins, begins, walked_value, fresh_walk, is_due, asking}
+use Rattle.audited_captures.specs.Walking.{Walked, Whole, Open, Stopped, Walks, Other, Left, GoesOn, Ends, Stops, AreWalks, Empty, Within, Begins, begins, walked_value, fresh_walk, asking}
 use Rattle.audited_captures.specs.Walks.{IsWalkLines, AreWalksLines}
 use Rattle.audited_captures.specs.WalkTurns.{IsNext, TakesAnswer, TakesPart, ending_of}
 use Rattle.audited_captures.specs.declared.walking.Ending.{Ending}

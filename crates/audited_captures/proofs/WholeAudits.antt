@@ -1,5 +1,5 @@
 -- An audit matches exactly where each node has said what is planned.
-use Rattle.std.proofs.Common.{◌≡◌, ℕ, ◌+◌, ◌<◌, List, [], ◌∷◌, ◌++◌, length, refl, ap, sym, ◌∙◌, subst, inl, inr, arith, Some}
+use Rattle.std.proofs.Common.{◌≡◌, ℕ, ◌<◌, List, ◌++◌, refl, ap, sym, ◌∙◌, subst, inl, inr, arith, Some}
 use Rattle.std.specs.Prelude.{slice_get}
 use Rattle.std.proofs.lemmas.Bool.{cases_lt}
 use Rattle.std.proofs.lemmas.Option.{same_Some, slice_get_within}
@@ -10,6 +10,7 @@ use Rattle.audited_captures.specs.Audits.{Heard, NodeFacts, AreFacts, AreLines, 
 use Rattle.audited_captures.specs.Lines.{LineValue}
 use Rattle.audited_captures.specs.Matching.{SaysAsPlanned, AuditMatches, MatchesAudit}
 use Rattle.audited_captures.proofs.MatchLaws.{zero_left, zero_right, zero_both, nodes_match}
+use Rattle.audited_captures.proofs.TrafficLaws.{traffic_matches}
 
 -- the node at a place has said what is planned
 abbrev IsSaidAt : Plan → List (List Entry) → Heard → ℕ → Node → Type 0
@@ -40,8 +41,14 @@ no_node plan rs h (More m lines more are one) says =
     (ap difference_count one.tell ∙ (nodes_match one.node h.exchanges one.facts).1 (says m one.node one.facts one.at one.are))
 
 pub audit_matches : AuditMatches
-audit_matches plan cert entries lines are zero n node at =
-    each_node plan are.repositories are.beside.heard are.beside.told zero n node (slice_get_within plan.nodes.items n node at) at
+audit_matches plan cert bus entries lines are zero =
+    let told : difference_count (are.answers ++ are.traffic) ≡ 0 = ap difference_count (sym are.joined) ∙ zero in (
+      λ n node at. each_node plan are.repositories are.beside.heard are.beside.told (zero_left are.answers are.traffic told) n node (slice_get_within plan.nodes.items n node at) at,
+      (traffic_matches plan bus entries are.traffic are.passed).0 (zero_right are.answers are.traffic told),
+    )
 
 pub matches_audit : MatchesAudit
-matches_audit plan cert entries lines are says = no_node plan are.repositories are.beside.heard are.beside.told says
+matches_audit plan cert bus entries lines are says planned =
+    ap difference_count are.joined
+    ∙ zero_both are.answers are.traffic (no_node plan are.repositories are.beside.heard are.beside.told says)
+    ((traffic_matches plan bus entries are.traffic are.passed).1 planned)

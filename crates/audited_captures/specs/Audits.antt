@@ -1,5 +1,5 @@
 -- What captured devices said, laid beside a plan.
-use Rattle.std.specs.Prelude.{◌≡◌, ℕ, ◌+◌, ◌<◌, ◌==◌, ◌&&◌, List, [], ◌∷◌, ◌++◌, length, codes, slice_get, Some}
+use Rattle.std.specs.Prelude.{◌≡◌, ℕ, ◌+◌, ◌<◌, ◌==◌, ◌&&◌, List, [], ◌∷◌, ◌++◌, length, codes, slice_get, Option, Some}
 use Rattle.std.specs.Prelude.{if◌then◌else◌}
 use Rattle.std.specs.Fmt.{decimal}
 use Rattle.std.specs.List.{flat_map, filter}
@@ -23,6 +23,7 @@ use Rattle.audited_captures.specs.Lines.{LineValue, note}
 use Rattle.audited_captures.specs.RecordLines.{walks_lines}
 use Rattle.audited_captures.specs.RecordParts.{RecordPartValue, AreRecordParts}
 use Rattle.audited_captures.specs.Routes.{routes_lines}
+use Rattle.audited_captures.specs.TrafficLines.{IsTraffic}
 use Rattle.audited_captures.specs.Walking.{Walked, AreWalks}
 use Rattle.audited_captures.specs.Identities.{answers_of, eid_lines, pool_lines, first_of, size_of, kind_number}
 
@@ -131,9 +132,14 @@ pub record AreBeside (plan : Plan) (repositories : List (List Entry)) (entries :
   pub answered : AreExchanges heard.words heard.exchanges
   pub told : AreLines plan repositories heard (length plan.nodes.items) lines
 
--- beside the plan and its records
-pub record AreAudited (plan : Plan) (cert : Certificate) (entries : List EntryValue)
+-- The lines are those of the answers, beside the plan and its records, and behind them those of the packets that the
+-- plan doesn't have on the bus where the capture was taken, or on any bus where none is named.
+pub record AreAudited (plan : Plan) (cert : Certificate) (bus : Option ℕ) (entries : List EntryValue)
     (lines : List LineValue) : Type 0 where
   pub repositories : List (List Entry)
+  pub answers : List LineValue
+  pub traffic : List LineValue
   pub placed : AreRepositories plan cert (length plan.nodes.items) repositories
-  pub beside : AreBeside plan repositories entries lines
+  pub beside : AreBeside plan repositories entries answers
+  pub passed : IsTraffic plan bus entries traffic
+  pub joined : lines ≡ answers ++ traffic

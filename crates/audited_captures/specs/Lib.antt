@@ -12,6 +12,13 @@ pub mod Walks
 pub mod Repositories
 pub mod Answers
 pub mod Identities
+pub mod Packets
+pub mod PacketSteps
+pub mod Counts
+pub mod Traffic
+pub mod Judging
+pub mod TrafficLines
 pub mod Audits
 pub mod AsPlanned
 pub mod Matching
+pub mod Forwarding

@@ -1,6 +1,6 @@
 -- What it means that devices said what is planned.
 use Rattle.std.specs.Prelude.{◌≡◌, ◌⊎◌, ◌↔◌, ℕ, ⊤, List, Option, Some, None, slice_get}
-use Rattle.bus_captures.specs.Values as bus
+use Rattle.bus_captures.specs.Values as captured
 use Rattle.mctp_control.specs.RouteEntries.{EntryValue}
 use Rattle.mctp_control.specs.Responses.{AnswerValue, EidSet, EidTold, PoolTold, EntriesTold, Failed}
 use Rattle.net_plan.specs.NodeValues.{name_bytes}
@@ -12,6 +12,9 @@ use Rattle.audited_captures.specs.Audits.{AreAudited, NodeFacts, AreFacts, diffe
 use Rattle.audited_captures.specs.Exchanges.{ExchangeValue}
 use Rattle.audited_captures.specs.Identities.{answers_of, first_of, size_of, kind_number}
 use Rattle.audited_captures.specs.Lines.{LineValue}
+use Rattle.audited_captures.specs.Packets.{PacketValue}
+use Rattle.audited_captures.specs.Traffic.{IsPlanned}
+use Rattle.audited_captures.specs.TrafficLines.{IsTraffic}
 use Rattle.pdr_repository.specs.Records.{Entry, bytes_by_place}
 use Rattle.audited_captures.specs.RecordLines.{walks_lines}
 use Rattle.audited_captures.specs.Walking.{Walked, Whole, Open, Stopped}
@@ -62,18 +65,30 @@ NodesMatchWhereAsPlanned = (node : Node) (xs : List ExchangeValue) (f : NodeFact
     → (difference_count (lines_of_node node f.planned xs (walks_lines (name_bytes node.name) f.records f.walks)) ≡ 0)
     ↔ SaysAsPlanned node xs f
 
--- where an audit matches, each node has said what is planned
-abbrev pub AuditMatches : Type 0
-AuditMatches = (plan : Plan) (cert : Certificate) (entries : List bus.EntryValue) (lines : List LineValue)
-    → (are : AreAudited plan cert entries lines) → difference_count lines ≡ 0
-    → (n : ℕ) (node : Node) → slice_get plan.nodes.items n ≡ Some node
-    → (f : NodeFacts) × AreFacts plan are.repositories are.beside.heard n node f
-    × SaysAsPlanned node are.beside.heard.exchanges f
+-- each of the packets is planned on the bus
+abbrev pub ArePlanned : Plan → Option ℕ → List PacketValue → Type 0
+ArePlanned plan bus packets =
+    (p : PacketValue) → IsAmong p packets → IsPlanned plan bus p.source p.destination
 
--- where each node has said what is planned, the audit matches
+-- no line about packets tells a difference exactly where each packet of the capture is planned on the bus
+abbrev pub TrafficMatchesWhereAsPlanned : Type 0
+TrafficMatchesWhereAsPlanned = (plan : Plan) (bus : Option ℕ) (entries : List captured.EntryValue)
+    (lines : List LineValue) → (passed : IsTraffic plan bus entries lines)
+    → (difference_count lines ≡ 0) ↔ ArePlanned plan bus passed.packets
+
+-- where an audit matches, each node has said what is planned, and each packet is planned on the bus
+abbrev pub AuditMatches : Type 0
+AuditMatches = (plan : Plan) (cert : Certificate) (bus : Option ℕ) (entries : List captured.EntryValue)
+    (lines : List LineValue) → (are : AreAudited plan cert bus entries lines) → difference_count lines ≡ 0
+    → ((n : ℕ) (node : Node) → slice_get plan.nodes.items n ≡ Some node
+    → (f : NodeFacts) × AreFacts plan are.repositories are.beside.heard n node f
+    × SaysAsPlanned node are.beside.heard.exchanges f)
+    × ArePlanned plan bus are.passed.packets
+
+-- where each node has said what is planned, and each packet is planned on the bus, the audit matches
 abbrev pub MatchesAudit : Type 0
-MatchesAudit = (plan : Plan) (cert : Certificate) (entries : List bus.EntryValue) (lines : List LineValue)
-    → (are : AreAudited plan cert entries lines)
+MatchesAudit = (plan : Plan) (cert : Certificate) (bus : Option ℕ) (entries : List captured.EntryValue)
+    (lines : List LineValue) → (are : AreAudited plan cert bus entries lines)
     → ((n : ℕ) (node : Node) (f : NodeFacts) → slice_get plan.nodes.items n ≡ Some node
     → AreFacts plan are.repositories are.beside.heard n node f → SaysAsPlanned node are.beside.heard.exchanges f)
-    → difference_count lines ≡ 0
+    → ArePlanned plan bus are.passed.packets → difference_count lines ≡ 0

@@ -1,5 +1,5 @@
 -- The records of a plan's nodes, and what is told of those of one node.
-use Rattle.std.specs.Prelude.{◌≡◌, ℕ, List, map, Vec}
+use Rattle.std.specs.Prelude.{ℕ, List, map, Vec}
 use Rattle.net_plan.specs.NodeValues.{name_bytes}
 use Rattle.net_plan.specs.declared.nodes.Node.{Node}
 use Rattle.pdr_repository.specs.Records.{Entry, entries}

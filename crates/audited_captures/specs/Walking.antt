@@ -1,6 +1,6 @@
 -- Walks through the records of a terminus, as they were captured (DSP0248, GetPDR).
 use Rattle.std.specs.Prelude.{◌≡◌, ◌≢◌, ℕ, ◌==◌, ◌&&◌, ◌||◌, Bool, not, true, false, List, [], ◌∷◌, min, max}
-use Rattle.std.specs.Prelude.{Option, None, Some, Result, Ok, Err}
+use Rattle.std.specs.Prelude.{Option, None, Some, Ok, Err}
 use Rattle.pldm_message.specs.Pdrs.{PartRequest}
 use Rattle.pdr_repository.specs.Walkers.{WalkState, Takes, fresh}
 use Rattle.pdr_repository.specs.declared.walk_fault.Step.{Step}

@@ -20,6 +20,7 @@ use crate::lines::{Line, differences_or};
 use crate::readings::parts_of;
 use crate::record_parts::record_parts_of;
 use crate::routes::routes_lines;
+use crate::traffic_lines::traffic_lines;
 use crate::walks::walks_lines;
 use crate::words::{Word, words_of};
 use bus_captures::{Capture, End};
@@ -30,18 +31,23 @@ use net_plan::{Node, Plan};
 use plan_exports::planned_entries;
 use std::alloc::{AllocError, Global};
 
-/// What the nodes of a checked plan said in a capture, laid beside the plan: the lines of each node, in the plan's order.
-/// The repositories are the nodes' records by place, as handles and bytes.
+/// What was captured, laid beside a checked plan: the lines of what each node said, in the plan's order, and behind them
+/// those of the packets that the plan doesn't have on the bus, or on any bus where none is given. The repositories are the
+/// nodes' records by place, as handles and bytes.
 pub fn audited_lines(
     alloc: Global,
     checked: &Checked,
     repositories: &[Vec<(u32, Vec<u8>)>],
+    bus: Option<usize>,
     capture: &Capture,
 ) -> Result<Vec<Line>, AllocError>
     requires { AreRepositories checked.now.0 checked.now.1 (length checked.now.0.nodes.items) (repository_values repositories.now) }
-    ensures { IfOk result (λ lines. AreAudited checked.now.0 checked.now.1 (map bus_entry_value capture.now.entries.items) (map line_value lines.items)) }
+    ensures { IfOk result (λ lines. AreAudited checked.now.0 checked.now.1 bus (map bus_entry_value capture.now.entries.items) (map line_value lines.items)) }
 {
-    lines_of_capture(alloc, checked.plan(), repositories, capture)
+    let mut lines = lines_of_capture(alloc, checked.plan(), repositories, capture)?;
+    let mut traffic = traffic_lines(alloc, checked, bus, capture)?;
+    lines.append(&mut traffic)?;
+    Ok(lines)
 }
 
 fn lines_of_capture(

@@ -2,15 +2,19 @@
 #![tactic(auto)]
 
 mod audits;
+mod counts;
 mod exchanges;
 mod identities;
 mod laws;
 mod lines;
+mod packets;
 mod places;
 mod readings;
 mod record_lines;
 mod record_parts;
 mod routes;
+mod traffic;
+mod traffic_lines;
 mod walking;
 mod walks;
 mod words;
@@ -18,5 +22,6 @@ mod words;
 pub use audits::{audit_text, audited_lines, difference_count};
 pub use laws::{
     audits_match_where_as_planned, matches_where_as_planned, nodes_match_where_as_planned,
+    told_tables_forward_as_planned, traffic_matches_where_as_planned,
 };
 pub use lines::Line;

@@ -4,26 +4,28 @@ use Rattle.bus_captures.specs.Captures.{IsCapture}
 use Rattle.bus_captures.specs.Values.{EntryValue}
 use Rattle.bus_captures.specs.declared.capture.End.{End}
 use Rattle.bus_captures.specs.declared.capture.End.TheVariants as end
-use Rattle.decoded_texts.specs.Decoding.{IsDecoded}
+use Rattle.decoded_texts.specs.Decoding.{IsDecodedBy}
 use Rattle.net_json.specs.Stream.{TakesMoreThan}
 use Rattle.net_json.specs.Texts.{Gave}
 use Rattle.net_json.specs.declared.stream.TextFault.{TextFault}
 use Rattle.net_json.specs.declared.stream.TextFault.TheVariants as fault
 use Rattle.command_answers.specs.declared.status.Status.{Status}
 use Rattle.command_answers.specs.declared.status.Status.TheVariants as status
-use Rattle.command_answers.specs.Answers.{Stream, Fails}
+use Rattle.command_answers.specs.Answers.{Stream, Fails, GavePlan}
+use Rattle.net_plan.specs.declared.plan.Plan.{Plan}
 
--- the text tells of the entries of the capture that the bytes are, whose reading ends so
-abbrev pub IsDecodedFrom : List ℕ → End → List ℕ → Type 0
-IsDecodedFrom bytes how text =
-    (entries : List EntryValue) × IsCapture bytes entries how × IsDecoded entries how text
+-- the text tells of the entries of the capture that the bytes are, with the names that a plan has, where reading them
+-- ends so
+abbrev pub IsDecodedFrom : Option Plan → List ℕ → End → List ℕ → Type 0
+IsDecodedFrom plan bytes how text =
+    (entries : List EntryValue) × IsCapture bytes entries how × IsDecodedBy plan entries how text
 
 -- it does in a run that ends so: as asked where all was read
-abbrev pub IsDecodedSo : List ℕ → Status → List ℕ → Type 0
-IsDecodedSo bytes status.Yes text = IsDecodedFrom bytes end.Whole text
-IsDecodedSo bytes status.Unreadable text = (how : End) × (how ≢ end.Whole) × IsDecodedFrom bytes how text
-IsDecodedSo bytes status.Fault text = ⊥
-IsDecodedSo bytes status.NoMemory text = ⊥
+abbrev pub IsDecodedSo : Option Plan → List ℕ → Status → List ℕ → Type 0
+IsDecodedSo plan bytes status.Yes text = IsDecodedFrom plan bytes end.Whole text
+IsDecodedSo plan bytes status.Unreadable text = (how : End) × (how ≢ end.Whole) × IsDecodedFrom plan bytes how text
+IsDecodedSo plan bytes status.Fault text = ⊥
+IsDecodedSo plan bytes status.NoMemory text = ⊥
 
 -- what is said where a source gave no capture
 abbrev pub not_given : TextFault → Option (List ℕ)
@@ -37,9 +39,18 @@ IsNotGiven fault.TooLong source = TakesMoreThan 16777216 source.before.bytes sou
 IsNotGiven fault.Device source = Fails source
 IsNotGiven fault.OutOfMemory source = ⊥
 
--- the text tells of the capture that the source gave, or why it gave none
-abbrev pub DecodesSo : Stream → Status → List ℕ → Type 0
-DecodesSo source ended text =
-    Gave 16777216 source.before.bytes source.after.bytes (λ bytes. IsDecodedSo bytes ended text)
+-- the text tells of the capture that the source gave, with the names that a plan has, or why it gave none
+abbrev pub DecodesBy : Option Plan → Stream → Status → List ℕ → Type 0
+DecodesBy plan source ended text =
+    Gave 16777216 source.before.bytes source.after.bytes (λ bytes. IsDecodedSo plan bytes ended text)
     ⊎ ((ended ≡ status.Unreadable)
     × ((why : TextFault) × IsNotGiven why source × (not_given why ≡ Some text)))
+
+-- the same without a plan
+abbrev pub DecodesSo : Stream → Status → List ℕ → Type 0
+DecodesSo source ended text = DecodesBy None source ended text
+
+-- and with the plan that another source gave
+abbrev pub DecodesNamedSo : Stream → Stream → Status → List ℕ → Type 0
+DecodesNamedSo plans source ended text =
+    (plan : Plan) × GavePlan plans plan × DecodesBy (Some plan) source ended text

@@ -1,17 +1,18 @@
 //! The command `decode`: what became of each entry of a capture, and what its messages say.
-ghost use Rattle.std.specs.Prelude.{◌≡◌, ◌≢◌, ◌⊎◌, IfOk, IfErr, string_bytes, Some};
+ghost use Rattle.std.specs.Prelude.{◌≡◌, ◌≢◌, ◌⊎◌, IfOk, IfErr, string_bytes, Option, Some};
 ghost use Rattle.std.specs.Cow.{cow_str_bytes};
 ghost use Rattle.net_json.specs.Stream.{HasRoom};
 ghost use Rattle.command_answers.specs.declared.refused.Refused.TheVariants as refused;
 ghost use Rattle.command_answers.specs.declared.status.Status.TheVariants.{Yes, Fault, NoMemory, Unreadable};
-ghost use Rattle.command_answers.specs.Answers.{stream, BreaksOff};
-ghost use Rattle.byte_commands.specs.Decoding.{DecodesSo, IsDecodedSo, not_given};
+ghost use Rattle.command_answers.specs.Answers.{stream, BreaksOff, IsPlanUnread, IsWithoutPlan};
+ghost use Rattle.byte_commands.specs.Decoding.{DecodesBy, DecodesSo, DecodesNamedSo, IsDecodedSo, not_given};
 ghost use Rattle.command_answers.specs.Told.{Gives, IsSomeAnswer, Ends};
 
 use bus_captures::{End, read_capture};
-use command_answers::{Answer, Refused, Status, tell};
-use decoded_texts::decoded_lines;
+use command_answers::{Answer, Refused, Status, given_plan, tell};
+use decoded_texts::{decoded_lines, named_lines};
 use net_json::{Sink, Source, TEXT_LIMIT, TextFault, read_within};
+use net_plan::Plan;
 use std::alloc::Global;
 
 /// Says on `output` what became of each entry of a capture, and what its messages say. A capture that can't be read to
@@ -52,11 +53,83 @@ fn answer_decode<C: Source>(alloc: Global, capture: &mut C) -> Result<Answer, Re
 
 /// The answer on the bytes of a capture.
 fn decoded(alloc: Global, bytes: &[u8]) -> Result<Answer, Refused>
-    ensures answers { IfOk result (λ answer. IsDecodedSo bytes.now answer.status (cow_str_bytes answer.text)) }
+    ensures answers { IfOk result (λ answer. IsDecodedSo Option.None bytes.now answer.status (cow_str_bytes answer.text)) }
     ensures refused { IfErr result (λ why. why ≡ refused.NoMemory) }
 {
     let capture = read_capture(alloc, bytes)?;
     let text = decoded_lines(alloc, &capture)?;
+    Ok(answer_at(capture.end, text))
+}
+
+/// Says the same, and behind each packet the names of the nodes that hold its endpoint IDs by a plan, which nobody checks.
+/// Where the plan can't be read, says so on `errors`, and reads no capture.
+pub fn run_decode_named<P: Source, C: Source, O: Sink, E: Sink>(
+    alloc: Global,
+    plan: &mut P,
+    capture: &mut C,
+    output: &mut O,
+    errors: &mut E,
+) -> Status
+    requires plan { HasRoom (P.account plan.old) }
+    requires capture { HasRoom (C.account capture.old) }
+    requires output { HasRoom (O.account output.old) }
+    requires errors { HasRoom (E.account errors.old) }
+    ensures decodes { let plans = stream P.account plan.old plan.new in
+        let captures = stream C.account capture.old capture.new in
+        Ends (DecodesNamedSo plans captures) (λ why. IsPlanUnread why plans) result
+        (stream O.account output.old output.new) (stream E.account errors.old errors.new) }
+    ensures silent { (result ≡ Yes) ⊎ (result ≡ Fault) → errors.new ≡ errors.old }
+    ensures unwritten { let plans = stream P.account plan.old plan.new in
+        let captures = stream C.account capture.old capture.new in
+        let outputs = stream O.account output.old output.new in
+        result ≡ Unreadable → (output.new ≡ output.old)
+        ⊎ Gives (DecodesNamedSo plans captures) Unreadable outputs
+        ⊎ BreaksOff (IsSomeAnswer (DecodesNamedSo plans captures)) outputs }
+    ensures no_memory { result ≡ NoMemory → output.new ≡ output.old }
+    ensures in_order { IsWithoutPlan (stream P.account plan.old plan.new) → capture.new ≡ capture.old }
+{
+    let answered = answer_named(alloc, plan, capture);
+    tell(alloc, answered, output, errors)
+}
+
+fn answer_named<P: Source, C: Source>(
+    alloc: Global,
+    plan: &mut P,
+    capture: &mut C,
+) -> Result<Answer, Refused>
+    requires plan { HasRoom (P.account plan.old) }
+    requires capture { HasRoom (C.account capture.old) }
+    ensures answers { let plans = stream P.account plan.old plan.new in
+        let captures = stream C.account capture.old capture.new in
+        IfOk result (λ answer. DecodesNamedSo plans captures answer.status (cow_str_bytes answer.text)) }
+    ensures unread { let plans = stream P.account plan.old plan.new in
+        IfErr result (λ why. IsPlanUnread why plans) }
+    ensures in_order { IsWithoutPlan (stream P.account plan.old plan.new) → capture.new ≡ capture.old }
+{
+    let plan = given_plan(alloc, plan)?;
+    answer_by(alloc, &plan, capture)
+}
+
+/// The answer on a plan and what a source gives.
+fn answer_by<C: Source>(alloc: Global, plan: &Plan, capture: &mut C) -> Result<Answer, Refused>
+    requires { HasRoom (C.account capture.old) }
+    ensures answers { let captures = stream C.account capture.old capture.new in
+        IfOk result (λ answer. DecodesBy (Some plan.now) captures answer.status (cow_str_bytes answer.text)) }
+    ensures refused { IfErr result (λ why. why ≡ refused.NoMemory) }
+{
+    match read_within(alloc, capture, TEXT_LIMIT) {
+        Ok(bytes) => named(alloc, plan, &bytes),
+        Err(fault) => not_given(alloc, fault),
+    }
+}
+
+/// The answer on a plan and the bytes of a capture.
+fn named(alloc: Global, plan: &Plan, bytes: &[u8]) -> Result<Answer, Refused>
+    ensures answers { IfOk result (λ answer. IsDecodedSo (Some plan.now) bytes.now answer.status (cow_str_bytes answer.text)) }
+    ensures refused { IfErr result (λ why. why ≡ refused.NoMemory) }
+{
+    let capture = read_capture(alloc, bytes)?;
+    let text = named_lines(alloc, plan, &capture)?;
     Ok(answer_at(capture.end, text))
 }
 

@@ -1,5 +1,5 @@
 -- What is said of a whole capture.
-use Rattle.std.specs.Prelude.{◌≡◌, ℕ, ◌+◌, List, [], ◌∷◌, ◌++◌, length, map, codes}
+use Rattle.std.specs.Prelude.{◌≡◌, ℕ, ◌+◌, List, [], ◌∷◌, ◌++◌, length, map, codes, Option, Some}
 use Rattle.std.specs.Fmt.{decimal}
 use Rattle.bus_captures.specs.Values.{EntryValue, entry_value}
 use Rattle.bus_captures.specs.declared.capture.Capture.{Capture}
@@ -8,13 +8,15 @@ use Rattle.bus_captures.specs.declared.capture.CaptureFault.TheVariants as fault
 use Rattle.bus_captures.specs.declared.capture.End.{End}
 use Rattle.bus_captures.specs.declared.capture.End.TheVariants as end
 use Rattle.heard_captures.specs.Seen.{Seen, AreSeen}
+use Rattle.net_plan.specs.declared.plan.Plan.{Plan}
 use Rattle.decoded_texts.specs.Seen.{IsToldAs}
 
--- These are the lines of what was seen, one after the other. Entries are numbered from 1.
-pub data AreTold : List Seen → List ℕ → Type 0 where
-  None : AreTold [] []
-  More : (seen : List Seen) (lines : List ℕ) (s : Seen) (told : List ℕ) → AreTold seen lines
-      → IsToldAs (length seen + 1) s told → AreTold (seen ++ s ∷ []) (lines ++ told)
+-- These are the lines of what was seen, one after the other, with the names that a plan has. Entries are numbered
+-- from 1.
+pub data AreTold (plan : Option Plan) : List Seen → List ℕ → Type 0 where
+  None : AreTold plan [] []
+  More : (seen : List Seen) (lines : List ℕ) (s : Seen) (told : List ℕ) → AreTold plan seen lines
+      → IsToldAs plan (length seen + 1) s told → AreTold plan (seen ++ s ∷ []) (lines ++ told)
 
 abbrev pub fault_word : CaptureFault → List ℕ
 fault_word fault.Header = codes "header"
@@ -32,11 +34,22 @@ end_line count (end.Broken place why) =
     codes "entries " ++ (decimal count ++ (codes " broken " ++ (decimal place
     ++ (codes " " ++ (fault_word why ++ codes "\n")))))
 
--- the text tells what became of the entries, and how reading them ended
-abbrev pub IsDecoded : List EntryValue → End → List ℕ → Type 0
-IsDecoded entries how text =
-    (seen : List Seen) × (lines : List ℕ) × AreSeen entries seen × AreTold seen lines
+-- the text tells what became of the entries, with the names that a plan has, and how reading them ended
+abbrev pub IsDecodedBy : Option Plan → List EntryValue → End → List ℕ → Type 0
+IsDecodedBy plan entries how text =
+    (seen : List Seen) × (lines : List ℕ) × AreSeen entries seen × AreTold plan seen lines
     × (text ≡ lines ++ end_line (length entries) how)
 
+-- the same without a plan, and with one
+abbrev pub IsDecoded : List EntryValue → End → List ℕ → Type 0
+IsDecoded entries how text = IsDecodedBy Option.None entries how text
+
+abbrev pub IsNamed : Plan → List EntryValue → End → List ℕ → Type 0
+IsNamed plan entries how text = IsDecodedBy (Some plan) entries how text
+
+-- the same of a capture
 abbrev pub IsDecodedCapture : Capture → List ℕ → Type 0
 IsDecodedCapture capture text = IsDecoded (map entry_value capture.entries.items) capture.end text
+
+abbrev pub IsNamedCapture : Plan → Capture → List ℕ → Type 0
+IsNamedCapture plan capture text = IsNamed plan (map entry_value capture.entries.items) capture.end text

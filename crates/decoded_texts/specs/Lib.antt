@@ -1,6 +1,8 @@
 pub mod Control
 pub mod Platform
 pub mod Messages
+pub mod Names
+pub mod NameTables
 pub mod Seen
 pub mod Steps
 pub mod Decoding

@@ -9,8 +9,10 @@ use Rattle.mctp_transport.specs.Frames.{Frame}
 use Rattle.mctp_transport.specs.Hearing.{Answer, Whole, Held, Dropped}
 use Rattle.mctp_transport.specs.Refusals as refusals
 use Rattle.heard_captures.specs.Seen.{Seen, Fed, NoPacket, Told, Other}
-use Rattle.plan_texts.specs.Shown.{packet_bytes, refused_bytes}
+use Rattle.net_plan.specs.declared.plan.Plan.{Plan}
+use Rattle.plan_texts.specs.Shown.{address_words_of, position_words_of, tag_words_of, refused_bytes}
 use Rattle.decoded_texts.specs.Messages.{IsSaid}
+use Rattle.decoded_texts.specs.Names.{names_of}
 
 abbrev pub answer_word : Answer → List ℕ
 answer_word (Whole message) = codes "whole"
@@ -22,8 +24,15 @@ way_word None = codes "message"
 way_word (Some direction.Sent) = codes "sent message"
 way_word (Some direction.Received) = codes "received message"
 
-abbrev pub fed_line : ℕ → Frame → Answer → List ℕ
-fed_line number p answer = decimal number ++ (codes " " ++ (answer_word answer ++ (codes " " ++ packet_bytes p)))
+-- a packet as it is shown, and behind it, in the same line, these words
+abbrev pub packet_line : Frame → List ℕ → List ℕ
+packet_line p words =
+    codes "packet " ++ (address_words_of p ++ (codes " " ++ (position_words_of p ++ (codes " " ++ (tag_words_of p
+    ++ (codes " payload " ++ (encode_lower p.payload ++ (words ++ codes "\n"))))))))
+
+abbrev pub fed_line : Option Plan → ℕ → Frame → Answer → List ℕ
+fed_line plan number p answer =
+    decimal number ++ (codes " " ++ (answer_word answer ++ (codes " " ++ packet_line p (names_of plan p))))
 
 abbrev pub told_line : ℕ → Option Direction → List ℕ → List ℕ
 told_line number way message =
@@ -35,12 +44,13 @@ IsSaidOf (Whole message) said = IsSaid message said
 IsSaidOf Held said = said ≡ []
 IsSaidOf (Dropped cause) said = said ≡ []
 
--- the lines of what was seen, by its number
-abbrev pub IsToldAs : ℕ → Seen → List ℕ → Type 0
-IsToldAs number (Fed p answer) lines =
-    (said : List ℕ) × IsSaidOf answer said × (lines ≡ fed_line number p answer ++ said)
-IsToldAs number (NoPacket why) lines = lines ≡ decimal number ++ (codes " " ++ refused_bytes (refusals.code_of why))
-IsToldAs number (Told way message) lines =
+-- the lines of what was seen, by its number, with the names that a plan has
+abbrev pub IsToldAs : Option Plan → ℕ → Seen → List ℕ → Type 0
+IsToldAs plan number (Fed p answer) lines =
+    (said : List ℕ) × IsSaidOf answer said × (lines ≡ fed_line plan number p answer ++ said)
+IsToldAs plan number (NoPacket why) lines =
+    lines ≡ decimal number ++ (codes " " ++ refused_bytes (refusals.code_of why))
+IsToldAs plan number (Told way message) lines =
     (said : List ℕ) × IsSaid message said × (lines ≡ told_line number way message ++ said)
-IsToldAs number (Other protocol) lines =
+IsToldAs plan number (Other protocol) lines =
     lines ≡ decimal number ++ (codes " protocol " ++ (decimal protocol ++ codes "\n"))

@@ -1,13 +1,25 @@
 -- What one entry changes, and its lines.
-use Rattle.std.specs.Prelude.{ℕ, List}
+use Rattle.std.specs.Prelude.{◌≡◌, ℕ, List, ◌++◌, Option}
 use Rattle.bus_captures.specs.Values.{EntryValue}
 use Rattle.mctp_transport.specs.declared.assembler.Assembler.{Assembler}
 use Rattle.heard_captures.specs.Seen.{Seen}
 use Rattle.heard_captures.specs.Steps.{Sees}
+use Rattle.net_plan.specs.declared.plan.Plan.{Plan}
 use Rattle.decoded_texts.specs.Seen.{IsToldAs}
 
 -- an entry of this number was seen, and its lines are these
-pub record IsStep (old new : List Assembler) (number : ℕ) (e : EntryValue) (lines : List ℕ) : Type 0 where
+pub record IsStep (old new : List Assembler) (plan : Option Plan) (number : ℕ) (e : EntryValue)
+    (lines : List ℕ) : Type 0 where
   pub seen : Seen
   pub sees : Sees old new e seen
-  pub told : IsToldAs number seen lines
+  pub told : IsToldAs plan number seen lines
+
+-- the lines of what was seen were added
+abbrev pub AddsTold : Option Plan → ℕ → Seen → List ℕ → List ℕ → Type 0
+AddsTold plan number seen before after =
+    (lines : List ℕ) × IsToldAs plan number seen lines × (after ≡ before ++ lines)
+
+-- the same of an entry
+abbrev pub AddsStep : List Assembler → List Assembler → Option Plan → ℕ → EntryValue → List ℕ → List ℕ → Type 0
+AddsStep old new plan number e before after =
+    (lines : List ℕ) × IsStep old new plan number e lines × (after ≡ before ++ lines)

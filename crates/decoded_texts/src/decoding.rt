@@ -1,10 +1,13 @@
 //! All lines of a capture.
-ghost use Rattle.std.specs.Prelude.{◌≡◌, ◌+◌, IfOk, string_bytes, map, length};
-ghost use Rattle.decoded_texts.specs.Decoding.{fault_word, end_line, IsDecodedCapture};
+ghost use Rattle.std.specs.Prelude.{◌≡◌, ◌+◌, IfOk, string_bytes, map, length, option_map};
+ghost use Rattle.bus_captures.specs.Values.{entry_value};
+ghost use Rattle.decoded_texts.specs.Decoding.{fault_word, end_line, IsDecodedBy, IsDecodedCapture, IsNamedCapture};
 
-use crate::entries::entry_lines;
+use crate::entries::push_entry;
+use crate::names::Names;
 use bus_captures::{Capture, CaptureFault, End};
 use heard_captures::idle_assemblers;
+use net_plan::Plan;
 use std::alloc::{AllocError, Global};
 
 /// For each entry of a capture a line with its number and what became of it, and behind it what its message says; and
@@ -14,11 +17,24 @@ use std::alloc::{AllocError, Global};
 pub fn decoded_lines(alloc: Global, capture: &Capture) -> Result<String, AllocError>
     ensures { IfOk result (λ text. IsDecodedCapture capture.now (string_bytes text)) }
 {
+    lines_by(alloc, None, capture)
+}
+
+/// The same, and behind each packet the names of the nodes that hold its source and its destination by a plan.
+pub fn named_lines(alloc: Global, plan: &Plan, capture: &Capture) -> Result<String, AllocError>
+    ensures { IfOk result (λ text. IsNamedCapture plan.now capture.now (string_bytes text)) }
+{
+    let names = Names::of(alloc, plan)?;
+    lines_by(alloc, Some(&names), capture)
+}
+
+fn lines_by(alloc: Global, names: Option<&Names>, capture: &Capture) -> Result<String, AllocError>
+    ensures { IfOk result (λ text. IsDecodedBy (option_map (λ n. n.now.plan.now) names.entry) (map entry_value capture.now.entries.items) capture.now.end (string_bytes text)) }
+{
     let mut assemblers = idle_assemblers(alloc)?;
     let mut text = String::new(alloc);
     for (i, entry) in capture.entries.iter().enumerate() {
-        let lines = entry_lines(alloc, &mut assemblers, i + 1, entry)?;
-        text.push_str(&lines)?;
+        push_entry(alloc, &mut text, &mut assemblers, names, i + 1, entry)?;
     }
     let end = end_line(alloc, capture.entries.len(), capture.end)?;
     text.push_str(&end)?;

@@ -1,124 +1,200 @@
 //! The lines that tell what became of an entry.
-ghost use Rattle.std.specs.Prelude.{◌≡◌, IfOk, string_bytes, length};
+ghost use Rattle.std.specs.Prelude.{◌≡◌, ◌++◌, IfOk, OnOk, ℕ, List, string_bytes, length, option_map, codes};
+ghost use Rattle.std.specs.Fmt.{decimal};
 ghost use Rattle.bus_captures.specs.Values.{entry_value};
 ghost use Rattle.mctp_transport.specs.Packets.{frame_of};
 ghost use Rattle.heard_captures.specs.Heard.{heard_answer};
 ghost use Rattle.heard_captures.specs.Seen.{Fed, Told};
 ghost use Rattle.heard_captures.specs.Sights.{seen_of};
-ghost use Rattle.decoded_texts.specs.Seen.{answer_word, way_word, fed_line, told_line, IsSaidOf, IsToldAs};
-ghost use Rattle.decoded_texts.specs.Steps.{IsStep};
+ghost use Rattle.hex.specs.Hex.{encode_lower};
+ghost use Rattle.plan_texts.specs.Shown.{address_words_of, position_words_of, tag_words_of, refused_bytes};
+ghost use Rattle.decoded_texts.specs.Messages.{IsSaid};
+ghost use Rattle.decoded_texts.specs.Seen.{answer_word, way_word, fed_line, told_line, IsSaidOf};
+ghost use Rattle.decoded_texts.specs.Steps.{AddsTold, AddsStep};
 
 use crate::message::message_text;
+use crate::names::{Names, push_names};
 use bus_captures::{Direction, Entry};
 use heard_captures::{Heard, Sight, see};
 use mctp_transport::{Assembler, PacketView};
-use plan_texts::{packet_text, refused_text};
 use std::alloc::{AllocError, Global};
 
-/// The lines of an entry of this number. A packet is given to the assembler of its destination.
-pub fn entry_lines(
+/// Adds the lines of an entry of this number. A packet is given to the assembler of its destination.
+pub fn push_entry(
     alloc: Global,
+    text: &mut String,
     assemblers: &mut Vec<Assembler>,
+    names: Option<&Names>,
     number: usize,
     entry: &Entry,
-) -> Result<String, AllocError>
+) -> Result<(), AllocError>
     requires { length assemblers.old.items ≡ 256 }
-    ensures { IfOk result (λ lines. IsStep assemblers.old.items assemblers.new.items number (entry_value entry.now) (string_bytes lines)) }
+    ensures { OnOk result (AddsStep assemblers.old.items assemblers.new.items (option_map (λ n. n.now.plan.now) names.entry) number (entry_value entry.now) (string_bytes text.old) (string_bytes text.new)) }
 {
     let sight = see(alloc, assemblers, entry)?;
-    sight_lines(alloc, number, &sight)
+    push_sight(alloc, text, names, number, &sight)
 }
 
-/// The lines of what became of an entry.
-fn sight_lines(alloc: Global, number: usize, sight: &Sight) -> Result<String, AllocError>
-    ensures { IfOk result (λ lines. IsToldAs number (seen_of sight.now) (string_bytes lines)) }
+/// Adds the lines of what became of an entry.
+fn push_sight(
+    alloc: Global,
+    text: &mut String,
+    names: Option<&Names>,
+    number: usize,
+    sight: &Sight,
+) -> Result<(), AllocError>
+    ensures { OnOk result (AddsTold (option_map (λ n. n.now.plan.now) names.entry) number (seen_of sight.now) (string_bytes text.old) (string_bytes text.new)) }
 {
     match sight {
-        Sight::Fed(packet, heard) => fed_lines(alloc, number, packet, heard),
-        Sight::NoPacket(error) => {
-            let refused = refused_text(alloc, error.code())?;
-            format!(in alloc; "{number} {refused}")
-        }
-        Sight::Told(way, message) => told_lines(alloc, number, *way, *message),
-        Sight::Other(protocol) => format!(in alloc; "{number} protocol {protocol}\n"),
+        Sight::Fed(packet, heard) => push_fed(alloc, text, names, number, packet, heard),
+        Sight::NoPacket(error) => push_refused(text, number, error.code()),
+        Sight::Told(way, message) => push_told(alloc, text, number, *way, *message),
+        Sight::Other(protocol) => push_other(text, number, *protocol),
     }
 }
 
-/// The lines of a packet and of what its assembler made of it.
-fn fed_lines(
+/// Adds the lines of a packet and of what its assembler made of it.
+fn push_fed(
     alloc: Global,
+    text: &mut String,
+    names: Option<&Names>,
     number: usize,
     packet: &PacketView,
     heard: &Heard,
-) -> Result<String, AllocError>
-    ensures { IfOk result (λ lines. IsToldAs number (Fed (frame_of packet.now) (heard_answer heard.now)) (string_bytes lines)) }
+) -> Result<(), AllocError>
+    ensures { OnOk result (AddsTold (option_map (λ n. n.now.plan.now) names.entry) number (Fed (frame_of packet.now) (heard_answer heard.now)) (string_bytes text.old) (string_bytes text.new)) }
 {
-    let line = fed_line(alloc, number, packet, heard)?;
-    let said = said_of(alloc, heard)?;
-    format!(in alloc; "{line}{said}")
+    push_fed_line(alloc, text, names, number, packet, heard)?;
+    push_said(alloc, text, heard)
 }
 
-fn fed_line(
+fn push_fed_line(
     alloc: Global,
+    text: &mut String,
+    names: Option<&Names>,
     number: usize,
     packet: &PacketView,
     heard: &Heard,
-) -> Result<String, AllocError>
-    ensures { IfOk result (λ line. string_bytes line ≡ fed_line number (frame_of packet.now) (heard_answer heard.now)) }
+) -> Result<(), AllocError>
+    ensures { OnOk result (string_bytes text.new ≡ string_bytes text.old ++ fed_line (option_map (λ n. n.now.plan.now) names.entry) number (frame_of packet.now) (heard_answer heard.now)) }
 {
-    let word = answer_word(alloc, heard)?;
-    let packet = packet_text(alloc, packet)?;
-    format!(in alloc; "{number} {word} {packet}")
+    push_answer(text, number, heard)?;
+    push_addresses(text, packet)?;
+    push_position(text, packet)?;
+    push_tag(text, packet)?;
+    push_payload(alloc, text, packet)?;
+    push_names(text, names, packet)?;
+    text.push_str("\n")
 }
 
-fn answer_word(alloc: Global, heard: &Heard) -> Result<String, AllocError>
-    ensures { IfOk result (λ word. string_bytes word ≡ answer_word (heard_answer heard.now)) }
+/// Adds the number of a packet and what its assembler made of it.
+fn push_answer(text: &mut String, number: usize, heard: &Heard) -> Result<(), AllocError>
+    ensures { OnOk result (string_bytes text.new ≡ string_bytes text.old ++ (decimal number ++ (codes " " ++ (answer_word (heard_answer heard.now) ++ codes " packet ")))) }
 {
     match heard {
-        Heard::Whole(_) => String::from_str(alloc, "whole"),
-        Heard::Held => String::from_str(alloc, "held"),
+        Heard::Whole(_) => write!(text, "{number} whole packet "),
+        Heard::Held => write!(text, "{number} held packet "),
         Heard::Dropped(cause) => {
             let code = cause.code();
-            format!(in alloc; "dropped {code}")
+            write!(text, "{number} dropped {code} packet ")
         }
     }
 }
 
-/// What the message says that a packet ended, or nothing where it ended none.
-fn said_of(alloc: Global, heard: &Heard) -> Result<String, AllocError>
-    ensures { IfOk result (λ said. IsSaidOf (heard_answer heard.now) (string_bytes said)) }
+/// Adds where a packet goes and comes from.
+fn push_addresses(text: &mut String, packet: &PacketView) -> Result<(), AllocError>
+    ensures { OnOk result (string_bytes text.new ≡ string_bytes text.old ++ address_words_of (frame_of packet.now)) }
+{
+    let reserved = packet.header.reserved.value;
+    let destination = packet.header.destination.value;
+    let source = packet.header.source.value;
+    write!(
+        text,
+        "reserved {reserved} destination {destination} source {source}"
+    )
+}
+
+/// Adds a packet's position in its message.
+fn push_position(text: &mut String, packet: &PacketView) -> Result<(), AllocError>
+    ensures { OnOk result (string_bytes text.new ≡ string_bytes text.old ++ (codes " " ++ position_words_of (frame_of packet.now))) }
+{
+    let som = u8::from(packet.header.som);
+    let eom = u8::from(packet.header.eom);
+    let number = packet.header.number.value;
+    write!(text, " som {som} eom {eom} number {number}")
+}
+
+fn push_tag(text: &mut String, packet: &PacketView) -> Result<(), AllocError>
+    ensures { OnOk result (string_bytes text.new ≡ string_bytes text.old ++ (codes " " ++ (tag_words_of (frame_of packet.now) ++ codes " payload "))) }
+{
+    let owner = u8::from(packet.header.owner);
+    let tag = packet.header.tag.value;
+    write!(text, " owner {owner} tag {tag} payload ")
+}
+
+fn push_payload(alloc: Global, text: &mut String, packet: &PacketView) -> Result<(), AllocError>
+    ensures { OnOk result (string_bytes text.new ≡ string_bytes text.old ++ encode_lower (frame_of packet.now).payload) }
+{
+    let payload = hex::encode(alloc, packet.payload)?;
+    text.push_str(&payload)
+}
+
+/// Adds what the message says that a packet ended, or nothing where it ended none.
+fn push_said(alloc: Global, text: &mut String, heard: &Heard) -> Result<(), AllocError>
+    ensures { OnOk result ((said : List ℕ) × IsSaidOf (heard_answer heard.now) said × (string_bytes text.new ≡ string_bytes text.old ++ said)) }
 {
     match heard {
-        Heard::Whole(message) => message_text(alloc, message),
-        Heard::Held | Heard::Dropped(_) => Ok(String::new(alloc)),
+        Heard::Whole(message) => push_message(alloc, text, message),
+        Heard::Held | Heard::Dropped(_) => Ok(()),
     }
 }
 
-/// The lines of a message that was captured whole.
-fn told_lines(
-    alloc: Global,
-    number: usize,
-    way: Option<Direction>,
-    message: &[u8],
-) -> Result<String, AllocError>
-    ensures { IfOk result (λ lines. IsToldAs number (Told way message.now) (string_bytes lines)) }
+/// Adds what a message says.
+fn push_message(alloc: Global, text: &mut String, message: &[u8]) -> Result<(), AllocError>
+    ensures { OnOk result ((said : List ℕ) × IsSaid message.now said × (string_bytes text.new ≡ string_bytes text.old ++ said)) }
 {
-    let line = told_line(alloc, number, way, message)?;
     let said = message_text(alloc, message)?;
-    format!(in alloc; "{line}{said}")
+    text.push_str(&said)
 }
 
-fn told_line(
+/// Adds the lines of a message that was captured whole.
+fn push_told(
     alloc: Global,
+    text: &mut String,
     number: usize,
     way: Option<Direction>,
     message: &[u8],
-) -> Result<String, AllocError>
-    ensures { IfOk result (λ line. string_bytes line ≡ told_line number way message.now) }
+) -> Result<(), AllocError>
+    ensures { OnOk result ((said : List ℕ) × IsSaid message.now said × (string_bytes text.new ≡ string_bytes text.old ++ (told_line number way message.now ++ said))) }
+{
+    push_told_line(alloc, text, number, way, message)?;
+    push_message(alloc, text, message)
+}
+
+fn push_refused(text: &mut String, number: usize, code: &str) -> Result<(), AllocError>
+    ensures { OnOk result (string_bytes text.new ≡ string_bytes text.old ++ (decimal number ++ (codes " " ++ refused_bytes code.now))) }
+{
+    write!(text, "{number} refused {code}\n")
+}
+
+fn push_other(text: &mut String, number: usize, protocol: u16) -> Result<(), AllocError>
+    ensures { OnOk result (string_bytes text.new ≡ string_bytes text.old ++ (decimal number ++ (codes " protocol " ++ (decimal protocol ++ codes "\n")))) }
+{
+    write!(text, "{number} protocol {protocol}\n")
+}
+
+fn push_told_line(
+    alloc: Global,
+    text: &mut String,
+    number: usize,
+    way: Option<Direction>,
+    message: &[u8],
+) -> Result<(), AllocError>
+    ensures { OnOk result (string_bytes text.new ≡ string_bytes text.old ++ told_line number way message.now) }
 {
     let word = way_word(way);
     let bytes = hex::encode(alloc, message)?;
-    format!(in alloc; "{number} {word} {bytes}\n")
+    write!(text, "{number} {word} {bytes}\n")
 }
 
 fn way_word(way: Option<Direction>) -> &'static str

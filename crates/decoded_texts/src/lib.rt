@@ -5,6 +5,7 @@ mod control;
 mod decoding;
 mod entries;
 mod message;
+mod names;
 mod platform;
 
-pub use decoding::decoded_lines;
+pub use decoding::{decoded_lines, named_lines};

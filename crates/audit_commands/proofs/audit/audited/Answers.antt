@@ -11,12 +11,13 @@ pub returns-clause-answers : goal.returns-clause-answers
 returns-clause-answers c =
     let plan = c.args.checked.now.0 in
     let cert = c.args.checked.now.1 in
+    let bus = c.args.bus in
     let bytes = c.args.bytes.now in
     let capture = c.in_ok-capture.capture in
     let answer = c.answer_at.result in
     let entries = map entry_value capture.entries.items in
-    let audited = subst (λ (lines : List Line). AreAudited plan cert entries (map line_value lines)) (sym c.deref-3.ensures.value) c.in_ok-lines.ensures in
+    let audited = subst (λ (lines : List Line). AreAudited plan cert bus entries (map line_value lines)) (sym c.deref-3.ensures.value) c.in_ok-lines.ensures in
     let told = c.in_ok-text.ensures ∙ ap (λ (lines : List Line). audit_text (map line_value lines) capture.end) (c.deref-2.ensures.value ∙ sym c.deref-3.ensures.value) in
-    subst (λ (text : List ℕ). AuditsCapture plan cert bytes answer.status text) (sym c.answer_at.ensures.text)
-    (audited_so plan cert bytes (string_bytes c.in_ok-text.text) answer.status entries (map line_value c.deref-3.result.now) capture.end
+    subst (λ (text : List ℕ). AuditsCapture plan cert bus bytes answer.status text) (sym c.answer_at.ensures.text)
+    (audited_so plan cert bus bytes (string_bytes c.in_ok-text.text) answer.status entries (map line_value c.deref-3.result.now) capture.end
     c.in_ok-capture.ensures audited told c.answer_at.ensures.matches c.answer_at.ensures.differs c.answer_at.ensures.broken)

@@ -1,5 +1,4 @@
 use Rattle.std.proofs.Common.{sym, subst, ap, ◌∙◌, length, map}
-use Rattle.std.specs.Prelude.{IfOk}
 use Rattle.std.proofs.lemmas.List.{length-map}
 use Rattle.bus_captures.specs.Values.{entry_value}
 use Rattle.net_plan.specs.declared.plan.Plan.{Plan}
@@ -7,7 +6,7 @@ use Rattle.pdr_repository.specs.Records.{entries}
 use Rattle.audited_captures.specs.Audits.{HasTables, AreBeside}
 use Rattle.audited_captures.specs.Lines.{line_value}
 use Rattle.audited_captures.specs.Repositories.{repository_values}
-use Rattle.audited_captures.proofs.AuditLaws.{audited_if}
+use Rattle.audited_captures.proofs.AuditLaws.{audited_so}
 use Rattle.audited_captures.proofs.CheckedPlans.{has_tables}
 use Rattle.audited_captures.proofs.audits.audited_lines.Goals as goal
 
@@ -23,5 +22,7 @@ pub returns : goal.returns
 returns c =
     let rs = repository_values c.args.repositories.now in
     let captured = map entry_value c.args.capture.now.entries.items in
-    let beside = subst (λ (plan : Plan). IfOk c.lines_of_capture.result (λ lines. AreBeside plan rs captured (map line_value lines.items))) c.plan.ensures.plan c.lines_of_capture.ensures in
-    audited_if (λ lines. map line_value lines.items) c.args.checked.now.0 c.args.checked.now.1 rs captured c.lines_of_capture.result c.requires beside
+    let answers = c.in_ok-lines.lines.items in
+    let beside = subst (λ (plan : Plan). AreBeside plan rs captured (map line_value answers)) c.plan.ensures.plan c.in_ok-lines.ensures in
+    audited_so c.args.checked.now.0 c.args.checked.now.1 c.args.bus rs captured answers c.in_ok-traffic.traffic.items c.append.new.self.items c.requires beside c.in_ok-traffic.ensures
+    c.in_ok-append.ensures.items

@@ -1,10 +1,9 @@
-use Rattle.std.proofs.Common.{rules, ◌≡◌, ◌<◌, ◌∙◌, ap, sym, List, length, subst, map}
+use Rattle.std.proofs.Common.{◌≡◌, ◌∙◌, ap, sym, List, subst, map}
 use Rattle.std.proofs.lemmas.Option.{slice_get-get_or, slice_get-map}
 use Rattle.std.specs.Prelude.{IfOk, slice_get, Some, option_map}
 use Rattle.mctp_control.specs.RouteEntries.{entry_value}
 use Rattle.mctp_control.specs.declared.route_entry.RouteEntry.{RouteEntry}
-use Rattle.net_plan.specs.NodeValues.{name_bytes}
-use Rattle.pdr_repository.specs.Records.{Entry, entries}
+use Rattle.pdr_repository.specs.Records.{entries}
 use Rattle.audited_captures.specs.Audits.{heard_of, lines_of_node}
 use Rattle.audited_captures.specs.Exchanges.{exchange_value}
 use Rattle.audited_captures.specs.Lines.{line_value}

@@ -1,4 +1,4 @@
-use Rattle.std.proofs.Common.{rules, ◌≡◌, ◌≢◌, ◌<◌, length, sym, ◌∙◌}
+use Rattle.std.proofs.Common.{rules, ◌≢◌, ◌<◌, length, sym, ◌∙◌}
 use Rattle.audited_captures.proofs.RecordLaws.{one_ends}
 use Rattle.audited_captures.proofs.record_lines.first_unlike.Goals as goal
 

@@ -1,4 +1,4 @@
-use Rattle.std.proofs.Common.{◌≡◌, ◌++◌, ◌∷◌, [], ℕ, List, subst, map, string_bytes}
+use Rattle.std.proofs.Common.{◌≡◌, ◌∷◌, [], ℕ, List, subst, map, string_bytes}
 use Rattle.std.specs.Prelude.{IfOk}
 use Rattle.audited_captures.specs.Lines.{line_value, note, differences_or}
 use Rattle.audited_captures.specs.RecordLines.{records_match}

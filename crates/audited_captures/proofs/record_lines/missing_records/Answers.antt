@@ -1,5 +1,4 @@
-use Rattle.std.proofs.Common.{rules, ◌≡◌, ◌<◌, ◌++◌, length, slice_index_or, map, take, ap, sym, ◌∙◌}
-use Rattle.pdr_repository.specs.Records.{entry_of, entries}
+use Rattle.std.proofs.Common.{rules, ◌≡◌, ◌<◌, length, slice_index_or, map}
 use Rattle.audited_captures.specs.Lines.{line_value}
 use Rattle.audited_captures.proofs.RecordLaws.{next_missing}
 use Rattle.audited_captures.proofs.record_lines.missing_records.Goals as goal

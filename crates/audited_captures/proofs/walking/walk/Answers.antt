@@ -1,4 +1,4 @@
-use Rattle.std.proofs.Common.{rules, ◌≡◌, ◌<◌, [], length, slice_index_or, subst, sym, ◌∙◌, map, ap, arith}
+use Rattle.std.proofs.Common.{rules, ◌≡◌, ◌<◌, length, slice_index_or, subst, sym, ◌∙◌, map, ap, arith}
 use Rattle.std.specs.Prelude.{List}
 use Rattle.pdr_repository.specs.WalkerStates.{state_of}
 use Rattle.audited_captures.specs.RecordParts.{RecordPartValue, record_part_value}

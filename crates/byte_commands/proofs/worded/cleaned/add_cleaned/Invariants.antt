@@ -1,4 +1,4 @@
-use Rattle.std.proofs.Common.{◌≡◌, ◌++◌, length, ℕ}
+use Rattle.std.proofs.Common.{◌≡◌, ◌++◌, length}
 use Rattle.byte_commands.specs.Worded.{cleaned}
 use Rattle.byte_commands.proofs.worded.cleaned.add_cleaned.Given as goal
 

@@ -1,0 +1,95 @@
+-- What is told of packets that aren't planned.
+use Rattle.std.specs.Prelude.{◌≡◌, ◌⊎◌, ℕ, ◌-◌, ◌==◌, List, [], ◌∷◌, ◌++◌, codes, Option, Some, None, if◌then◌else◌}
+use Rattle.std.specs.Fmt.{decimal}
+use Rattle.std.specs.List.{flat_map}
+use Rattle.bus_captures.specs.Values.{EntryValue}
+use Rattle.net_plan.specs.declared.plan.Plan.{Plan}
+use Rattle.net_questions.specs.declared.step.WayStep.{WayStep}
+use Rattle.net_tables.specs.Routing.{Holds}
+use Rattle.net_tables.specs.Rows.{bus_of}
+use Rattle.plan_exports.specs.Words.{node_name, bus_name}
+use Rattle.audited_captures.specs.Lines.{LineValue, difference}
+use Rattle.audited_captures.specs.Packets.{PacketValue, ArePackets, AreFirst, count_like}
+use Rattle.audited_captures.specs.Traffic.{IsHeld, Unplanned, NoSender, NoReceiver, Nobody, NoWay, Elsewhere, IsJudged}
+
+-- an endpoint ID by the node that holds it, or by its number
+abbrev pub IsNameOf : Plan → ℕ → List ℕ → Type 0
+IsNameOf plan e text =
+    ((n : ℕ) × Holds plan n e × (text ≡ node_name plan n)) ⊎ ((¬ IsHeld plan e) × (text ≡ decimal e))
+
+-- the bus over which a step goes
+abbrev pub bus_text : Plan → Option ℕ → List ℕ
+bus_text plan None = codes "-"
+bus_text plan (Some bus) = bus_name plan bus
+
+abbrev pub step_bus : Plan → WayStep → List ℕ
+step_bus plan step = bus_text plan (bus_of plan step.node step.hop.port)
+
+-- the nodes that forward a packet on its way: those of all steps but the first
+abbrev pub by_words : Plan → List WayStep → List ℕ
+by_words plan [] = []
+by_words plan (step ∷ []) = []
+by_words plan (step ∷ second ∷ steps) =
+    codes " by " ++ (node_name plan second.node
+    ++ flat_map (λ (later : WayStep). codes ", " ++ node_name plan later.node) steps)
+
+-- the buses over which it goes
+abbrev pub over_words : Plan → List WayStep → List ℕ
+over_words plan [] = codes " over no bus"
+over_words plan (step ∷ steps) =
+    codes " over " ++ (step_bus plan step ++ flat_map (λ (later : WayStep). codes ", " ++ step_bus plan later) steps)
+
+abbrev pub why_words : Plan → (source destination : ℕ) → Unplanned → List ℕ
+why_words plan source destination NoSender = codes "no node holds " ++ decimal source
+why_words plan source destination NoReceiver = codes "no node holds " ++ decimal destination
+why_words plan source destination Nobody =
+    codes "no node holds " ++ (decimal source ++ (codes " or " ++ decimal destination))
+why_words plan source destination NoWay = codes "no way planned"
+why_words plan source destination (Elsewhere steps) =
+    codes "planned" ++ (by_words plan steps ++ over_words plan steps)
+
+-- how many packets there are beside the first
+abbrev pub more_words : ℕ → List ℕ
+more_words count = if count == 1 then [] else codes " and " ++ (decimal (count - 1) ++ codes " more")
+
+-- the line of so many packets from an endpoint ID to another, the first of which has this number
+abbrev pub packets_line : (number count : ℕ) → (source destination why : List ℕ) → LineValue
+packets_line number count source destination why =
+    difference (codes "packet " ++ (decimal number ++ (more_words count ++ (codes " from " ++ (source
+    ++ (codes " to " ++ (destination ++ (codes ": " ++ why))))))))
+
+-- the line of the packets for this reason
+pub record IsLineOf (plan : Plan) (first : PacketValue) (count : ℕ) (why : Unplanned) (line : LineValue) : Type 0 where
+  pub source : List ℕ
+  pub destination : List ℕ
+  pub source_named : IsNameOf plan first.source source
+  pub destination_named : IsNameOf plan first.destination destination
+  pub told : line ≡ packets_line first.number count source destination
+      (why_words plan first.source first.destination why)
+
+abbrev pub IsOneLine : Plan → PacketValue → ℕ → Unplanned → List LineValue → Type 0
+IsOneLine plan first count why lines = (line : LineValue) × IsLineOf plan first count why line × (lines ≡ line ∷ [])
+
+-- what is told of so many packets that go the way of the first of them: nothing where they are planned
+abbrev pub AreLinesOf : Plan → Option ℕ → PacketValue → ℕ → List LineValue → Type 0
+AreLinesOf plan bus first count lines =
+    (IsJudged plan bus first.source first.destination None × (lines ≡ []))
+    ⊎ ((why : Unplanned) × IsJudged plan bus first.source first.destination (Some why)
+    × IsOneLine plan first count why lines)
+
+-- the lines of all of them, in the order of the first packets
+pub data AreTrafficLines (plan : Plan) (bus : Option ℕ) (packets : List PacketValue)
+    : List PacketValue → List LineValue → Type 0 where
+  Empty : AreTrafficLines plan bus packets [] []
+  More : (firsts : List PacketValue) (lines : List LineValue) (first : PacketValue) (more : List LineValue)
+      → AreTrafficLines plan bus packets firsts lines
+      → AreLinesOf plan bus first (count_like first packets) more
+      → AreTrafficLines plan bus packets (firsts ++ first ∷ []) (lines ++ more)
+
+-- the lines tell which packets of the capture aren't planned on the bus
+pub record IsTraffic (plan : Plan) (bus : Option ℕ) (entries : List EntryValue) (lines : List LineValue) : Type 0 where
+  pub packets : List PacketValue
+  pub firsts : List PacketValue
+  pub read : ArePackets entries packets
+  pub first : AreFirst packets firsts
+  pub told : AreTrafficLines plan bus packets firsts lines

@@ -1,0 +1,52 @@
+-- What the end of `decode` tells of an answer.
+use Rattle.std.proofs.Common.{◌≡◌, ◌≢◌, ◌⊎◌, ℕ, List, Result, Ok, Err, inl, inr, refl, sym, subst}
+use Rattle.std.specs.Prelude.{IfOk, IfErr, OnErr, Option, Some}
+use Rattle.std.specs.Cow.{cow_str_bytes}
+use Rattle.bus_captures.specs.Captures.{IsCapture}
+use Rattle.bus_captures.specs.Values.{EntryValue}
+use Rattle.bus_captures.specs.declared.capture.End.{End}
+use Rattle.bus_captures.specs.declared.capture.End.TheVariants as end
+use Rattle.decoded_texts.specs.Decoding.{IsDecodedBy}
+use Rattle.net_plan.specs.declared.plan.Plan.{Plan}
+use Rattle.byte_commands.specs.Decoding.{IsDecodedSo, DecodesBy, DecodesNamedSo}
+use Rattle.command_answers.specs.Answers.{Stream, GavePlan, IsPlanUnread, BreaksOff}
+use Rattle.command_answers.specs.Told.{IsTold, IsSomeAnswer, Gives}
+use Rattle.command_answers.specs.declared.answer.Answer.{Answer}
+use Rattle.command_answers.specs.declared.refused.Refused.{Refused}
+use Rattle.command_answers.specs.declared.refused.Refused.TheVariants as refused
+use Rattle.command_answers.specs.declared.status.Status.{Status}
+use Rattle.command_answers.specs.declared.status.Status.TheVariants as status
+
+pub decoded_so : (plan : Option Plan) (bytes : List ℕ) (entries : List EntryValue) (how : End) (text : List ℕ) (ended : Status) → IsCapture bytes entries how → IsDecodedBy plan entries how text
+    → (how ≡ end.Whole → ended ≡ status.Yes) → (how ≢ end.Whole → ended ≡ status.Unreadable) → IsDecodedSo plan bytes ended text
+decoded_so plan bytes entries end.Whole text ended is told whole broken =
+    subst (λ (s : Status). IsDecodedSo plan bytes s text) (sym (whole refl)) (entries, is, told)
+decoded_so plan bytes entries end.Full text ended is told whole broken =
+    let other : end.Full ≢ end.Whole = λ e. cc in
+    subst (λ (s : Status). IsDecodedSo plan bytes s text) (sym (broken other)) (end.Full, other, (entries, is, told))
+decoded_so plan bytes entries (end.Broken place why) text ended is told whole broken =
+    let other : end.Broken place why ≢ end.Whole = λ e. cc in
+    subst (λ (s : Status). IsDecodedSo plan bytes s text) (sym (broken other)) (end.Broken place why, other, (entries, is, told))
+
+-- an answer may tell why a capture can't be read, and there may be none
+pub same_gives_or_breaks : (Answers : Status → List ℕ → Type 0) (ended : Status) (output errors : Stream) (Same : Type 0) (answered : Result Answer Refused)
+    → IfOk answered (λ (a : Answer). Answers a.status (cow_str_bytes a.text)) → IfOk answered (λ (a : Answer). IsTold a.status (cow_str_bytes a.text) ended output errors)
+    → OnErr answered Same → ended ≡ status.Unreadable → Same ⊎ (Gives Answers status.Unreadable output ⊎ BreaksOff (IsSomeAnswer Answers) output)
+same_gives_or_breaks Answers ended output errors Same (Ok a) answers (inl (is, written)) same unreadable =
+    let A : Status → Type 0 = λ s. Answers s (cow_str_bytes a.text) in
+    inr (inl (cow_str_bytes a.text, subst A unreadable (subst A (sym is) answers), written))
+same_gives_or_breaks Answers ended output errors Same (Ok a) answers (inr (is, fails, part, line)) same unreadable =
+    inr (inr (record { text = cow_str_bytes a.text; answer = (a.status, answers); fails = fails; beginning = part }))
+same_gives_or_breaks Answers ended output errors Same (Err why) answers told same unreadable = inl same
+
+-- with the plan that a source gave
+pub given_so : (plan : Plan) (plans captures : Stream) (result : Result Answer Refused) → GavePlan plans plan
+    → IfOk result (λ (a : Answer). DecodesBy (Some plan) captures a.status (cow_str_bytes a.text))
+    → IfOk result (λ (a : Answer). DecodesNamedSo plans captures a.status (cow_str_bytes a.text))
+given_so plan plans captures (Ok a) given answers = (plan, given, answers)
+given_so plan plans captures (Err why) given answers = tt
+
+-- want of memory is why nothing more is said
+pub memory_so : (plans : Stream) (result : Result Answer Refused) → IfErr result (λ why. why ≡ refused.NoMemory) → IfErr result (λ why. IsPlanUnread why plans)
+memory_so plans (Ok a) is = tt
+memory_so plans (Err why) is = subst (λ w. IsPlanUnread w plans) (sym is) tt

@@ -1,8 +1,0 @@
-use Rattle.std.proofs.Common.{map, take}
-use Rattle.std.specs.Prelude.{string_bytes}
-use Rattle.bus_captures.specs.Values.{entry_value}
-use Rattle.decoded_texts.proofs.SeenLaws.{HasTold}
-use Rattle.decoded_texts.proofs.decoding.decoded_lines.Given as goal
-
-abbrev pub invariant-loop-i : goal.invariant-loop-i
-invariant-loop-i l = HasTold l.i (map entry_value (take l.i l.capture.entries.items)) l.assemblers.items (string_bytes l.text)
