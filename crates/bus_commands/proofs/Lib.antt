@@ -1,0 +1,8 @@
+mod BusNames
+mod BytesTold
+mod Capturing
+mod Emulating
+mod HopLaws
+mod LinesPlayed
+mod Starting
+mod TurnLaws

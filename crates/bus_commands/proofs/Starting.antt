@@ -1,0 +1,82 @@
+-- What the rules of an accepted plan say of a node that is emulated.
+use Rattle.std.proofs.Common.{◌≡◌, ℕ, Bool, List, Some, None, Option, Result, Ok, Err, IfOk, option_map, sym, ap, subst, ◌∙◌, arith}
+use Rattle.net_plan.specs.declared.certificate.Certificate.{Certificate}
+use Rattle.net_plan.specs.declared.nodes.Kind.TheVariants as kind
+use Rattle.net_plan.specs.declared.nodes.Node.{Node}
+use Rattle.net_plan.specs.declared.nodes.Pool.{Pool}
+use Rattle.net_plan.specs.declared.plan.Plan.{Plan}
+use Rattle.net_rules.specs.Pools.{IsPoolInRange, IsLawfulPool, HasLawfulPool}
+use Rattle.net_rules.specs.Rules.{Accepts}
+use Rattle.net_rules.specs.declared.rule.Rule.TheVariants.{C02, C04, C05, C06, C09}
+use Rattle.net_tables.specs.Ownership.{pool_of}
+use Rattle.net_tables.specs.Routing.{node_at, rows_of}
+use Rattle.net_tables.specs.Tables.{AreRows}
+use Rattle.plan_exports.specs.PlannedTables.{HasLawfulRows}
+use Rattle.std.specs.Option.{option_and_then}
+use Rattle.mctp_control.specs.Ranges.{IsAssignableRange}
+use Rattle.emulated_node.specs.Nodes.{NodeState, Setting, TerminusValue}
+use Rattle.emulated_node.specs.Standing.{StandsFor, at_start, setting_of}
+use Rattle.emulated_node.specs.declared.emulated.Emulated.{Emulated}
+use Rattle.mctp_bridge.specs.declared.device_kind.DeviceKind.{DeviceKind}
+use Rattle.mctp_bridge.specs.declared.row.TableRow.{TableRow}
+use Rattle.mctp_control.specs.Devices.{DeviceValue}
+use Rattle.mctp_control.specs.RouteEntries.{EntryValue}
+use Rattle.net_sim.specs.AssignmentRuns.{device_kind}
+use Rattle.pdr_repository.specs.BlockTermini.{block_tid, block_records}
+use Rattle.pdr_repository.specs.declared.block_terminus.BlockTerminus.{BlockTerminus}
+use Rattle.plan_exports.specs.PlannedRows.{IsOrdered}
+use Rattle.plan_exports.specs.TableAnswers.{AreEntriesOf}
+use Rattle.bus_commands.specs.Starting.{HoldsLawfully, IsStart, device_at_start, planned_terminus}
+
+-- by C04 and C05 the rows make a routing table
+pub are_rows : (plan : Plan) (cert : Certificate) (n : ℕ) → Accepts plan cert → AreRows (rows_of plan n)
+are_rows plan cert n accepted = λ r row is. ((accepted C05 n (Some r) None).0 row is, (accepted C04 n (Some r) None).0 row is)
+
+-- by C06 each leads to a neighbor
+pub have_lawful_rows : (plan : Plan) (cert : Certificate) (n : ℕ) → Accepts plan cert → HasLawfulRows plan n
+have_lawful_rows plan cert n accepted = record { rows = are_rows plan cert n accepted; neighbors = λ r row is. (accepted C06 n (Some r) None).0 row is }
+
+module _ (plan : Plan) (cert : Certificate) (n : ℕ) (node : Node) (accepted : Accepts plan cert) (there : node_at plan n ≡ Some node) where
+  -- by C09 a pool is a bridge's, and can be given out
+  lawful_pool : (pool : Pool) → node.pool ≡ Some pool → (node.kind ≡ kind.Bridge) × IsAssignableRange pool.first.value pool.size
+  unfolding HasLawfulPool IsLawfulPool IsPoolInRange
+  lawful_pool pool is =
+      let has : pool_of plan n ≡ Some pool = ap (option_and_then (λ (x : Node). x.pool)) there ∙ is in
+      let lawful = (accepted C09 n None None).0 pool has in
+      let bridge : Some node.kind ≡ Some kind.Bridge = ap (option_map (λ (x : Node). x.kind)) (sym there) ∙ lawful.0 in
+      let same : node.kind ≡ kind.Bridge = cc in
+      let some = lawful.1.0 in
+      (same, (omega arith, lawful.1.1, lawful.1.2))
+
+  -- by C02 its endpoint ID can be assigned
+  pub holds_lawfully : HoldsLawfully node
+  holds_lawfully = record {
+    eid = (accepted C02 n None (Some node.eid.value)).0 (ap (option_map (λ (x : Node). x.eid.value)) there);
+    pool = lawful_pool;
+  }
+
+-- what is made of these is the node at its start
+pub started : {E : Type 0} (is_configured : Bool) (plan plan' : Plan) (cert cert' : Certificate) (n : ℕ) (node : Node) (kind_is : DeviceKind) (rows : List TableRow)
+    (entries : List EntryValue) (device : DeviceValue) (terminus : Option TerminusValue) (made : Result (Emulated BlockTerminus) E)
+    → plan' ≡ plan → cert' ≡ cert → node_at plan' n ≡ Some node → kind_is ≡ device_kind node.kind → IsOrdered plan' n rows → AreEntriesOf plan' n entries
+    → device ≡ device_at_start is_configured node → terminus ≡ planned_terminus plan' cert' n
+    → IfOk made (λ e. setting_of e ≡ record { plan = plan'; node = n; kind = kind_is; rows = rows; entries = entries })
+    → IfOk made (λ e. StandsFor block_tid block_records e (at_start device terminus))
+    → IfOk made (λ e. (s : NodeState) × IsStart is_configured plan cert n (setting_of e) s × StandsFor block_tid block_records e s)
+started is_configured plan plan' cert cert' n node kind_is rows entries device terminus (Ok e) same same_cert there kind ordered listed holds records setting stands =
+    let at : node_at plan n ≡ Some node = subst (λ (p : Plan). node_at p n ≡ Some node) same there in (
+      at_start device terminus,
+      record {
+        node = node;
+        there = at;
+        plan_is = ap (λ (set : Setting). set.plan) setting ∙ same;
+        node_is = ap (λ (set : Setting). set.node) setting;
+        kind = ap (λ (set : Setting). set.kind) setting ∙ kind;
+        rows = subst (IsOrdered plan n) (sym (ap (λ (set : Setting). set.rows) setting)) (subst (λ (p : Plan). IsOrdered p n rows) same ordered);
+        entries = subst (AreEntriesOf plan n) (sym (ap (λ (set : Setting). set.entries) setting)) (subst (λ (p : Plan). AreEntriesOf p n entries) same listed);
+        state = ap (λ d. at_start d terminus) holds
+            ∙ ap (at_start (device_at_start is_configured node)) (records ∙ (ap (λ (p : Plan). planned_terminus p cert' n) same ∙ ap (λ (k : Certificate). planned_terminus plan k n) same_cert));
+      },
+      stands,
+    )
+started is_configured plan plan' cert cert' n node kind_is rows entries device terminus (Err why) same same_cert there kind ordered listed holds records setting stands = tt

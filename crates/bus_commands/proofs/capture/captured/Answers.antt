@@ -1,0 +1,40 @@
+use Rattle.std.proofs.Common.{◌∙◌, ap, subst, map, arith}
+use Rattle.std.proofs.lemmas.List.{length-map}
+use Rattle.bus_commands.proofs.HopLaws.{added, captured_none, captured_next, captured_all}
+use Rattle.command_answers.proofs.Places.{checked_orders}
+use Rattle.net_runs.specs.Walkers.{walked_at_start}
+use Rattle.net_sim.specs.Networks.{network_value}
+use Rattle.pdr_repository.specs.BlockTermini.{block_tid, block_records}
+use Rattle.net_sim.specs.Outcomes.{event_value, outcome_value}
+use Rattle.net_sim.specs.WalkedStanding.{WalkedPlays}
+use Rattle.bus_commands.proofs.Capturing.{planned_by}
+use Rattle.bus_commands.proofs.capture.captured.Goals as goal
+
+pub planned_termini-requires : goal.planned_termini-requires
+planned_termini-requires c =
+    checked_orders c.args.checked.0 c.plan-plan.result.now c.args.checked.1 c.certificate.result.now c.plan-plan.ensures.accepted c.plan-plan.ensures.plan c.certificate.ensures.certificate
+
+pub loop-index-init : goal.loop-index-init
+loop-index-init c =
+    let planned = planned_by _ c.args.checked.0 c.plan-plan.result.now c.args.checked.1 c.certificate.result.now c.in_ok-termini.ensures c.plan-plan.ensures.plan c.certificate.ensures.certificate in
+    (c.in_ok-network.ensures.checked, captured_none c.args.checked.0 (walked_at_start c.args.checked.0 c.args.checked.1) _ _ (c.in_ok-network.ensures.stands planned) c.in_ok-file.ensures)
+
+pub loop-index-preserved : goal.loop-index-preserved
+loop-index-preserved c =
+    let l = c.loop-index in
+    let plan = c.args.checked.0 in
+    let same = ap (λ r. r.0) l.invariant.0 in
+    let went = c.in_ok-outcome.ensures in
+    let plays = subst (λ t. WalkedPlays t (network_value block_tid block_records l.network) (event_value c.index-events-index.result) (outcome_value c.in_ok-outcome.outcome)
+    (network_value block_tid block_records c.step.new.self)) same went.plays in (
+      went.checked ∙ l.invariant.0,
+      captured_next plan (walked_at_start plan c.args.checked.1) c.args.events.now l.index c.index-events-index.result c.loop-index-test.true c.index-events-index.is
+          l.file.items c.add_hop.new.file.items _ _ (outcome_value c.in_ok-outcome.outcome) c.in_ok-departure.departure l.invariant.1 plays c.in_ok-departure.ensures
+          (added plan c.plan-plan.result.now c.plan-plan.ensures.plan _ _ _ _ _ c.in_ok-add_hop.ensures),
+    )
+
+pub returns : goal.returns
+returns c =
+    let l = c.loop-index in
+    let all = length-map c.args.events.now event_value in
+    captured_all c.args.checked.0 c.args.checked.1 (map event_value c.args.events.now) l.index l.file.items _ (omega (arith, c.loop-index-test.false, all)) l.invariant.1

@@ -1,0 +1,12 @@
+use Rattle.std.proofs.Common.{List, subst, sym, ◌∙◌}
+use Rattle.mctp_bridge.specs.declared.row.TableRow as bridge
+use Rattle.mctp_bridge.specs.Rows as rule
+use Rattle.net_tables.proofs.TableLaws.{lawful_rows, no_fault}
+use Rattle.bus_commands.proofs.table.table_of.Goals as goal
+
+pub unreachable-requires : goal.unreachable-requires
+unreachable-requires c =
+    let rows = c.args.rows.now in
+    let P : List bridge.TableRow → Type 0 = rule.AreLawful in
+    let lawful : rule.AreLawful c.deref.result.now = subst P (sym (c.deref.ensures.value ∙ c.in_ok-rows.ensures)) (lawful_rows rows c.requires) in
+    c.in_default.not-Memory (no_fault c.deref.result.now c.in-Err.fault lawful c.in-Err.ensures.fault)

@@ -1,0 +1,46 @@
+-- A planned node before a packet has come to it.
+use Rattle.std.specs.Prelude.{◌≡◌, ℕ, Bool, true, false, Option, Some, None, option_map}
+use Rattle.emulated_node.specs.Nodes.{NodeState, Setting, TerminusValue}
+use Rattle.emulated_node.specs.Standing.{at_start}
+use Rattle.mctp_control.specs.Devices.{DeviceValue}
+use Rattle.mctp_control.specs.Ranges.{IsAssignableRange}
+use Rattle.mctp_transport.specs.Frames.{IsAssignable}
+use Rattle.net_plan.specs.declared.certificate.Certificate.{Certificate}
+use Rattle.net_plan.specs.declared.nodes.Kind.TheVariants as kind
+use Rattle.net_plan.specs.declared.nodes.Node.{Node}
+use Rattle.net_plan.specs.declared.nodes.Pool.{Pool}
+use Rattle.net_plan.specs.declared.plan.Plan.{Plan}
+use Rattle.net_sim.specs.AssignmentRuns.{device_kind, holding, starting}
+use Rattle.net_tables.specs.Repositories.{records_by_place, terminus_of}
+use Rattle.net_tables.specs.Routing.{node_at}
+use Rattle.plan_exports.specs.PlannedRows.{IsOrdered}
+use Rattle.plan_exports.specs.TableAnswers.{AreEntriesOf}
+
+-- its device: configured with what is planned, or as an assignment finds it
+abbrev pub device_at_start : Bool → Node → DeviceValue
+device_at_start true node = holding node None
+device_at_start false node = starting node node.owner
+
+-- the terminus of n with its records by place
+abbrev pub planned_terminus : Plan → Certificate → ℕ → Option TerminusValue
+planned_terminus plan cert n =
+    option_map (λ t. record { tid = t.tid; records = records_by_place plan cert n }) (terminus_of plan n)
+
+-- The setting is that of n, with the planned rows and the entries that tell them, and the state is that in which it has
+-- its device and its planned terminus, and nothing has come.
+pub record IsStart (is_configured : Bool) (plan : Plan) (cert : Certificate) (n : ℕ) (set : Setting)
+    (s : NodeState) : Type 0 where
+  pub node : Node
+  pub there : node_at plan n ≡ Some node
+  pub plan_is : set.plan ≡ plan
+  pub node_is : set.node ≡ n
+  pub kind : set.kind ≡ device_kind node.kind
+  pub rows : IsOrdered plan n set.rows
+  pub entries : AreEntriesOf plan n set.entries
+  pub state : s ≡ at_start (device_at_start is_configured node) (planned_terminus plan cert n)
+
+-- the node's endpoint ID can be assigned, and where it has a pool, it is a bridge, and the pool can be assigned too
+pub record HoldsLawfully (node : Node) : Type 0 where
+  pub eid : IsAssignable node.eid.value
+  pub pool : (pool : Pool) → node.pool ≡ Some pool
+      → (node.kind ≡ kind.Bridge) × IsAssignableRange pool.first.value pool.size

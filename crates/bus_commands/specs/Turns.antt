@@ -1,0 +1,98 @@
+-- What becomes of a line that a node is given: the lines that it sends, and what is noted of what it drops.
+use Rattle.std.specs.Prelude.{◌≡◌, ◌⊎◌, ℕ, ◌&&◌, nat_le, List, [], ◌++◌, map, codes, if◌then◌else◌}
+use Rattle.std.specs.List.{flat_map}
+use Rattle.hex.specs.Hex.{encode_lower}
+use Rattle.emulated_node.specs.Nodes.{NodeState, Setting}
+use Rattle.emulated_node.specs.ReceivedValues.{ReceivedValue, Sent, Held, Dropped}
+use Rattle.emulated_node.specs.Receiving.{Receives}
+use Rattle.emulated_node.specs.declared.received.Reason.{Reason}
+use Rattle.emulated_node.specs.declared.received.Reason.TheVariants as reason
+use Rattle.mctp_bridge.specs.Decisions.{obstacle_code}
+use Rattle.mctp_transport.specs.Causes.{cause_code}
+use Rattle.mctp_transport.specs.Frames.{Frame, Spelled}
+use Rattle.mctp_transport.specs.Refusals as refusals
+use Rattle.mctp_transport.specs.declared.packet_error.PacketError.{PacketError}
+use Rattle.mctp_transport.specs.declared.packet_error.PacketError.TheVariants as packet
+use Rattle.net_plan.specs.declared.plan.Plan.{Plan}
+use Rattle.plan_texts.specs.Lines.{bus_name_or_dash}
+use Rattle.bus_commands.specs.PacketLines as said
+use Rattle.bus_commands.specs.PacketLines.{SaidValue, Says}
+
+-- why bytes are no packet under a transmission unit: the first of the causes
+abbrev pub IsNoPacketFor : ℕ → PacketError → List ℕ → Type 0
+IsNoPacketFor unit packet.Short bytes = refusals.IsShort bytes
+IsNoPacketFor unit packet.Empty bytes = ¬ refusals.IsShort bytes × refusals.IsEmpty bytes
+IsNoPacketFor unit packet.Long bytes = refusals.IsLong unit bytes
+IsNoPacketFor unit packet.Version bytes =
+    ¬ refusals.IsShort bytes × ¬ refusals.IsEmpty bytes × ¬ refusals.IsLong unit bytes × refusals.HasOtherVersion bytes
+
+-- a packet that is sent over a bus
+abbrev pub answer_line : Plan → ℕ → List ℕ → List ℕ
+answer_line plan bus bytes = bus_name_or_dash plan bus ++ (codes " " ++ (encode_lower bytes ++ codes "\n"))
+
+-- what is sent, each packet in a line
+abbrev pub answer_text : Plan → ReceivedValue → List ℕ
+answer_text plan (Sent bus packets) = flat_map (answer_line plan bus) packets
+answer_text plan Held = []
+answer_text plan (Dropped why) = []
+
+-- a printable ASCII character as it is, and a question mark for any other byte
+abbrev pub shown_byte : ℕ → ℕ
+shown_byte b = if nat_le 32 b && nat_le b 126 then b else 63
+
+-- why nothing is sent, and the line
+abbrev pub note_line : List ℕ → List ℕ → List ℕ
+note_line why line = codes "# " ++ why ++ codes ": " ++ map shown_byte line ++ codes "\n"
+
+abbrev pub reason_words : Reason → List ℕ
+reason_words (reason.Obstacle why) = codes "dropped " ++ obstacle_code why
+reason_words reason.NoPort = codes "no port"
+reason_words (reason.Unassembled why) = codes "dropped " ++ cause_code why
+reason_words reason.NoRequest = codes "no request"
+reason_words reason.NoAnswer = codes "no answer"
+
+-- what is noted: nothing where something is sent or waits
+abbrev pub note_text : ReceivedValue → List ℕ → List ℕ
+note_text (Sent bus packets) line = []
+note_text Held line = []
+note_text (Dropped why) line = note_line (reason_words why) line
+
+-- the answer and the note are those of what became of a packet
+abbrev pub IsToldOf : Plan → ReceivedValue → List ℕ → (answer note : List ℕ) → Type 0
+IsToldOf plan received line answer note = (answer ≡ answer_text plan received) × (note ≡ note_text received line)
+
+-- The bytes are a packet that comes over the bus, and this becomes of it.
+pub record ComesOver (set : Setting) (s : NodeState) (bus : ℕ) (bytes line answer note : List ℕ)
+    (next : NodeState) : Type 0 where
+  pub frame : Frame
+  pub received : ReceivedValue
+  pub spelled : Spelled set.plan.unit frame bytes
+  pub receives : Receives set s bus frame received next
+  pub told : IsToldOf set.plan received line answer note
+
+-- nothing is sent, and this is noted
+abbrev pub IsNoted : NodeState → (why line answer note : List ℕ) → NodeState → Type 0
+IsNoted s why line answer note next = (answer ≡ []) × (note ≡ note_line why line) × (next ≡ s)
+
+-- the bytes are no packet
+abbrev pub IsRefused : Setting → NodeState → (bytes line answer note : List ℕ) → NodeState → Type 0
+IsRefused set s bytes line answer note next = (why : PacketError) × IsNoPacketFor set.plan.unit why bytes
+    × IsNoted s (codes "dropped " ++ refusals.code_of why) line answer note next
+
+-- these bytes came over the bus
+abbrev pub TakesBytes : Setting → NodeState → ℕ → (bytes line answer note : List ℕ) → NodeState → Type 0
+TakesBytes set s bus bytes line answer note next =
+    ComesOver set s bus bytes line answer note next ⊎ IsRefused set s bytes line answer note next
+
+-- the line said so
+abbrev pub Gives : Setting → NodeState → SaidValue → (line answer note : List ℕ) → NodeState → Type 0
+Gives set s said.Nothing line answer note next = (answer ≡ []) × (note ≡ []) × (next ≡ s)
+Gives set s said.NoBus line answer note next = IsNoted s (codes "no bus") line answer note next
+Gives set s said.NoPacket line answer note next = IsNoted s (codes "no packet") line answer note next
+Gives set s (said.Packet bus bytes) line answer note next = TakesBytes set s bus bytes line answer note next
+
+-- The node in this state is given the line: it sends the answer, the note tells what it dropped, and it is in that
+-- state then.
+abbrev pub Takes : Setting → NodeState → (line answer note : List ℕ) → NodeState → Type 0
+Takes set s line answer note next =
+    (says : SaidValue) × Says set.plan set.node line says × Gives set s says line answer note next

@@ -1,0 +1,19 @@
+//! The commands that talk over buses: `emulate`, a planned node on a line protocol, and `capture`, a run as a capture
+//! file.
+#![tactic(auto)]
+
+mod capture;
+mod departure;
+mod emulate;
+mod hops;
+mod line;
+mod lines;
+mod playing;
+mod start;
+mod table;
+mod telling;
+mod terminus;
+mod turn;
+
+pub use capture::run_capture;
+pub use emulate::{Emulation, run_emulate};

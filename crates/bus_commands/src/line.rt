@@ -1,0 +1,145 @@
+//! What a line of the line protocol says.
+ghost use Rattle.std.specs.Prelude.{◌≡◌, ◌≤◌, ◌↔◌, ℕ, List, length, IfOk, IsTrue, MatchOption, map, string_bytes};
+ghost use Rattle.bus_captures.specs.Lines.{behind_word, uncommented, word};
+ghost use Rattle.bus_captures.specs.Sorts.{before, is_of, is_space};
+ghost use Rattle.bus_captures.specs.Values.{entry_value};
+ghost use Rattle.bus_commands.specs.PacketLines.{IsOnePacket, IsReadOver, NamesBus, Says, said_value, sort_of};
+
+use bus_captures::{Capture, End, Kind, read_capture};
+use net_plan::{Bus, Plan};
+use net_tables::lookup::is_on_bus;
+use std::alloc::{AllocError, Global};
+
+/// What a line says.
+#[derive(Debug, Drop)]
+pub enum Said {
+    /// Nothing but a comment.
+    Nothing,
+    /// Its first word is the name of no bus on which the node has a port.
+    NoBus,
+    /// What stands behind the bus is no packet.
+    NoPacket,
+    /// These bytes came over the bus.
+    Packet { bus: usize, bytes: Vec<u8> },
+}
+
+/// What a line says to a node.
+pub fn read_line(alloc: Global, plan: &Plan, node: usize, line: &[u8]) -> Result<Said, AllocError>
+    ensures { IfOk result (λ said. Says plan.now node line.now (said_value said)) }
+{
+    let (word, behind) = split_word(uncommented(line));
+    if word.is_empty() {
+        return Ok(Said::Nothing);
+    }
+    match bus_named(plan, node, word) {
+        Some(bus) => read_packet(alloc, bus, behind),
+        None => Ok(Said::NoBus),
+    }
+}
+
+/// What the text behind the name of a bus says.
+fn read_packet(alloc: Global, bus: usize, text: &[u8]) -> Result<Said, AllocError>
+    ensures { IfOk result (λ said. IsReadOver bus text.now (said_value said)) }
+{
+    let capture = read_capture(alloc, text)?;
+    match only_packet(&capture) {
+        Some(bytes) => Ok(Said::Packet {
+            bus,
+            bytes: Vec::from_slice(alloc, bytes)?,
+        }),
+        None => Ok(Said::NoPacket),
+    }
+}
+
+/// The bytes of a capture that is one packet.
+fn only_packet<'a>(capture: &'a Capture) -> Option<&'a [u8]>
+    ensures { let entries = map entry_value capture.now.entries.items in
+        MatchOption result ((bytes : List ℕ) → ¬ IsOnePacket entries capture.now.end bytes)
+        (λ bytes. IsOnePacket entries capture.now.end bytes.now) }
+{
+    if capture.end != End::Whole {
+        return None;
+    }
+    let [entry] = capture.entries.as_slice() else {
+        return None;
+    };
+    if entry.kind != Kind::Packet {
+        return None;
+    }
+    Some(&entry.bytes)
+}
+
+/// The index of the first bus of the name on which the node has a port.
+fn bus_named(plan: &Plan, node: usize, name: &[u8]) -> Option<usize>
+    ensures { MatchOption result ((b : ℕ) → ¬ NamesBus plan.now node name.now b) (NamesBus plan.now node name.now) }
+{
+    for (index, bus) in plan.buses.iter().enumerate() {
+        if is_named(bus, name) && is_on_bus(plan, node, index) {
+            return Some(index);
+        }
+    }
+    None
+}
+
+fn is_named(bus: &Bus, name: &[u8]) -> bool
+    ensures { IsTrue result ↔ (string_bytes bus.now.name.text ≡ name.now) }
+{
+    bus.name.text.as_bytes() == name
+}
+
+/// What a byte of a line may be.
+#[derive(Clone, Copy, Debug, PartialEq, Eq)]
+enum Mark {
+    Hash,
+    Space,
+    NoSpace,
+}
+
+impl Mark {
+    /// Whether the byte is one.
+    fn has(self, byte: u8) -> bool
+        ensures { result ≡ is_of (sort_of self) byte }
+    {
+        match self {
+            Mark::Hash => byte == b'#',
+            Mark::Space => is_space(byte),
+            Mark::NoSpace => !is_space(byte),
+        }
+    }
+
+    /// How many bytes stand before the first one: all of them where there is none.
+    fn before(self, text: &[u8]) -> usize
+        ensures place { result ≡ before (sort_of self) text.now }
+        ensures within { result ≤ length text.now }
+    {
+        for (i, byte) in text.iter().enumerate() {
+            if self.has(*byte) {
+                return i;
+            }
+        }
+        text.len()
+    }
+}
+
+/// A blank, a tab, or the carriage return at the end of a line.
+fn is_space(byte: u8) -> bool
+    ensures { result ≡ is_space byte }
+{
+    byte == b' ' || byte == b'\t' || byte == b'\r'
+}
+
+/// The line without its comment.
+fn uncommented(line: &[u8]) -> &[u8]
+    ensures { result.now ≡ uncommented line.now }
+{
+    line.split_at(Mark::Hash.before(line)).0
+}
+
+/// The first word of a text, and what stands behind it.
+fn split_word(text: &[u8]) -> (&[u8], &[u8])
+    ensures word { result.0.now ≡ word text.now }
+    ensures behind { result.1.now ≡ behind_word text.now }
+{
+    let from_word = text.split_at(Mark::NoSpace.before(text)).1;
+    from_word.split_at(Mark::Space.before(from_word))
+}

@@ -1,0 +1,123 @@
+//! Lines that a node is given, one after another, and what is written for each.
+ghost use Rattle.std.specs.Prelude.{◌≡◌, OnOk, string_bytes};
+ghost use Rattle.command_answers.specs.Answers.{stream};
+ghost use Rattle.emulated_node.specs.Nodes.{NodeState};
+ghost use Rattle.emulated_node.specs.Standing.{StandsFor, setting_of};
+ghost use Rattle.net_json.specs.Stream.{HasRoom};
+ghost use Rattle.bus_commands.specs.Playing.{KeepsRoom, PlaysLine, PlaysLines, Writes};
+
+use crate::lines::next_line;
+use crate::turn::{Turn, take_line};
+use command_answers::{Input, Refused};
+use emulated_node::Emulated;
+use net_json::{PlanError, Sink, Source, write_whole};
+use net_plan::Plan;
+use pdr_repository::Terminus;
+use std::alloc::Global;
+
+/// Why no more lines are taken.
+#[derive(Clone, Copy, Debug, PartialEq, Eq)]
+pub enum Stop {
+    /// This is to be said on standard error.
+    Refused(Refused),
+    /// Standard error failed.
+    Unsaid,
+}
+
+impl From<Refused> for Stop {
+    ghost use Rattle.std.specs.Prelude.{◌≡◌};
+    ghost use Rattle.bus_commands.specs.declared.playing.Stop.TheVariants as stop;
+
+    ghost from_gives = { λ why made. made ≡ stop.Refused why };
+
+    fn from(why: Refused) -> Stop {
+        Stop::Refused(why)
+    }
+}
+
+/// Gives a node of a plan the lines of a source to its end. What is written for a line is written before the next one is
+/// read.
+pub fn play_lines<T: Terminus, I: Source, O: Sink, E: Sink>(
+    alloc: Global,
+    plan: &Plan,
+    node: usize,
+    emulated: &mut Emulated<T>,
+    packets: &mut I,
+    output: &mut O,
+    errors: &mut E,
+) -> Result<(), Stop>
+    requires plan { (setting_of emulated.old).plan ≡ plan.now }
+    requires node { (setting_of emulated.old).node ≡ node }
+    requires packets { HasRoom (I.account packets.old) }
+    requires output { HasRoom (O.account output.old) }
+    requires errors { HasRoom (E.account errors.old) }
+    ensures plays { (s : NodeState) → StandsFor T.tid T.records emulated.old s
+        → PlaysLines (setting_of emulated.old) s result (stream I.account packets.old packets.new) (stream O.account output.old output.new)
+        (stream E.account errors.old errors.new) }
+    ensures noted { KeepsRoom result (stream E.account errors.old errors.new) }
+{
+    for _ in 0..u64::MAX {
+        let is_last = play_line(alloc, plan, node, emulated, packets, output, errors)?;
+        if is_last {
+            return Ok(());
+        }
+    }
+    Err(Stop::Refused(Refused::at_input(Input::Lines, PlanError::OverLimit)))
+}
+
+/// Gives a node the next line of a source, and says whether it was the last one.
+fn play_line<T: Terminus, I: Source, O: Sink, E: Sink>(
+    alloc: Global,
+    plan: &Plan,
+    node: usize,
+    emulated: &mut Emulated<T>,
+    packets: &mut I,
+    output: &mut O,
+    errors: &mut E,
+) -> Result<bool, Stop>
+    requires plan { (setting_of emulated.old).plan ≡ plan.now }
+    requires node { (setting_of emulated.old).node ≡ node }
+    requires packets { HasRoom (I.account packets.old) }
+    requires output { HasRoom (O.account output.old) }
+    requires errors { HasRoom (E.account errors.old) }
+    ensures setting { setting_of emulated.new ≡ setting_of emulated.old }
+    ensures plays { (s : NodeState) → StandsFor T.tid T.records emulated.old s
+        → PlaysLine (StandsFor T.tid T.records emulated.new) (setting_of emulated.old) s result (stream I.account packets.old packets.new)
+        (stream O.account output.old output.new) (stream E.account errors.old errors.new) }
+    ensures read { OnOk result ((I.account packets.new).failures ≡ (I.account packets.old).failures) }
+    ensures written { OnOk result ((O.account output.new).failures ≡ (O.account output.old).failures) }
+    ensures noted { KeepsRoom result (stream E.account errors.old errors.new) }
+{
+    let line = match next_line(alloc, packets) {
+        Ok(line) => line,
+        Err(why) => {
+            let refused = Refused::at_input(Input::Lines, PlanError::from(why));
+            return Err(Stop::Refused(refused));
+        }
+    };
+    match take_line(alloc, plan, node, emulated, &line.text) {
+        Ok(turn) => {
+            write_turn(&turn, output, errors)?;
+            Ok(line.is_last)
+        }
+        Err(_) => Err(Stop::Refused(Refused::NoMemory)),
+    }
+}
+
+/// Writes what becomes of a line.
+fn write_turn<O: Sink, E: Sink>(turn: &Turn, output: &mut O, errors: &mut E) -> Result<(), Stop>
+    requires output { HasRoom (O.account output.old) }
+    requires errors { HasRoom (E.account errors.old) }
+    ensures writes { Writes (string_bytes turn.now.answer) turn.now.note.items result (stream O.account output.old output.new)
+        (stream E.account errors.old errors.new) }
+    ensures written { OnOk result ((O.account output.new).failures ≡ (O.account output.old).failures) }
+    ensures noted { KeepsRoom result (stream E.account errors.old errors.new) }
+{
+    if write_whole(output, turn.answer.as_bytes()).is_err() {
+        return Err(Stop::Refused(Refused::Unwritten));
+    }
+    if write_whole(errors, &turn.note).is_err() {
+        return Err(Stop::Unsaid);
+    }
+    Ok(())
+}
