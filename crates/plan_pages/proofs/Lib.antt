@@ -1,1 +1,3 @@
+pub mod Listing
 mod Plain
+mod Shown

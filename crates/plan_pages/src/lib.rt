@@ -12,6 +12,7 @@ mod termini;
 
 pub use escaping::escaped;
 pub use markup::{block, row, section, table};
+pub use names::{node_name, push_listed};
 pub use page::page_of;
 pub use picture::picture_of;
 pub use style::STYLE;

@@ -2,7 +2,7 @@
 ghost use Rattle.std.specs.Prelude.{◌≡◌, IfOk, string_bytes};
 ghost use Rattle.std.specs.List.{flat_map};
 ghost use Rattle.plan_pages.specs.Escaping.{escaped};
-ghost use Rattle.plan_pages.specs.Markup.{block_text, cell_text, label_text, row_line, row_text, section_text};
+ghost use Rattle.plan_pages.specs.Markup.{IsTable, block_text, cell_text, label_text, none_text, row_line, row_text, section_text, table_text};
 
 use crate::escaping::escaped;
 use std::alloc::{AllocError, Global};
@@ -15,16 +15,38 @@ pub fn section(alloc: Global, id: &str, heading: &str, inside: &str) -> Result<S
 }
 
 /// A table with a heading for each column. Where there is no row it says so.
-pub fn table(alloc: Global, headings: &[&str], rows: &str) -> Result<String, AllocError> {
-    if rows.is_empty() {
-        return "<p class=\"note\">None.</p>\n".to_string(alloc);
+pub fn table(alloc: Global, headings: &[&str], rows: &str) -> Result<String, AllocError>
+    ensures { IfOk result (λ text. IsTable rows.now (string_bytes text)) }
+{
+    match rows.as_bytes() {
+        [] => none(alloc),
+        [_, ..] => {
+            let headings = headings_of(alloc, headings)?;
+            table_under(alloc, &headings, rows)
+        }
     }
+}
+
+/// What stands where there would be nothing.
+pub fn none(alloc: Global) -> Result<String, AllocError>
+    ensures { IfOk result (λ text. string_bytes text ≡ none_text) }
+{
+    "<p class=\"note\">None.</p>\n".to_string(alloc)
+}
+
+fn headings_of(alloc: Global, headings: &[&str]) -> Result<String, AllocError> {
     let mut cells = String::new(alloc);
     for heading in headings {
         cells.push_str(&format!(in alloc; "<th scope=\"col\">{heading}</th>")?)?;
     }
+    Ok(cells)
+}
+
+fn table_under(alloc: Global, headings: &str, rows: &str) -> Result<String, AllocError>
+    ensures { IfOk result (λ text. string_bytes text ≡ table_text headings.now rows.now) }
+{
     format!(in alloc;
-        "<div class=\"wide\">\n<table>\n<thead><tr>{cells}</tr></thead>\n<tbody>\n{rows}</tbody>\n</table>\n</div>\n"
+        "<div class=\"wide\">\n<table>\n<thead><tr>{headings}</tr></thead>\n<tbody>\n{rows}</tbody>\n</table>\n</div>\n"
     )
 }
 
@@ -74,17 +96,4 @@ pub fn label(alloc: Global, attributes: &str, text: &str) -> Result<String, Allo
 {
     let text = escaped(alloc, text)?;
     format!(in alloc; "<text {attributes}>{text}</text>\n")
-}
-
-/// Adds a text to a list of texts, behind a comma where there are some.
-pub fn push_listed(list: &mut String, text: &str) -> Result<(), AllocError> {
-    if !list.is_empty() {
-        list.push_str(", ")?;
-    }
-    list.push_str(text)
-}
-
-/// A list of texts, or a dash where it is empty.
-pub fn or_dash(list: &str) -> &str {
-    if list.is_empty() { "-" } else { list }
 }

@@ -1,26 +1,86 @@
-//! Names of a plan, and numbers that may not be there.
+//! Names of a plan, numbers that may not be there, and lists of words.
+ghost use Rattle.std.specs.Prelude.{◌≡◌, IfOk, OnOk, Some, string_bytes};
+ghost use Rattle.plan_pages.specs.Words.{bus_name, listed_behind, node_name, number_or_dash, or_dash, span_text};
 
 use net_plan::Plan;
 use std::alloc::{AllocError, Global};
 
 /// The name of a node, or a dash where there is none.
-pub fn node_name(plan: &Plan, node: usize) -> &str {
+pub fn node_name(plan: &Plan, node: usize) -> &str
+    ensures { result.now ≡ node_name plan.now node }
+{
     plan.nodes
         .get(node)
         .map_or("-", |node| node.name.text.as_str())
 }
 
 /// The name of a bus, or a dash where there is none.
-pub fn bus_name(plan: &Plan, bus: usize) -> &str {
+pub fn bus_name(plan: &Plan, bus: usize) -> &str
+    ensures { result.now ≡ bus_name plan.now bus }
+{
     plan.buses
         .get(bus)
         .map_or("-", |bus| bus.name.text.as_str())
 }
 
 /// A number, or a dash where there is none.
-pub fn number_or_dash(alloc: Global, number: Option<usize>) -> Result<String, AllocError> {
+pub fn word_or_dash(alloc: Global, number: Option<u16>) -> Result<String, AllocError>
+    ensures { IfOk result (λ text. string_bytes text ≡ number_or_dash number) }
+{
     match number {
         Some(number) => format!(in alloc; "{number}"),
         None => "-".to_string(alloc),
     }
+}
+
+/// A small number, or a dash where there is none.
+pub fn byte_or_dash(alloc: Global, number: Option<u8>) -> Result<String, AllocError>
+    ensures { IfOk result (λ text. string_bytes text ≡ number_or_dash number) }
+{
+    match number {
+        Some(number) => format!(in alloc; "{number}"),
+        None => "-".to_string(alloc),
+    }
+}
+
+/// A number.
+pub fn number(alloc: Global, number: usize) -> Result<String, AllocError>
+    ensures { IfOk result (λ text. string_bytes text ≡ number_or_dash (Some number)) }
+{
+    format!(in alloc; "{number}")
+}
+
+/// A text, or a dash where it is empty.
+pub fn or_dash(text: &str) -> &str
+    ensures { result.now ≡ or_dash text.now }
+{
+    match text.as_bytes() {
+        [] => "-",
+        [_, ..] => text,
+    }
+}
+
+/// Adds a text to a list of texts, behind a comma where there are some.
+pub fn push_listed(list: &mut String, text: &str) -> Result<(), AllocError>
+    ensures { OnOk result (string_bytes list.new ≡ listed_behind (string_bytes list.old) text.now) }
+{
+    if !list.is_empty() {
+        list.push_str(", ")?;
+    }
+    list.push_str(text)
+}
+
+/// The endpoint IDs from one to before another, or the one.
+pub fn span_text(alloc: Global, first: u8, end: u16) -> Result<String, AllocError>
+    ensures { IfOk result (λ text. string_bytes text ≡ span_text first end) }
+{
+    let first = u16::from(first);
+    let last = end.saturating_sub(1);
+    if first == last {
+        return format!(in alloc; "{first}");
+    }
+    if last < first {
+        return "none".to_string(alloc);
+    }
+    format!(in alloc; "{first} to {last}")
 }

@@ -8,7 +8,7 @@ pub const STYLE: &str = "
   --link: #0b5cad; --good: #1a6e36; --bad: #b3261e;
   --mono: ui-monospace, 'DejaVu Sans Mono', monospace;
 }
-@media (prefers-color-scheme: dark) {
+@media screen and (prefers-color-scheme: dark) {
   :root {
     --paper: #15181b; --ink: #e2e5e8; --soft: #9aa4ae; --line: #3a4047; --faint: #22262a;
     --link: #7ab4f0; --good: #6fc28a; --bad: #f28b82;
@@ -16,7 +16,7 @@ pub const STYLE: &str = "
 }
 * { box-sizing: border-box; }
 body {
-  margin: 0 auto; max-width: 1240px; padding: 24px 32px 64px;
+  margin: 0 auto; max-width: 1320px; padding: 24px 32px 64px;
   background: var(--paper); color: var(--ink);
   font: 15px/1.5 system-ui, 'DejaVu Sans', sans-serif;
 }
@@ -26,7 +26,8 @@ h2 {
   font-size: 18px; font-weight: 600;
 }
 h3 { margin: 20px 0 4px; font-size: 14px; font-weight: 600; }
-p { margin: 8px 0; max-width: 80ch; }
+p, ul { margin: 8px 0; max-width: 80ch; }
+ul { padding-left: 20px; }
 nav { margin: 16px 0 0; font-size: 13px; }
 a { margin-right: 14px; color: var(--link); text-decoration: none; }
 .verdict {
@@ -37,6 +38,7 @@ a { margin-right: 14px; color: var(--link); text-decoration: none; }
 .no { color: var(--bad); }
 .note { color: var(--soft); font-size: 13px; }
 .wide { overflow-x: auto; }
+.tall { max-height: 92vh; overflow-y: auto; }
 table { border-collapse: collapse; font-size: 13px; font-variant-numeric: tabular-nums; }
 th, td { padding: 3px 18px 3px 0; text-align: left; vertical-align: top; }
 th { white-space: nowrap; }
@@ -48,12 +50,16 @@ pre { margin: 8px 0; padding: 8px 12px; background: var(--faint); font: 12px/1.5
 dl { margin: 0; }
 dt { margin-top: 10px; color: var(--soft); font-size: 13px; }
 dd { margin: 0; }
-.matrix { font-size: 11px; }
-.matrix th, .matrix td { min-width: 16px; padding: 1px; text-align: right; }
+.matrix { font-size: 10px; }
+.matrix th, .matrix td { min-width: 15px; padding: 1px; text-align: right; }
 .matrix tbody th { position: sticky; left: 0; padding-right: 8px; background: var(--paper); text-align: left; }
+.matrix thead th { position: sticky; top: 0; background: var(--paper); }
+.matrix thead th:first-child { left: 0; z-index: 1; text-align: left; }
+.matrix .sum, .matrix thead th:last-child { padding-left: 10px; font-weight: 600; }
 .matrix .none { color: var(--bad); font-weight: 600; }
 .matrix .same { color: var(--soft); background: var(--faint); }
-svg { display: block; }
+svg { display: block; max-width: 100%; height: auto; }
+@media screen and (max-width: 960px) { svg { max-width: none; } }
 svg text { font: 12px var(--mono); fill: var(--ink); }
 svg .soft { font-size: 11px; fill: var(--soft); }
 svg .bad { font-weight: 700; fill: var(--bad); }
@@ -67,13 +73,13 @@ svg .endpoint { fill: none; stroke: var(--ink); stroke-width: 1.5; }
 @media print {
   body { max-width: none; padding: 0; font-size: 11px; }
   nav { display: none; }
-  svg { max-width: 100%; height: auto; }
   table { font-size: 9px; }
   .matrix { font-size: 6px; }
   .matrix th, .matrix td { min-width: 0; padding: 0 1px; }
   h2, h3, dt { break-after: avoid; }
   tr, svg { break-inside: avoid; }
-  .wide { overflow: visible; }
+  .wide { max-height: none; overflow: visible; }
+  .matrix tbody th, .matrix thead th { position: static; }
   pre { white-space: pre-wrap; overflow-wrap: anywhere; }
 }
 ";

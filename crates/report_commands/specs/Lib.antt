@@ -1,0 +1,3 @@
+pub mod Matrices
+pub mod Pages
+pub mod Reporting

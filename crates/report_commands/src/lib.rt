@@ -1,0 +1,12 @@
+//! The command `report`: a page about a plan, for a review and for paper.
+#![tactic(auto)]
+
+mod bodies;
+mod findings;
+mod matrix;
+mod promises;
+mod reached;
+mod reports;
+mod sections;
+
+pub use reports::{run_report, run_report_certified};

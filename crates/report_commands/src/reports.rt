@@ -1,0 +1,239 @@
+//! The command `report` over the files that it reads and the streams that it writes.
+ghost use Rattle.std.specs.Prelude.{◌≡◌, ◌⊎◌, IfOk, IfErr};
+ghost use Rattle.std.specs.Cow.{cow_str_bytes};
+ghost use Rattle.command_answers.specs.Answers.{stream, AreUnread, IsPlanUnread, IsWithoutPlan, BreaksOff};
+ghost use Rattle.command_answers.specs.Told.{IsSomeAnswer, Ends};
+ghost use Rattle.command_answers.specs.declared.refused.Refused.TheVariants as refused;
+ghost use Rattle.command_answers.specs.declared.status.Status.TheVariants.{Yes, Fault, Unreadable, NoMemory};
+ghost use Rattle.net_check.specs.Errors.{NamesFirstFault};
+ghost use Rattle.net_json.specs.Stream.{HasRoom};
+ghost use Rattle.net_rules.specs.Certificates.{IsExact, NamesObstacle, RulesOutCertificates};
+ghost use Rattle.report_commands.specs.Reporting.{Reports, ReportsSo, ReportsWith, ReportsWithSo};
+
+use crate::bodies::{accepted_page, refused_page};
+use command_answers::{Answer, Refused, Status, fault_text, given_plan, read_inputs, tell};
+use net_check::{CertifyError, CheckError, Checked, certify, check};
+use net_json::{Sink, Source};
+use net_plan::{Certificate, Plan};
+use plan_texts::obstacle_line;
+use std::alloc::{AllocError, Global};
+
+/// Writes the page of a plan on `output`: HTML with the title `name`. It begins with the verdict of `certify`, that a
+/// certificate fits or why none does, and the run ends as that of `certify` does. Where the plan can't be read, says so on
+/// `errors`.
+pub fn run_report<P: Source, O: Sink, E: Sink>(
+    alloc: Global,
+    name: &str,
+    plan: &mut P,
+    output: &mut O,
+    errors: &mut E,
+) -> Status
+    requires plan { HasRoom (P.account plan.old) }
+    requires output { HasRoom (O.account output.old) }
+    requires errors { HasRoom (E.account errors.old) }
+    ensures tells { let plans = stream P.account plan.old plan.new in
+        Ends (ReportsSo name.now plans) (λ why. IsPlanUnread why plans) result
+        (stream O.account output.old output.new) (stream E.account errors.old errors.new) }
+    ensures silent { (result ≡ Yes) ⊎ (result ≡ Fault) → errors.new ≡ errors.old }
+    ensures unwritten { let plans = stream P.account plan.old plan.new in
+        result ≡ Unreadable → (output.new ≡ output.old)
+        ⊎ BreaksOff (IsSomeAnswer (ReportsSo name.now plans)) (stream O.account output.old output.new) }
+    ensures no_memory { result ≡ NoMemory → output.new ≡ output.old }
+{
+    let answered = answer_report(alloc, name, plan);
+    tell(alloc, answered, output, errors)
+}
+
+fn answer_report<P: Source>(alloc: Global, name: &str, plan: &mut P) -> Result<Answer, Refused>
+    requires { HasRoom (P.account plan.old) }
+    ensures answers { let plans = stream P.account plan.old plan.new in
+        IfOk result (λ answer. ReportsSo name.now plans answer.status (cow_str_bytes answer.text)) }
+    ensures unread { let plans = stream P.account plan.old plan.new in
+        IfErr result (λ why. IsPlanUnread why plans) }
+{
+    let given = given_plan(alloc, plan)?;
+    Ok(report_of(alloc, name, &given)?)
+}
+
+/// The page of a plan alone.
+fn report_of(alloc: Global, name: &str, plan: &Plan) -> Result<Answer, AllocError>
+    ensures { IfOk result (λ answer. Reports name.now plan.now answer.status (cow_str_bytes answer.text)) }
+{
+    match certify(alloc, plan) {
+        Ok(certificate) => report_of_fit(alloc, name, plan, &certificate),
+        Err(obstacle) => report_of_obstacle(alloc, name, plan, &obstacle),
+    }
+}
+
+/// The page of a plan with the certificate that was made of it.
+fn report_of_fit(
+    alloc: Global,
+    name: &str,
+    plan: &Plan,
+    certificate: &Certificate,
+) -> Result<Answer, AllocError>
+    requires { IsExact plan.now certificate.now }
+    ensures { IfOk result (λ answer. Reports name.now plan.now answer.status (cow_str_bytes answer.text)) }
+{
+    let checked = accepted(alloc, plan, certificate)?;
+    report_of_exact(alloc, name, &checked)
+}
+
+/// A plan and a certificate that is accepted: so nothing but memory can be wanting.
+fn accepted<'a>(
+    alloc: Global,
+    plan: &'a Plan,
+    certificate: &'a Certificate,
+) -> Result<Checked<'a>, AllocError>
+    ensures { IfOk result (λ checked. checked ≡ (plan.now, certificate.now)) }
+{
+    check(alloc, plan, certificate).map_err(|_| AllocError)
+}
+
+/// The page of a checked plan whose certificate was made of it.
+fn report_of_exact(alloc: Global, name: &str, checked: &Checked) -> Result<Answer, AllocError>
+    requires { IsExact checked.now.0 checked.now.1 }
+    ensures { IfOk result (λ answer. Reports name.now checked.now.0 answer.status (cow_str_bytes answer.text)) }
+{
+    // (that the plan is accepted is known of it once it is taken out)
+    let _known = checked.plan();
+    let page = accepted_page(alloc, name, "yes: a certificate fits the plan", checked)?;
+    Ok(Answer::found(page))
+}
+
+/// The page of a plan that has no certificate.
+fn report_of_obstacle(
+    alloc: Global,
+    name: &str,
+    plan: &Plan,
+    obstacle: &CertifyError,
+) -> Result<Answer, AllocError>
+    requires named { NamesObstacle plan.now obstacle.now }
+    requires none { RulesOutCertificates plan.now obstacle.now }
+    ensures { IfOk result (λ answer. Reports name.now plan.now answer.status (cow_str_bytes answer.text)) }
+{
+    let line = obstacle_line(alloc, plan, obstacle)?;
+    let marked = nodes_of(alloc, obstacle)?;
+    let page = refused_page(alloc, name, &line, plan, None, &marked)?;
+    Ok(Answer::fault(page))
+}
+
+/// The nodes that stand in what rules certificates out.
+fn nodes_of(alloc: Global, obstacle: &CertifyError) -> Result<Vec<usize>, AllocError> {
+    match obstacle {
+        CertifyError::Fault(fault) => Ok(vec![in alloc; fault.node]?),
+        CertifyError::BadChain(node, _) => Ok(vec![in alloc; *node]?),
+        CertifyError::OwnerLoop(nodes) | CertifyError::Loop(_, nodes) => nodes.clone(),
+        CertifyError::OutOfMemory => Ok(Vec::new(alloc)),
+    }
+}
+
+/// Writes the page of a plan with its certificate on `output`: HTML with the title `name`. It begins with the verdict of
+/// `check`, that the certificate fits or the first fault, and the run ends as that of `check` does. Where a file can't be
+/// read, says so on `errors`. Of two that can't be read, the plan is told and the certificate is not read.
+pub fn run_report_certified<P: Source, C: Source, O: Sink, E: Sink>(
+    alloc: Global,
+    name: &str,
+    plan: &mut P,
+    certificate: &mut C,
+    output: &mut O,
+    errors: &mut E,
+) -> Status
+    requires plan { HasRoom (P.account plan.old) }
+    requires certificate { HasRoom (C.account certificate.old) }
+    requires output { HasRoom (O.account output.old) }
+    requires errors { HasRoom (E.account errors.old) }
+    ensures tells { let plans = stream P.account plan.old plan.new in
+        let certificates = stream C.account certificate.old certificate.new in
+        Ends (ReportsWithSo name.now plans certificates) (λ why. AreUnread why plans certificates) result
+        (stream O.account output.old output.new) (stream E.account errors.old errors.new) }
+    ensures silent { (result ≡ Yes) ⊎ (result ≡ Fault) → errors.new ≡ errors.old }
+    ensures unwritten { let plans = stream P.account plan.old plan.new in
+        let certificates = stream C.account certificate.old certificate.new in
+        result ≡ Unreadable → (output.new ≡ output.old)
+        ⊎ BreaksOff (IsSomeAnswer (ReportsWithSo name.now plans certificates)) (stream O.account output.old output.new) }
+    ensures no_memory { result ≡ NoMemory → output.new ≡ output.old }
+    ensures in_order { IsWithoutPlan (stream P.account plan.old plan.new) → certificate.new ≡ certificate.old }
+{
+    let answered = answer_report_certified(alloc, name, plan, certificate);
+    tell(alloc, answered, output, errors)
+}
+
+fn answer_report_certified<P: Source, C: Source>(
+    alloc: Global,
+    name: &str,
+    plan: &mut P,
+    certificate: &mut C,
+) -> Result<Answer, Refused>
+    requires plan { HasRoom (P.account plan.old) }
+    requires certificate { HasRoom (C.account certificate.old) }
+    ensures answers { let plans = stream P.account plan.old plan.new in
+        let certificates = stream C.account certificate.old certificate.new in
+        IfOk result (λ answer. ReportsWithSo name.now plans certificates answer.status (cow_str_bytes answer.text)) }
+    ensures unread { let plans = stream P.account plan.old plan.new in
+        let certificates = stream C.account certificate.old certificate.new in
+        IfErr result (λ why. AreUnread why plans certificates) }
+    ensures in_order { IsWithoutPlan (stream P.account plan.old plan.new) → certificate.new ≡ certificate.old }
+{
+    let (given, certificate) = read_inputs(alloc, plan, certificate)?;
+    report_with(alloc, name, &given, &certificate)
+}
+
+/// The page of a plan with its certificate.
+fn report_with(
+    alloc: Global,
+    name: &str,
+    plan: &Plan,
+    certificate: &Certificate,
+) -> Result<Answer, Refused>
+    ensures answers { IfOk result (λ answer. ReportsWith name.now plan.now certificate.now answer.status (cow_str_bytes answer.text)) }
+    ensures refused { IfErr result (λ why. why ≡ refused.NoMemory) }
+{
+    match check(alloc, plan, certificate) {
+        Ok(checked) => report_of_given(alloc, name, &checked),
+        Err(error) => report_of_fault(alloc, name, plan, certificate, &error),
+    }
+}
+
+/// The page of a checked plan whose certificate was given.
+fn report_of_given(alloc: Global, name: &str, checked: &Checked) -> Result<Answer, Refused>
+    ensures answers { IfOk result (λ answer. ReportsWith name.now checked.now.0 checked.now.1 answer.status (cow_str_bytes answer.text)) }
+    ensures refused { IfErr result (λ why. why ≡ refused.NoMemory) }
+{
+    let _known = checked.plan();
+    let page = accepted_page(alloc, name, "yes: the certificate fits the plan", checked)?;
+    Ok(Answer::found(page))
+}
+
+/// The page of a plan and a certificate that are not accepted.
+fn report_of_fault(
+    alloc: Global,
+    name: &str,
+    plan: &Plan,
+    certificate: &Certificate,
+    error: &CheckError,
+) -> Result<Answer, Refused>
+    requires { NamesFirstFault plan.now certificate.now error.now }
+    ensures answers { IfOk result (λ answer. ReportsWith name.now plan.now certificate.now answer.status (cow_str_bytes answer.text)) }
+    ensures refused { IfErr result (λ why. why ≡ refused.NoMemory) }
+{
+    let line = fault_text(alloc, plan, error)?;
+    let marked = node_of(error);
+    let page = refused_page(
+        alloc,
+        name,
+        &line,
+        plan,
+        Some(certificate),
+        marked.as_slice(),
+    )?;
+    Ok(Answer::fault(page))
+}
+
+/// The node of a fault.
+fn node_of(error: &CheckError) -> Option<usize> {
+    match error {
+        CheckError::Fault(fault) => Some(fault.node),
+        CheckError::OutOfMemory => None,
+    }
+}
