@@ -109,7 +109,7 @@ fn placed_line(
 }
 
 /// A run of faults: its rule, its node, its entry, its endpoint IDs, and its place.
-fn run_line(alloc: Global, plan: &Plan, run: &FaultRun, at: &str) -> Result<String, AllocError>
+pub fn run_line(alloc: Global, plan: &Plan, run: &FaultRun, at: &str) -> Result<String, AllocError>
     ensures { IfOk result (λ line. string_bytes line ≡ run_text plan.now run.now at.now) }
 {
     let rule = run.rule.code();

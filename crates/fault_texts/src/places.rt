@@ -93,7 +93,7 @@ pub fn at_in(
 }
 
 /// The offset to which a pointer leads in a text, where it leads to a value.
-fn offset_in(
+pub fn offset_in(
     alloc: Global,
     text: &[u8],
     tree: &Value<'_>,

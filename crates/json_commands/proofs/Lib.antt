@@ -1,0 +1,4 @@
+mod OneMore
+mod Named
+mod NotMemory
+mod Sources

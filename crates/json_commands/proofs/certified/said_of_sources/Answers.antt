@@ -1,0 +1,32 @@
+use Rattle.std.proofs.Common.{List, ℕ, inr, subst}
+use Rattle.serde_json.specs.View.{view}
+use Rattle.command_answers.specs.Answers.{stream}
+use Rattle.command_answers.proofs.GivenTexts.{gave_plan}
+use Rattle.json_commands.specs.declared.form.Form.{Form}
+use Rattle.json_commands.specs.Certified.{command_of}
+use Rattle.json_commands.specs.Unread.{IsPlanUnreadSaid}
+use Rattle.json_commands.proofs.Sources.{of_plan}
+use Rattle.json_commands.proofs.certified.said_of_sources.Goals as goal
+
+pub returns-in-Ok-clause-says : goal.returns-in-Ok-clause-says
+returns-in-Ok-clause-says g c =
+    let given = c.in-Ok.given in
+    let plans = stream g.P.Source.account c.args.plan.now c.plan_or_text.new.plan in
+    let certificates = stream g.C.Source.account c.args.certificate.now c.said_of_certificate.new.certificate in
+    of_plan c.args.asked.now c.args.name.now c.args.certified_by.now given.text.items plans certificates given.plan c.said_of_certificate.result c.in-Ok.ensures.given c.said_of_certificate.ensures
+
+pub returns-in-Ok-clause-in_order : goal.returns-in-Ok-clause-in_order
+returns-in-Ok-clause-in_order g c = λ without.
+    let given = c.in-Ok.given in
+    let plans = stream g.P.Source.account c.args.plan.now c.plan_or_text.new.plan in
+    absurd (without given.plan (gave_plan plans given.text.items given.plan c.in-Ok.ensures.given))
+
+pub returns-in_ok-unread_plan-in-Err-clause-says : goal.returns-in_ok-unread_plan-in-Err-clause-says
+returns-in_ok-unread_plan-in-Err-clause-says g c =
+    let name = c.args.name.now in
+    let plans = stream g.P.Source.account c.args.plan.now c.plan_or_text.new.plan in
+    let why = c.in-Err.unread in
+    let told = c.in_ok-unread_plan-in-Err in
+    let d = view told.field-0.value in
+    let by = subst (λ (k : List ℕ). IsPlanUnreadSaid c.form_of-form.result k name plans why d) c.command_of-command.ensures (told.ensures.1 plans c.in-Err.ensures.unread) in
+    inr (why, c.in-Err.ensures.unread, told.ensures.0, subst (λ (f : Form). IsPlanUnreadSaid f (command_of c.args.asked.now) name plans why d) c.form_of-form.ensures by)

@@ -1,0 +1,115 @@
+-- What is answered in JSON of a plan and its certificate.
+use Rattle.std.specs.Prelude.{◌≡◌, ◌⊎◌, ℕ, List, codes, Some, ⊤}
+use Rattle.mctp_transport.specs.declared.address.Eid.{Eid}
+use Rattle.serde_json.specs.Data.{Data}
+use Rattle.net_plan.specs.declared.certificate.Certificate.{Certificate}
+use Rattle.net_plan.specs.declared.plan.Plan.{Plan}
+use Rattle.net_rules.specs.declared.certify_error.CertifyError.TheVariants as error
+use Rattle.net_rules.specs.declared.fault.Fault.{Fault}
+use Rattle.net_rules.specs.declared.fault_run.FaultRun.{FaultRun}
+use Rattle.net_rules.specs.Faults.{IsFirstFault, site_of}
+use Rattle.net_rules.specs.Rules.{Accepts}
+use Rattle.command_answers.specs.declared.inputs.Unread.{Unread}
+use Rattle.command_answers.specs.declared.status.Status.{Status}
+use Rattle.command_answers.specs.declared.status.Status.TheVariants as status
+use Rattle.command_answers.specs.Answers.{Stream, GavePlanText, GaveCertificate}
+use Rattle.command_answers.specs.Naming.{IsDestination, IsFirstNamed, NameTheEnds}
+use Rattle.command_answers.specs.UnreadInputs.{IsNoPlanBy, IsNoCertificateBy}
+use Rattle.json_commands.specs.declared.certified.CertifiedJson.{CertifiedJson}
+use Rattle.json_commands.specs.declared.certified.CertifiedJson.TheVariants as asks
+use Rattle.json_commands.specs.declared.form.Form.{Form}
+use Rattle.json_commands.specs.declared.form.Form.TheVariants.{Json}
+use Rattle.json_commands.specs.Explained.{IsFaultExplained, IsSummedUp}
+use Rattle.json_commands.specs.Faults.{AreFaultsSaid}
+use Rattle.json_commands.specs.Lists.{empty_data}
+use Rattle.json_commands.specs.Obstacles.{IsObstacleAlone}
+use Rattle.json_commands.specs.Reached.{IsReachSaid}
+use Rattle.json_commands.specs.Reports.{IsLineOf, IsReport}
+use Rattle.json_commands.specs.Traced.{IsTraceSaid}
+use Rattle.json_commands.specs.Unread.{IsCertificateUnreadSaid, IsPlanUnreadSaid, IsUnknownSaid}
+
+-- the form of the answer
+abbrev pub form_of : CertifiedJson → Form
+form_of asks.Explain = Json
+form_of (asks.Faults form) = form
+form_of asks.Reach = Json
+form_of (asks.Trace from to) = Json
+
+-- the command that asks
+abbrev pub command_of : CertifiedJson → List ℕ
+command_of asks.Explain = codes "explain"
+command_of (asks.Faults form) = codes "faults"
+command_of asks.Reach = codes "reach"
+command_of (asks.Trace from to) = codes "trace"
+
+-- the plan has what is named: both ends of a way
+abbrev pub IsNamedIn : CertifiedJson → Plan → Type 0
+IsNamedIn asks.Explain plan = ⊤
+IsNamedIn (asks.Faults form) plan = ⊤
+IsNamedIn asks.Reach plan = ⊤
+IsNamedIn (asks.Trace from to) plan = NameTheEnds from.now to.now plan
+
+-- the way from the first node of the one name to the destination that the other word names
+abbrev pub IsWaySaid : (name text : List ℕ) → (from to : List ℕ) → Plan → Certificate → Data → Type 0
+IsWaySaid name text from to plan certificate d = (n : ℕ) × (eid : Eid) × IsFirstNamed plan from n
+    × IsDestination plan to eid.value × IsTraceSaid name text plan certificate n eid d
+
+-- the value answers, where every rule holds of the plan, which stands in the text of this name, and the certificate
+abbrev pub AreCheckedSaid : CertifiedJson → (name text : List ℕ) → Plan → Certificate → Data → Type 0
+AreCheckedSaid asks.Explain name text plan certificate d = IsSummedUp plan certificate d
+AreCheckedSaid (asks.Faults form) name text plan certificate d =
+    IsReport form (codes "faults") status.Yes empty_data d
+AreCheckedSaid asks.Reach name text plan certificate d = IsReachSaid plan certificate d
+AreCheckedSaid (asks.Trace from to) name text plan certificate d =
+    IsWaySaid name text from.now to.now plan certificate d
+
+-- the value tells this fault alone, of a run of the command
+abbrev pub IsFaultAlone : List ℕ → (name text : List ℕ) → Plan → Fault → Data → Type 0
+IsFaultAlone command name text plan fault d = (results : Data)
+    × IsObstacleAlone Json name text plan (error.Fault fault) results × IsReport Json command status.Fault results d
+
+-- the value tells of the plan and the certificate, which have this fault
+abbrev pub IsFaultSaid : CertifiedJson → (name text : List ℕ) → Plan → Certificate → Fault → Data → Type 0
+IsFaultSaid asks.Explain name text plan certificate fault d =
+    IsFaultExplained name text plan certificate fault d
+IsFaultSaid (asks.Faults form) name text plan certificate fault d =
+    (runs : List FaultRun) × AreFaultsSaid form name text plan (Some certificate) runs d
+IsFaultSaid asks.Reach name text plan certificate fault d = IsFaultAlone (codes "reach") name text plan fault d
+IsFaultSaid (asks.Trace from to) name text plan certificate fault d =
+    IsFaultAlone (codes "trace") name text plan fault d
+
+-- the same of the first fault
+abbrev pub IsFirstFaultSaid : CertifiedJson → (name text : List ℕ) → Plan → Certificate → Data → Type 0
+IsFirstFaultSaid asked name text plan certificate d = (fault : Fault)
+    × IsFirstFault plan certificate (site_of fault) × IsFaultSaid asked name text plan certificate fault d
+
+-- The value answers of the plan, which stands in the text of this name, and the certificate, in a run that ends so:
+-- every rule holds of both; or it tells of the first fault, or of all; or the plan has nothing of a name.
+abbrev pub AreBothSaid : CertifiedJson → (name text : List ℕ) → Plan → Certificate → Status → Data → Type 0
+AreBothSaid asked name text plan certificate ended d =
+    ((ended ≡ status.Yes) × Accepts plan certificate × AreCheckedSaid asked name text plan certificate d)
+    ⊎ (((ended ≡ status.Fault) × IsNamedIn asked plan × IsFirstFaultSaid asked name text plan certificate d)
+    ⊎ ((ended ≡ status.Unreadable) × (¬ IsNamedIn asked plan)
+    × IsUnknownSaid (form_of asked) (command_of asked) name d))
+
+-- the value answers of the plan and the certificate that was given, or tells why none was
+abbrev pub IsCertificateSaid : CertifiedJson → (name certified_by text : List ℕ) → Plan → Stream → Status → Data
+    → Type 0
+IsCertificateSaid asked name certified_by text plan certificates ended d =
+    ((certificate : Certificate) × GaveCertificate plan certificates certificate
+    × AreBothSaid asked name text plan certificate ended d)
+    ⊎ ((why : Unread) × IsNoCertificateBy plan certificates why × (ended ≡ status.Unreadable)
+    × IsCertificateUnreadSaid (form_of asked) (command_of asked) certified_by plan certificates why d)
+
+-- the same of the sources of both
+abbrev pub AreSourcesSaid : CertifiedJson → (name certified_by : List ℕ) → Stream → Stream → Status → Data → Type 0
+AreSourcesSaid asked name certified_by plans certificates ended d =
+    ((text : List ℕ) × (plan : Plan) × GavePlanText plans text plan
+    × IsCertificateSaid asked name certified_by text plan certificates ended d)
+    ⊎ ((why : Unread) × IsNoPlanBy plans why × (ended ≡ status.Unreadable)
+    × IsPlanUnreadSaid (form_of asked) (command_of asked) name plans why d)
+
+-- the text is the line of such a value
+abbrev pub AnswersInJson : CertifiedJson → (name certified_by : List ℕ) → Stream → Stream → Status → List ℕ → Type 0
+AnswersInJson asked name certified_by plans certificates ended text =
+    (d : Data) × AreSourcesSaid asked name certified_by plans certificates ended d × IsLineOf d text

@@ -1,0 +1,111 @@
+-- What `explain` answers.
+use Rattle.std.specs.Prelude.{◌≡◌, ◌≤◌, ◌⊎◌, ℕ, List, codes, length, Option, Some, None}
+use Rattle.std.specs.List.{All}
+use Rattle.serde_json.specs.Data.{Data, null, string, object, member, no_members}
+use Rattle.net_explained.specs.declared.cause.Cause.{Cause}
+use Rattle.net_explained.specs.declared.hops.MostHops.{MostHops}
+use Rattle.net_explained.specs.declared.trial.Tried.{Tried}
+use Rattle.net_explained.specs.Causes.{IsCauseAt}
+use Rattle.net_explained.specs.Hops.{IsMostHops}
+use Rattle.net_explained.specs.Obstacles.{IsTried}
+use Rattle.net_plan.specs.declared.certificate.Certificate.{Certificate}
+use Rattle.net_plan.specs.declared.plan.Plan.{Plan}
+use Rattle.net_plan.specs.PlanValues.{plan_value}
+use Rattle.net_rules.specs.declared.certify_error.CertifyError.{CertifyError}
+use Rattle.net_rules.specs.declared.certify_error.CertifyError.TheVariants as error
+use Rattle.net_rules.specs.declared.fault.Fault.{Fault}
+use Rattle.net_rules.specs.declared.fault_run.FaultRun.{FaultRun}
+use Rattle.net_rules.specs.Certificates.{HasNoCertificate, IsExact, NamesObstacle}
+use Rattle.net_rules.specs.FaultLists.{AreFaults}
+use Rattle.net_rules.specs.Faults.{IsFirstFault, site_of}
+use Rattle.net_rules.specs.Rules.{Accepts}
+use Rattle.command_answers.specs.declared.status.Status.{Status}
+use Rattle.command_answers.specs.declared.status.Status.TheVariants as status
+use Rattle.command_answers.specs.Statuses.{number_of}
+use Rattle.explain_commands.specs.Explaining.{others_of}
+use Rattle.plan_texts.specs.CertificateSubjects.{certificate_subjects}
+use Rattle.plan_texts.specs.Explanations.{IsObstacleTold, told_subjects}
+use Rattle.plan_texts.specs.Pieces.{Tells}
+use Rattle.plan_texts.specs.SummaryLines.{summary_text}
+use Rattle.json_commands.specs.declared.form.Form.TheVariants.{Json}
+use Rattle.json_commands.specs.Edits.{edit_data}
+use Rattle.json_commands.specs.Lists.{IsListTold, empty_data}
+use Rattle.json_commands.specs.Notes.{lines_data}
+use Rattle.json_commands.specs.Obstacles.{IsObstacleAlone}
+use Rattle.json_commands.specs.Places.{number_data}
+
+-- what is told, by its parts, of a run with this exit status
+abbrev pub explained_by : ℕ → (results sentences edits : Data) → ℕ → Data → Data
+explained_by status results sentences edits more plan =
+    object (member (codes "command") (string (codes "explain")) (member (codes "edits") edits
+    (member (codes "format") (number_data 1) (member (codes "more") (number_data more)
+    (member (codes "plan") plan (member (codes "results") results (member (codes "sentences") sentences
+    (member (codes "status") (number_data status) no_members))))))))
+
+abbrev pub explained_data : Status → (results sentences edits : Data) → ℕ → Data → Data
+explained_data ended results sentences edits more plan =
+    explained_by (number_of ended) results sentences edits more plan
+
+-- ---- a plan that a certificate fits
+
+-- the value sums the plan up, with the most hops that the certificate allows between two nodes
+abbrev pub IsSummedUp : Plan → Certificate → Data → Type 0
+IsSummedUp plan certificate d = (most : Option MostHops) × IsMostHops plan certificate most
+    × (d ≡ explained_data status.Yes empty_data (lines_data (summary_text plan most)) empty_data 0 null)
+
+-- ---- edits, and more faults
+
+-- the list of at most three edits of the plan that has this obstacle, each of them tried
+abbrev pub AreEditsTold : Plan → CertifyError → Data → Type 0
+AreEditsTold plan obstacle d = (edits : List Tried) × All (IsTried (plan_value plan) obstacle) edits
+    × (length edits ≤ 3) × IsListTold (λ tried d. d ≡ edit_data plan tried) edits d
+
+-- how many more faults the plan has than what is told, or it and the certificate
+abbrev pub AreMore : Plan → Option Certificate → CertifyError → ℕ → Type 0
+AreMore plan cert obstacle more =
+    (runs : List FaultRun) × AreFaults plan cert runs × (more ≡ others_of obstacle (length runs))
+
+-- The value tells an obstacle of the plan, which stands in the text of this name, with these lines, edits that were
+-- tried, and how many more faults there are.
+abbrev pub IsToldWithEdits : (name text : List ℕ) → Plan → Option Certificate → CertifyError → List ℕ → Data → Type 0
+IsToldWithEdits name text plan cert obstacle lines d = (results edits : Data) × (more : ℕ)
+    × IsObstacleAlone Json name text plan obstacle results × AreEditsTold plan obstacle edits
+    × AreMore plan cert obstacle more
+    × (d ≡ explained_data status.Fault results (lines_data lines) edits more null)
+
+-- ---- a plan alone
+
+-- The value tells what comes first of what rules certificates of the plan out, and why it is so.
+abbrev pub IsObstacleExplained : (name text : List ℕ) → Plan → Data → Type 0
+IsObstacleExplained name text plan d = (obstacle : CertifyError) × (lines : List ℕ) × NamesObstacle plan obstacle
+    × HasNoCertificate plan × IsObstacleTold plan obstacle lines
+    × IsToldWithEdits name text plan None obstacle lines d
+
+-- the value answers on the plan, which stands in the text of this name, in a run that ends so: as `certify` ends of it
+abbrev pub IsExplainedSaid : (name text : List ℕ) → Plan → Status → Data → Type 0
+IsExplainedSaid name text plan ended d = ((ended ≡ status.Yes) × (certificate : Certificate)
+    × Accepts plan certificate × IsExact plan certificate × IsSummedUp plan certificate d)
+    ⊎ ((ended ≡ status.Fault) × IsObstacleExplained name text plan d)
+
+-- ---- a plan with a certificate
+
+-- The value tells a fault of the certificate where the plan meets the rule: what the certificate gives by which it
+-- breaks the rule, how many more faults there are, and what explains the plan alone.
+abbrev pub IsCertificateTold : (name text : List ℕ) → Plan → Certificate → Fault → Data → Type 0
+IsCertificateTold name text plan cert fault d = (results alone : Data) × (lines : List ℕ) × (more : ℕ)
+    × (ended : Status) × IsObstacleAlone Json name text plan (error.Fault fault) results
+    × Tells plan (certificate_subjects plan cert fault) lines × AreMore plan (Some cert) (error.Fault fault) more
+    × IsExplainedSaid name text plan ended alone
+    × (d ≡ explained_data status.Fault results (lines_data lines) empty_data more alone)
+
+-- the value explains a fault of the plan by its cause, or of the certificate, where it has none in the plan
+abbrev pub IsFaultTold : (name text : List ℕ) → Plan → Certificate → Fault → Option Cause → Data → Type 0
+IsFaultTold name text plan cert fault (Some cause) d = (lines : List ℕ)
+    × Tells plan (told_subjects plan fault (Some cause)) lines
+    × IsToldWithEdits name text plan (Some cert) (error.Fault fault) lines d
+IsFaultTold name text plan cert fault None d = IsCertificateTold name text plan cert fault d
+
+-- the value explains this fault of the plan and the certificate
+abbrev pub IsFaultExplained : (name text : List ℕ) → Plan → Certificate → Fault → Data → Type 0
+IsFaultExplained name text plan cert fault d = (cause : Option Cause) × IsCauseAt plan (site_of fault) cause
+    × IsFaultTold name text plan cert fault cause d

@@ -1,0 +1,14 @@
+pub mod Lists
+pub mod Places
+pub mod Notes
+pub mod Obstacles
+pub mod Findings
+pub mod Edits
+pub mod Reports
+pub mod Faults
+pub mod Explained
+pub mod Reached
+pub mod Traced
+pub mod Unread
+pub mod Planned
+pub mod Certified

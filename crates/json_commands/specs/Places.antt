@@ -1,0 +1,106 @@
+-- Places in texts, as JSON.
+use Rattle.std.specs.Prelude.{◌≡◌, ℕ, ◌+◌, nat_le, List, [], ◌∷◌, length, take, count_by, codes, if◌then◌else◌}
+use Rattle.std.specs.Prelude.{Option, Some, None, option_map}
+use Rattle.std.specs.List.{flat_map}
+use Rattle.percent_encoding.specs.declared.ascii_set.AsciiSet.{AsciiSet}
+use Rattle.percent_encoding.specs.Percent.{percent_encode}
+use Rattle.serde_json.specs.Data.{Data, null, number, unsigned, string, object, member, no_members}
+use Rattle.net_json.specs.Finding.{Step}
+use Rattle.net_pointers.specs.declared.position.Position.{Position}
+use Rattle.net_pointers.specs.Positions.{is_line_feed, begins_character, last_line}
+use Rattle.fault_texts.specs.Places.{IsPlaceIn}
+use Rattle.reading_texts.specs.ReadingLines.{step_text}
+use Rattle.json_commands.specs.declared.form.Form.{Form}
+use Rattle.json_commands.specs.declared.form.Form.TheVariants.{Json, Sarif}
+use Rattle.json_commands.specs.Lists.{empty_data, one_data}
+
+-- ---- values
+
+abbrev pub number_data : ℕ → Data
+number_data n = number (unsigned n)
+
+abbrev pub number_or_null : Option ℕ → Data
+number_or_null (Some n) = number_data n
+number_or_null None = null
+
+abbrev pub string_or_null : Option (List ℕ) → Data
+string_or_null (Some text) = string text
+string_or_null None = null
+
+-- ---- where
+
+-- a JSON pointer (RFC 6901); the one to the whole text is empty
+abbrev pub json_pointer : List Step → List ℕ
+json_pointer pointer = flat_map step_text pointer
+
+-- the line and the column of an offset, from 1; columns count characters
+abbrev pub position_of : List ℕ → ℕ → Position
+position_of text offset = record {
+  line = count_by is_line_feed (take offset text) + 1;
+  column = count_by begins_character (last_line (take offset text)) + 1;
+}
+
+-- the same, where the offset is known and in the text
+abbrev pub position_in : List ℕ → Option ℕ → Option Position
+position_in text None = None
+position_in text (Some offset) = if nat_le offset (length text) then Some (position_of text offset) else None
+
+-- ---- the place in the JSON value that the commands share
+
+-- the file, the line and the column, and the pointer that leads there; null for what is not known
+abbrev pub place_data : List ℕ → Option Position → Option (List ℕ) → Data
+place_data name position pointer =
+    object (member (codes "column") (number_or_null (option_map (λ (p : Position). p.column) position))
+    (member (codes "file") (string name)
+    (member (codes "line") (number_or_null (option_map (λ (p : Position). p.line) position))
+    (member (codes "pointer") (string_or_null pointer) no_members))))
+
+-- ---- the location in SARIF
+
+-- all characters but letters, digits, '-', '.', '_', '~' and '/', as the bits of a number
+abbrev pub escaped : AsciiSet
+escaped = record { mask = 244577951340790884343731537887740559359 }
+
+-- the name of a file as a reference (RFC 3986)
+abbrev pub uri_bytes : List ℕ → List ℕ
+uri_bytes name = percent_encode escaped name
+
+abbrev pub artifact_data : List ℕ → Data
+artifact_data name = object (member (codes "uri") (string (uri_bytes name)) no_members)
+
+abbrev pub region_data : Position → Data
+region_data position = object (member (codes "startColumn") (number_data position.column)
+    (member (codes "startLine") (number_data position.line) no_members))
+
+abbrev pub physical_data : List ℕ → Option Position → Data
+physical_data name (Some position) = object (member (codes "artifactLocation") (artifact_data name)
+    (member (codes "region") (region_data position) no_members))
+physical_data name None = object (member (codes "artifactLocation") (artifact_data name) no_members)
+
+-- the pointer as the name of a logical location
+abbrev pub logical_data : Option (List ℕ) → Data
+logical_data (Some pointer) =
+    one_data (object (member (codes "fullyQualifiedName") (string pointer) no_members))
+logical_data None = empty_data
+
+abbrev pub location_data : List ℕ → Option Position → Option (List ℕ) → Data
+location_data name position pointer = object (member (codes "logicalLocations") (logical_data pointer)
+    (member (codes "physicalLocation") (physical_data name position) no_members))
+
+-- ---- either
+
+-- the place of an offset in the text of this name, and the pointer that leads there, in the form
+abbrev pub spot_data : Form → (name text : List ℕ) → Option ℕ → Option (List ℕ) → Data
+spot_data Json name text offset pointer = place_data name (position_in text offset) pointer
+spot_data Sarif name text offset pointer = location_data name (position_in text offset) pointer
+
+-- the value tells, in the form, where in the text of this name the pointer leads
+abbrev pub IsPlaceTold : Form → (name text : List ℕ) → List Step → Data → Type 0
+IsPlaceTold form name text pointer d = (offset : Option ℕ) × IsPlaceIn text pointer offset
+    × (d ≡ spot_data form name text offset (Some (json_pointer pointer)))
+
+-- the list of where the pointer leads, if there is one
+abbrev pub IsPlaceListTold : Form → (name text : List ℕ) → Option (List Step) → Data → Type 0
+IsPlaceListTold form name text None d = d ≡ empty_data
+IsPlaceListTold form name text (Some pointer) d =
+    (place : Data) × IsPlaceTold form name text pointer place × (d ≡ one_data place)

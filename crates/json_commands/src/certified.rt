@@ -1,0 +1,304 @@
+//! Commands that read a plan and its certificate, and answer in JSON.
+ghost use Rattle.std.specs.Prelude.{◌≡◌, ◌≢◌, ◌⊎◌, true, false, IfOk, IfErr};
+ghost use Rattle.std.specs.Cow.{cow_str_bytes};
+ghost use Rattle.serde_json.specs.View.{view};
+ghost use Rattle.net_check.specs.Errors.{NamesFirstFault};
+ghost use Rattle.net_json.specs.Stream.{HasRoom};
+ghost use Rattle.command_answers.specs.declared.refused.Refused.TheVariants as refused;
+ghost use Rattle.command_answers.specs.declared.status.Status.TheVariants as status;
+ghost use Rattle.command_answers.specs.Answers.{stream, IsWithoutPlan, BreaksOff};
+ghost use Rattle.command_answers.specs.Told.{Gives, IsSomeAnswer, Ends};
+ghost use Rattle.command_answers.specs.UnreadInputs.{IsTextOf};
+ghost use Rattle.command_answers.specs.Naming.{NameTheEnds};
+ghost use Rattle.json_commands.specs.Certified.{AnswersInJson, AreBothSaid, AreCheckedSaid, AreSourcesSaid, IsCertificateSaid, IsFaultAlone, IsFaultSaid, IsFirstFaultSaid, IsNamedIn, IsWaySaid, command_of, form_of};
+
+use crate::explained::{explained_fault, sound_said};
+use crate::faults::{faults_of_both, obstacle_results};
+use crate::form::Form;
+use crate::lists::empty_list;
+use crate::reached::reached;
+use crate::reports::report;
+use crate::said::{Said, answer_of};
+use crate::traced::traced;
+use crate::unread::{unknown_name, unread_certificate, unread_plan};
+use command_answers::{
+    Answer, PlanText, Refused, Status, certificate_or_text, named_ends, plan_or_text, tell,
+};
+use net_check::{CertifyError, CheckError, Checked, Fault, check};
+use net_json::{Sink, Source};
+use net_plan::{Certificate, Plan};
+use std::alloc::{AllocError, Global};
+
+/// What is asked of a plan with its certificate, where the answer is to be JSON: the command of the name asks it.
+#[derive(Clone, Copy, Debug, PartialEq, Eq)]
+pub enum CertifiedJson<'a> {
+    /// What does `check` answer, and why?
+    Explain,
+    /// What are all faults of both?
+    Faults(Form),
+    /// Who reaches whom, and by how many hops?
+    Reach,
+    /// Which way does a packet take from a node to another, or to an endpoint ID?
+    Trace { from: &'a str, to: &'a str },
+}
+
+/// Answers in JSON what is asked of a plan and its certificate, on `output`: one value, in one line. Where a file can't be
+/// read, or then where the plan has nothing that is named, the value tells so. Of two files that can't be read, the plan is
+/// told and the certificate is not read. The names are those of the files. The run ends as that of the command without
+/// JSON.
+pub fn run_certified_json<P: Source, C: Source, O: Sink, E: Sink>(
+    alloc: Global,
+    asked: &CertifiedJson,
+    name: &str,
+    certified_by: &str,
+    plan: &mut P,
+    certificate: &mut C,
+    output: &mut O,
+    errors: &mut E,
+) -> Status
+    requires plan { HasRoom (P.account plan.old) }
+    requires certificate { HasRoom (C.account certificate.old) }
+    requires output { HasRoom (O.account output.old) }
+    requires errors { HasRoom (E.account errors.old) }
+    ensures says { let plans = stream P.account plan.old plan.new in
+        let certificates = stream C.account certificate.old certificate.new in
+        Ends (AnswersInJson asked.now name.now certified_by.now plans certificates) (λ why. why ≡ refused.NoMemory) result
+        (stream O.account output.old output.new) (stream E.account errors.old errors.new) }
+    ensures silent { (result ≡ status.Yes) ⊎ (result ≡ status.Fault) → errors.new ≡ errors.old }
+    ensures quiet { result ≢ status.NoMemory → (O.account output.new).failures ≡ (O.account output.old).failures → errors.new ≡ errors.old }
+    ensures unwritten { let plans = stream P.account plan.old plan.new in
+        let certificates = stream C.account certificate.old certificate.new in
+        let outputs = stream O.account output.old output.new in
+        result ≡ status.Unreadable → Gives (AnswersInJson asked.now name.now certified_by.now plans certificates) status.Unreadable outputs
+        ⊎ BreaksOff (IsSomeAnswer (AnswersInJson asked.now name.now certified_by.now plans certificates)) outputs }
+    ensures no_memory { result ≡ status.NoMemory → output.new ≡ output.old }
+    ensures in_order { IsWithoutPlan (stream P.account plan.old plan.new) → certificate.new ≡ certificate.old }
+{
+    let answered = answer_certified(alloc, asked, name, certified_by, plan, certificate);
+    tell(alloc, answered, output, errors)
+}
+
+fn answer_certified<P: Source, C: Source>(
+    alloc: Global,
+    asked: &CertifiedJson,
+    name: &str,
+    certified_by: &str,
+    plan: &mut P,
+    certificate: &mut C,
+) -> Result<Answer, Refused>
+    requires plan { HasRoom (P.account plan.old) }
+    requires certificate { HasRoom (C.account certificate.old) }
+    ensures answers { let plans = stream P.account plan.old plan.new in
+        let certificates = stream C.account certificate.old certificate.new in
+        IfOk result (λ answer. AnswersInJson asked.now name.now certified_by.now plans certificates answer.status (cow_str_bytes answer.text)) }
+    ensures refused { IfErr result (λ why. why ≡ refused.NoMemory) }
+    ensures in_order { IsWithoutPlan (stream P.account plan.old plan.new) → certificate.new ≡ certificate.old }
+{
+    let said = said_of_sources(alloc, asked, name, certified_by, plan, certificate)?;
+    Ok(answer_of(alloc, &said)?)
+}
+
+/// What is said of a plan and the certificate that sources give, or where one gives nothing.
+fn said_of_sources<P: Source, C: Source>(
+    alloc: Global,
+    asked: &CertifiedJson,
+    name: &str,
+    certified_by: &str,
+    plan: &mut P,
+    certificate: &mut C,
+) -> Result<Said, AllocError>
+    requires plan { HasRoom (P.account plan.old) }
+    requires certificate { HasRoom (C.account certificate.old) }
+    ensures says { let plans = stream P.account plan.old plan.new in
+        let certificates = stream C.account certificate.old certificate.new in
+        IfOk result (λ said. AreSourcesSaid asked.now name.now certified_by.now plans certificates said.status (view said.value)) }
+    ensures in_order { IsWithoutPlan (stream P.account plan.old plan.new) → certificate.new ≡ certificate.old }
+{
+    match plan_or_text(alloc, plan) {
+        Ok(given) => said_of_certificate(alloc, asked, name, certified_by, &given, certificate),
+        Err(unread) => {
+            let (form, command) = (form_of(asked), command_of(asked));
+            Ok(unread_plan(alloc, form, command, name, &unread)?)
+        }
+    }
+}
+
+/// What is said of a plan and the certificate that a source gives, or where it gives none.
+fn said_of_certificate<C: Source>(
+    alloc: Global,
+    asked: &CertifiedJson,
+    name: &str,
+    certified_by: &str,
+    given: &PlanText,
+    certificate: &mut C,
+) -> Result<Said, AllocError>
+    requires certificate { HasRoom (C.account certificate.old) }
+    requires text { IsTextOf given.now.text.items given.now.plan }
+    ensures { let certificates = stream C.account certificate.old certificate.new in
+        IfOk result (λ said. IsCertificateSaid asked.now name.now certified_by.now given.now.text.items given.now.plan certificates said.status (view said.value)) }
+{
+    match certificate_or_text(alloc, &given.plan, certificate) {
+        Ok(certificate) => Ok(said_of_both(alloc, asked, name, given, &certificate)?),
+        Err(unread) => {
+            let (form, command) = (form_of(asked), command_of(asked));
+            let plan = &given.plan;
+            Ok(unread_certificate(alloc, form, command, certified_by, plan, &unread)?)
+        }
+    }
+}
+
+/// What is said of a plan and a certificate.
+fn said_of_both(
+    alloc: Global,
+    asked: &CertifiedJson,
+    name: &str,
+    given: &PlanText,
+    certificate: &Certificate,
+) -> Result<Said, AllocError>
+    requires { IsTextOf given.now.text.items given.now.plan }
+    ensures { IfOk result (λ said. AreBothSaid asked.now name.now given.now.text.items given.now.plan certificate.now said.status (view said.value)) }
+{
+    if !is_named_in(asked, &given.plan) {
+        return Ok(unknown_name(alloc, form_of(asked), command_of(asked), name)?);
+    }
+    match check(alloc, &given.plan, certificate) {
+        Ok(checked) => Ok(said_of_checked(alloc, asked, name, given, &checked)?),
+        Err(error) => Ok(said_of_error(alloc, asked, name, given, certificate, &error)?),
+    }
+}
+
+/// What is said of a plan and a certificate that are not accepted.
+fn said_of_error(
+    alloc: Global,
+    asked: &CertifiedJson,
+    name: &str,
+    given: &PlanText,
+    certificate: &Certificate,
+    error: &CheckError,
+) -> Result<Said, AllocError>
+    requires first { NamesFirstFault given.now.plan certificate.now error.now }
+    requires text { IsTextOf given.now.text.items given.now.plan }
+    ensures { IfOk result (λ said. (said.status ≡ status.Fault)
+        × IsFirstFaultSaid asked.now name.now given.now.text.items given.now.plan certificate.now (view said.value)) }
+{
+    match error {
+        CheckError::Fault(fault) => {
+            Ok(said_of_fault(alloc, asked, name, given, certificate, fault)?)
+        }
+        CheckError::OutOfMemory => Err(AllocError),
+    }
+}
+
+/// Whether a plan has what is named.
+fn is_named_in(asked: &CertifiedJson, plan: &Plan) -> bool
+    ensures yes { result ≡ true → IsNamedIn asked.now plan.now }
+    ensures no { result ≡ false → ¬ IsNamedIn asked.now plan.now }
+{
+    match *asked {
+        CertifiedJson::Explain | CertifiedJson::Faults(_) | CertifiedJson::Reach => true,
+        CertifiedJson::Trace { from, to } => named_ends(plan, from, to).is_some(),
+    }
+}
+
+/// What is said of a checked plan.
+fn said_of_checked(
+    alloc: Global,
+    asked: &CertifiedJson,
+    name: &str,
+    given: &PlanText,
+    checked: &Checked,
+) -> Result<Said, AllocError>
+    requires { IsNamedIn asked.now checked.now.0 }
+    ensures { IfOk result (λ said. (said.status ≡ status.Yes) × AreCheckedSaid asked.now name.now given.now.text.items checked.now.0 checked.now.1 (view said.value)) }
+{
+    match *asked {
+        CertifiedJson::Explain => { Ok(sound_said(alloc, checked.plan(), checked.certificate())?) }
+        CertifiedJson::Faults(form) => {
+            Ok(report(alloc, form, "faults", Status::Yes, empty_list(alloc))?)
+        }
+        CertifiedJson::Reach => Ok(reached(alloc, checked)?),
+        CertifiedJson::Trace { from, to } => {
+            Ok(way_between(alloc, name, given, checked, from, to)?)
+        }
+    }
+}
+
+/// The way from the node of a name to a destination: the name of a node, or else an endpoint ID, 8 to 254.
+fn way_between(
+    alloc: Global,
+    name: &str,
+    given: &PlanText,
+    checked: &Checked,
+    from: &str,
+    to: &str,
+) -> Result<Said, AllocError>
+    requires { NameTheEnds from.now to.now checked.now.0 }
+    ensures { IfOk result (λ said. (said.status ≡ status.Yes) × IsWaySaid name.now given.now.text.items from.now to.now checked.now.0 checked.now.1 (view said.value)) }
+{
+    match named_ends(checked.plan(), from, to) {
+        Some((sender, destination)) => {
+            let text = given.text.as_slice();
+            Ok(traced(alloc, name, text, checked, sender, destination)?)
+        }
+        None => Err(AllocError),
+    }
+}
+
+/// What is said of the first fault of a plan and a certificate that are not accepted, or of all.
+fn said_of_fault(
+    alloc: Global,
+    asked: &CertifiedJson,
+    name: &str,
+    given: &PlanText,
+    certificate: &Certificate,
+    fault: &Fault,
+) -> Result<Said, AllocError>
+    requires { IsTextOf given.now.text.items given.now.plan }
+    ensures { IfOk result (λ said. (said.status ≡ status.Fault) × IsFaultSaid asked.now name.now given.now.text.items given.now.plan certificate.now fault.now (view said.value)) }
+{
+    match *asked {
+        CertifiedJson::Explain => { Ok(explained_fault(alloc, name, given, certificate, fault)?) }
+        CertifiedJson::Faults(form) => {
+            Ok(faults_of_both(alloc, form, name, given, certificate)?)
+        }
+        CertifiedJson::Reach => Ok(first_fault(alloc, "reach", name, given, fault)?),
+        CertifiedJson::Trace { .. } => Ok(first_fault(alloc, "trace", name, given, fault)?),
+    }
+}
+
+/// The first fault alone.
+fn first_fault(
+    alloc: Global,
+    command: &str,
+    name: &str,
+    given: &PlanText,
+    fault: &Fault,
+) -> Result<Said, AllocError>
+    ensures { IfOk result (λ said. (said.status ≡ status.Fault) × IsFaultAlone command.now name.now given.now.text.items given.now.plan fault.now (view said.value)) }
+{
+    let obstacle = CertifyError::Fault(*fault);
+    let results = obstacle_results(alloc, Form::Json, name, given, &obstacle)?;
+    Ok(report(alloc, Form::Json, command, Status::Fault, results)?)
+}
+
+/// The form of the answer.
+fn form_of(asked: &CertifiedJson) -> Form
+    ensures { result ≡ form_of asked.now }
+{
+    match *asked {
+        CertifiedJson::Faults(form) => form,
+        CertifiedJson::Explain | CertifiedJson::Reach | CertifiedJson::Trace { .. } => Form::Json,
+    }
+}
+
+/// The command that asks.
+fn command_of(asked: &CertifiedJson) -> &'static str
+    ensures { result.now ≡ command_of asked.now }
+{
+    match asked {
+        CertifiedJson::Explain => "explain",
+        CertifiedJson::Faults(_) => "faults",
+        CertifiedJson::Reach => "reach",
+        CertifiedJson::Trace { .. } => "trace",
+    }
+}

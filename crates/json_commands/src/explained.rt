@@ -1,0 +1,228 @@
+//! `explain`: what `certify` or `check` answers, and why.
+ghost use Rattle.std.specs.Prelude.{◌≡◌, IfOk, None, Some, option_map};
+ghost use Rattle.net_rules.specs.Certificates.{NamesObstacle, RulesOutCertificates};
+ghost use Rattle.serde_json.specs.Data.{null};
+ghost use Rattle.serde_json.specs.View.{view};
+ghost use Rattle.command_answers.specs.UnreadInputs.{IsTextOf};
+ghost use Rattle.command_answers.specs.declared.status.Status.TheVariants as status;
+ghost use Rattle.json_commands.specs.Notes.{lines_data};
+ghost use Rattle.json_commands.specs.Explained.{AreMore, IsExplainedSaid, IsFaultExplained, AreEditsTold, IsCertificateTold, IsFaultTold, IsObstacleExplained, IsSummedUp, IsToldWithEdits, explained_by, explained_data};
+
+use crate::edits::edits_value;
+use crate::faults::obstacle_results;
+use crate::form::Form;
+use crate::lists::empty_list;
+use crate::said::Said;
+use crate::sentences::lines_value;
+use command_answers::{PlanText, Status};
+use explain_commands::others_of;
+use net_check::{CertifyError, Fault, certify, faults};
+use net_explained::{Cause, find_cause, most_hops, tried_edits};
+use net_plan::{Certificate, Plan};
+use plan_texts::{cause_lines, certificate_fault_lines, obstacle_lines, summary_lines};
+use serde_json::{Value, json};
+use std::alloc::{AllocError, Global};
+
+/// What `certify` answers of a plan, and why. The name is that of the plan's file.
+pub fn explained_plan(alloc: Global, name: &str, given: &PlanText) -> Result<Said, AllocError>
+    requires { IsTextOf given.now.text.items given.now.plan }
+    ensures { IfOk result (λ said. IsExplainedSaid name.now given.now.text.items given.now.plan said.status (view said.value)) }
+{
+    match certify(alloc, &given.plan) {
+        Ok(certificate) => Ok(sound_said(alloc, &given.plan, &certificate)?),
+        Err(obstacle) => Ok(obstacle_told(alloc, name, given, &obstacle)?),
+    }
+}
+
+/// That a certificate fits a plan, with what sums the plan up.
+pub fn sound_said(alloc: Global, plan: &Plan, certificate: &Certificate) -> Result<Said, AllocError>
+    ensures { IfOk result (λ said. (said.status ≡ status.Yes) × IsSummedUp plan.now certificate.now (view said.value)) }
+{
+    let lines = summary_lines(alloc, plan, most_hops(plan, certificate))?;
+    let (results, edits) = (empty_list(alloc), empty_list(alloc));
+    Ok(said_of(alloc, Status::Yes, results, &lines, edits, 0, nothing())?)
+}
+
+/// What is told, by its parts. Where the certificate alone is at fault, the last one is what explains the plan; else null.
+fn said_of(
+    alloc: Global,
+    status: Status,
+    results: Value,
+    lines: &str,
+    edits: Value,
+    more: usize,
+    plan: Value,
+) -> Result<Said, AllocError>
+    ensures { IfOk result (λ said. (said.status ≡ status) × (view said.value ≡ explained_data status (view results) (lines_data lines.now) (view edits) more (view plan))) }
+{
+    let sentences = lines_value(alloc, lines)?;
+    let value = explained_value(
+        alloc,
+        status.number(),
+        results,
+        sentences,
+        edits,
+        more,
+        plan,
+    )?;
+    Ok(Said { status, value })
+}
+
+fn explained_value(
+    alloc: Global,
+    status: u8,
+    results: Value,
+    sentences: Value,
+    edits: Value,
+    more: usize,
+    plan: Value,
+) -> Result<Value, AllocError>
+    ensures { IfOk result (λ value. view value ≡ explained_by status (view results) (view sentences) (view edits) more (view plan)) }
+{
+    json!(in alloc; {
+        "command": "explain", "edits": edits, "format": 1u8, "more": more, "plan": plan, "results": results,
+        "sentences": sentences, "status": status
+    })
+}
+
+/// No value.
+fn nothing() -> Value
+    ensures { view result ≡ null }
+{
+    Value::Null
+}
+
+/// What explains an obstacle of a plan.
+fn obstacle_told(
+    alloc: Global,
+    name: &str,
+    given: &PlanText,
+    obstacle: &CertifyError,
+) -> Result<Said, AllocError>
+    requires names { NamesObstacle given.now.plan obstacle.now }
+    requires none { RulesOutCertificates given.now.plan obstacle.now }
+    requires text { IsTextOf given.now.text.items given.now.plan }
+    ensures { IfOk result (λ said. (said.status ≡ status.Fault) × IsObstacleExplained name.now given.now.text.items given.now.plan (view said.value)) }
+{
+    let lines = obstacle_lines(alloc, &given.plan, obstacle)?;
+    Ok(told_with_edits(alloc, name, given, None, obstacle, &lines)?)
+}
+
+/// What explains an obstacle, by the lines that do, with edits that were tried.
+fn told_with_edits(
+    alloc: Global,
+    name: &str,
+    given: &PlanText,
+    certificate: Option<&Certificate>,
+    obstacle: &CertifyError,
+    lines: &str,
+) -> Result<Said, AllocError>
+    requires { IsTextOf given.now.text.items given.now.plan }
+    ensures { IfOk result (λ said. (said.status ≡ status.Fault)
+        × IsToldWithEdits name.now given.now.text.items given.now.plan (option_map (λ c. c.now) certificate.entry) obstacle.now lines.now (view said.value)) }
+{
+    let results = obstacle_results(alloc, Form::Json, name, given, obstacle)?;
+    let edits = edits_of(alloc, given, obstacle)?;
+    let more = more_than(alloc, &given.plan, certificate, obstacle)?;
+    Ok(said_of(alloc, Status::Fault, results, lines, edits, more, nothing())?)
+}
+
+/// At most three edits of a plan that take an obstacle away.
+fn edits_of(alloc: Global, given: &PlanText, obstacle: &CertifyError) -> Result<Value, AllocError>
+    requires { IsTextOf given.now.text.items given.now.plan }
+    ensures { IfOk result (λ value. AreEditsTold given.now.plan obstacle.now (view value)) }
+{
+    let edits = tried_edits(alloc, given.text.as_slice(), &given.plan, obstacle)?;
+    Ok(edits_value(alloc, &given.plan, edits.as_slice())?)
+}
+
+/// How many more faults a plan has, or a plan and a certificate, than the one that is told.
+fn more_than(
+    alloc: Global,
+    plan: &Plan,
+    certificate: Option<&Certificate>,
+    obstacle: &CertifyError,
+) -> Result<usize, AllocError>
+    ensures { IfOk result (λ more. AreMore plan.now (option_map (λ c. c.now) certificate.entry) obstacle.now more) }
+{
+    let runs = faults(alloc, plan, certificate)?;
+    Ok(others_of(obstacle, runs.len()))
+}
+
+/// Explains the first fault of a plan and a certificate.
+pub fn explained_fault(
+    alloc: Global,
+    name: &str,
+    given: &PlanText,
+    certificate: &Certificate,
+    fault: &Fault,
+) -> Result<Said, AllocError>
+    requires { IsTextOf given.now.text.items given.now.plan }
+    ensures { IfOk result (λ said. (said.status ≡ status.Fault) × IsFaultExplained name.now given.now.text.items given.now.plan certificate.now fault.now (view said.value)) }
+{
+    let cause = find_cause(&given.plan, fault);
+    Ok(fault_told(alloc, name, given, certificate, fault, cause)?)
+}
+
+/// A fault of the plan by its cause, or of the certificate where it has none in the plan.
+fn fault_told(
+    alloc: Global,
+    name: &str,
+    given: &PlanText,
+    certificate: &Certificate,
+    fault: &Fault,
+    cause: Option<Cause>,
+) -> Result<Said, AllocError>
+    requires { IsTextOf given.now.text.items given.now.plan }
+    ensures { IfOk result (λ said. (said.status ≡ status.Fault) × IsFaultTold name.now given.now.text.items given.now.plan certificate.now fault.now cause (view said.value)) }
+{
+    match cause {
+        Some(cause) => Ok(cause_told(alloc, name, given, certificate, fault, cause)?),
+        None => Ok(certificate_told(alloc, name, given, certificate, fault)?),
+    }
+}
+
+/// A fault of the plan, by its cause.
+fn cause_told(
+    alloc: Global,
+    name: &str,
+    given: &PlanText,
+    certificate: &Certificate,
+    fault: &Fault,
+    cause: Cause,
+) -> Result<Said, AllocError>
+    requires { IsTextOf given.now.text.items given.now.plan }
+    ensures { IfOk result (λ said. (said.status ≡ status.Fault) × IsFaultTold name.now given.now.text.items given.now.plan certificate.now fault.now (Some cause) (view said.value)) }
+{
+    let lines = cause_lines(alloc, &given.plan, fault, cause)?;
+    let obstacle = CertifyError::Fault(*fault);
+    Ok(told_with_edits(alloc, name, given, Some(certificate), &obstacle, &lines)?)
+}
+
+/// A fault of the certificate, and what explains the plan by itself.
+fn certificate_told(
+    alloc: Global,
+    name: &str,
+    given: &PlanText,
+    certificate: &Certificate,
+    fault: &Fault,
+) -> Result<Said, AllocError>
+    requires { IsTextOf given.now.text.items given.now.plan }
+    ensures { IfOk result (λ said. (said.status ≡ status.Fault) × IsCertificateTold name.now given.now.text.items given.now.plan certificate.now fault.now (view said.value)) }
+{
+    let obstacle = CertifyError::Fault(*fault);
+    let lines = certificate_fault_lines(alloc, &given.plan, certificate, fault)?;
+    let alone = explained_plan(alloc, name, given)?;
+    let results = obstacle_results(alloc, Form::Json, name, given, &obstacle)?;
+    let more = more_than(alloc, &given.plan, Some(certificate), &obstacle)?;
+    let edits = empty_list(alloc);
+    Ok(said_of(
+        alloc,
+        Status::Fault,
+        results,
+        &lines,
+        edits,
+        more,
+        alone.value,
+    )?)
+}

@@ -1,0 +1,157 @@
+//! `faults`: every fault of a plan, or of a plan and its certificate.
+ghost use Rattle.std.specs.Prelude.{◌≡◌, [], List, IfOk, None, Some};
+ghost use Rattle.net_rules.specs.declared.fault_run.FaultRun.{FaultRun};
+ghost use Rattle.json.specs.Value.{value_view};
+ghost use Rattle.net_pointers.specs.Offsets.{IsTextOf};
+ghost use Rattle.net_rules.specs.FaultLists.{AreFaults};
+ghost use Rattle.serde_json.specs.View.{view};
+ghost use Rattle.command_answers.specs.declared.status.Status.TheVariants as status;
+ghost use Rattle.json_commands.specs.Faults.{AreFaultsSaid, IsFaultsSaid};
+ghost use Rattle.json_commands.specs.Lists.{IsListTold};
+ghost use Rattle.json_commands.specs.Obstacles.{IsObstacleAlone, IsRunNote};
+
+use crate::form::Form;
+use crate::lists::{empty_list, list_of_one};
+use crate::obstacles::{obstacle_note, run_notes};
+use crate::places::Placing;
+use crate::reports::report;
+use crate::said::Said;
+use command_answers::{PlanText, Status};
+use json::{Scratch, Value as Tree};
+use net_check::{CertifyError, certify, faults};
+use net_json::json_of;
+use net_plan::{Certificate, Plan};
+use net_rules::FaultRun;
+use serde_json::Value;
+use std::alloc::{AllocError, Global};
+
+/// Every fault of a plan, or what else rules certificates of it out. The name is that of the plan's file.
+pub fn faults_of_plan(
+    alloc: Global,
+    form: Form,
+    name: &str,
+    given: &PlanText,
+) -> Result<Said, AllocError>
+    ensures { IfOk result (λ said. IsFaultsSaid form name.now given.now.text.items given.now.plan said.status (view said.value)) }
+{
+    let runs = faults(alloc, &given.plan, None)?;
+    if runs.is_empty() {
+        return obstacle_of_plan(alloc, form, name, given);
+    }
+    let results = run_results(alloc, form, name, given, &runs)?;
+    Ok(report(alloc, form, "faults", Status::Fault, results)?)
+}
+
+/// What rules certificates of a plan out that has no fault itself, or that nothing does.
+fn obstacle_of_plan(
+    alloc: Global,
+    form: Form,
+    name: &str,
+    given: &PlanText,
+) -> Result<Said, AllocError>
+    requires { AreFaults given.now.plan None [] }
+    ensures { IfOk result (λ said. IsFaultsSaid form name.now given.now.text.items given.now.plan said.status (view said.value)) }
+{
+    match certify(alloc, &given.plan) {
+        Ok(_certificate) => Ok(report(alloc, form, "faults", Status::Yes, empty_list(alloc))?),
+        Err(obstacle) => {
+            let results = obstacle_results(alloc, form, name, given, &obstacle)?;
+            Ok(report(alloc, form, "faults", Status::Fault, results)?)
+        }
+    }
+}
+
+/// Every fault of a plan and a certificate that are not accepted.
+pub fn faults_of_both(
+    alloc: Global,
+    form: Form,
+    name: &str,
+    given: &PlanText,
+    certificate: &Certificate,
+) -> Result<Said, AllocError>
+    ensures { IfOk result (λ said. (said.status ≡ status.Fault)
+        × ((runs : List FaultRun) × AreFaultsSaid form name.now given.now.text.items given.now.plan (Some certificate.now) runs (view said.value))) }
+{
+    let runs = faults(alloc, &given.plan, Some(certificate))?;
+    let results = run_results(alloc, form, name, given, &runs)?;
+    Ok(report(alloc, form, "faults", Status::Fault, results)?)
+}
+
+/// The notes of runs of faults of a plan. Its text is read once more, for its tree.
+fn run_results(
+    alloc: Global,
+    form: Form,
+    name: &str,
+    given: &PlanText,
+    runs: &[FaultRun],
+) -> Result<Value, AllocError>
+    ensures { IfOk result (λ value. IsListTold (IsRunNote form name.now given.now.text.items given.now.plan) runs.now (view value)) }
+{
+    let text = given.text.as_slice();
+    let mut scratch = Scratch::new(alloc);
+    match json_of(alloc, text, &mut scratch) {
+        Ok(tree) => runs_in(alloc, form, name, text, &tree, &given.plan, runs),
+        Err(_) => Err(AllocError),
+    }
+}
+
+fn runs_in<'a, 't>(
+    alloc: Global,
+    form: Form,
+    name: &'a str,
+    text: &'a [u8],
+    tree: &'a Tree<'t>,
+    plan: &'a Plan,
+    runs: &[FaultRun],
+) -> Result<Value, AllocError>
+    requires { IsTextOf text.now (value_view tree.now) }
+    ensures { IfOk result (λ value. IsListTold (IsRunNote form name.now text.now plan.now) runs.now (view value)) }
+{
+    let placing = Placing {
+        form,
+        name,
+        text,
+        tree,
+    };
+    run_notes(alloc, &placing, plan, runs)
+}
+
+/// The one note of what rules certificates of a plan out.
+pub fn obstacle_results(
+    alloc: Global,
+    form: Form,
+    name: &str,
+    given: &PlanText,
+    obstacle: &CertifyError,
+) -> Result<Value, AllocError>
+    ensures { IfOk result (λ value. IsObstacleAlone form name.now given.now.text.items given.now.plan obstacle.now (view value)) }
+{
+    let text = given.text.as_slice();
+    let mut scratch = Scratch::new(alloc);
+    match json_of(alloc, text, &mut scratch) {
+        Ok(tree) => obstacle_in(alloc, form, name, text, &tree, &given.plan, obstacle),
+        Err(_) => Err(AllocError),
+    }
+}
+
+fn obstacle_in<'a, 't>(
+    alloc: Global,
+    form: Form,
+    name: &'a str,
+    text: &'a [u8],
+    tree: &'a Tree<'t>,
+    plan: &'a Plan,
+    obstacle: &CertifyError,
+) -> Result<Value, AllocError>
+    requires { IsTextOf text.now (value_view tree.now) }
+    ensures { IfOk result (λ value. IsObstacleAlone form name.now text.now plan.now obstacle.now (view value)) }
+{
+    let placing = Placing {
+        form,
+        name,
+        text,
+        tree,
+    };
+    let note = obstacle_note(alloc, &placing, plan, obstacle)?;
+    list_of_one(alloc, note)
+}

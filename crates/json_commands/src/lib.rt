@@ -1,0 +1,28 @@
+//! The commands of `mctpplan` that answer in JSON, for programs: `explain`, `faults`, `lint`, `reach` and `trace`. Of
+//! faults there is a log in SARIF 2.1.0 too, which CI jobs take.
+#![tactic(auto)]
+
+mod certified;
+mod edits;
+mod explained;
+mod faults;
+mod findings;
+mod form;
+mod linted;
+mod lists;
+mod notes;
+mod obstacles;
+mod places;
+mod planned;
+mod reached;
+mod reports;
+mod said;
+mod sentences;
+mod spots;
+mod traced;
+mod unread;
+mod way_values;
+
+pub use certified::{CertifiedJson, run_certified_json};
+pub use form::Form;
+pub use planned::{PlanJson, run_planned_json};

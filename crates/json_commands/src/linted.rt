@@ -1,0 +1,78 @@
+//! `lint`: what is lawful in a plan and still looks wrong.
+ghost use Rattle.std.specs.Prelude.{◌≡◌, IfOk};
+ghost use Rattle.json.specs.Value.{value_view};
+ghost use Rattle.net_pointers.specs.Offsets.{IsTextOf};
+ghost use Rattle.serde_json.specs.View.{view};
+ghost use Rattle.json_commands.specs.Findings.{IsFindingNote, IsLintSaid, status_of};
+ghost use Rattle.json_commands.specs.Lists.{IsListTold};
+ghost use Rattle.json_commands.specs.declared.form.Form.TheVariants.{Json};
+
+use crate::findings::finding_notes;
+use crate::form::Form;
+use crate::places::Placing;
+use crate::reports::report;
+use crate::said::Said;
+use command_answers::{PlanText, Status};
+use json::{Scratch, Value as Tree};
+use net_json::json_of;
+use net_plan::Plan;
+use net_questions::{Finding, lint};
+use serde_json::Value;
+use std::alloc::{AllocError, Global};
+
+/// All that looks wrong in a plan. The name is that of the plan's file.
+pub fn findings_of_plan(alloc: Global, name: &str, given: &PlanText) -> Result<Said, AllocError>
+    ensures { IfOk result (λ said. IsLintSaid name.now given.now.text.items given.now.plan said.status (view said.value)) }
+{
+    let findings = lint(alloc, &given.plan)?;
+    let results = finding_results(alloc, name, given, &findings)?;
+    Ok(report(alloc, Form::Json, "lint", status_of(&findings), results)?)
+}
+
+/// How a run ends that tells such findings.
+fn status_of(findings: &[Finding]) -> Status
+    ensures { result ≡ status_of findings.now }
+{
+    if findings.is_empty() {
+        Status::Yes
+    } else {
+        Status::Fault
+    }
+}
+
+/// The notes of findings of a plan. Its text is read once more, for its tree.
+fn finding_results(
+    alloc: Global,
+    name: &str,
+    given: &PlanText,
+    findings: &[Finding],
+) -> Result<Value, AllocError>
+    ensures { IfOk result (λ value. IsListTold (IsFindingNote Json name.now given.now.text.items given.now.plan) findings.now (view value)) }
+{
+    let text = given.text.as_slice();
+    let mut scratch = Scratch::new(alloc);
+    match json_of(alloc, text, &mut scratch) {
+        Ok(tree) => findings_in(alloc, name, text, &tree, &given.plan, findings),
+        Err(_) => Err(AllocError),
+    }
+}
+
+fn findings_in<'a, 't>(
+    alloc: Global,
+    name: &'a str,
+    text: &'a [u8],
+    tree: &'a Tree<'t>,
+    plan: &'a Plan,
+    findings: &[Finding],
+) -> Result<Value, AllocError>
+    requires { IsTextOf text.now (value_view tree.now) }
+    ensures { IfOk result (λ value. IsListTold (IsFindingNote Json name.now text.now plan.now) findings.now (view value)) }
+{
+    let placing = Placing {
+        form: Form::Json,
+        name,
+        text,
+        tree,
+    };
+    finding_notes(alloc, &placing, plan, findings)
+}

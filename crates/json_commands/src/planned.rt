@@ -1,0 +1,133 @@
+//! Commands that read a plan alone, and answer in JSON.
+ghost use Rattle.std.specs.Prelude.{◌≡◌, ◌≢◌, ◌⊎◌, IfOk, IfErr};
+ghost use Rattle.std.specs.Cow.{cow_str_bytes};
+ghost use Rattle.serde_json.specs.View.{view};
+ghost use Rattle.net_json.specs.Stream.{HasRoom};
+ghost use Rattle.command_answers.specs.declared.refused.Refused.TheVariants as refused;
+ghost use Rattle.command_answers.specs.declared.status.Status.TheVariants as status;
+ghost use Rattle.command_answers.specs.Answers.{stream, BreaksOff};
+ghost use Rattle.command_answers.specs.Told.{Gives, IsSomeAnswer, Ends};
+ghost use Rattle.command_answers.specs.UnreadInputs.{IsTextOf};
+ghost use Rattle.json_commands.specs.Planned.{IsPlanSaid, IsSaidOfSource, SaysInJson, command_of, form_of};
+
+use crate::explained::explained_plan;
+use crate::faults::faults_of_plan;
+use crate::form::Form;
+use crate::linted::findings_of_plan;
+use crate::said::{Said, answer_of};
+use crate::unread::unread_plan;
+use command_answers::{Answer, PlanText, Refused, Status, plan_or_text, tell};
+use net_json::{Sink, Source};
+use std::alloc::{AllocError, Global};
+
+/// What is asked of a plan alone, where the answer is to be JSON: the command of the name asks it.
+#[derive(Clone, Copy, Debug, PartialEq, Eq)]
+pub enum PlanJson {
+    /// What does `certify` answer, and why?
+    Explain,
+    /// What are all its faults, or what else rules certificates out?
+    Faults(Form),
+    /// What in it is lawful and still looks wrong?
+    Lint,
+}
+
+/// Answers in JSON what is asked of a plan, on `output`: one value, in one line. Where the plan can't be read, the value
+/// tells so. The name is that of the plan's file. The run ends as that of the command without JSON.
+pub fn run_planned_json<P: Source, O: Sink, E: Sink>(
+    alloc: Global,
+    asked: PlanJson,
+    name: &str,
+    plan: &mut P,
+    output: &mut O,
+    errors: &mut E,
+) -> Status
+    requires plan { HasRoom (P.account plan.old) }
+    requires output { HasRoom (O.account output.old) }
+    requires errors { HasRoom (E.account errors.old) }
+    ensures says { let plans = stream P.account plan.old plan.new in
+        Ends (SaysInJson asked name.now plans) (λ why. why ≡ refused.NoMemory) result
+        (stream O.account output.old output.new) (stream E.account errors.old errors.new) }
+    ensures silent { (result ≡ status.Yes) ⊎ (result ≡ status.Fault) → errors.new ≡ errors.old }
+    ensures quiet { result ≢ status.NoMemory → (O.account output.new).failures ≡ (O.account output.old).failures → errors.new ≡ errors.old }
+    ensures unwritten { let plans = stream P.account plan.old plan.new in
+        let outputs = stream O.account output.old output.new in
+        result ≡ status.Unreadable → Gives (SaysInJson asked name.now plans) status.Unreadable outputs
+        ⊎ BreaksOff (IsSomeAnswer (SaysInJson asked name.now plans)) outputs }
+    ensures no_memory { result ≡ status.NoMemory → output.new ≡ output.old }
+{
+    let answered = answer_planned(alloc, asked, name, plan);
+    tell(alloc, answered, output, errors)
+}
+
+fn answer_planned<P: Source>(
+    alloc: Global,
+    asked: PlanJson,
+    name: &str,
+    plan: &mut P,
+) -> Result<Answer, Refused>
+    requires { HasRoom (P.account plan.old) }
+    ensures answers { let plans = stream P.account plan.old plan.new in
+        IfOk result (λ answer. SaysInJson asked name.now plans answer.status (cow_str_bytes answer.text)) }
+    ensures refused { IfErr result (λ why. why ≡ refused.NoMemory) }
+{
+    let said = said_of_source(alloc, asked, name, plan)?;
+    Ok(answer_of(alloc, &said)?)
+}
+
+/// What is said of the plan that a source gives, or where it gives none.
+fn said_of_source<P: Source>(
+    alloc: Global,
+    asked: PlanJson,
+    name: &str,
+    plan: &mut P,
+) -> Result<Said, AllocError>
+    requires { HasRoom (P.account plan.old) }
+    ensures { let plans = stream P.account plan.old plan.new in
+        IfOk result (λ said. IsSaidOfSource asked name.now plans said.status (view said.value)) }
+{
+    match plan_or_text(alloc, plan) {
+        Ok(given) => Ok(said_of_plan(alloc, asked, name, &given)?),
+        Err(unread) => {
+            let (form, command) = (form_of(asked), command_of(asked));
+            Ok(unread_plan(alloc, form, command, name, &unread)?)
+        }
+    }
+}
+
+/// What is said of a plan.
+fn said_of_plan(
+    alloc: Global,
+    asked: PlanJson,
+    name: &str,
+    given: &PlanText,
+) -> Result<Said, AllocError>
+    requires { IsTextOf given.now.text.items given.now.plan }
+    ensures { IfOk result (λ said. IsPlanSaid asked name.now given.now.text.items given.now.plan said.status (view said.value)) }
+{
+    match asked {
+        PlanJson::Explain => Ok(explained_plan(alloc, name, given)?),
+        PlanJson::Faults(form) => Ok(faults_of_plan(alloc, form, name, given)?),
+        PlanJson::Lint => Ok(findings_of_plan(alloc, name, given)?),
+    }
+}
+
+/// The form of the answer.
+fn form_of(asked: PlanJson) -> Form
+    ensures { result ≡ form_of asked }
+{
+    match asked {
+        PlanJson::Faults(form) => form,
+        PlanJson::Explain | PlanJson::Lint => Form::Json,
+    }
+}
+
+/// The command that asks.
+fn command_of(asked: PlanJson) -> &'static str
+    ensures { result.now ≡ command_of asked }
+{
+    match asked {
+        PlanJson::Explain => "explain",
+        PlanJson::Faults(_) => "faults",
+        PlanJson::Lint => "lint",
+    }
+}

@@ -1,0 +1,489 @@
+//! What is told where there is no plan or no certificate, or where nothing has a name.
+ghost use Rattle.std.specs.Prelude.{◌≡◌, ◌+◌, IfOk, IsUtf8, Some, map, option_map};
+ghost use Rattle.json.specs.Value.{value_view};
+ghost use Rattle.net_json.specs.CertificateText.{IsCertificateOf};
+ghost use Rattle.net_json.specs.Finding.{step_value};
+ghost use Rattle.net_json.specs.PlanText.{IsPlanOf};
+ghost use Rattle.net_plan.specs.PlanValues.{node_names, plan_value};
+ghost use Rattle.net_pointers.specs.Offsets.{IsTextOf};
+ghost use Rattle.net_pointers.specs.declared.texts.TextTrouble.{TextTrouble};
+ghost use Rattle.net_pointers.specs.TextTroubles.{IsToldOfCertificateText, IsToldOfPlanText};
+ghost use Rattle.reading_texts.specs.ReadingLines.{unread_code};
+ghost use Rattle.serde_json.specs.View.{view};
+ghost use Rattle.command_answers.specs.declared.status.Status.TheVariants as status;
+ghost use Rattle.command_answers.specs.Answers.{Stream};
+ghost use Rattle.command_answers.specs.UnreadInputs.{IsNoCertificateBy, IsNoPlanBy, StandsForNothing};
+ghost use Rattle.json_commands.specs.Unread.{AreCertificatePlaces, AreEventsPlaces, AreKeysPlaced, AreNowhere, ArePlaces, ArePlanPlaces, ArePointersPlaced, AreUnreadPlaces, IsCertificateUnreadSaid, IsPlanUnreadSaid, IsUnknownSaid, IsUnreadSaid, code_of, entry_pointer, offset_of, range_pointer};
+
+use crate::form::Form;
+use crate::lists::{empty_list, list_of_one};
+use crate::notes::{Subject, note_value};
+use crate::places::{Placing, place_of};
+use crate::reports::report;
+use crate::said::Said;
+use crate::spots::spot_of;
+use command_answers::{Status, Unread};
+use explain_commands::{certificate_text, plan_text};
+use json::{Scratch, Value as Tree};
+use net_json::{PlanError, PointerStep, json_of};
+use net_plan::Plan;
+use net_pointers::{
+    CertificateTrouble, DoubledKey, EventsTrouble, JsonFault, Overlap, PlanTrouble, TextTrouble,
+    TwoIndices, certificate_text_trouble, list_key, offset_of_key, plan_text_trouble,
+};
+use serde_json::Value;
+use std::alloc::{AllocError, Global};
+
+/// Two places: where a text has its fault, and a list of where the other is that is involved.
+#[derive(Drop)]
+struct Places {
+    place: Value,
+    related: Value,
+}
+
+/// What a command answers where a source gave no plan.
+pub fn unread_plan(
+    alloc: Global,
+    form: Form,
+    command: &str,
+    name: &str,
+    unread: &Unread,
+) -> Result<Said, AllocError>
+    requires { StandsForNothing IsPlanOf unread.now }
+    ensures { IfOk result (λ said. (said.status ≡ status.Unreadable)
+        × ((plans : Stream) → IsNoPlanBy plans unread.now → IsPlanUnreadSaid form command.now name.now plans unread.now (view said.value))) }
+{
+    let words = plan_text(alloc, unread)?;
+    let places = plan_places(alloc, form, name, unread)?;
+    Ok(unread_said(alloc, form, command, code_of(unread), places, &words)?)
+}
+
+/// What a command answers where a source gave no certificate of a plan. The name is that of the certificate's file.
+pub fn unread_certificate(
+    alloc: Global,
+    form: Form,
+    command: &str,
+    certified_by: &str,
+    plan: &Plan,
+    unread: &Unread,
+) -> Result<Said, AllocError>
+    requires { StandsForNothing (IsCertificateOf (plan_value plan.now)) unread.now }
+    ensures { IfOk result (λ said. (said.status ≡ status.Unreadable)
+        × ((certificates : Stream) → IsNoCertificateBy plan.now certificates unread.now
+        → IsCertificateUnreadSaid form command.now certified_by.now plan.now certificates unread.now (view said.value))) }
+{
+    let words = certificate_text(alloc, plan, unread)?;
+    let places = certificate_places(alloc, form, certified_by, plan, unread)?;
+    Ok(unread_said(alloc, form, command, code_of(unread), places, &words)?)
+}
+
+/// What a command answers where the plan has nothing of a name.
+pub fn unknown_name(
+    alloc: Global,
+    form: Form,
+    command: &str,
+    name: &str,
+) -> Result<Said, AllocError>
+    ensures { IfOk result (λ said. (said.status ≡ status.Unreadable) × IsUnknownSaid form command.now name.now (view said.value)) }
+{
+    let places = nowhere(alloc, form, name)?;
+    Ok(unread_said(
+        alloc,
+        form,
+        command,
+        "J06",
+        places,
+        "unreadable node: J06\n",
+    )?)
+}
+
+fn unread_said(
+    alloc: Global,
+    form: Form,
+    command: &str,
+    code: &'static str,
+    places: Places,
+    words: &str,
+) -> Result<Said, AllocError>
+    ensures { IfOk result (λ said. (said.status ≡ status.Unreadable) × IsUnreadSaid form command.now code.now (view places.place) (view places.related) words.now (view said.value)) }
+{
+    let subject = Subject {
+        kind: "unreadable",
+        code,
+        eids: None,
+        entry: None,
+    };
+    let note = note_value(
+        alloc,
+        form,
+        &subject,
+        empty_list(alloc),
+        places.place,
+        places.related,
+        words,
+    )?;
+    let results = list_of_one(alloc, note)?;
+    Ok(report(alloc, form, command, Status::Unreadable, results)?)
+}
+
+/// The code of why a source gave nothing; `file` where it failed.
+fn code_of(unread: &Unread) -> &'static str
+    ensures { result.now ≡ code_of unread.now }
+{
+    match unread {
+        Unread::NoMemory => "no memory",
+        Unread::Failed => "file",
+        Unread::TooLong => "J08",
+        Unread::Text { cause, .. } => code_of_cause(*cause),
+    }
+}
+
+fn code_of_cause(cause: PlanError) -> &'static str
+    ensures { result.now ≡ unread_code cause }
+{
+    match cause {
+        PlanError::NotJson => "J01",
+        PlanError::WrongKind => "J02",
+        PlanError::MissingKey => "J03",
+        PlanError::UnknownKey => "J04",
+        PlanError::OutOfRange => "J05",
+        PlanError::UnknownName => "J06",
+        PlanError::BadHex => "J07",
+        PlanError::OverLimit => "J08",
+        PlanError::Doubled => "J09",
+        PlanError::Device => "file",
+        PlanError::OutOfMemory => "no memory",
+    }
+}
+
+// ---- places
+
+/// A file, and no place in it.
+fn nowhere(alloc: Global, form: Form, name: &str) -> Result<Places, AllocError>
+    ensures { IfOk result (λ places. AreNowhere form name.now (view places.place) (view places.related)) }
+{
+    let place = spot_of(alloc, form, name, &[], None, None)?;
+    let related = empty_list(alloc);
+    Ok(Places { place, related })
+}
+
+fn plan_places(alloc: Global, form: Form, name: &str, unread: &Unread) -> Result<Places, AllocError>
+    requires { StandsForNothing IsPlanOf unread.now }
+    ensures { IfOk result (λ places. AreUnreadPlaces IsToldOfPlanText form name.now unread.now (view places.place) (view places.related)) }
+{
+    match unread {
+        Unread::Text { text, .. } => Ok(plan_text_places(alloc, form, name, text)?),
+        Unread::Failed | Unread::TooLong => Ok(nowhere(alloc, form, name)?),
+        Unread::NoMemory => Err(AllocError),
+    }
+}
+
+/// Where the first fault of the text of a plan stands. A text that is a plan has none.
+fn plan_text_places(
+    alloc: Global,
+    form: Form,
+    name: &str,
+    text: &[u8],
+) -> Result<Places, AllocError>
+    ensures { IfOk result (λ places. (found : TextTrouble) × IsToldOfPlanText text.now (Some found) × ArePlaces form name.now text.now found (view places.place) (view places.related)) }
+{
+    match plan_text_trouble(alloc, text)? {
+        Some(trouble) => Ok(trouble_places(alloc, form, name, text, &trouble)?),
+        None => Err(AllocError),
+    }
+}
+
+fn certificate_places(
+    alloc: Global,
+    form: Form,
+    name: &str,
+    plan: &Plan,
+    unread: &Unread,
+) -> Result<Places, AllocError>
+    requires { StandsForNothing (IsCertificateOf (plan_value plan.now)) unread.now }
+    ensures { IfOk result (λ places. AreUnreadPlaces (IsToldOfCertificateText (node_names (plan_value plan.now).nodes)) form name.now unread.now (view places.place) (view places.related)) }
+{
+    match unread {
+        Unread::Text { text, .. } => { Ok(certificate_text_places(alloc, form, name, plan, text)?) }
+        Unread::Failed | Unread::TooLong => Ok(nowhere(alloc, form, name)?),
+        Unread::NoMemory => Err(AllocError),
+    }
+}
+
+/// The same of the text of a certificate.
+fn certificate_text_places(
+    alloc: Global,
+    form: Form,
+    name: &str,
+    plan: &Plan,
+    text: &[u8],
+) -> Result<Places, AllocError>
+    ensures { IfOk result (λ places. (found : TextTrouble) × IsToldOfCertificateText (node_names (plan_value plan.now).nodes) text.now (Some found) × ArePlaces form name.now text.now found (view places.place) (view places.related)) }
+{
+    match certificate_text_trouble(alloc, plan, text)? {
+        Some(trouble) => Ok(trouble_places(alloc, form, name, text, &trouble)?),
+        None => Err(AllocError),
+    }
+}
+
+/// Where in a text its trouble is.
+fn trouble_places(
+    alloc: Global,
+    form: Form,
+    name: &str,
+    text: &[u8],
+    trouble: &TextTrouble,
+) -> Result<Places, AllocError>
+    ensures { IfOk result (λ places. ArePlaces form name.now text.now trouble.now (view places.place) (view places.related)) }
+{
+    match trouble {
+        TextTrouble::TooLong(_) => Ok(nowhere(alloc, form, name)?),
+        TextTrouble::NotJson(fault) => {
+            let place = spot_of(alloc, form, name, text, Some(offset_of(*fault)), None)?;
+            let related = empty_list(alloc);
+            Ok(Places { place, related })
+        }
+        TextTrouble::Plan(found) => Ok(plan_trouble_places(alloc, form, name, text, found)?),
+        TextTrouble::Certificate(found) => {
+            Ok(certificate_trouble_places(alloc, form, name, text, found)?)
+        }
+        TextTrouble::Events(found) => Ok(events_trouble_places(alloc, form, name, text, found)?),
+    }
+}
+
+/// Where a text stops being JSON.
+fn offset_of(fault: JsonFault) -> usize
+    ensures { result ≡ offset_of fault }
+{
+    match fault {
+        JsonFault::NotUtf8(offset) | JsonFault::Unreadable(offset, _) => offset,
+    }
+}
+
+fn plan_trouble_places(
+    alloc: Global,
+    form: Form,
+    name: &str,
+    text: &[u8],
+    trouble: &PlanTrouble,
+) -> Result<Places, AllocError>
+    ensures { IfOk result (λ places. ArePlanPlaces form name.now text.now trouble.now (view places.place) (view places.related)) }
+{
+    match trouble {
+        PlanTrouble::Value(found) | PlanTrouble::UnknownName(found) => {
+            Ok(pointer_places(alloc, form, name, text, &found.pointer, None)?)
+        }
+        PlanTrouble::DoubledBus(twins) => {
+            Ok(twin_places(alloc, form, name, text, "buses", *twins, "name")?)
+        }
+        PlanTrouble::DoubledKey(doubled) => Ok(key_places(alloc, form, name, text, doubled)?),
+    }
+}
+
+fn certificate_trouble_places(
+    alloc: Global,
+    form: Form,
+    name: &str,
+    text: &[u8],
+    trouble: &CertificateTrouble,
+) -> Result<Places, AllocError>
+    ensures { IfOk result (λ places. AreCertificatePlaces form name.now text.now trouble.now (view places.place) (view places.related)) }
+{
+    match trouble {
+        CertificateTrouble::Value(found) | CertificateTrouble::UnknownName(found) => {
+            Ok(pointer_places(alloc, form, name, text, &found.pointer, None)?)
+        }
+        CertificateTrouble::DoubledNode(list, twins) => {
+            let key = list_key(*list);
+            Ok(twin_places(alloc, form, name, text, key, *twins, "node")?)
+        }
+        CertificateTrouble::Overlap(overlap) => {
+            Ok(overlap_places(alloc, form, name, text, *overlap)?)
+        }
+        CertificateTrouble::DoubledKey(doubled) => Ok(key_places(
+            alloc, form, name, text, doubled,
+        )?),
+    }
+}
+
+/// Where a name stands that two entries of a list have: again, and first.
+fn twin_places(
+    alloc: Global,
+    form: Form,
+    name: &str,
+    text: &[u8],
+    list: &'static str,
+    twins: TwoIndices,
+    key: &'static str,
+) -> Result<Places, AllocError>
+    ensures { IfOk result (λ places. ArePointersPlaced form name.now text.now (entry_pointer list.now twins.second key.now) (Some (entry_pointer list.now twins.first key.now)) (view places.place) (view places.related)) }
+{
+    let first = entry_pointer(alloc, list, twins.first, key)?;
+    let second = entry_pointer(alloc, list, twins.second, key)?;
+    Ok(pointer_places(alloc, form, name, text, &second, Some(&first))?)
+}
+
+/// Where a range of ranks stands that begins before the one before it has ended, and where that one does.
+fn overlap_places(
+    alloc: Global,
+    form: Form,
+    name: &str,
+    text: &[u8],
+    overlap: Overlap,
+) -> Result<Places, AllocError>
+    ensures { IfOk result (λ places. ArePointersPlaced form name.now text.now (range_pointer overlap.entry (overlap.range + 1)) (Some (range_pointer overlap.entry overlap.range)) (view places.place) (view places.related)) }
+{
+    if overlap.range == usize::MAX {
+        return Err(AllocError);
+    }
+    let next = overlap.range + 1;
+    Ok(range_places(alloc, form, name, text, overlap.entry, overlap.range, next)?)
+}
+
+/// Where two ranges of ranks stand: the next one, and the first.
+fn range_places(
+    alloc: Global,
+    form: Form,
+    name: &str,
+    text: &[u8],
+    entry: usize,
+    range: usize,
+    next: usize,
+) -> Result<Places, AllocError>
+    ensures { IfOk result (λ places. ArePointersPlaced form name.now text.now (range_pointer entry next) (Some (range_pointer entry range)) (view places.place) (view places.related)) }
+{
+    let first = range_pointer(alloc, entry, range)?;
+    let second = range_pointer(alloc, entry, next)?;
+    Ok(pointer_places(alloc, form, name, text, &second, Some(&first))?)
+}
+
+fn events_trouble_places(
+    alloc: Global,
+    form: Form,
+    name: &str,
+    text: &[u8],
+    trouble: &EventsTrouble,
+) -> Result<Places, AllocError>
+    ensures { IfOk result (λ places. AreEventsPlaces form name.now text.now trouble.now (view places.place) (view places.related)) }
+{
+    match trouble {
+        EventsTrouble::Value(found) | EventsTrouble::UnknownName(found) => {
+            Ok(pointer_places(alloc, form, name, text, &found.pointer, None)?)
+        }
+        EventsTrouble::DoubledKey(doubled) => Ok(key_places(alloc, form, name, text, doubled)?),
+    }
+}
+
+/// Where pointers lead.
+fn pointer_places(
+    alloc: Global,
+    form: Form,
+    name: &str,
+    text: &[u8],
+    pointer: &[PointerStep],
+    other: Option<&[PointerStep]>,
+) -> Result<Places, AllocError>
+    ensures { IfOk result (λ places. ArePointersPlaced form name.now text.now (map step_value pointer.now) (option_map (λ p. map step_value p.now) other.entry) (view places.place) (view places.related)) }
+{
+    let mut scratch = Scratch::new(alloc);
+    match json_of(alloc, text, &mut scratch) {
+        Ok(tree) => pointers_in(alloc, form, name, text, &tree, pointer, other),
+        Err(_) => Err(AllocError),
+    }
+}
+
+fn pointers_in<'a, 't>(
+    alloc: Global,
+    form: Form,
+    name: &'a str,
+    text: &'a [u8],
+    tree: &'a Tree<'t>,
+    pointer: &[PointerStep],
+    other: Option<&[PointerStep]>,
+) -> Result<Places, AllocError>
+    requires { IsTextOf text.now (value_view tree.now) }
+    ensures { IfOk result (λ places. ArePointersPlaced form name.now text.now (map step_value pointer.now) (option_map (λ p. map step_value p.now) other.entry) (view places.place) (view places.related)) }
+{
+    let placing = Placing {
+        form,
+        name,
+        text,
+        tree,
+    };
+    let place = place_of(alloc, &placing, pointer)?;
+    let related = match other {
+        Some(other) => list_of_one(alloc, place_of(alloc, &placing, other)?)?,
+        None => empty_list(alloc),
+    };
+    Ok(Places { place, related })
+}
+
+/// Where a key stands that an object has twice: again, and first.
+fn key_places(
+    alloc: Global,
+    form: Form,
+    name: &str,
+    text: &[u8],
+    doubled: &DoubledKey,
+) -> Result<Places, AllocError>
+    ensures { IfOk result (λ places. AreKeysPlaced form name.now text.now doubled.now (view places.place) (view places.related)) }
+{
+    let mut scratch = Scratch::new(alloc);
+    match json_of(alloc, text, &mut scratch) {
+        Ok(_tree) => keys_in(alloc, form, name, text, doubled),
+        Err(_) => Err(AllocError),
+    }
+}
+
+fn keys_in(
+    alloc: Global,
+    form: Form,
+    name: &str,
+    text: &[u8],
+    doubled: &DoubledKey,
+) -> Result<Places, AllocError>
+    requires { IsUtf8 text.now }
+    ensures { IfOk result (λ places. AreKeysPlaced form name.now text.now doubled.now (view places.place) (view places.related)) }
+{
+    let first = offset_of_key(alloc, text, &doubled.path, doubled.members.first)?;
+    let second = offset_of_key(alloc, text, &doubled.path, doubled.members.second)?;
+    match (first, second) {
+        (Some(first), Some(second)) => {
+            let place = spot_of(alloc, form, name, text, Some(second), None)?;
+            let other = spot_of(alloc, form, name, text, Some(first), None)?;
+            let related = list_of_one(alloc, other)?;
+            Ok(Places { place, related })
+        }
+        _ => Err(AllocError),
+    }
+}
+
+/// The pointer to what an entry of a list says at a key.
+fn entry_pointer(
+    alloc: Global,
+    list: &'static str,
+    entry: usize,
+    key: &'static str,
+) -> Result<Vec<PointerStep>, AllocError>
+    ensures { IfOk result (λ pointer. map step_value pointer.items ≡ entry_pointer list.now entry key.now) }
+{
+    [
+        PointerStep::Key(list),
+        PointerStep::Index(entry),
+        PointerStep::Key(key),
+    ]
+    .to_vec(alloc)
+}
+
+/// The pointer to a range of ranks.
+fn range_pointer(alloc: Global, entry: usize, range: usize) -> Result<Vec<PointerStep>, AllocError>
+    ensures { IfOk result (λ pointer. map step_value pointer.items ≡ range_pointer entry range) }
+{
+    [
+        PointerStep::Key("ranks"),
+        PointerStep::Index(entry),
+        PointerStep::Key("ranges"),
+        PointerStep::Index(range),
+    ]
+    .to_vec(alloc)
+}
