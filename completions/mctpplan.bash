@@ -3,8 +3,8 @@
 
 # tools/made writes these commands
 _mctpplan_commands='make rows check certify move certifymove diff rollout assign sim expect script simmove walk export
-reach matrix require trace draw explain faults fix lint show decode audit describe record code
-schema guide version'
+reach matrix require trace draw explain faults fix lint show decode audit emulate capture report
+describe record code schema guide version'
 
 # tools/made writes these codes
 _mctpplan_codes='A01 A02 A03 A04 A05 B01 B02 B03 B10 B11 B12 C01 C02 C03 C04 C05 C06 C07 C08 C09 C10 C11 C12 C13 C14
@@ -40,8 +40,8 @@ _mctpplan() {
     fi
     case $command in
         certify | lint | rows) files=1 ;;
-        check | assign | walk | script | reach | matrix | require | trace | draw | explain | faults) files=2 ;;
-        move | sim) files=3 ;;
+        check | assign | walk | script | reach | matrix | require | trace | draw | faults | report | audit | emulate) files=2 ;;
+        move | sim | explain | capture) files=3 ;;
         simmove) files=4 ;;
         expect) files=3 ;;
         code)
@@ -64,7 +64,7 @@ _mctpplan() {
             ;;
         schema)
             if [ "$place" -eq 2 ]; then
-                mapfile -t COMPREPLY < <(compgen -W 'plan certificate events board' -- "$current")
+                mapfile -t COMPREPLY < <(compgen -W 'plan certificate events board answer' -- "$current")
             fi
             return
             ;;
@@ -95,14 +95,25 @@ _mctpplan() {
         compopt -o filenames 2>/dev/null
         mapfile -t COMPREPLY < <(compgen -f -- "$current")
     elif [[ $command == explain && $current == -* ]]; then
-        mapfile -t COMPREPLY < <(compgen -W '--move' -- "$current")
-    elif [[ $((place - 1)) -le $files || ${COMP_WORDS[COMP_CWORD - 1]} == --move ]]; then
+        mapfile -t COMPREPLY < <(compgen -W '--json --move' -- "$current")
+    elif [[ $command == faults && $current == -* ]]; then
+        mapfile -t COMPREPLY < <(compgen -W '--json --sarif' -- "$current")
+    elif [[ $command =~ ^(lint|reach|trace)$ && $current == -* ]]; then
+        mapfile -t COMPREPLY < <(compgen -W '--json' -- "$current")
+    elif [[ $command == emulate && $current == -* ]]; then
+        mapfile -t COMPREPLY < <(compgen -W '--configured' -- "$current")
+    elif [[ $command == audit && $current == -* ]]; then
+        mapfile -t COMPREPLY < <(compgen -W '--bus' -- "$current")
+    elif [[ $command == decode && $place -eq 2 || $command == audit && $place -eq 4 ]]; then
+        compopt -o filenames 2>/dev/null
+        mapfile -t COMPREPLY < <(compgen -f -- "$current")
+    elif [[ $((place - 1)) -le $files || $command == decode && $place -eq 3 || ${COMP_WORDS[COMP_CWORD - 1]} == --move ]]; then
         compopt -o filenames 2>/dev/null
         mapfile -t COMPREPLY < <(compgen -d -- "$current"; compgen -f -X '!*.json' -- "$current")
     elif [[ $command == require && $place -eq 4 ]]; then
         compopt -o filenames 2>/dev/null
         mapfile -t COMPREPLY < <(compgen -f -- "$current")
-    elif [[ $command == walk && $place -eq 4 || $command == script && $place -eq 5 || $command == trace && $place -le 5 ]]; then
+    elif [[ $command == walk && $place -eq 4 || $command == script && $place -eq 5 || $command == trace && $place -le 5 || $command == emulate && $place -eq 4 ]]; then
         plan=$(_mctpplan_unquoted "${COMP_WORDS[2]}")
         [ -f "$plan" ] || return
         # (compgen would run what stands in a name)

@@ -25,7 +25,7 @@ HINTS = [
     (
         ["schema", "plans"],
         "usage",
-        ["mctpplan schema plan|certificate|events|board", "plans is none of plan, certificate, events and board", "mctpplan guide schema tells more"],
+        ["mctpplan schema plan|certificate|events|board|answer", "plans is none of plan, certificate, events, board and answer", "mctpplan guide schema tells more"],
     ),
     (["trace", PLAN, CERTIFICATE, "host", "nics"], "unreadable node: J06", ["there is no node nics; the nearest is nic"]),
     (["walk", PLAN, CERTIFICATE, "Host", "16"], "unreadable node: J06", ["there is no node Host; the nearest is host"]),
@@ -45,7 +45,7 @@ HINTS = [
     (
         ["explain", PLAN, CERTIFICATE, "--move", PLAN],
         "usage",
-        ["mctpplan explain PLAN [CERT]", "the other form is explain OLD --move NEW", "mctpplan guide explain tells more"],
+        ["mctpplan explain PLAN [CERT [EVENTS]] [--json]", "the other form is explain OLD --move NEW", "mctpplan guide explain tells more"],
     ),
     (
         ["draw", PLAN, "--rows", "7"],

@@ -39,14 +39,15 @@ UNWRITTEN = (2, None, b"unreadable output: file\n")
 
 
 def try_outputs(trial):
-    """Each command over an output that takes nothing, and over a pipe that nobody reads."""
+    """Each command over an output that takes nothing, and over a pipe that nobody reads. `emulate` is sent a request."""
+    request = trial.file("request", "b1 010008c8008002\n")
     for words in commands():
-        with open("/dev/full", "wb") as full:
-            expect(trial, f"{words[0]} over a full disk", words, UNWRITTEN, stdout=full)
+        with open("/dev/full", "wb") as full, open(request, "rb") as given:
+            expect(trial, f"{words[0]} over a full disk", words, UNWRITTEN, stdin=given, stdout=full)
         end, start = os.pipe()
         os.close(end)
-        with open(start, "wb") as closed:
-            expect(trial, f"{words[0]} over a closed pipe", words, UNWRITTEN, stdout=closed)
+        with open(start, "wb") as closed, open(request, "rb") as given:
+            expect(trial, f"{words[0]} over a closed pipe", words, UNWRITTEN, stdin=given, stdout=closed)
 
 
 def try_folders(trial):

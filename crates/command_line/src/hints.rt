@@ -122,7 +122,7 @@ fn wrong_argument(alloc: Global, command: &str, words: &[String]) -> Result<Stri
             format!(in alloc; "there is no code {code}\n")
         }
         ("schema", [_, _, kind]) => {
-            format!(in alloc; "{kind} is none of plan, certificate, events and board\n")
+            format!(in alloc; "{kind} is none of plan, certificate, events, board and answer\n")
         }
         ("guide", [_, _, other]) => command_hint(alloc, other),
         ("record", [_, _, kind, said @ ..]) => wrong_word(alloc, kind, said),

@@ -1,9 +1,11 @@
 //! The program's command line.
+use bus_commands::Emulation;
 use byte_commands::{ShownKind, WordQuestion};
 use clap::error::ErrorKind;
 use clap::{Arg, ArgAction, ArgMatches};
 use command_answers::{PartSize, Refused, eid_of_word};
 use export_commands::{Export, ExportKind};
+use json_commands::{CertifiedJson, Form, PlanJson};
 use plan_commands::{DrawnRows, PlanQuestion, Question};
 use plan_exports::Link;
 use play_commands::{Flights, WalkScript};
@@ -28,6 +30,12 @@ pub enum Subcommand<'a> {
     Explain {
         plan: &'a str,
         certificate: Option<&'a str>,
+    },
+    /// What is wrong with the events in a file, or with the plan and its certificate?
+    ExplainEvents {
+        plan: &'a str,
+        certificate: &'a str,
+        events: &'a str,
     },
     /// What does `certifymove` say of the plans in two files, and why?
     ExplainMove {
@@ -120,15 +128,45 @@ pub enum Subcommand<'a> {
         kind: ShownKind,
         hex: &'a str,
     },
-    /// What became of each entry of the capture in a file, and what do its messages say?
+    /// What became of each entry of the capture in a file, and what do its messages say? The plan has names for it.
     Decode {
         capture: &'a str,
+        plan: Option<&'a str>,
     },
-    /// What did the devices of the capture in a file say, beside the plan?
+    /// What did the devices of the capture in a file say, beside the plan, and did its packets go over this bus?
     Audit {
+        bus: Option<&'a str>,
         plan: &'a str,
         certificate: &'a str,
         capture: &'a str,
+    },
+    /// What does a node of a plan send for the packets that come on standard input?
+    Emulate {
+        emulation: Emulation<'a>,
+        plan: &'a str,
+        certificate: &'a str,
+    },
+    /// What is answered in JSON about the plan in one file, certified by another?
+    CertifiedJson {
+        asked: CertifiedJson<'a>,
+        plan: &'a str,
+        certificate: &'a str,
+    },
+    /// What is answered in JSON about the plan in a file?
+    PlannedJson {
+        asked: PlanJson,
+        plan: &'a str,
+    },
+    /// Which packets go over the buses while the events in a file are played?
+    Capture {
+        plan: &'a str,
+        certificate: &'a str,
+        events: &'a str,
+    },
+    /// What is the page about the plan in a file, certified by another or not?
+    Report {
+        plan: &'a str,
+        certificate: Option<&'a str>,
     },
 }
 
@@ -202,7 +240,7 @@ fn worded(list: &[String]) -> Option<Subcommand<'_>> {
 }
 
 /// The name of each command, the names of its arguments, and those of the arguments that may be left out.
-const COMMANDS: [(&str, &[&str], &[&str]); 31] = [
+const COMMANDS: [(&str, &[&str], &[&str]); 34] = [
     ("make", &["board"], &[]),
     ("rows", &["plan"], &[]),
     ("check", &["plan", "certificate"], &[]),
@@ -227,13 +265,16 @@ const COMMANDS: [(&str, &[&str], &[&str]); 31] = [
     ("require", &["plan", "certificate", "wanted"], &[]),
     ("trace", &["plan", "certificate", "from", "to"], &[]),
     ("draw", &["plan"], &["certificate"]),
-    ("explain", &["plan"], &["certificate"]),
+    ("explain", &["plan"], &["certificate", "events"]),
     ("faults", &["plan"], &["certificate"]),
     ("fix", &["plan"], &[]),
     ("lint", &["plan"], &[]),
     ("show", &["kind", "hex"], &[]),
-    ("decode", &["capture"], &[]),
+    ("decode", &["capture"], &["plan"]),
     ("audit", &["plan", "certificate", "capture"], &[]),
+    ("emulate", &["plan", "certificate", "node"], &[]),
+    ("capture", &["plan", "certificate", "events"], &[]),
+    ("report", &["plan"], &["certificate"]),
     ("code", &["code"], &[]),
     ("schema", &["kind"], &[]),
     ("guide", &[], &["command"]),
@@ -246,8 +287,25 @@ const ALL: &str = "all";
 /// The option that may stand several times.
 const REPEATED: &str = "link";
 
+/// The option by which an answer is told in JSON, and that by which it is a log of SARIF.
+const JSON: &str = "json";
+
+const SARIF: &str = "sarif";
+
+/// The options that never have a value.
+const FLAGS: [(&str, &str); 7] = [
+    ("emulate", "configured"),
+    ("explain", JSON),
+    ("faults", JSON),
+    ("faults", SARIF),
+    ("lint", JSON),
+    ("reach", JSON),
+    ("trace", JSON),
+];
+
 /// The options of commands, and what each means where no value follows it, if it may stand alone.
-const OPTIONS: [(&str, &str, Option<&str>); 7] = [
+const OPTIONS: [(&str, &str, Option<&str>); 8] = [
+    ("audit", "bus", None),
     ("draw", "rows", Some(ALL)),
     ("explain", "move", None),
     ("export", REPEATED, None),
@@ -299,6 +357,11 @@ fn with_arguments<'a>(
             command = command.arg(option(alloc, id, alone))?;
         }
     }
+    for (of, id) in FLAGS {
+        if of == name {
+            command = command.arg(Arg::new(alloc, id).long(id).action(ArgAction::SetTrue))?;
+        }
+    }
     Ok(command)
 }
 
@@ -334,7 +397,7 @@ fn chosen<'a>(matches: &ArgMatches<'a>, list: &'a [String]) -> Option<Subcommand
         "walk" => walking(arguments),
         "script" => scripting(arguments),
         "export" => exporting(arguments, list),
-        "reach" => certified(arguments, Question::Reach),
+        "reach" => reaching(arguments),
         "matrix" => certified(arguments, Question::Matrix),
         "require" => requiring(arguments),
         "trace" => tracing(arguments),
@@ -342,10 +405,13 @@ fn chosen<'a>(matches: &ArgMatches<'a>, list: &'a [String]) -> Option<Subcommand
         "explain" => explaining(arguments),
         "faults" => listing(arguments),
         "fix" => fixing(arguments),
-        "lint" => planned(arguments, PlanQuestion::Lint),
+        "lint" => linting(arguments),
         "show" => showing(arguments),
         "decode" => decoding(arguments),
         "audit" => auditing(arguments),
+        "emulate" => emulating(arguments),
+        "capture" => capturing(arguments),
+        "report" => reporting(arguments),
         "code" => known(text_of(arguments.get_str("code")?)),
         "schema" => known(schema_of(arguments.get_str("kind")?)),
         "guide" => guiding(arguments),
@@ -510,7 +576,54 @@ fn flights(word: Option<&str>) -> Option<Flights<'_>> {
 fn tracing<'a>(arguments: &ArgMatches<'a>) -> Option<Subcommand<'a>> {
     let from = arguments.get_str("from")?;
     let to = arguments.get_str("to")?;
+    if arguments.get_flag(JSON) {
+        return certified_json(arguments, CertifiedJson::Trace { from, to });
+    }
     certified(arguments, Question::Trace { from, to })
+}
+
+fn reaching<'a>(arguments: &ArgMatches<'a>) -> Option<Subcommand<'a>> {
+    if arguments.get_flag(JSON) {
+        return certified_json(arguments, CertifiedJson::Reach);
+    }
+    certified(arguments, Question::Reach)
+}
+
+fn linting<'a>(arguments: &ArgMatches<'a>) -> Option<Subcommand<'a>> {
+    if arguments.get_flag(JSON) {
+        return planned_json(arguments, PlanJson::Lint);
+    }
+    planned(arguments, PlanQuestion::Lint)
+}
+
+fn certified_json<'a>(
+    arguments: &ArgMatches<'a>,
+    asked: CertifiedJson<'a>,
+) -> Option<Subcommand<'a>> {
+    Some(Subcommand::CertifiedJson {
+        asked,
+        plan: arguments.get_str("plan")?,
+        certificate: arguments.get_str("certificate")?,
+    })
+}
+
+fn planned_json<'a>(arguments: &ArgMatches<'a>, asked: PlanJson) -> Option<Subcommand<'a>> {
+    Some(Subcommand::PlannedJson {
+        asked,
+        plan: arguments.get_str("plan")?,
+    })
+}
+
+/// A question in JSON about a plan with its certificate, or one about the plan alone where that is all.
+fn json_with_or_without<'a>(
+    arguments: &ArgMatches<'a>,
+    asked: CertifiedJson<'a>,
+    alone: PlanJson,
+) -> Option<Subcommand<'a>> {
+    match arguments.get_str("certificate") {
+        Some(_) => certified_json(arguments, asked),
+        None => planned_json(arguments, alone),
+    }
 }
 
 /// A question about a plan with its certificate, or one about the plan alone where that is all.
@@ -544,6 +657,20 @@ fn drawn_rows(word: Option<&str>) -> Option<DrawnRows> {
 }
 
 fn listing<'a>(arguments: &ArgMatches<'a>) -> Option<Subcommand<'a>> {
+    let form = match (arguments.get_flag(JSON), arguments.get_flag(SARIF)) {
+        (false, false) => return listing_lines(arguments),
+        (true, false) => Form::Json,
+        (false, true) => Form::Sarif,
+        (true, true) => return None,
+    };
+    json_with_or_without(
+        arguments,
+        CertifiedJson::Faults(form),
+        PlanJson::Faults(form),
+    )
+}
+
+fn listing_lines<'a>(arguments: &ArgMatches<'a>) -> Option<Subcommand<'a>> {
     let name = arguments.get_str("plan")?;
     with_or_without(
         arguments,
@@ -555,6 +682,12 @@ fn listing<'a>(arguments: &ArgMatches<'a>) -> Option<Subcommand<'a>> {
 fn explaining<'a>(arguments: &ArgMatches<'a>) -> Option<Subcommand<'a>> {
     let plan = arguments.get_str("plan")?;
     let certificate = arguments.get_str("certificate");
+    if arguments.get_flag(JSON) {
+        return explaining_in_json(arguments);
+    }
+    if arguments.get_str("events").is_some() {
+        return explaining_events(arguments);
+    }
     match (arguments.get_str("move"), certificate) {
         (None, certificate) => Some(Subcommand::Explain { plan, certificate }),
         (Some(after), None) => Some(Subcommand::ExplainMove {
@@ -563,6 +696,25 @@ fn explaining<'a>(arguments: &ArgMatches<'a>) -> Option<Subcommand<'a>> {
         }),
         (Some(_), Some(_)) => None,
     }
+}
+
+fn explaining_events<'a>(arguments: &ArgMatches<'a>) -> Option<Subcommand<'a>> {
+    if arguments.get_str("move").is_some() {
+        return None;
+    }
+    Some(Subcommand::ExplainEvents {
+        plan: arguments.get_str("plan")?,
+        certificate: arguments.get_str("certificate")?,
+        events: arguments.get_str("events")?,
+    })
+}
+
+/// Moves and events are explained in lines alone.
+fn explaining_in_json<'a>(arguments: &ArgMatches<'a>) -> Option<Subcommand<'a>> {
+    if arguments.get_str("move").is_some() || arguments.get_str("events").is_some() {
+        return None;
+    }
+    json_with_or_without(arguments, CertifiedJson::Explain, PlanJson::Explain)
 }
 
 fn fixing<'a>(arguments: &ArgMatches<'a>) -> Option<Subcommand<'a>> {
@@ -581,14 +733,48 @@ fn showing<'a>(arguments: &ArgMatches<'a>) -> Option<Subcommand<'a>> {
 fn decoding<'a>(arguments: &ArgMatches<'a>) -> Option<Subcommand<'a>> {
     Some(Subcommand::Decode {
         capture: arguments.get_str("capture")?,
+        plan: arguments.get_str("plan"),
     })
 }
 
 fn auditing<'a>(arguments: &ArgMatches<'a>) -> Option<Subcommand<'a>> {
     Some(Subcommand::Audit {
+        bus: arguments.get_str("bus"),
         plan: arguments.get_str("plan")?,
         certificate: arguments.get_str("certificate")?,
         capture: arguments.get_str("capture")?,
+    })
+}
+
+/// Its packets come on standard input, which can't have a plan too.
+fn emulating<'a>(arguments: &ArgMatches<'a>) -> Option<Subcommand<'a>> {
+    let plan = arguments.get_str("plan")?;
+    let certificate = arguments.get_str("certificate")?;
+    if plan == "-" || certificate == "-" {
+        return None;
+    }
+    Some(Subcommand::Emulate {
+        emulation: Emulation {
+            node: arguments.get_str("node")?,
+            is_configured: arguments.get_flag("configured"),
+        },
+        plan,
+        certificate,
+    })
+}
+
+fn capturing<'a>(arguments: &ArgMatches<'a>) -> Option<Subcommand<'a>> {
+    Some(Subcommand::Capture {
+        plan: arguments.get_str("plan")?,
+        certificate: arguments.get_str("certificate")?,
+        events: arguments.get_str("events")?,
+    })
+}
+
+fn reporting<'a>(arguments: &ArgMatches<'a>) -> Option<Subcommand<'a>> {
+    Some(Subcommand::Report {
+        plan: arguments.get_str("plan")?,
+        certificate: arguments.get_str("certificate"),
     })
 }
 

@@ -4,14 +4,18 @@
 ghost use Rattle.std.specs.Prelude.{◌≡◌};
 
 use audit_commands::run_audit;
-use byte_commands::{ShownKind, WordQuestion, run_decode, run_show, run_worded};
+use bus_commands::{Emulation, run_capture, run_emulate};
+use byte_commands::{ShownKind, WordQuestion, run_decode, run_decode_named, run_show, run_worded};
 use command_answers::{Refused, Status, refuse, run_known};
 use command_line::{
     FileAtPath, FileToWrite, FilesAtPaths, FilesBeside, Subcommand, hint_node, hint_nodes,
     hint_record, hint_words, links_of_words, parse_command,
 };
-use explain_commands::{run_explain, run_explain_certified, run_explain_move, run_fix};
+use explain_commands::{
+    run_explain, run_explain_certified, run_explain_events, run_explain_move, run_fix,
+};
 use export_commands::{Export, run_export};
+use json_commands::{CertifiedJson, PlanJson, run_certified_json, run_planned_json};
 use net_json::Counted;
 use plan_commands::{
     PlanQuestion, Question, run_certified, run_certify_move, run_make, run_make_certified,
@@ -19,6 +23,7 @@ use plan_commands::{
 };
 use plan_differences::run_diff;
 use play_commands::{WalkScript, run_expect, run_script, simulate, simulate_move};
+use report_commands::{run_report, run_report_certified};
 use rollout_commands::{run_rollout, run_rollout_written};
 use std::env;
 use std::io::IsTerminal;
@@ -71,6 +76,11 @@ fn run_command<'a>(rt: &'a HostRuntime, command: Subcommand<'a>) -> Status {
             plan,
             certificate: None,
         } => explain(rt, plan),
+        Subcommand::ExplainEvents {
+            plan,
+            certificate,
+            events,
+        } => explain_events(rt, plan, certificate, events),
         Subcommand::ExplainMove { before, after } => explain_move(rt, before, after),
         Subcommand::Fix { plan } => fix(rt, plan),
         Subcommand::Require {
@@ -134,12 +144,44 @@ fn run_command<'a>(rt: &'a HostRuntime, command: Subcommand<'a>) -> Status {
         Subcommand::Known { text } => tell(rt, text),
         Subcommand::Worded { question, words } => say(rt, question, words),
         Subcommand::Show { kind, hex } => show(rt, kind, hex),
-        Subcommand::Decode { capture } => decode(rt, capture),
+        Subcommand::Decode {
+            capture,
+            plan: None,
+        } => decode(rt, capture),
+        Subcommand::Decode {
+            capture,
+            plan: Some(plan),
+        } => decode_named(rt, plan, capture),
         Subcommand::Audit {
+            bus,
             plan,
             certificate,
             capture,
-        } => audit(rt, plan, certificate, capture),
+        } => audit(rt, bus, [plan, certificate, capture]),
+        Subcommand::Emulate {
+            emulation,
+            plan,
+            certificate,
+        } => emulate(rt, &emulation, plan, certificate),
+        Subcommand::Capture {
+            plan,
+            certificate,
+            events,
+        } => capture_run(rt, plan, certificate, events),
+        Subcommand::Report {
+            plan,
+            certificate: None,
+        } => report(rt, plan),
+        Subcommand::Report {
+            plan,
+            certificate: Some(certificate),
+        } => report_certified(rt, plan, certificate),
+        Subcommand::PlannedJson { asked, plan } => planned_in_json(rt, asked, plan),
+        Subcommand::CertifiedJson {
+            asked,
+            plan,
+            certificate,
+        } => certified_in_json(rt, &asked, plan, certificate),
     }
 }
 
@@ -500,8 +542,27 @@ fn decode<'a>(rt: &'a HostRuntime, capture: &'a str) -> Status {
     run_decode(rt.alloc(), &mut capture, &mut output, &mut errors)
 }
 
-/// Tells what the devices of a capture said, beside a plan.
-fn audit<'a>(rt: &'a HostRuntime, plan: &'a str, certificate: &'a str, capture: &'a str) -> Status {
+/// The same with the names of a plan.
+fn decode_named<'a>(rt: &'a HostRuntime, plan: &'a str, capture: &'a str) -> Status {
+    let mut plan = file(rt, plan);
+    let mut capture = file(rt, capture);
+    let mut output = Counted::new(rt.stdout());
+    let mut errors = Counted::new(rt.stderr());
+    run_decode_named(
+        rt.alloc(),
+        &mut plan,
+        &mut capture,
+        &mut output,
+        &mut errors,
+    )
+}
+
+/// Tells what the devices of a capture said, beside a plan. The files are the plan, the certificate and the capture.
+fn audit<'a>(
+    rt: &'a HostRuntime,
+    bus: Option<&'a str>,
+    [plan, certificate, capture]: [&'a str; 3],
+) -> Status {
     let mut plan = file(rt, plan);
     let mut certificate = file(rt, certificate);
     let mut capture = file(rt, capture);
@@ -509,12 +570,135 @@ fn audit<'a>(rt: &'a HostRuntime, plan: &'a str, certificate: &'a str, capture: 
     let mut errors = Counted::new(rt.stderr());
     run_audit(
         rt.alloc(),
+        bus,
         &mut plan,
         &mut certificate,
         &mut capture,
         &mut output,
         &mut errors,
     )
+}
+
+/// Answers the packets on standard input as a node of a plan does.
+fn emulate<'a>(
+    rt: &'a HostRuntime,
+    emulation: &Emulation<'a>,
+    plan: &'a str,
+    certificate: &'a str,
+) -> Status {
+    let mut plan_file = file(rt, plan);
+    let mut certificate = file(rt, certificate);
+    let mut packets = Counted::new(rt.stdin());
+    let mut output = Counted::new(rt.stdout());
+    let mut errors = Counted::new(rt.stderr());
+    let status = run_emulate(
+        rt.alloc(),
+        emulation,
+        &mut plan_file,
+        &mut certificate,
+        &mut packets,
+        &mut output,
+        &mut errors,
+    );
+    if status == Status::Unreadable && rt.stderr().is_terminal() {
+        let mut plan = file(rt, plan);
+        hint_node(
+            rt.alloc(),
+            emulation.node,
+            &mut plan,
+            &mut Counted::new(rt.stderr()),
+        );
+    }
+    status
+}
+
+/// Plays events in the network of a plan, and writes a capture file of its packets.
+fn capture_run<'a>(
+    rt: &'a HostRuntime,
+    plan: &'a str,
+    certificate: &'a str,
+    events: &'a str,
+) -> Status {
+    let mut plan = file(rt, plan);
+    let mut certificate = file(rt, certificate);
+    let mut events = file(rt, events);
+    let mut output = Counted::new(rt.stdout());
+    let mut errors = Counted::new(rt.stderr());
+    run_capture(
+        rt.alloc(),
+        &mut plan,
+        &mut certificate,
+        &mut events,
+        &mut output,
+        &mut errors,
+    )
+}
+
+/// Writes the page about a plan.
+fn report<'a>(rt: &'a HostRuntime, name: &'a str) -> Status {
+    let mut plan = file(rt, name);
+    let mut output = Counted::new(rt.stdout());
+    let mut errors = Counted::new(rt.stderr());
+    run_report(rt.alloc(), name, &mut plan, &mut output, &mut errors)
+}
+
+/// Writes the page about a plan with its certificate.
+fn report_certified<'a>(rt: &'a HostRuntime, name: &'a str, certificate: &'a str) -> Status {
+    let mut plan = file(rt, name);
+    let mut certificate = file(rt, certificate);
+    let mut output = Counted::new(rt.stdout());
+    let mut errors = Counted::new(rt.stderr());
+    run_report_certified(
+        rt.alloc(),
+        name,
+        &mut plan,
+        &mut certificate,
+        &mut output,
+        &mut errors,
+    )
+}
+
+/// Answers a question about a plan in JSON. Where its file can't be opened or read, standard error tells the path and the
+/// system's reason.
+fn planned_in_json<'a>(rt: &'a HostRuntime, asked: PlanJson, name: &'a str) -> Status {
+    let alloc = rt.alloc();
+    let mut plan = file(rt, name);
+    let mut output = Counted::new(rt.stdout());
+    let mut errors = Counted::new(rt.stderr());
+    let status = run_planned_json(alloc, asked, name, &mut plan, &mut output, &mut errors);
+    plan.inner()
+        .tell_failure(alloc, &mut Counted::new(rt.stderr()));
+    status
+}
+
+/// The same of a plan with its certificate.
+fn certified_in_json<'a>(
+    rt: &'a HostRuntime,
+    asked: &CertifiedJson<'a>,
+    name: &'a str,
+    certified_by: &'a str,
+) -> Status {
+    let alloc = rt.alloc();
+    let mut plan = file(rt, name);
+    let mut certificate = file(rt, certified_by);
+    let mut output = Counted::new(rt.stdout());
+    let mut errors = Counted::new(rt.stderr());
+    let status = run_certified_json(
+        alloc,
+        asked,
+        name,
+        certified_by,
+        &mut plan,
+        &mut certificate,
+        &mut output,
+        &mut errors,
+    );
+    plan.inner()
+        .tell_failure(alloc, &mut Counted::new(rt.stderr()));
+    certificate
+        .inner()
+        .tell_failure(alloc, &mut Counted::new(rt.stderr()));
+    status
 }
 
 /// Explains a plan. Where its file can't be opened or read, standard error tells the path and the system's reason.
@@ -560,6 +744,40 @@ fn explain_certified<'a>(rt: &'a HostRuntime, name: &'a str, certified_by: &'a s
     plan.inner()
         .tell_failure(alloc, &mut Counted::new(rt.stderr()));
     certificate
+        .inner()
+        .tell_failure(alloc, &mut Counted::new(rt.stderr()));
+    status
+}
+
+/// The same of a plan with its certificate and events.
+fn explain_events<'a>(
+    rt: &'a HostRuntime,
+    name: &'a str,
+    certified_by: &'a str,
+    events: &'a str,
+) -> Status {
+    let alloc = rt.alloc();
+    let mut plan = file(rt, name);
+    let mut certificate = file(rt, certified_by);
+    let mut events = file(rt, events);
+    let mut output = Counted::new(rt.stdout());
+    let mut errors = Counted::new(rt.stderr());
+    let status = run_explain_events(
+        alloc,
+        name,
+        certified_by,
+        &mut plan,
+        &mut certificate,
+        &mut events,
+        &mut output,
+        &mut errors,
+    );
+    plan.inner()
+        .tell_failure(alloc, &mut Counted::new(rt.stderr()));
+    certificate
+        .inner()
+        .tell_failure(alloc, &mut Counted::new(rt.stderr()));
+    events
         .inner()
         .tell_failure(alloc, &mut Counted::new(rt.stderr()));
     status

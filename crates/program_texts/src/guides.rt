@@ -21,25 +21,33 @@ simmove OLD NEW CERT EVENTS  the same while nodes go over to new rows
 walk PLAN CERT NODE COUNT    the records that a walk over a node's terminus collects
 export linux|c|entries|records PLAN CERT NODE [--link BUS=DEV]..
                              what a node takes from the plan: a script, a C source, answers or records
-reach PLAN CERT              who reaches whom, and in how many hops
+reach PLAN CERT [--json]     who reaches whom, and in how many hops
 matrix PLAN CERT             the same as a table that a person reads
 require PLAN CERT WANTED     whether the nodes reach whom a text wants them to reach
-trace PLAN CERT FROM TO      the way of a packet from a node to another, or to an endpoint ID
+trace PLAN CERT FROM TO [--json]
+                             the way of a packet from a node to another, or to an endpoint ID
 draw PLAN [CERT] [--rows [EID]]
                              the planned network, or where its rows lead, as a drawing for Graphviz
-explain PLAN [CERT]          what certify says of the plan, or check of both, and why
+explain PLAN [CERT [EVENTS]] [--json]
+                             what certify says of the plan, or check of both, and why
 explain OLD --move NEW       what certifymove says of the move, and why
-faults PLAN [CERT]           every fault of the plan, or of both, and how many they are
+faults PLAN [CERT] [--json] [--sarif]
+                             every fault of the plan, or of both, and how many they are
 fix PLAN                     the plan with edits made, until it has a certificate
-lint PLAN                    what is lawful in the plan and still looks wrong, or clean
+lint PLAN [--json]           what is lawful in the plan and still looks wrong, or clean
 show packet HEX              what the bytes of a packet are
 show record HEX              what the bytes of a platform descriptor record are
-decode CAPTURE               what was captured of a bus: each packet, and what its message says
-audit PLAN CERT CAPTURE      what captured devices said, laid beside the plan
+decode CAPTURE [PLAN]        what was captured of a bus: each packet, and what its message says
+audit PLAN CERT CAPTURE [--bus BUS]
+                             what captured devices said, laid beside the plan
+emulate PLAN CERT NODE [--configured]
+                             a planned node that answers packets, line by line
+capture PLAN CERT EVENTS     what comes of events in the planned network, as a capture file
+report PLAN [CERT]           a page about the plan for a review, in HTML
 describe HEX..               every field of a record by its name, with the standard's words
 record KIND FIELD=VALUE..    the bytes of a record, from its fields
 code CODE                    what a code, as C08 or N03, means, and what to do
-schema plan|certificate|events|board
+schema plan|certificate|events|board|answer
                              the JSON schema of such a text, for an editor
 guide [COMMAND]              this list, or more on one command
 version                      which version this is, and which formats it reads
@@ -81,6 +89,9 @@ pub fn guide_to(command: &str) -> Option<&'static str> {
         "show" => Some(OF_SHOW),
         "decode" => Some(OF_DECODE),
         "audit" => Some(OF_AUDIT),
+        "emulate" => Some(OF_EMULATE),
+        "capture" => Some(OF_CAPTURE),
+        "report" => Some(OF_REPORT),
         "describe" => Some(OF_DESCRIBE),
         "record" => Some(OF_RECORD),
         "code" => Some(OF_CODE),
@@ -386,11 +397,11 @@ terminus, for records; or where the plan has no bus of a link.
   mctp neigh add 16 dev mctpi2c1 lladdr 0x11 # of riser
 "#;
 
-const OF_REACH: &str = r#"mctpplan reach PLAN CERT
+const OF_REACH: &str = r#"mctpplan reach PLAN CERT [--json]
 
 Prints for each two different nodes how many hops a packet of the first makes to the second, or
 none, and then how many pairs there are, how many have a way there, and how many of these have none
-back.
+back. With --json the same is one JSON value.
 
 Status 0: the pairs.
 Status 1: a fault of the plan or the certificate.
@@ -433,11 +444,11 @@ Status 2: here also where WANTED can't be read, and where.
   nic ssd
 "#;
 
-const OF_TRACE: &str = r#"mctpplan trace PLAN CERT FROM TO
+const OF_TRACE: &str = r#"mctpplan trace PLAN CERT FROM TO [--json]
 
 Prints the way of a packet that the node FROM sends, a line for each hop. TO is the name of a node,
 or else an endpoint ID, 8 to 254. The last line says that the packet arrives, or where it is dropped
-and why.
+and why. With --json the same is one JSON value.
 
 Status 0: the way, also where the packet doesn't arrive.
 Status 1: a fault of the plan or the certificate.
@@ -470,7 +481,7 @@ Status 1: a fault of the plan or the certificate, where there is a certificate.
       node_1 -> node_3 [label="1"];
 "#;
 
-const OF_EXPLAIN: &str = r#"mctpplan explain PLAN [CERT]
+const OF_EXPLAIN: &str = r#"mctpplan explain PLAN [CERT [EVENTS]] [--json]
 
 Prints the line that certify prints of the plan, with CERT that of check, and where in the plan's
 text that stands: the file, the line and the column, and the JSON pointer. Then it says why: the
@@ -483,8 +494,12 @@ last line says how many, and by which words faults lists them.
 In place of a certificate stands yes, how many nodes, buses, rows and records there are, and between
 which two nodes the certificate allows most hops. Of a plan or a certificate that can't be read it
 tells the line and column of the first fault, the JSON pointer, what stands there, and what may
-stand there; of a name that nothing has the nearest name, and of what stands twice both lines. Of a
-file that can't be opened it tells the path and the system's reason on standard error.
+stand there; of a name that nothing has the nearest name, and of what stands twice both lines. With
+EVENTS it does the same of a list of events that can't be read, where the certificate fits the plan.
+Of a file that can't be opened it tells the path and the system's reason on standard error.
+
+With --json all of this is one JSON value: the line, the places, the sentences, and the edits with
+what certify then prints. schema answer prints the JSON schema of such values.
 
 Status 0: nothing is wrong.
 Status 1: what is wrong, and why.
@@ -534,13 +549,16 @@ Status 2: here also why a text can't be read.
   Hint: look for several moves that lead there: mctpplan rollout examples/move/to-left.json examples/move/to-right.json
 "#;
 
-const OF_FAULTS: &str = r#"mctpplan faults PLAN [CERT]
+const OF_FAULTS: &str = r#"mctpplan faults PLAN [CERT] [--json] [--sarif]
 
 Prints every fault of the plan, with CERT of the plan and the certificate, a line each, and how many
 lines there are, or yes. Each line ends with the file, the line and the column of the value at fault
 in the plan's text. Faults at neighboring endpoint IDs of a row, a record or a node are one line.
 Where a plan has no fault itself and still no certificate, the line that certify prints of it is the
 only one.
+
+With --json the faults are one JSON value, and with --sarif a log of SARIF 2.1.0, by which a code
+review shows each fault at its line.
 
 Status 0: yes.
 Status 1: the faults.
@@ -576,10 +594,10 @@ Status 2: here also why a text can't be read, as explain says it.
   yes
 "#;
 
-const OF_LINT: &str = r#"mctpplan lint PLAN
+const OF_LINT: &str = r#"mctpplan lint PLAN [--json]
 
 Prints what is lawful in the plan and still looks wrong, a line each with a code, or clean. code
-tells what a code means.
+tells what a code means. With --json the findings are one JSON value.
 
 Status 0: clean.
 Status 1: what looks wrong.
@@ -610,12 +628,15 @@ Status 1: why the bytes are no record, D01 to D06.
   terminus 1 validity 1 tid 1 container 0 locator 1 value 10
 "#;
 
-const OF_DECODE: &str = r#"mctpplan decode CAPTURE
+const OF_DECODE: &str = r#"mctpplan decode CAPTURE [PLAN]
 
 Reads a capture file (pcap) or a text of hex lines, and prints a line for each entry with its
 number: the packet, and whether it is held, dropped or ends a message. Behind the last packet of a
 message stands what the message says. Packets to one destination are joined as its assembler would,
-16 messages at a time.
+16 messages at a time. With PLAN the names of the nodes that hold the endpoint IDs stand beside
+them. to one destination are joined as its assembler would, 16 messages at a time. With PLAN, which
+isn't checked, the line of a packet ends with the names of the nodes that hold its source and its
+destination.
 
 Status 0: the entries.
 Status 2: also where the capture can't be read to its end. What stands before is told.
@@ -628,19 +649,24 @@ Status 2: also where the capture can't be read to its end. What stands before is
   entries 2
 "#;
 
-const OF_AUDIT: &str = r#"mctpplan audit PLAN CERT CAPTURE
+const OF_AUDIT: &str = r#"mctpplan audit PLAN CERT CAPTURE [--bus BUS]
 
 Reads a capture as decode does, and prints what the answers of each node say beside the plan, in the
 plan's order: first of its routing table, then of its endpoint ID and type, then of its pool, then
-of its records. Of a node without an answer it says not captured, which is no difference. The rest
-of the traffic isn't compared. The last line says whether all is as planned, or how many lines tell
-a difference.
+of its records. Of a node without an answer it says not captured, which is no difference. Then it
+tells which packets the plan doesn't have: from or to an endpoint ID that no node holds, and between
+two nodes without a way. With --bus the capture was taken on that bus, and a packet whose planned
+way doesn't go over it is told too. The last line says whether all is as planned, or how many lines
+tell a difference. an answer it says not captured, which is no difference. Behind them it tells the
+packets that the plan doesn't have: from or to an endpoint ID that no node holds, or between two
+nodes without a way. With --bus the capture was taken on that bus of the plan, and the way has to go
+over it. The last line says whether all is as planned, or how many lines tell a difference.
 
 Status 0: audit match.
 Status 1: audit differs and how many lines tell a difference; or the first fault of the plan and its
 certificate.
-Status 2: also where the capture can't be read to its end. What stands before is told, and last
-audit incomplete and how many lines of it tell a difference.
+Status 2: also where the plan has no bus of the name, or where the capture can't be read to its end.
+What stands before is told, and last audit incomplete and how many lines of it tell a difference.
 
   $ mctpplan audit examples/riser/plan.json examples/riser/certificate.json examples/captures/lost-row.txt
   host not captured
@@ -650,6 +676,55 @@ audit incomplete and how many lines of it tell a difference.
   nic eid match 17
   ssd not captured
   audit differs 1
+"#;
+
+const OF_EMULATE: &str = r#"mctpplan emulate PLAN CERT NODE [--configured]
+
+Reads a line a packet from standard input, the name of a bus and the packet in hex, and prints what
+the node sends for it, in lines of the same form, before it reads the next one. The node answers
+control messages with its planned routing table and requests for records with its planned records,
+and a bridge sends on what is for others by its rows. With --configured it has its endpoint ID and
+its pool from the start; otherwise they are given to it, as assign does. On standard error a line
+that begins with # says of what nothing comes, and why.
+
+Status 0: standard input has ended.
+Status 1: a fault of the plan or the certificate.
+Status 2: also where the plan has no node of the name.
+
+  $ echo "b1 011110c8008002" | \
+        mctpplan emulate examples/riser/plan.json examples/riser/certificate.json nic --configured
+  b1 011011c000000200110000
+"#;
+
+const OF_CAPTURE: &str = r#"mctpplan capture PLAN CERT EVENTS
+
+Plays events as sim does, and prints a capture file (pcap, Linux cooked capture v2) with a packet
+for each hop: at the second that is the event's number, over the interface that is the bus's number
+in the plan, from 1, with the physical address of the node that sends it. decode reads it, and so do
+the usual tools.
+
+Status 0: the capture file.
+Status 1: a fault of the plan or the certificate.
+
+  $ mctpplan capture examples/riser/plan.json examples/riser/certificate.json examples/riser/events-to-ssd.json > run.pcap
+  $ mctpplan decode run.pcap examples/riser/plan.json
+  1 whole packet reserved 0 destination 18 source 8 som 1 eom 1 number 0 owner 1 tag 3 payload 01800002 from host to ssd
+  pldm request instance 0 type 0 command 2 data 
+  2 whole packet reserved 0 destination 18 source 8 som 1 eom 1 number 0 owner 1 tag 3 payload 01800002 from host to ssd
+  pldm request instance 0 type 0 command 2 data 
+  entries 2
+"#;
+
+const OF_REPORT: &str = r#"mctpplan report PLAN [CERT]
+
+Prints one HTML page that needs no other file: what certify says of the plan, with CERT what check
+says of both; the network as a picture; its buses, nodes, rows, pools and records; in how many hops
+who reaches whom; what lint finds; and what is promised of the plan and what is not.
+
+Status 0: the page of a plan that has a certificate, with CERT of one that it fits.
+Status 1: the page of another plan.
+
+  $ mctpplan report examples/riser/plan.json examples/riser/certificate.json > report.html
 "#;
 
 const OF_DESCRIBE: &str = r#"mctpplan describe HEX..
@@ -696,11 +771,11 @@ Status 0: the text.
   Hint: a packet has at least one payload byte.
 "#;
 
-const OF_SCHEMA: &str = r#"mctpplan schema plan|certificate|events|board
+const OF_SCHEMA: &str = r#"mctpplan schema plan|certificate|events|board|answer
 
-Prints the JSON schema (draft 2020-12) of a plan, a certificate, a list of events or a board. An
-editor that knows it completes the keys and marks most mistakes. Editors of TOML take the schema of
-a board too.
+Prints the JSON schema (draft 2020-12) of a plan, a certificate, a list of events, a board, or what
+is answered with --json. An editor that knows it completes the keys and marks most mistakes. Editors
+of TOML take the schema of a board too.
 
 Status 0: the schema.
 
@@ -715,10 +790,10 @@ example.
 Status 0: the text.
 
   $ mctpplan guide lint
-  mctpplan lint PLAN
+  mctpplan lint PLAN [--json]
 
   Prints what is lawful in the plan and still looks wrong, a line each with a code, or clean. code
-  tells what a code means.
+  tells what a code means. With --json the findings are one JSON value.
 
   Status 0: clean.
   Status 1: what looks wrong.

@@ -7,6 +7,7 @@ pub fn schema_of(kind: &str) -> Option<&'static str> {
         "certificate" => Some(CERTIFICATE),
         "events" => Some(EVENTS),
         "board" => Some(BOARD),
+        "answer" => Some(ANSWER),
         _ => None,
     }
 }
@@ -891,6 +892,481 @@ const BOARD: &str = r##"{
       },
       "oneOf": [{ "required": ["hex"] }, { "required": ["file"] }, { "required": ["type"] }],
       "additionalProperties": { "anyOf": [{ "$ref": "#/$defs/field" }, { "type": "array", "maxItems": 256, "items": { "$ref": "#/$defs/field" } }] }
+    }
+  }
+}
+"##;
+
+const ANSWER: &str = r##"{
+  "$schema": "https://json-schema.org/draft/2020-12/schema",
+  "title": "An answer of mctpplan in JSON",
+  "description": "What explain, faults, lint, reach and trace print with --json: one value, in one line.",
+  "type": "object",
+  "properties": {
+    "format": {
+      "const": 1
+    },
+    "command": {
+      "enum": [
+        "explain",
+        "faults",
+        "lint",
+        "reach",
+        "trace"
+      ]
+    },
+    "status": {
+      "description": "The exit status: 0, 1 where there is a fault, 2 where a file can't be read or a name is unknown.",
+      "enum": [
+        0,
+        1,
+        2
+      ]
+    },
+    "results": {
+      "description": "All that is wrong; empty where nothing is.",
+      "type": "array",
+      "items": {
+        "$ref": "#/$defs/note"
+      }
+    },
+    "edits": true,
+    "more": true,
+    "sentences": true,
+    "plan": true,
+    "pairs": {
+      "description": "Of reach: each two different nodes.",
+      "type": "array",
+      "items": {
+        "$ref": "#/$defs/pair"
+      }
+    },
+    "way": {
+      "$ref": "#/$defs/way"
+    }
+  },
+  "required": [
+    "format",
+    "command",
+    "status",
+    "results"
+  ],
+  "additionalProperties": false,
+  "allOf": [
+    {
+      "if": {
+        "properties": {
+          "status": {
+            "const": 0
+          }
+        }
+      },
+      "then": {
+        "properties": {
+          "results": {
+            "maxItems": 0
+          }
+        }
+      },
+      "else": {
+        "properties": {
+          "results": {
+            "minItems": 1
+          }
+        }
+      }
+    },
+    {
+      "if": {
+        "properties": {
+          "command": {
+            "const": "explain"
+          },
+          "status": {
+            "enum": [
+              0,
+              1
+            ]
+          }
+        }
+      },
+      "then": {
+        "properties": {
+          "command": {
+            "const": "explain"
+          },
+          "edits": {
+            "type": "array",
+            "items": {
+              "$ref": "#/$defs/edit"
+            },
+            "maxItems": 3
+          },
+          "more": {
+            "description": "How many more runs of faults there are; faults lists them.",
+            "type": "integer",
+            "minimum": 0
+          },
+          "sentences": {
+            "type": "array",
+            "items": {
+              "type": "string"
+            }
+          },
+          "plan": {
+            "description": "Where the certificate alone is at fault: what explains the plan by itself.",
+            "oneOf": [
+              {
+                "type": "null"
+              },
+              {
+                "$ref": "#"
+              }
+            ]
+          }
+        },
+        "required": [
+          "edits",
+          "more",
+          "sentences",
+          "plan"
+        ]
+      },
+      "else": {
+        "properties": {
+          "edits": false,
+          "more": false,
+          "sentences": false,
+          "plan": false
+        }
+      }
+    },
+    {
+      "if": {
+        "properties": {
+          "command": {
+            "const": "reach"
+          },
+          "status": {
+            "const": 0
+          }
+        }
+      },
+      "then": {
+        "required": [
+          "pairs"
+        ]
+      },
+      "else": {
+        "properties": {
+          "pairs": false
+        }
+      }
+    },
+    {
+      "if": {
+        "properties": {
+          "command": {
+            "const": "trace"
+          },
+          "status": {
+            "const": 0
+          }
+        }
+      },
+      "then": {
+        "required": [
+          "way"
+        ]
+      },
+      "else": {
+        "properties": {
+          "way": false
+        }
+      }
+    }
+  ],
+  "$defs": {
+    "eid": {
+      "description": "An endpoint ID.",
+      "type": "integer",
+      "minimum": 0,
+      "maximum": 255
+    },
+    "node": {
+      "description": "A node: its index in the plan's list, from 0, and its name.",
+      "type": "object",
+      "properties": {
+        "index": {
+          "type": "integer",
+          "minimum": 0
+        },
+        "name": {
+          "type": "string"
+        }
+      },
+      "required": [
+        "index",
+        "name"
+      ],
+      "additionalProperties": false
+    },
+    "place": {
+      "description": "Where a value begins in the text of a file. What is not known is null.",
+      "type": "object",
+      "properties": {
+        "file": {
+          "description": "The file's name, as the command was given it.",
+          "type": "string"
+        },
+        "line": {
+          "type": [
+            "integer",
+            "null"
+          ],
+          "minimum": 1
+        },
+        "column": {
+          "type": [
+            "integer",
+            "null"
+          ],
+          "minimum": 1,
+          "description": "The character of the line."
+        },
+        "pointer": {
+          "type": [
+            "string",
+            "null"
+          ],
+          "description": "The JSON pointer (RFC 6901) to the value; the whole text has an empty one."
+        }
+      },
+      "required": [
+        "file",
+        "line",
+        "column",
+        "pointer"
+      ],
+      "additionalProperties": false
+    },
+    "note": {
+      "description": "What is wrong: a fault or a run of faults, what else rules certificates out, a finding, or a text that can't be read.",
+      "type": "object",
+      "properties": {
+        "kind": {
+          "enum": [
+            "fault",
+            "owner loop",
+            "loop",
+            "chain",
+            "finding",
+            "unreadable"
+          ]
+        },
+        "code": {
+          "description": "C01 to C16, H01 to H19, J01 to J09, or file where a file can't be opened or read.",
+          "type": "string",
+          "pattern": "^([CHJ][0-9]{2}|file)$"
+        },
+        "nodes": {
+          "type": "array",
+          "items": {
+            "$ref": "#/$defs/node"
+          }
+        },
+        "entry": {
+          "type": [
+            "integer",
+            "null"
+          ],
+          "minimum": 0,
+          "description": "The index of the row in the node's list, or of the record in its terminus's."
+        },
+        "eids": {
+          "description": "The endpoint IDs of a run of faults, from the first to the last.",
+          "oneOf": [
+            {
+              "type": "null"
+            },
+            {
+              "type": "object",
+              "properties": {
+                "first": {
+                  "$ref": "#/$defs/eid"
+                },
+                "last": {
+                  "$ref": "#/$defs/eid"
+                }
+              },
+              "required": [
+                "first",
+                "last"
+              ],
+              "additionalProperties": false
+            }
+          ]
+        },
+        "place": {
+          "$ref": "#/$defs/place"
+        },
+        "related": {
+          "description": "Where the others stand that are involved.",
+          "type": "array",
+          "items": {
+            "$ref": "#/$defs/place"
+          }
+        },
+        "sentences": {
+          "description": "The lines that the command prints of it without --json.",
+          "type": "array",
+          "items": {
+            "type": "string"
+          }
+        }
+      },
+      "required": [
+        "kind",
+        "code",
+        "nodes",
+        "entry",
+        "eids",
+        "place",
+        "related",
+        "sentences"
+      ],
+      "additionalProperties": false
+    },
+    "edit": {
+      "description": "An edit that was tried, as an operation of a JSON patch (RFC 6902).",
+      "type": "object",
+      "properties": {
+        "op": {
+          "enum": [
+            "add",
+            "remove",
+            "replace"
+          ]
+        },
+        "path": {
+          "description": "The JSON pointer into the plan's text.",
+          "type": "string"
+        },
+        "value": {
+          "description": "What is to stand there; null also where a row is removed.",
+          "type": [
+            "integer",
+            "null",
+            "object",
+            "string"
+          ]
+        },
+        "sentences": {
+          "type": "array",
+          "items": {
+            "type": "string"
+          }
+        },
+        "left": {
+          "type": [
+            "string",
+            "null"
+          ],
+          "description": "What first rules certificates out once just this edit is made; null where one fits then."
+        }
+      },
+      "required": [
+        "op",
+        "path",
+        "value",
+        "sentences",
+        "left"
+      ],
+      "additionalProperties": false
+    },
+    "pair": {
+      "type": "object",
+      "properties": {
+        "from": {
+          "$ref": "#/$defs/node"
+        },
+        "to": {
+          "$ref": "#/$defs/node"
+        },
+        "hops": {
+          "type": [
+            "integer",
+            "null"
+          ],
+          "minimum": 0,
+          "description": "How many hops a packet makes; null where there is no way."
+        }
+      },
+      "required": [
+        "from",
+        "to",
+        "hops"
+      ],
+      "additionalProperties": false
+    },
+    "step": {
+      "type": "object",
+      "properties": {
+        "node": {
+          "$ref": "#/$defs/node"
+        },
+        "next": {
+          "$ref": "#/$defs/node"
+        },
+        "port": {
+          "type": "integer",
+          "minimum": 0,
+          "maximum": 255
+        },
+        "place": {
+          "$ref": "#/$defs/place"
+        }
+      },
+      "required": [
+        "node",
+        "next",
+        "port",
+        "place"
+      ],
+      "additionalProperties": false
+    },
+    "way": {
+      "description": "The way of a packet. It ends at the last node, which takes the packet where stops is null.",
+      "type": "object",
+      "properties": {
+        "eid": {
+          "$ref": "#/$defs/eid"
+        },
+        "steps": {
+          "type": "array",
+          "items": {
+            "$ref": "#/$defs/step"
+          }
+        },
+        "last": {
+          "$ref": "#/$defs/node"
+        },
+        "stops": {
+          "type": [
+            "string",
+            "null"
+          ],
+          "description": "The code for which the last node drops the packet.",
+          "pattern": "^B1[0-2]$"
+        }
+      },
+      "required": [
+        "eid",
+        "steps",
+        "last",
+        "stops"
+      ],
+      "additionalProperties": false
     }
   }
 }

@@ -5,7 +5,7 @@ use std::alloc::{AllocError, Global};
 use std::test::Fail;
 
 /// Lists of words with bars between, the program's name first.
-const USAGE: [&str; 95] = [
+const USAGE: [&str; 108] = [
     "mctpplan",
     "mctpplan|",
     "mctpplan||a|b",
@@ -29,7 +29,13 @@ const USAGE: [&str; 95] = [
     "mctpplan|certify",
     "mctpplan|certify|a|b",
     "mctpplan|explain",
-    "mctpplan|explain|a|b|c",
+    "mctpplan|explain|a|b|c|d",
+    "mctpplan|explain|a|b|c|--json",
+    "mctpplan|explain|a|b|c|--move|d",
+    "mctpplan|explain|a|--move|b|--json",
+    "mctpplan|faults|a|--json|--sarif",
+    "mctpplan|lint|a|--sarif",
+    "mctpplan|reach|a|--json",
     "mctpplan|explain|--move|b",
     "mctpplan|explain|a|--move",
     "mctpplan|explain|a|b|--move|c",
@@ -65,7 +71,14 @@ const USAGE: [&str; 95] = [
     "mctpplan|fix",
     "mctpplan|fix|a|b",
     "mctpplan|decode",
-    "mctpplan|decode|a|b",
+    "mctpplan|decode|a|b|c",
+    "mctpplan|audit|a|b|c|--bus",
+    "mctpplan|capture|a|b",
+    "mctpplan|emulate|a|b",
+    "mctpplan|emulate|-|b|nic",
+    "mctpplan|emulate|a|b|nic|--configured|c",
+    "mctpplan|report",
+    "mctpplan|report|a|b|c",
     "mctpplan|assign|a",
     "mctpplan|move|a|b",
     "mctpplan|move|a|b|c|d",
