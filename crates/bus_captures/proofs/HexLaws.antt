@@ -89,10 +89,6 @@ byte_splits text behind left b c byte e f other is =
       back = λ more h. inr (inr (byte, more, is, refl, h));
     })
 
--- a text of one byte that is other space is other hex
-pub one_byte_is_none : (text behind : List ℕ) (b : ℕ) → text ≡ b ∷ behind → behind ≡ [] → is_space b ≡ false → (bytes : List ℕ) → IsHex text bytes → ⊥
-one_byte_is_none text behind b e f other bytes h = let k = rw (e, f) at h in let space = k.0 in cc
-
 -- two bytes that are other space, other mark and other digits are other hex
 pub two_bytes_are_none : (text behind left : List ℕ) (b c : ℕ) → text ≡ b ∷ behind → behind ≡ c ∷ left → is_space b ≡ false → ((b ≡ 48) × (c ≡ 120) → ⊥)
     → ((byte : ℕ) → IsByte b c byte → ⊥) → (bytes : List ℕ) → IsHex text bytes → ⊥

@@ -64,9 +64,6 @@ pub record HasRead (text : List ℕ) (entries : List EntryValue) (place : ℕ) (
   pub each : AreEntries done entries
   pub counted : place ≡ length done
 
-pub nothing_read : (text : List ℕ) → HasRead text [] 0 (lines_of text)
-nothing_read text = record { done = []; spelled = refl; each = refl; counted = refl }
-
 -- one more line is read
 pub line_read : (text line : List ℕ) (place : ℕ) (left rest : List (List ℕ)) (old new : List Entry)
     → HasRead text (map entry_value old) place left → left ≡ line ∷ rest → IsAdded line old new added.Done
@@ -93,17 +90,6 @@ ends_full text line place left rest old new read first added =
       spelled = read.spelled;
       each = read.each;
       ends = (length-map old entry_value ∙ added.1, (line, rest, added.0.0, first, added.0.1));
-    })
-
-pub ends_broken : (text line : List ℕ) (place : ℕ) (left rest : List (List ℕ)) (old new : List Entry)
-    → HasRead text (map entry_value old) place left → left ≡ line ∷ rest → IsAdded line old new added.Bad → IsText text (map entry_value new) (end.Broken (place + 1) fault.Line)
-ends_broken text line place left rest old new read first added =
-    rw added.1 (record {
-      done = read.done;
-      left = left;
-      spelled = read.spelled;
-      each = read.each;
-      ends = (ap (λ n. n + 1) read.counted, refl, (line, rest, first, added.0));
     })
 
 -- the first line, whatever stands behind it

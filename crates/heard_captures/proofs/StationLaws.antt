@@ -1,19 +1,20 @@
 -- A packet for one of the assemblers.
-use Rattle.std.proofs.Common.{◌≡◌, ℕ, ◌<◌, List, length, ◌∙◌, sym, subst, slice_index_or, slice_set, refl}
-use Rattle.std.specs.Prelude.{Result, Ok, Err, IfOk}
+use Rattle.std.proofs.Common.{◌≡◌, Global, ℕ, ◌<◌, All, List, length, arith, ◌∙◌, sym, subst, slice_index_or, slice_set, refl}
+use Rattle.std.specs.Prelude.{Result, Ok, Err, IfOk, Vec}
 use Rattle.std.proofs.lemmas.List.{get_or_default}
-use Rattle.mctp_transport.specs.Assembly.{StandsFor, assembler_slots, assembler_limit}
-use Rattle.mctp_transport.specs.Frames.{Frame}
+use Rattle.mctp_transport.specs.Assembly.{HoldsHistory, assembler_slots, assembler_limit}
+use Rattle.mctp_transport.specs.PacketValues.{PacketValue}
+use Rattle.mctp_transport.specs.Heard.{IsIdle}
 use Rattle.mctp_transport.specs.Hearing.{Answer, HearsOnly}
 use Rattle.mctp_transport.specs.Histories.{History, Arrived, after}
 use Rattle.mctp_transport.specs.declared.assembler.Assembler.{Assembler}
-use Rattle.heard_captures.specs.Stations.{HasBeenGiven, IsFedAt}
+use Rattle.heard_captures.specs.Stations.{AreIdle, HasBeenGiven, IsFedAt}
 
-fed_at : (old new : List Assembler) (p : Frame) (answer : Answer) (before fed : Assembler) → p.destination < length old
+fed_at : (old new : List Assembler) (p : PacketValue) (answer : Answer) (before fed : Assembler) → p.destination < length old
     → before ≡ slice_index_or old p.destination before → new ≡ slice_set old p.destination fed
     → assembler_slots fed ≡ assembler_slots before → assembler_limit fed ≡ assembler_limit before
-    → ((h : History) → StandsFor before h → HearsOnly (assembler_slots before) (assembler_limit before) h p answer)
-    → ((h : History) → StandsFor before h → StandsFor fed (after h (Arrived p))) → IsFedAt old new p answer
+    → ((h : History) → HoldsHistory before h → HearsOnly (assembler_slots before) (assembler_limit before) h p answer)
+    → ((h : History) → HoldsHistory before h → HoldsHistory fed (after h (Arrived p))) → IsFedAt old new p answer
 fed_at old new p answer before fed within there others slots limit hears stands =
     let same : (x : Assembler) → slice_index_or old p.destination x ≡ before =
     λ x. get_or_default old p.destination x before within ∙ sym there in
@@ -32,11 +33,17 @@ fed_at old new p answer before fed within there others slots limit hears stands 
     }
 
 -- where an answer comes
-pub fed_at_if : {T E : Type 0} (answer_of : T → Answer) (old new : List Assembler) (p : Frame) (result : Result T E) (before fed : Assembler)
+pub fed_at_if : {T E : Type 0} (answer_of : T → Answer) (old new : List Assembler) (p : PacketValue) (result : Result T E) (before fed : Assembler)
     → p.destination < length old → before ≡ slice_index_or old p.destination before → new ≡ slice_set old p.destination fed
     → assembler_slots fed ≡ assembler_slots before → assembler_limit fed ≡ assembler_limit before
-    → IfOk result (λ t. (h : History) → StandsFor before h → HearsOnly (assembler_slots before) (assembler_limit before) h p (answer_of t))
-    → ((h : History) → StandsFor before h → StandsFor fed (after h (Arrived p))) → IfOk result (λ t. IsFedAt old new p (answer_of t))
+    → IfOk result (λ t. (h : History) → HoldsHistory before h → HearsOnly (assembler_slots before) (assembler_limit before) h p (answer_of t))
+    → ((h : History) → HoldsHistory before h → HoldsHistory fed (after h (Arrived p))) → IfOk result (λ t. IsFedAt old new p (answer_of t))
 fed_at_if answer_of old new p (Ok t) before fed within there others slots limit hears stands =
     fed_at old new p (answer_of t) before fed within there others slots limit hears stands
 fed_at_if answer_of old new p (Err e) before fed within there others slots limit hears stands = hears
+
+-- idle assemblers, as many as there are destinations
+pub idle_given : {E : Type 0} (result : Result (Vec Assembler Global) E) → IfOk result (λ v. length v.items ≡ 256) → IfOk result (λ v. All IsIdle v.items)
+    → IfOk result (λ v. AreIdle v.items)
+idle_given (Ok v) many idle = record { many = many; each = λ d x small. let is = idle d x (omega (arith, many)) in (is.2, is.0, is.1) }
+idle_given (Err e) many idle = many

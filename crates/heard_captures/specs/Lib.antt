@@ -1,4 +1,3 @@
-pub mod Heard
 pub mod Stations
 pub mod Seen
 pub mod Sights

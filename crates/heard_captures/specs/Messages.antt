@@ -2,7 +2,7 @@
 use Rattle.std.specs.Prelude.{◌≡◌, ℕ, Bool, List, [], ◌∷◌, ◌++◌, map}
 use Rattle.std.specs.List.{flat_map}
 use Rattle.bus_captures.specs.Values.{EntryValue}
-use Rattle.mctp_transport.specs.Frames.{Frame}
+use Rattle.mctp_transport.specs.PacketValues.{PacketValue}
 use Rattle.mctp_transport.specs.Hearing.{Answer, Whole, Held, Dropped}
 use Rattle.mctp_transport.specs.declared.assembler.Assembler.{Assembler}
 use Rattle.heard_captures.specs.Seen.{Seen, Fed, NoPacket, Told, Other, AreSeen}
@@ -27,7 +27,7 @@ message_value m = record {
 }
 
 -- the message that a packet ended, if it ended one; its header is that of its last packet
-abbrev pub ended_by : Frame → Answer → List MessageValue
+abbrev pub ended_by : PacketValue → Answer → List MessageValue
 ended_by p (Whole bytes) =
     record { source = p.source; destination = p.destination; owner = p.owner; tag = p.tag; bytes = bytes } ∷ []
 ended_by p Held = []
@@ -45,11 +45,12 @@ abbrev pub messages_in : List Seen → List MessageValue
 messages_in seen = flat_map messages_of seen
 
 -- the entry was seen, and the messages that it ended were added
-pub record HearsMore (old new : List Assembler) (e : EntryValue) (before after : List Message) : Type 0 where
+pub record HearsMore (unit : ℕ) (old new : List Assembler) (e : EntryValue)
+    (before after : List Message) : Type 0 where
   pub seen : Seen
-  pub sees : Sees old new e seen
+  pub sees : Sees unit old new e seen
   pub added : map message_value after ≡ map message_value before ++ messages_of seen
 
--- the messages are those of the entries that came whole
-abbrev pub AreHeard : List EntryValue → List MessageValue → Type 0
-AreHeard entries messages = (seen : List Seen) × AreSeen entries seen × (messages ≡ messages_in seen)
+-- the messages are those of the entries that came whole, in packets under a transmission unit
+abbrev pub AreHeard : (unit : ℕ) → List EntryValue → List MessageValue → Type 0
+AreHeard unit entries messages = (seen : List Seen) × AreSeen unit entries seen × (messages ≡ messages_in seen)

@@ -5,7 +5,7 @@ use Rattle.bus_captures.specs.declared.capture.Direction.{Direction}
 use Rattle.bus_captures.specs.declared.capture.Kind.TheVariants as kind
 use Rattle.mctp_transport.specs.declared.packet_error.PacketError.{PacketError}
 use Rattle.mctp_transport.specs.declared.packet_error.PacketError.TheVariants as packet
-use Rattle.mctp_transport.specs.Frames.{Frame, Spelled}
+use Rattle.mctp_transport.specs.PacketValues.{PacketValue, Spelled}
 use Rattle.mctp_transport.specs.Hearing.{Answer, HearsOnly}
 use Rattle.mctp_transport.specs.Histories.{History, Arrived}
 use Rattle.mctp_transport.specs.Refusals as refusals
@@ -13,7 +13,7 @@ use Rattle.mctp_transport.specs.Refusals as refusals
 -- what became of an entry: a packet and what its assembler made of it, bytes that are no packet and why, a message,
 -- or something of another protocol
 pub data Seen : Type 0 where
-  Fed : Frame → Answer → Seen
+  Fed : PacketValue → Answer → Seen
   NoPacket : PacketError → Seen
   Told : Option Direction → List ℕ → Seen
   Other : ℕ → Seen
@@ -26,25 +26,25 @@ history_to d (NoPacket why ∷ seen) = history_to d seen
 history_to d (Told way message ∷ seen) = history_to d seen
 history_to d (Other protocol ∷ seen) = history_to d seen
 
--- why bytes are no packet: the first of the causes
-abbrev pub IsNoPacketFor : PacketError → List ℕ → Type 0
-IsNoPacketFor packet.Short bytes = refusals.IsShort bytes
-IsNoPacketFor packet.Empty bytes = ¬ refusals.IsShort bytes × refusals.IsEmpty bytes
-IsNoPacketFor packet.Long bytes = refusals.IsLong 64 bytes
-IsNoPacketFor packet.Version bytes =
-    ¬ refusals.IsShort bytes × ¬ refusals.IsEmpty bytes × ¬ refusals.IsLong 64 bytes × refusals.HasOtherVersion bytes
+-- why bytes are no packet under a transmission unit: the first of the causes
+abbrev pub IsNoPacketFor : (unit : ℕ) → PacketError → List ℕ → Type 0
+IsNoPacketFor unit packet.Short bytes = refusals.IsShort bytes
+IsNoPacketFor unit packet.Empty bytes = ¬ refusals.IsShort bytes × refusals.IsEmpty bytes
+IsNoPacketFor unit packet.Long bytes = refusals.IsLong unit bytes
+IsNoPacketFor unit packet.Version bytes =
+    ¬ refusals.IsShort bytes × ¬ refusals.IsEmpty bytes × ¬ refusals.IsLong unit bytes × refusals.HasOtherVersion bytes
 
--- This became of the entry where that was seen before: its packet was given to the assembler of its destination, which
--- had been given the earlier packets to that destination and nothing else.
-abbrev pub IsSeen : List Seen → EntryValue → Seen → Type 0
-IsSeen before e (Fed p answer) =
-    (e.kind ≡ kind.Packet) × Spelled 64 p e.bytes × HearsOnly 16 4096 (history_to p.destination before) p answer
-IsSeen before e (NoPacket why) = (e.kind ≡ kind.Packet) × IsNoPacketFor why e.bytes
-IsSeen before e (Told way message) = (e.kind ≡ kind.Message) × (way ≡ e.direction) × (message ≡ e.bytes)
-IsSeen before e (Other protocol) = e.kind ≡ kind.Other protocol
+-- This became of the entry under a transmission unit where that was seen before: its packet was given to the assembler
+-- of its destination, which had been given the earlier packets to that destination and nothing else.
+abbrev pub IsSeen : (unit : ℕ) → List Seen → EntryValue → Seen → Type 0
+IsSeen unit before e (Fed p answer) =
+    (e.kind ≡ kind.Packet) × Spelled unit p e.bytes × HearsOnly 16 4096 (history_to p.destination before) p answer
+IsSeen unit before e (NoPacket why) = (e.kind ≡ kind.Packet) × IsNoPacketFor unit why e.bytes
+IsSeen unit before e (Told way message) = (e.kind ≡ kind.Message) × (way ≡ e.direction) × (message ≡ e.bytes)
+IsSeen unit before e (Other protocol) = e.kind ≡ kind.Other protocol
 
 -- these became of the entries, one after the other
-pub data AreSeen : List EntryValue → List Seen → Type 0 where
-  None : AreSeen [] []
+pub data AreSeen (unit : ℕ) : List EntryValue → List Seen → Type 0 where
+  None : AreSeen unit [] []
   More : (entries : List EntryValue) (seen : List Seen) (e : EntryValue) (s : Seen)
-      → AreSeen entries seen → IsSeen seen e s → AreSeen (entries ++ e ∷ []) (seen ++ s ∷ [])
+      → AreSeen unit entries seen → IsSeen unit seen e s → AreSeen unit (entries ++ e ∷ []) (seen ++ s ∷ [])

@@ -1,13 +1,12 @@
 -- What became of an entry, wherever its bytes lie.
-use Rattle.bus_captures.specs.declared.capture.Direction.{Direction}
-use Rattle.mctp_transport.specs.Packets.{frame_of}
-use Rattle.heard_captures.specs.Heard.{heard_answer}
+use Rattle.mctp_transport.specs.Packets.{packet_value_of}
+use Rattle.mctp_transport.specs.Heard.{heard_answer}
 use Rattle.heard_captures.specs.Seen.{Seen, Fed, NoPacket, Told, Other}
 use Rattle.heard_captures.specs.declared.seeing.Sight.{Sight}
 use Rattle.heard_captures.specs.declared.seeing.Sight.TheVariants as sight
 
 abbrev pub seen_of : Sight → Seen
-seen_of (sight.Fed packet heard) = Fed (frame_of packet) (heard_answer heard)
+seen_of (sight.Fed packet heard) = Fed (packet_value_of packet) (heard_answer heard)
 seen_of (sight.NoPacket why) = NoPacket why
 seen_of (sight.Told way message) = Told way message.now
 seen_of (sight.Other protocol) = Other protocol

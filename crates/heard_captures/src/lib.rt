@@ -6,7 +6,7 @@ mod laws;
 mod messages;
 mod seeing;
 
-pub use assembling::{Heard, idle_assemblers};
+pub use assembling::idle_assemblers;
 pub use laws::one_entry_more;
 pub use messages::{Message, heard_messages};
 pub use seeing::{Sight, see};

@@ -1,15 +1,16 @@
 //! The messages of a capture that came whole.
 ghost use Rattle.std.specs.Prelude.{◌≡◌, ◌++◌, IfOk, OnOk, map, length};
 ghost use Rattle.bus_captures.specs.Values.{entry_value};
-ghost use Rattle.mctp_transport.specs.Packets.{frame_of};
-ghost use Rattle.heard_captures.specs.Heard.{heard_answer};
+ghost use Rattle.mctp_transport.specs.PacketValues.{IsUnit};
+ghost use Rattle.mctp_transport.specs.Heard.{heard_answer};
+ghost use Rattle.mctp_transport.specs.Packets.{packet_value_of};
 ghost use Rattle.heard_captures.specs.Messages.{message_value, messages_of, ended_by, HearsMore, AreHeard};
 ghost use Rattle.heard_captures.specs.Sights.{seen_of};
 
-use crate::assembling::{Heard, idle_assemblers};
+use crate::assembling::idle_assemblers;
 use crate::seeing::{Sight, see};
 use bus_captures::{Capture, Entry};
-use mctp_transport::{Assembler, Eid, PacketView, Tag};
+use mctp_transport::{Assembler, Eid, Heard, PacketView, Tag};
 use std::alloc::{AllocError, Global};
 
 /// A message that came whole in packets.
@@ -26,16 +27,22 @@ pub struct Message {
     pub bytes: Vec<u8>,
 }
 
-/// The messages of a capture that came whole, in the order of the packets that ended them.
+/// The messages of a capture that came whole, in the order of the packets that ended them, under a transmission unit of
+/// 64 to 1024 bytes.
 ///
 /// The packets to one destination are joined by an assembler of 16 slots for messages of at most 4096 bytes.
-pub fn heard_messages(alloc: Global, capture: &Capture) -> Result<Vec<Message>, AllocError>
-    ensures { IfOk result (λ messages. AreHeard (map entry_value capture.now.entries.items) (map message_value messages.items)) }
+pub fn heard_messages(
+    alloc: Global,
+    unit: usize,
+    capture: &Capture,
+) -> Result<Vec<Message>, AllocError>
+    requires { IsUnit unit }
+    ensures { IfOk result (λ messages. AreHeard unit (map entry_value capture.now.entries.items) (map message_value messages.items)) }
 {
     let mut assemblers = idle_assemblers(alloc)?;
     let mut messages = Vec::new(alloc);
     for entry in capture.entries.iter() {
-        hear(alloc, &mut assemblers, entry, &mut messages)?;
+        hear(alloc, &mut assemblers, unit, entry, &mut messages)?;
     }
     Ok(messages)
 }
@@ -44,13 +51,15 @@ pub fn heard_messages(alloc: Global, capture: &Capture) -> Result<Vec<Message>, 
 fn hear(
     alloc: Global,
     assemblers: &mut Vec<Assembler>,
+    unit: usize,
     entry: &Entry,
     messages: &mut Vec<Message>,
 ) -> Result<(), AllocError>
-    requires { length assemblers.old.items ≡ 256 }
-    ensures { OnOk result (HearsMore assemblers.old.items assemblers.new.items (entry_value entry.now) messages.old.items messages.new.items) }
+    requires assemblers { length assemblers.old.items ≡ 256 }
+    requires unit { IsUnit unit }
+    ensures { OnOk result (HearsMore unit assemblers.old.items assemblers.new.items (entry_value entry.now) messages.old.items messages.new.items) }
 {
-    let sight = see(alloc, assemblers, entry)?;
+    let sight = see(alloc, assemblers, unit, entry)?;
     add_ended(messages, sight)
 }
 
@@ -70,7 +79,7 @@ fn add_heard(
     packet: &PacketView,
     heard: Heard,
 ) -> Result<(), AllocError>
-    ensures { OnOk result (map message_value messages.new.items ≡ map message_value messages.old.items ++ ended_by (frame_of packet.now) (heard_answer heard)) }
+    ensures { OnOk result (map message_value messages.new.items ≡ map message_value messages.old.items ++ ended_by (packet_value_of packet.now) (heard_answer heard)) }
 {
     match heard {
         Heard::Whole(bytes) => messages.push(Message {

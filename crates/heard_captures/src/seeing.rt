@@ -1,12 +1,13 @@
 //! What becomes of the entries of a capture.
 ghost use Rattle.std.specs.Prelude.{◌≡◌, IfOk, length};
 ghost use Rattle.bus_captures.specs.Values.{entry_value};
+ghost use Rattle.mctp_transport.specs.PacketValues.{IsUnit};
 ghost use Rattle.heard_captures.specs.Sights.{seen_of};
 ghost use Rattle.heard_captures.specs.Steps.{Sees};
 
-use crate::assembling::{Heard, feed_at};
+use crate::assembling::feed_at;
 use bus_captures::{Direction, Entry, Kind};
-use mctp_transport::{Assembler, PacketError, PacketView};
+use mctp_transport::{Assembler, Heard, PacketError, PacketView};
 use std::alloc::{AllocError, Global};
 
 /// What became of an entry.
@@ -22,17 +23,20 @@ pub enum Sight<'e> {
     Other(u16),
 }
 
-/// Says what becomes of an entry. A packet is given to the assembler of its destination.
+/// Says what becomes of an entry under a transmission unit of 64 to 1024 bytes. A packet is given to the assembler of its
+/// destination.
 pub fn see<'e>(
     alloc: Global,
     assemblers: &mut Vec<Assembler>,
+    unit: usize,
     entry: &'e Entry,
 ) -> Result<Sight<'e>, AllocError>
-    requires { length assemblers.old.items ≡ 256 }
-    ensures { IfOk result (λ sight. Sees assemblers.old.items assemblers.new.items (entry_value entry.now) (seen_of sight)) }
+    requires assemblers { length assemblers.old.items ≡ 256 }
+    requires unit { IsUnit unit }
+    ensures { IfOk result (λ sight. Sees unit assemblers.old.items assemblers.new.items (entry_value entry.now) (seen_of sight)) }
 {
     match entry.kind {
-        Kind::Packet => see_packet(alloc, assemblers, entry),
+        Kind::Packet => see_packet(alloc, assemblers, unit, entry),
         Kind::Message => Ok(Sight::Told(entry.direction, &entry.bytes)),
         Kind::Other(protocol) => Ok(Sight::Other(protocol)),
     }
@@ -42,13 +46,15 @@ pub fn see<'e>(
 fn see_packet<'e>(
     alloc: Global,
     assemblers: &mut Vec<Assembler>,
+    unit: usize,
     entry: &'e Entry,
 ) -> Result<Sight<'e>, AllocError>
     requires kind { entry.now.kind ≡ Kind.Packet }
     requires assemblers { length assemblers.old.items ≡ 256 }
-    ensures { IfOk result (λ sight. Sees assemblers.old.items assemblers.new.items (entry_value entry.now) (seen_of sight)) }
+    requires unit { IsUnit unit }
+    ensures { IfOk result (λ sight. Sees unit assemblers.old.items assemblers.new.items (entry_value entry.now) (seen_of sight)) }
 {
-    match PacketView::read(&entry.bytes) {
+    match PacketView::read_within(&entry.bytes, unit) {
         Ok(packet) => {
             let heard = feed_at(alloc, assemblers, packet)?;
             Ok(Sight::Fed(packet, heard))

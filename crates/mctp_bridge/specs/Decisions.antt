@@ -1,22 +1,22 @@
 -- What a node does with a packet that is there (the order of the cases is this project's own).
 use Rattle.std.specs.Prelude.{◌≡◌, ◌⊎◌, ℕ, List, codes}
-use Rattle.mctp_transport.specs.Frames.{IsAssignable}
+use Rattle.mctp_transport.specs.PacketValues.{IsAssignable}
 use Rattle.mctp_bridge.specs.declared.row.TableRow.{TableRow}
 use Rattle.mctp_bridge.specs.declared.row.Hop.{Hop}
 use Rattle.mctp_bridge.specs.declared.device_kind.DeviceKind.{DeviceKind}
 use Rattle.mctp_bridge.specs.declared.device_kind.DeviceKind.TheVariants.{Bridge}
 use Rattle.mctp_bridge.specs.declared.decision.Progress.{Progress}
 use Rattle.mctp_bridge.specs.declared.decision.Progress.TheVariants.{AtOrigin}
-use Rattle.mctp_bridge.specs.declared.decision.Obstacle.{Obstacle}
-use Rattle.mctp_bridge.specs.declared.decision.Obstacle.TheVariants.{Unassignable, NoBridge, NoRow}
+use Rattle.mctp_bridge.specs.declared.decision.ForwardFault.{ForwardFault}
+use Rattle.mctp_bridge.specs.declared.decision.ForwardFault.TheVariants.{Unassignable, NoBridge, NoRow}
 use Rattle.mctp_bridge.specs.declared.decision.Decision.{Decision}
-use Rattle.mctp_bridge.specs.declared.decision.Decision.TheVariants.{Here, Drop, Forward}
+use Rattle.mctp_bridge.specs.declared.decision.Decision.TheVariants.{Deliver, Drop, Forward}
 use Rattle.mctp_bridge.specs.Rows.{Routes}
 
 -- What the node decides on a packet for e, by whether it holds e, whether it forwards the packet at all, and along
--- which hops it routes e: the first that applies of here, the three obstacles, and else on along a hop.
+-- which hops it routes e: the first that applies of taking it, the three faults, and else sending it on along a hop.
 abbrev pub Decides : (holds forwards : Type 0) (routes : Hop → Type 0) (e : ℕ) → Decision → Type 0
-Decides holds forwards routes e Here = holds
+Decides holds forwards routes e Deliver = holds
 Decides holds forwards routes e (Drop Unassignable) = ¬ holds × ¬ IsAssignable e
 Decides holds forwards routes e (Drop NoBridge) = ¬ holds × IsAssignable e × ¬ forwards
 Decides holds forwards routes e (Drop NoRow) = ¬ holds × IsAssignable e × forwards × ((hop : Hop) → ¬ routes hop)
@@ -31,7 +31,7 @@ abbrev pub IsDecided : ℕ → DeviceKind → List TableRow → Progress → ℕ
 IsDecided eid kind rows progress e decision = Decides (e ≡ eid) (Forwards kind progress) (Routes rows e) e decision
 
 -- the code that users see
-abbrev pub obstacle_code : Obstacle → List ℕ
-obstacle_code Unassignable = codes "B10"
-obstacle_code NoBridge = codes "B12"
-obstacle_code NoRow = codes "B11"
+abbrev pub forward_fault_code : ForwardFault → List ℕ
+forward_fault_code Unassignable = codes "B10"
+forward_fault_code NoBridge = codes "B12"
+forward_fault_code NoRow = codes "B11"

@@ -9,7 +9,7 @@ use mctp_transport::{Eid, Header};
 
 /// A node as its decisions see it.
 #[derive(Clone, Copy, Debug)]
-pub struct DecidingNode<'a> {
+pub struct ForwardingNode<'a> {
     /// The endpoint ID that it holds.
     pub eid: Eid,
     /// Whether it is a bridge, which forwards packets of others.
@@ -24,12 +24,12 @@ pub enum Progress {
     /// It is at the node where it was put in, and has made no hop.
     AtOrigin,
     /// It has made a hop.
-    OnItsWay,
+    Transit,
 }
 
 /// Why a packet goes no further. Where several causes apply, the first of these is told.
 #[derive(Clone, Copy, Debug, PartialEq, Eq)]
-pub enum Obstacle {
+pub enum ForwardFault {
     /// B10: its destination can't be held: it isn't one of 8 to 254.
     Unassignable,
     /// B12: the node is no bridge, and the packet isn't its own.
@@ -42,24 +42,24 @@ pub enum Obstacle {
 #[derive(Clone, Copy, Debug, PartialEq, Eq)]
 pub enum Decision {
     /// It takes the packet: it holds the destination.
-    Here,
+    Deliver,
     /// It drops the packet.
-    Drop(Obstacle),
+    Drop(ForwardFault),
     /// It sends the packet on.
     Forward(Hop),
 }
 
-impl Obstacle {
-    ghost use Rattle.mctp_bridge.specs.Decisions.{obstacle_code};
+impl ForwardFault {
+    ghost use Rattle.mctp_bridge.specs.Decisions.{forward_fault_code};
 
     /// The code that users see, as `B10`.
     pub fn code(self) -> &'static str
-        ensures { result.now ≡ obstacle_code self }
+        ensures { result.now ≡ forward_fault_code self }
     {
         match self {
-            Obstacle::Unassignable => "B10",
-            Obstacle::NoBridge => "B12",
-            Obstacle::NoRow => "B11",
+            ForwardFault::Unassignable => "B10",
+            ForwardFault::NoBridge => "B12",
+            ForwardFault::NoRow => "B11",
         }
     }
 }
@@ -67,22 +67,22 @@ impl Obstacle {
 /// What the node does with a packet of this header: it takes it where it holds the destination; else it drops it where
 /// the destination can't be held, or where it is no bridge and the packet isn't its own, or where it has no row for the
 /// destination; else it sends it along that row's hop.
-pub fn decide(node: &DecidingNode, progress: Progress, header: &Header) -> Decision
+pub fn decide(node: &ForwardingNode, progress: Progress, header: &Header) -> Decision
     ensures { IsDecided node.now.eid.value node.now.kind node.now.table.now progress header.now.destination.value result }
 {
     let destination = header.destination;
     if destination.value == node.eid.value {
-        return Decision::Here;
+        return Decision::Deliver;
     }
     if !destination.is_assignable() {
-        return Decision::Drop(Obstacle::Unassignable);
+        return Decision::Drop(ForwardFault::Unassignable);
     }
     if !forwards(node.kind, progress) {
-        return Decision::Drop(Obstacle::NoBridge);
+        return Decision::Drop(ForwardFault::NoBridge);
     }
     match node.table.next(destination) {
         Some(hop) => Decision::Forward(hop),
-        None => Decision::Drop(Obstacle::NoRow),
+        None => Decision::Drop(ForwardFault::NoRow),
     }
 }
 

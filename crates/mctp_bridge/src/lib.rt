@@ -11,7 +11,7 @@ mod row;
 mod row_faults;
 mod table_fault;
 
-pub use decision::{DecidingNode, Decision, Obstacle, Progress, decide};
+pub use decision::{Decision, ForwardFault, ForwardingNode, Progress, decide};
 pub use device_kind::DeviceKind;
 pub use laws::one_list_of_pieces;
 pub use pieces::{Piece, Pieces};

@@ -1,7 +1,7 @@
 -- Which case of a reply applies.
 use Rattle.std.proofs.Common.{◌≡◌, ◌⊎◌, ℕ, ◌≤◌, Option, Some, None, inl, inr, arith}
 use Rattle.std.proofs.Math.Decide.{dec_le}
-use Rattle.mctp_transport.specs.Frames.{IsAssignable}
+use Rattle.mctp_transport.specs.PacketValues.{IsAssignable}
 use Rattle.mctp_control.specs.Refusals.{IsUnknown}
 use Rattle.mctp_control.specs.Devices.{EidHeld, PoolHeld, MayGiveEid, MayGivePool}
 use Rattle.mctp_control.specs.Replies.{Supports}

@@ -8,6 +8,6 @@ mod Deciding
 mod OneReply
 mod Asked
 mod EntryRows
-mod Readings
+pub mod Readings
 mod ReaderLaws
-mod Replying
+pub mod Replying

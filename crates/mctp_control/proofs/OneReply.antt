@@ -1,7 +1,7 @@
 -- Two replies of one device to one body are the same.
 use Rattle.std.proofs.Common.{◌≡◌, ◌⊎◌, ℕ, zero, suc, ◌+◌, ◌<◌, ◌≤◌, Option, Some, slice_index, List, [], ◌∷◌, length, take, drop, inl, inr, sym, ◌∙◌, ap, length-append, arith}
 use Rattle.std.proofs.Math.Decide.{dec_le, dec_lt}
-use Rattle.mctp_transport.specs.Frames.{IsAssignable}
+use Rattle.mctp_transport.specs.PacketValues.{IsAssignable}
 use Rattle.mctp_control.specs.Ranges.{IsAssignableRange}
 use Rattle.mctp_control.specs.RouteEntries.{EntryValue, entry_bytes}
 use Rattle.mctp_control.specs.EntryLists.{entries_bytes}

@@ -11,21 +11,21 @@ use Rattle.mctp_control.specs.declared.read_fault.ReadFault.TheVariants.{NotAske
 use Rattle.mctp_control.specs.Parts.{Tells}
 use Rattle.mctp_transport.specs.First.{First}
 use Rattle.mctp_control.specs.Readers.{ReaderState, Asks, AsksNothing, Takes, TakesPart, Ignores, asking, handle_after, is_last, state_after}
-use Rattle.mctp_control.specs.Reads.{Exchange, IsTold, IsTablePart, Reads, due_after, collected, IsReadUpTo, StandsFor, IsTaken}
+use Rattle.mctp_control.specs.Reads.{Exchange, IsTold, IsTablePart, Reads, due_after, collected, IsReadUpTo, HasReadUpTo, IsTaken}
 use Rattle.mctp_control.proofs.Readings.{some_entry, next_last, ends_within, follows, reads_more, reading_collects, due_pushed, collected_pushed, reads_pushed}
 
-asked_by : (old new : ReaderState) (xs : List Exchange) (id : ℕ) (request : Option (List ℕ)) (handle : Option ℕ) → StandsFor old xs → handle ≡ due_after xs
+asked_by : (old new : ReaderState) (xs : List Exchange) (id : ℕ) (request : Option (List ℕ)) (handle : Option ℕ) → HasReadUpTo old xs → handle ≡ due_after xs
     → MatchOption handle (AsksNothing old request new) (λ handle. (request ≡ Some (asking id handle)) × (new ≡ record old { waiting = Some id }))
-    → (request ≡ option_map (asking id) (due_after xs)) × StandsFor new xs
-asked_by old new xs id request None stands is asks = (asks.0 ∙ ap (option_map (asking id)) is, subst (λ w. StandsFor w xs) (sym asks.1) stands)
+    → (request ≡ option_map (asking id) (due_after xs)) × HasReadUpTo new xs
+asked_by old new xs id request None stands is asks = (asks.0 ∙ ap (option_map (asking id)) is, subst (λ w. HasReadUpTo w xs) (sym asks.1) stands)
 asked_by old new xs id request (Some handle) stands is asks = (
   asks.0 ∙ ap (option_map (asking id)) is,
-  subst (λ w. StandsFor w xs) (sym asks.1) (record { entries = stands.entries; handle = stands.handle; goes = stands.goes }),
+  subst (λ w. HasReadUpTo w xs) (sym asks.1) (record { entries = stands.entries; handle = stands.handle; goes = stands.goes }),
 )
 
 -- what is due is asked for
-pub asked : (old new : ReaderState) (xs : List Exchange) (id : ℕ) (request : Option (List ℕ)) → StandsFor old xs → Asks old id request new
-    → (request ≡ option_map (asking id) (due_after xs)) × StandsFor new xs
+pub asked : (old new : ReaderState) (xs : List Exchange) (id : ℕ) (request : Option (List ℕ)) → HasReadUpTo old xs → Asks old id request new
+    → (request ≡ option_map (asking id) (due_after xs)) × HasReadUpTo new xs
 asked old new xs id request stands asks =
     elim asks [
       | inl (failed, _) ↦ absurd (false≢true (sym stands.goes ∙ failed))
@@ -55,25 +55,25 @@ same_told h k n m es fs bytes one other =
     (ap (λ (r : ResponseValue). r.header) same, told_next n m es fs answers, told_entries n m es fs answers)
 
 module _ (table : List EntryValue) (told : IsTold table) (xs : List Exchange) (x : Exchange) (reads : Reads table xs) (part : IsTablePart table x)
-    (old : ReaderState) (stands : StandsFor old xs) (due : old.handle ≡ Some x.handle) where
+    (old : ReaderState) (stands : HasReadUpTo old xs) (due : old.handle ≡ Some x.handle) where
   read_so_far : IsReadUpTo table (Some x.handle) (collected xs)
   read_so_far =
       let P : Option ℕ → Type 0 = λ due. IsReadUpTo table due (collected xs) in
-      subst P (sym stands.handle ∙ due) (reading_collects table told xs reads)
+      subst P (sym stands.handle ∙ due) (reading_collects table told.are xs reads)
 
   -- an answer that announces more has an entry
   never_empty : x.entries ≡ [] → x.next ≢ 255 → ⊥
   never_empty none more =
       elim (cases_lt (x.handle + length x.entries) (length table)) [
-        | inl lt ↦ (let some = rw none at (some_entry table told x part (omega arith)) in absurd (omega arith))
-        | inr ge ↦ more (part.next ∙ next_last table (x.handle + length x.entries) (ends_within table told x part) ge)
+        | inl lt ↦ (let some = rw none at (some_entry table told.are x part (omega arith)) in absurd (omega arith))
+        | inr ge ↦ more (part.next ∙ next_last table (x.handle + length x.entries) (ends_within table told.are x part) ge)
       ]
 
   -- there is room for its entries
   never_too_many : 247 < length old.entries + length x.entries → ⊥
   never_too_many many =
-      let joined = ap length (follows table told (collected xs) x read_so_far.0 part) in
-      let few = told.few in
+      let joined = ap length (follows table told.are (collected xs) x read_so_far.0 part) in
+      let few = told.are.few in
       let is = ap length stands.entries in
       let whole = rw length-append at joined in
       let cut = length-take (x.handle + length x.entries) table in
@@ -82,7 +82,7 @@ module _ (table : List EntryValue) (told : IsTold table) (xs : List Exchange) (x
   taken : (result : Result Bool ReadFault) (new : ReaderState) → result ≡ Ok (is_last x.next) → new ≡ state_after old x.next x.entries → IsTaken table xs x result new
   taken result new is_result is_new =
       let due_is = sym stands.handle ∙ due in
-      let more = reads_more table told (collected xs) x read_so_far part in
+      let more = reads_more table told.are (collected xs) x read_so_far part in
       let entries = ap (λ (w : ReaderState). w.entries) is_new ∙ ap (λ es. es ++ x.entries) stands.entries in
       record {
         told = is_result;

@@ -8,7 +8,7 @@ use Rattle.mctp_control.specs.RouteEntries.{EntryValue}
 use Rattle.mctp_control.specs.EntryLists.{entries_bytes}
 use Rattle.mctp_control.specs.Replies.{handle_after as next_handle}
 use Rattle.mctp_control.specs.Readers.{handle_after}
-use Rattle.mctp_control.specs.Reads.{Exchange, IsTold, IsTablePart, ReadsFrom, Reads, due_from, due_after, collected, IsReadUpTo}
+use Rattle.mctp_control.specs.Reads.{Exchange, AreShort, IsTablePart, ReadsFrom, Reads, due_from, due_after, collected, IsReadUpTo}
 
 take_two : (h n : ℕ) (xs : List EntryValue) → take (h + n) xs ≡ take h xs ++ take n (drop h xs)
 take_two h n xs =
@@ -41,7 +41,7 @@ next_last table index le ge =
 entry_length : (e : EntryValue) → length e.address ≤ 8 → length (entries_bytes (e ∷ [])) ≤ 14
 entry_length e short = rw (append-nil e.address) (omega arith)
 
-module _ (table : List EntryValue) (told : IsTold table) where
+module _ (table : List EntryValue) (are : AreShort table) where
   -- of entries that are left, one at least is told
   pub some_entry : (x : Exchange) → IsTablePart table x → x.handle < length table → 0 < length x.entries
   some_entry x part lt =
@@ -54,7 +54,7 @@ module _ (table : List EntryValue) (told : IsTold table) where
             let cut = drop-cons table x.handle d lt in
             let most = part.most.most left in
             let front : take (length x.entries + 1) (drop x.handle table) ≡ get_or table x.handle d ∷ [] = rw (zero_told, cut) refl in
-            let short = entry_length (get_or table x.handle d) (told.short x.handle d lt) in
+            let short = entry_length (get_or table x.handle d) (are.short x.handle d lt) in
             let long = rw front at most in
             absurd (omega arith))
       ]
@@ -83,7 +83,7 @@ module _ (table : List EntryValue) (told : IsTold table) where
       let P : Option ℕ → Type 0 = λ due. IsReadUpTo table due (before ++ x.entries) in
       elim (cases_lt end (length table)) [
         | inl lt ↦
-            (let few = told.few in
+            (let few = are.few in
             let more : next_handle table end ≡ end = next_before table end lt in
             let due : handle_after x.next ≡ Some end = ap handle_after (part.next ∙ more) ∙ goes_on end (omega arith) in
             subst P (sym due) (joined, inr lt))

@@ -1,6 +1,7 @@
 -- What a bridge replies to a reader's request.
 use Rattle.std.proofs.Common.{◌≡◌, ℕ, ◌+◌, ◌%◌, ◌<◌, ◌≤◌, false, List, ◌∷◌, length, take, drop, Option, refl, sym, ap, subst, ◌∙◌, inl, inr, arith}
 use Rattle.std.specs.Prelude.{◌⊎◌, IsSomeAnd}
+use Rattle.std.specs.List.{AllByRecursion}
 use Rattle.std.proofs.lemmas.Bool.{cases_lt}
 use Rattle.std.proofs.lemmas.List.{length-take-le}
 use Rattle.std.proofs.lemmas.List.Elements.{All-from_recursion, recursion_from_All, All-take, All-drop}
@@ -14,40 +15,46 @@ use Rattle.mctp_bridge.specs.declared.device_kind.DeviceKind.{DeviceKind}
 use Rattle.mctp_bridge.specs.declared.device_kind.DeviceKind.TheVariants.{Bridge}
 use Rattle.mctp_control.specs.Parts.{Tells}
 use Rattle.mctp_control.specs.Readers.{ReaderState, asking}
-use Rattle.mctp_control.specs.Reads.{Exchange, IsTold, IsTablePart, Reads, HasAsked, TakesAsAnswer, IsReadUpTo, collected}
+use Rattle.mctp_control.specs.Reads.{Exchange, AreShort, IsTold, IsTablePart, Reads, HasAsked, TakesAsAnswer, IsReadUpTo, collected}
 use Rattle.mctp_control.proofs.Readings.{reading_collects, next_before, next_last, ends_within}
 use Rattle.mctp_control.proofs.ReaderLaws.{answer_taken}
 
 -- the header of the request, and that of its reply
-abbrev header : ℕ → HeaderValue
+abbrev pub header : ℕ → HeaderValue
 header id = record { datagram = false; reserved = false; instance = id }
 
-abbrev request : ℕ → ℕ → RequestValue
+abbrev pub request : ℕ → ℕ → RequestValue
 request id handle = record { header = header id; command = GetsEntries handle }
 
-module _ (table : List EntryValue) (told : IsTold table) (id handle : ℕ) (small : id < 32) (known : (handle ≡ 0) ⊎ (handle < length table)) where
-  handle_small : handle < 256
-  handle_small = let few = told.few in elim known [ inl first ↦ omega arith | inr within ↦ omega arith ]
+-- a bridge tells its table
+pub tells_table : (kind : DeviceKind) → kind ≡ Bridge → Supports kind 10
+tells_table kind bridge =
+    let K : DeviceKind → Type 0 = λ kind. Supports kind 10 in
+    subst K (sym bridge) (λ unknown. unknown.3 refl)
 
-  asks : IsAsked (asking id handle)
+module _ (table : List EntryValue) (are : AreShort table) (id handle : ℕ) (small : id < 32) (known : (handle ≡ 0) ⊎ (handle < length table)) where
+  handle_small : handle < 256
+  handle_small = let few = are.few in elim known [ inl first ↦ omega arith | inr within ↦ omega arith ]
+
+  pub asks : IsAsked (asking id handle)
   asks = (omega arith, refl, omega arith)
 
-  spells : SpellsRequest (request id handle) (asking id handle)
+  pub spells : SpellsRequest (request id handle) (asking id handle)
   spells = (record { instance = small; command = handle_small }, refl)
 
   next_small : (i : ℕ) → i ≤ length table → next_handle table i < 256
   next_small i le =
-      let few = told.few in
+      let few = are.few in
       elim (cases_lt i (length table)) [
         | inl lt ↦ rw (next_before table i lt) (omega arith)
         | inr ge ↦ rw (next_last table i le ge) (omega arith)
       ]
 
   -- the exchange that a reply of so many entries makes
-  abbrev exchange : ℕ → Exchange
+  abbrev pub exchange : ℕ → Exchange
   exchange count = record { handle = handle; next = next_handle table (handle + count); entries = take count (drop handle table) }
 
-  part_of : (count : ℕ) → IsMost (drop handle table) count → IsTablePart table (exchange count)
+  pub part_of : (count : ℕ) → IsMost (drop handle table) count → IsTablePart table (exchange count)
   part_of count most =
       let long = length-take-le count (drop handle table) most.there in
       record {
@@ -57,14 +64,14 @@ module _ (table : List EntryValue) (told : IsTold table) (id handle : ℕ) (smal
         next = ap (λ n. next_handle table (handle + n)) (sym long);
       }
 
-  tells_of : (count : ℕ) → IsMost (drop handle table) count
+  tells_of : AllByRecursion IsEntry table → (count : ℕ) → IsMost (drop handle table) count
       → Tells (header id) (exchange count).next (exchange count).entries
       (reply_bytes (asking id handle) (0 ∷ next_handle table (handle + count) ∷ count ∷ entries_bytes (take count (drop handle table))))
-  tells_of count most =
+  tells_of are_entries count most =
       let long = length-take-le count (drop handle table) most.there in
       let entries = take count (drop handle table) in
-      let each = recursion_from_All IsEntry entries (All-take IsEntry count (drop handle table) (All-drop IsEntry handle table (All-from_recursion IsEntry table told.each))) in
-      let within = ends_within table told (exchange count) (part_of count most) in
+      let each = recursion_from_All IsEntry entries (All-take IsEntry count (drop handle table) (All-drop IsEntry handle table (All-from_recursion IsEntry table are_entries))) in
+      let within = ends_within table are (exchange count) (part_of count most) in
       let end : handle + count ≤ length table = rw long at within in
       let low : (128 + id) % 32 ≡ 0 + id = omega arith in (
         record { instance = small; answer = (next_small (handle + count) end, each, most.fit) },
@@ -77,18 +84,16 @@ pub reply_taken : (d after : DeviceValue) (bus id handle : ℕ) (table : List En
     → IsSomeAnd reply (TakesAsAnswer table xs reader)
 reply_taken d after bus id handle table xs reader reply told bridge reads asked replies =
     let P : Option ℕ → Type 0 = λ due. IsReadUpTo table due (collected xs) in
-    let known = (subst P (sym asked.stands.handle ∙ asked.due) (reading_collects table told xs reads)).1 in
+    let known = (subst P (sym asked.stands.handle ∙ asked.due) (reading_collects table told.are xs reads)).1 in
     let body = asking id handle in
-    let K : DeviceKind → Type 0 = λ kind. Supports kind 10 in
-    let supported : Supports d.kind 10 = subst K (sym bridge) (λ unknown. unknown.3 refl) in
-    let answered = replies.answered (request id handle) (asks table told id handle asked.small known) supported
-    (spells table told id handle asked.small known) in
+    let answered = replies.answered (request id handle) (asks table told.are id handle asked.small known) (tells_table d.kind bridge)
+    (spells table told.are id handle asked.small known) in
     let brought = answered.2.0.told known in
     let count = brought.0 in
-    let x = exchange table told id handle asked.small known count in
+    let x = exchange table told.are id handle asked.small known count in
     let T : List ℕ → Type 0 = λ content. Tells (header id) x.next x.entries (reply_bytes body content) in
-    let tells = subst T (sym brought.2) (tells_of table told id handle asked.small known count brought.1) in
-    let part = part_of table told id handle asked.small known count brought.1 in
+    let tells = subst T (sym brought.2) (tells_of table told.are id handle asked.small known told.each count brought.1) in
+    let part = part_of table told.are id handle asked.small known count brought.1 in
     let A : Option (List ℕ) → Type 0 = λ reply. IsSomeAnd reply (TakesAsAnswer table xs reader) in
     subst A (sym answered.1) (λ result new takes. (
       x,

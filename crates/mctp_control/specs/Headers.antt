@@ -1,6 +1,6 @@
 -- The second byte of a control message (DSP0236, "MCTP control message format").
 use Rattle.std.specs.Prelude.{ℕ, ◌+◌, ◌*◌, Bool}
-use Rattle.mctp_transport.specs.Frames.{bit}
+use Rattle.mctp_transport.specs.PacketValues.{bit}
 use Rattle.mctp_control.specs.declared.header.ControlHeader.{ControlHeader}
 
 -- the D bit, bit 5, and the instance ID

@@ -1,21 +1,14 @@
 -- What a device's private calls answer, as bytes.
 use Rattle.std.specs.Prelude.{ℕ, List, [], ◌∷◌, Result, Ok, Err, drop}
 use Rattle.mctp_control.specs.Responses.{AnswerValue, answer_bytes, answer_value}
-use Rattle.mctp_control.specs.declared.replies.Refusal.{Refusal}
-use Rattle.mctp_control.specs.declared.replies.Refusal.TheVariants as refusal
+use Rattle.mctp_control.specs.declared.response.CompletionCode.{CompletionCode}
 use Rattle.mctp_control.specs.declared.response.ControlAnswer.{ControlAnswer}
-
--- completion codes other than success (DSP0236, "MCTP control message completion codes")
-abbrev pub refusal_code : Refusal → ℕ
-refusal_code refusal.InvalidData = 2
-refusal_code refusal.InvalidLength = 3
-refusal_code refusal.UnsupportedCommand = 5
 
 -- the completion code of an answer and the bytes after it, without the command's number
 abbrev pub content_bytes : AnswerValue → List ℕ
 content_bytes answer = drop 1 (answer_bytes answer)
 
 -- that of the answer, or the code alone
-abbrev pub content_of : Result ControlAnswer Refusal → List ℕ
+abbrev pub content_of : Result ControlAnswer CompletionCode → List ℕ
 content_of (Ok answer) = content_bytes (answer_value answer)
-content_of (Err r) = refusal_code r ∷ []
+content_of (Err r) = r.code ∷ []

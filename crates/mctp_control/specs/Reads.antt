@@ -15,11 +15,15 @@ pub record Exchange : Type 0 where
   pub next : ℕ
   pub entries : List EntryValue
 
--- a table that a bridge can tell of: at most 247 entries, with addresses of at most 8 bytes
-pub record IsTold (table : List EntryValue) : Type 0 where
-  pub each : AllByRecursion IsEntry table
+-- at most 247 entries, each with an address of at most 8 bytes
+pub record AreShort (table : List EntryValue) : Type 0 where
   pub few : length table ≤ 247
   pub short : All (λ entry. length entry.address ≤ 8) table
+
+-- a table that a bridge can tell of
+pub record IsTold (table : List EntryValue) : Type 0 where
+  pub each : AllByRecursion IsEntry table
+  pub are : AreShort table
 
 -- A bridge of this table answers so: to handle 0 or that of an entry, with the entries from there on, as many as fit,
 -- and with the handle of the entry after them, or 255 where there is none.
@@ -63,7 +67,7 @@ EveryReadingCollects = (table : List EntryValue) (xs : List Exchange)
     → IsTold table → Reads table xs → IsReadUpTo table (due_after xs) (collected xs)
 
 -- the reader has what these exchanges brought
-pub record StandsFor (reader : ReaderState) (xs : List Exchange) : Type 0 where
+pub record HasReadUpTo (reader : ReaderState) (xs : List Exchange) : Type 0 where
   pub entries : reader.entries ≡ collected xs
   pub handle : reader.handle ≡ due_after xs
   pub goes : reader.failed ≡ false
@@ -71,7 +75,8 @@ pub record StandsFor (reader : ReaderState) (xs : List Exchange) : Type 0 where
 -- A reader asks for what is due, and nothing else about it changes; once all is read it asks for nothing.
 abbrev pub AsksWhatIsDue : Type 0
 AsksWhatIsDue = (old new : ReaderState) (xs : List Exchange) (id : ℕ) (request : Option (List ℕ))
-    → StandsFor old xs → Asks old id request new → (request ≡ option_map (asking id) (due_after xs)) × StandsFor new xs
+    → HasReadUpTo old xs → Asks old id request new
+    → (request ≡ option_map (asking id) (due_after xs)) × HasReadUpTo new xs
 
 -- The reader takes an answer without a fault, and tells it to be the last exactly where its next handle is 255. It then
 -- stands for the reading with that answer, and where it was the last has the table.
@@ -79,13 +84,13 @@ pub record IsTaken (table : List EntryValue) (xs : List Exchange) (x : Exchange)
     (new : ReaderState) : Type 0 where
   pub told : result ≡ Ok (is_last x.next)
   pub reads : Reads table (xs ++ x ∷ [])
-  pub stands : StandsFor new (xs ++ x ∷ [])
+  pub stands : HasReadUpTo new (xs ++ x ∷ [])
   pub whole : is_last x.next ≡ true → new.entries ≡ table
 
 -- the reader stands for these exchanges, and has asked under this instance ID for the entries from the handle that is
 -- due
 pub record HasAsked (reader : ReaderState) (xs : List Exchange) (id handle : ℕ) : Type 0 where
-  pub stands : StandsFor reader xs
+  pub stands : HasReadUpTo reader xs
   pub due : reader.handle ≡ Some handle
   pub waits : reader.waiting ≡ Some id
   pub small : id < 32

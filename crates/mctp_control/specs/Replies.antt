@@ -2,7 +2,7 @@
 -- this project's own choice where the standard leaves one).
 use Rattle.std.specs.Prelude.{◌≡◌, ◌≢◌, ◌⊎◌, ℕ, ◌+◌, ◌/◌, ◌%◌, ◌<◌, ◌≤◌, ◌==◌, if◌then◌else◌}
 use Rattle.std.specs.Prelude.{List, [], ◌∷◌, length, take, drop, slice_index, Option, Some, None}
-use Rattle.mctp_transport.specs.Frames.{IsAssignable}
+use Rattle.mctp_transport.specs.PacketValues.{IsAssignable}
 use Rattle.mctp_control.specs.Ranges.{IsAssignableRange}
 use Rattle.mctp_control.specs.RouteEntries.{EntryValue}
 use Rattle.mctp_control.specs.EntryLists.{entries_bytes}

@@ -1,7 +1,7 @@
 -- No two requests have the same bytes.
 use Rattle.std.specs.Prelude.{◌≡◌, ℕ, ◌<◌, ◌+◌, ◌*◌, refl}
 use Rattle.std.proofs.Common.{arith}
-use Rattle.mctp_transport.specs.Frames.{bit}
+use Rattle.mctp_transport.specs.PacketValues.{bit}
 use Rattle.mctp_transport.specs.Bits.{bit_most, bit_one}
 use Rattle.mctp_control.specs.Digits.{digits_4, digits_64_32}
 use Rattle.mctp_control.specs.Headers.{HeaderValue, header_byte}

@@ -1,6 +1,6 @@
 -- A routing table entry as plain numbers, and its bytes (DSP0236, "Get Routing Table Entries").
 use Rattle.std.specs.Prelude.{ℕ, ◌+◌, ◌*◌, ◌<◌, ◌≤◌, Bool, List, ◌∷◌, length}
-use Rattle.mctp_transport.specs.Frames.{bit}
+use Rattle.mctp_transport.specs.PacketValues.{bit}
 use Rattle.mctp_transport.specs.Wire.{Spells}
 use Rattle.mctp_control.specs.declared.route_entry.RouteEntry.{RouteEntry}
 use Rattle.mctp_control.specs.Codes.{kind_number}

@@ -1,6 +1,6 @@
 -- No two entries have the same bytes.
 use Rattle.std.specs.Prelude.{◌≡◌}
-use Rattle.mctp_transport.specs.Frames.{bit}
+use Rattle.mctp_transport.specs.PacketValues.{bit}
 use Rattle.mctp_transport.specs.Bits.{bit_most, bit_one}
 use Rattle.mctp_control.specs.Digits.{digits_64_32}
 use Rattle.mctp_control.specs.RouteEntries.{EntryValue, IsEntry, entry_bytes, port_byte}

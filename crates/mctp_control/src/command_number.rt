@@ -4,9 +4,13 @@ ghost use Rattle.std.specs.Prelude.{◌≡◌};
 /// The number of a command (DSP0236, "MCTP control message command numbers").
 #[derive(Clone, Copy, Debug, PartialEq, Eq)]
 pub enum CommandNumber {
+    /// Gives a device its endpoint ID.
     SetEndpointId = 0x01,
+    /// Asks a device for its endpoint ID and its kind.
     GetEndpointId = 0x02,
+    /// Gives a bridge its pool of endpoint IDs.
     AllocateEndpointIds = 0x08,
+    /// Asks a bridge for entries of its routing table.
     GetRoutingTableEntries = 0x0a,
 }
 

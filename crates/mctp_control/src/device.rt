@@ -8,9 +8,9 @@ ghost use Rattle.mctp_control.specs.Responses.{answer_value};
 use crate::command_number::CommandNumber;
 use crate::eid_range::EidRange;
 use crate::operations::{AllocateOperation, SetOperation};
-use crate::replies::{MAX_BODY, Refusal, concluded, framed, tell_entries};
+use crate::replies::{MAX_BODY, concluded, framed, tell_entries};
 use crate::request::{ControlCommand, Request};
-use crate::response::ControlAnswer;
+use crate::response::{CompletionCode, ControlAnswer};
 use crate::route_entry::RouteEntry;
 use crate::statuses::{
     Acceptance, Allocation, EidType, EndpointStatus, EndpointType, PoolStatus, SetStatus,
@@ -45,7 +45,7 @@ pub struct Device {
 
 impl Device {
     ghost use Rattle.std.specs.Prelude.{◌↔◌, ◌∷◌, ◌<◌, ◌+◌, ◌*◌, ℕ, List, [], length, IsTrue, Some, option_map};
-    ghost use Rattle.mctp_transport.specs.Frames.{IsAssignable};
+    ghost use Rattle.mctp_transport.specs.PacketValues.{IsAssignable};
     ghost use Rattle.mctp_control.specs.Numbers.{set_number, allocate_number, acceptance_number, allocation_number};
     ghost use Rattle.mctp_control.specs.Requests.{command_value};
     ghost use Rattle.mctp_control.specs.Devices.{device_value, configured_pool, size_of, present_eid, present_size, present_first, MayGiveEid, MayGivePool, allocation_of, pool_wanted, endpoint_type};
@@ -177,17 +177,17 @@ impl Device {
         bus: u8,
         operation: SetOperation,
         eid: Eid,
-    ) -> Result<ControlAnswer, Refusal>
+    ) -> Result<ControlAnswer, CompletionCode>
         ensures { SetReplies (device_value self.old) bus (set_number operation) eid.value (content_of result) (device_value self.new) }
     {
         if !eid.is_assignable() {
-            return Err(Refusal::InvalidData);
+            return Err(CompletionCode::INVALID_DATA);
         }
         let accepted = match operation {
             SetOperation::Set => self.may_give_eid(bus),
             SetOperation::Force => true,
             SetOperation::Reset | SetOperation::SetDiscovered => {
-                return Err(Refusal::InvalidData);
+                return Err(CompletionCode::INVALID_DATA);
             }
         };
         if !accepted {
@@ -235,16 +235,16 @@ impl Device {
         operation: AllocateOperation,
         first: Eid,
         size: u8,
-    ) -> Result<ControlAnswer, Refusal>
+    ) -> Result<ControlAnswer, CompletionCode>
         ensures { AllocateReplies (device_value self.old) bus (allocate_number operation) size first.value (content_of result) (device_value self.new) }
     {
         let accepted = match operation {
             AllocateOperation::Allocate => self.may_give_pool(bus),
             AllocateOperation::Force => true,
             AllocateOperation::GetInformation => return Ok(self.pool_told(Acceptance::Accepted)),
-            AllocateOperation::Reserved => return Err(Refusal::InvalidData),
+            AllocateOperation::Reserved => return Err(CompletionCode::INVALID_DATA),
         };
-        let range = EidRange::of(first, size).ok_or(Refusal::InvalidData)?;
+        let range = EidRange::of(first, size).ok_or(CompletionCode::INVALID_DATA)?;
         if !accepted {
             return Ok(self.pool_told(Acceptance::Rejected));
         }
@@ -287,11 +287,11 @@ impl Device {
             return None;
         }
         if !self.supports(*number) {
-            return Some(framed(body, &[Refusal::UnsupportedCommand as u8]));
+            return Some(framed(body, &[CompletionCode::UNSUPPORTED_COMMAND.code]));
         }
         match Request::read(body) {
             Ok(request) => Some(self.respond(bus, table, body, request.command)),
-            Err(_) => Some(framed(body, &[Refusal::InvalidLength as u8])),
+            Err(_) => Some(framed(body, &[CompletionCode::INVALID_LENGTH.code])),
         }
     }
 

@@ -17,6 +17,7 @@ pub const MAX_ENTRIES: usize = 9;
 /// Entries whose bytes fit one response: at most 58 bytes.
 #[derive(Debug, PartialEq, Eq, Drop)]
 pub struct Entries {
+    /// At most nine, each of 6 bytes and its physical address.
     pub items: ArrayVec<RouteEntry, MAX_ENTRIES>,
     pub ghost fit: { length (entries_bytes (values_of items.items)) ≤ 58 },
 }

@@ -16,7 +16,7 @@ pub const MAX_READ: usize = 247;
 pub const MAX_TAKEN: usize = 248;
 
 /// The next handle of an answer after which there are no more entries.
-const NO_MORE: u8 = 0xff;
+pub const NO_MORE: u8 = 0xff;
 
 /// A reader of a bridge's routing table (DSP0236, Get Routing Table Entries): it asks for the entries from a handle on,
 /// takes the answer, and goes on with the handle that the answer gives. It takes memory when it is made, and none

@@ -4,6 +4,7 @@ ghost use Rattle.std.specs.Prelude.{◌≡◌, ◌<◌};
 /// An instance ID, 0 to 31: a response repeats that of its request.
 #[derive(Clone, Copy, Debug, PartialEq, Eq)]
 pub struct ControlInstanceId {
+    /// Five bits: the number.
     pub value: u8,
     pub ghost in_range: { value < 32 },
 }

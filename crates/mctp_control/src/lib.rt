@@ -28,7 +28,7 @@ pub use device::Device;
 pub use eid_pool::EidPool;
 pub use eid_range::EidRange;
 pub use entries::{Entries, MAX_ENTRIES, MAX_ENTRY_BYTES};
-pub use entry_reader::{EntryReader, MAX_READ, MAX_TAKEN};
+pub use entry_reader::{EntryReader, MAX_READ, MAX_TAKEN, NO_MORE};
 pub use header::{ControlHeader, ControlInstanceId};
 pub use laws::{asks_what_is_due, every_reply_is_taken, one_reply, readings_collect_all};
 pub use mctp_bridge::DeviceKind;
@@ -36,7 +36,7 @@ pub use operations::{AllocateOperation, ReservedBits, SetOperation};
 pub use read_fault::ReadFault;
 pub use replies::MAX_BODY;
 pub use request::{ControlCommand, Request};
-pub use response::{ControlAnswer, Failure, Response};
+pub use response::{CompletionCode, ControlAnswer, Response};
 pub use route_entry::{EntryKind, EntryPort, MAX_ADDRESS, RouteEntry};
 pub use routing_entries::{Neighbor, route_entries};
 pub use statuses::{

@@ -63,6 +63,7 @@ impl AllocateOperation {
 /// The reserved bits 7 to 2 of an operation's byte, as a number from 0 to 63. They are kept as read.
 #[derive(Clone, Copy, Debug, PartialEq, Eq)]
 pub struct ReservedBits {
+    /// Six bits, of which bit 7 is the highest.
     pub value: u8,
     pub ghost in_range: { value < 64 },
 }

@@ -6,7 +6,7 @@ ghost use Rattle.mctp_control.specs.Outcomes.{content_of, content_bytes};
 ghost use Rattle.mctp_control.specs.Responses.{answer_value};
 
 use crate::entries::{MAX_ENTRY_BYTES, byte_count, put_table};
-use crate::response::ControlAnswer;
+use crate::response::{CompletionCode, ControlAnswer};
 use crate::route_entry::RouteEntry;
 use arrayvec::ArrayVec;
 use mctp_transport::Wire;
@@ -16,14 +16,6 @@ pub const MAX_BODY: usize = 64;
 
 /// The most bytes of an answer: a command's number, the completion code, and the data.
 const MAX_ANSWER: usize = MAX_BODY - 2;
-
-/// A completion code other than success.
-#[derive(Clone, Copy, Debug, PartialEq, Eq)]
-pub(crate) enum Refusal {
-    InvalidData = 2,
-    InvalidLength = 3,
-    UnsupportedCommand = 5,
-}
 
 /// A reply to the body: instance ID and command repeated, then the completion code and what follows it.
 pub(crate) fn framed(body: &[u8], content: &[u8]) -> ArrayVec<u8, MAX_BODY>
@@ -42,14 +34,14 @@ pub(crate) fn framed(body: &[u8], content: &[u8]) -> ArrayVec<u8, MAX_BODY>
 /// A reply to the body with what is answered, or with another code alone.
 pub(crate) fn concluded(
     body: &[u8],
-    outcome: &Result<ControlAnswer, Refusal>,
+    outcome: &Result<ControlAnswer, CompletionCode>,
 ) -> ArrayVec<u8, MAX_BODY>
     requires { 3 ≤ length body.now }
     ensures { result.items ≡ reply_bytes body.now (content_of outcome.now) }
 {
     match outcome {
         Ok(answer) => answered(body, answer),
-        Err(refusal) => framed(body, &[*refusal as u8]),
+        Err(refusal) => framed(body, &[refusal.code]),
     }
 }
 
@@ -73,7 +65,7 @@ pub(crate) fn tell_entries(body: &[u8], table: &[RouteEntry], handle: u8) -> Arr
 {
     let start = handle as usize;
     if handle != 0 && start >= table.len() {
-        return framed(body, &[Refusal::InvalidData as u8]);
+        return framed(body, &[CompletionCode::INVALID_DATA.code]);
     }
     let entries = &table[start..];
     let count = fitting(entries);

@@ -6,13 +6,16 @@ use crate::header::ControlHeader;
 use crate::operations::{AllocateOperation, ReservedBits, SetOperation};
 use mctp_transport::{Eid, Wire};
 
-/// What is asked, with its data (DSP0236, the command of the same name).
+/// What is asked, with its data (DSP0236, the command of the same name). Byte 0 is the first of the data.
 #[derive(Clone, Copy, Debug, PartialEq, Eq)]
 pub enum ControlCommand {
     /// 0x01: give the device an EID. Two bytes: the operation, the EID.
     SetEndpointId {
+        /// Byte 0, bits 1 and 0: what is to be done.
         operation: SetOperation,
+        /// Byte 0, bits 7 to 2.
         reserved: ReservedBits,
+        /// Byte 1: the endpoint ID that is given.
         eid: Eid,
     },
     /// 0x02: tell the EID and the kind of the device. No bytes.
@@ -20,14 +23,19 @@ pub enum ControlCommand {
     /// 0x08: give a bridge its pool of EIDs. Three bytes: the operation, the number of EIDs,
     /// the first EID.
     AllocateEndpointIds {
+        /// Byte 0, bits 1 and 0: what is to be done.
         operation: AllocateOperation,
+        /// Byte 0, bits 7 to 2.
         reserved: ReservedBits,
+        /// Byte 1: how many endpoint IDs the pool has.
         size: u8,
+        /// Byte 2: the first of them.
         first: Eid,
     },
     /// 0x0A: tell the entries of the routing table from this one on. One byte: the entry
     /// handle, 0 for the first.
     GetRoutingTableEntries {
+        /// Byte 0: the entry handle.
         handle: u8,
     },
 }

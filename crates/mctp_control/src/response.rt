@@ -11,52 +11,73 @@ use mctp_transport::{Eid, Wire};
 /// A completion code other than 0x00, which is success (DSP0236, "MCTP control message completion codes"): 0x01 error,
 /// 0x02 invalid data, 0x03 invalid length, 0x04 not ready, 0x05 unsupported command, and others.
 #[derive(Clone, Copy, Debug, PartialEq, Eq)]
-pub struct Failure {
+pub struct CompletionCode {
+    /// One byte, 1 to 255.
     pub code: u8,
     pub ghost no_success: { 0 < code },
 }
 
-impl Failure {
+impl CompletionCode {
+    /// A field of the request has a value that is not allowed.
+    pub const INVALID_DATA: CompletionCode = CompletionCode { code: 0x02 };
+    /// The request has more or fewer bytes than its command.
+    pub const INVALID_LENGTH: CompletionCode = CompletionCode { code: 0x03 };
+    /// The device has no such command.
+    pub const UNSUPPORTED_COMMAND: CompletionCode = CompletionCode { code: 0x05 };
+
     /// The completion code of this number, which is not 0x00.
     pub fn new(code: u8) -> Self
         requires { 0 < code }
         ensures { result.code ≡ code }
     {
-        Failure { code }
+        CompletionCode { code }
     }
 }
 
-/// What is answered, with its data.
+/// What is answered, with its data. Byte 0 is the first behind the completion code.
 #[derive(Debug, PartialEq, Eq, Drop)]
 pub enum ControlAnswer {
     /// Success of 0x01, Set Endpoint ID. Three bytes: the status, the device's EID, the size of the pool that it wants.
     SetEndpointId {
+        /// Byte 0: whether the endpoint ID was taken, and whether a pool is wanted.
         status: SetStatus,
+        /// Byte 1: the device's endpoint ID.
         eid: Eid,
+        /// Byte 2: how many endpoint IDs it wants for its pool.
         size: u8,
     },
     /// Success of 0x02, Get Endpoint ID. Three bytes: the device's EID (0: none), its status, a byte for the medium.
     GetEndpointId {
+        /// Byte 0: the device's endpoint ID, 0 where it has none.
         eid: Eid,
+        /// Byte 1: the kind of the device, and of its endpoint ID.
         status: EndpointStatus,
+        /// Byte 2: information of the medium.
         medium: u8,
     },
     /// Success of 0x08, Allocate Endpoint IDs. Three bytes: the status, the size of the pool, its first EID.
     AllocateEndpointIds {
+        /// Byte 0: whether the pool was taken.
         status: PoolStatus,
+        /// Byte 1: how many endpoint IDs the pool has.
         size: u8,
+        /// Byte 2: the first of them.
         first: Eid,
     },
     /// Success of 0x0A, Get Routing Table Entries: the next entry handle (0xFF: no more), the number of entries, the
     /// entries.
     GetRoutingTableEntries {
+        /// Byte 0: the handle of the next entry, 0xFF where there is no more.
         next: u8,
+        /// Byte 1 for their number, and then their bytes.
         entries: Entries,
     },
     /// Another completion code than success. Nothing follows.
     Failed {
+        /// The command that was asked for.
         command: CommandNumber,
-        failure: Failure,
+        /// The completion code.
+        failure: CompletionCode,
     },
 }
 
@@ -103,7 +124,7 @@ impl ControlAnswer {
             (10, 0, [next, count, entries @ ..]) => ControlAnswer::table(*next, *count, entries),
             (_, 1.., []) => Ok(ControlAnswer::Failed {
                 command,
-                failure: Failure::new(code),
+                failure: CompletionCode::new(code),
             }),
             _ => Err(ControlError::Length),
         }

@@ -43,6 +43,7 @@ impl EntryKind {
 /// A port's number, 0 to 31.
 #[derive(Clone, Copy, Debug, PartialEq, Eq)]
 pub struct EntryPort {
+    /// Five bits: the number.
     pub value: u8,
     pub ghost in_range: { value < 32 },
 }

@@ -122,6 +122,7 @@ impl EidType {
 /// Two reserved bits, as a number from 0 to 3.
 #[derive(Clone, Copy, Debug, PartialEq, Eq)]
 pub struct ReservedPair {
+    /// Two bits.
     pub value: u8,
     pub ghost in_range: { value < 4 },
 }

@@ -3,7 +3,7 @@ use Rattle.std.proofs.Common.{◌≡◌, ◌≢◌, ℕ, true, false, length, sl
 use Rattle.std.proofs.lemmas.Bool.{false≢true, true≢false, cases_eq}
 use Rattle.std.proofs.lemmas.Option.{same_Some, none-some, slice_get_within}
 use Rattle.std.proofs.lemmas.List.{length-set}
-use Rattle.mctp_transport.specs.Frames.{KeyValue}
+use Rattle.mctp_transport.specs.PacketValues.{KeyValue}
 use Rattle.mctp_transport.specs.Histories.{Input, History, after, same_key, key_of_input, ArePackets, FewerThan, AsManyAs, IsOpen, IsOtherOpen}
 use Rattle.mctp_transport.specs.Tables.{Partial, Holds, HoldsLast, TableStandsFor, Table, is_at}
 use Rattle.mctp_transport.specs.TableChanges.{ended}
@@ -61,7 +61,7 @@ holds_other history i q n h = record {
   are = subst (λ xs. ArePackets xs h.packets) (sym (last-other history i q.key n)) h.are;
   bytes = h.bytes;
   unit = h.unit;
-  number = h.number;
+  sequence = h.sequence;
 }
 
 other_key : (a b : KeyValue) → b ≢ a → same_key a b ≡ false

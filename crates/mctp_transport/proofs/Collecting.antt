@@ -2,7 +2,7 @@
 use Rattle.std.proofs.Common.{◌≡◌, ◌⊎◌, true, List, [], ◌∷◌, sym, subst, inl, inr}
 use Rattle.std.specs.List.{AllByRecursion}
 use Rattle.std.proofs.lemmas.Bool.{cases_Bool}
-use Rattle.mctp_transport.specs.Frames.{Frame, KeyValue, key_of}
+use Rattle.mctp_transport.specs.PacketValues.{PacketValue, KeyValue, key_of}
 use Rattle.mctp_transport.specs.Messages.{Joined}
 use Rattle.mctp_transport.specs.Histories.{Input, Arrived, TimeUp, History, EachArrival, after, key_of_input, last_of, IsOpen, Comes}
 use Rattle.mctp_transport.proofs.FirstIndexes.{key_cases, same_key-same}
@@ -10,9 +10,9 @@ use Rattle.mctp_transport.proofs.Arrivals.{EachArrival-append, packets_arrived}
 use Rattle.mctp_transport.proofs.LastStarts.{last-other, last-start, last-more}
 use Rattle.mctp_transport.proofs.Openness.{open_other, open_expired, open_more, has_started, comes_with}
 
-module _ (P : Frame → Type 0) (slots limit : _) where
+module _ (P : PacketValue → Type 0) (slots limit : _) where
   -- with a packet of the open key
-  collected_packet : (history : History) (p : Frame) → (IsOpen slots limit history (key_of p) → EachArrival P (last_of history (key_of p))) → P p
+  collected_packet : (history : History) (p : PacketValue) → (IsOpen slots limit history (key_of p) → EachArrival P (last_of history (key_of p))) → P p
       → (p.som ≡ true) ⊎ IsOpen slots limit history (key_of p) → EachArrival P (last_of (after history (Arrived p)) (key_of p))
   collected_packet history p collected new begun =
       let own = same_key-same (key_of p) in
@@ -48,8 +48,8 @@ module _ (P : Frame → Type 0) (slots limit : _) where
   ]
 
   -- what comes joins such packets
-  pub comes_from_such : (history : History) (p : Frame) (message : _) → (IsOpen slots limit history (key_of p) → EachArrival P (last_of history (key_of p))) → P p
-      → Comes slots limit (after history (Arrived p)) message → (ps : List Frame) × Joined ps message × AllByRecursion P ps
+  pub comes_from_such : (history : History) (p : PacketValue) (message : _) → (IsOpen slots limit history (key_of p) → EachArrival P (last_of history (key_of p))) → P p
+      → Comes slots limit (after history (Arrived p)) message → (ps : List PacketValue) × Joined ps message × AllByRecursion P ps
   comes_from_such history p message collected new came =
       let c = comes_with slots limit history p message came in (
         c.packets,

@@ -6,15 +6,15 @@ use Rattle.std.proofs.lemmas.Bool.{eq-eqb, true≢false, false≢true, lt-ltb, l
 use Rattle.std.proofs.lemmas.List.Sums.{position_or_len_is}
 use Rattle.std.proofs.lemmas.List.{map-set, length-set}
 use Rattle.std.proofs.lemmas.List.Elements.{All-head, All-tail}
-use Rattle.std.proofs.Math.Seq.{take-set-lt}
+use Rattle.std.proofs.Math.Seq.{take-set-lt, map-set_same}
 use Rattle.mctp_transport.specs.declared.address.Key.{Key}
 use Rattle.mctp_transport.specs.declared.assembler.open_message.OpenMessage.{OpenMessage}
-use Rattle.mctp_transport.specs.Frames.{KeyValue, bit}
+use Rattle.mctp_transport.specs.PacketValues.{KeyValue, bit}
 use Rattle.mctp_transport.specs.Bits.{bit_most, bit_one}
 use Rattle.mctp_transport.specs.Packets.{key_value}
 use Rattle.mctp_transport.specs.Tables.{is_at}
 use Rattle.mctp_transport.specs.Assembly.{partial_of}
-use Rattle.mctp_transport.specs.KeyNumbers.{key_number, slot_number}
+use Rattle.mctp_transport.specs.KeyNumbers.{key_number, slot_number, IsGoneOnFrom}
 use Rattle.mctp_transport.proofs.FirstIndexes.{key_cases}
 
 -- the source, the owner bit and the tag are known from a number
@@ -58,6 +58,16 @@ pub number_set : (os : List (Option OpenMessage)) (ns : List ℕ) (i : ℕ) (o :
     → take (length (set os i o)) (set ns i n) ≡ map slot_number (set os i o)
 number_set os ns i o n same within e =
     ap (λ k. take k (set ns i n)) (length-set os i o) ∙ take-set-lt (length os) ns i n within ∙ ap (λ xs. set xs i n) same ∙ ap (λ m. set (map slot_number os) i m) e ∙ sym (map-set slot_number os i o)
+
+-- a message that goes on keeps its number
+number_stays : (message : OpenMessage) (before : Option OpenMessage) → IsGoneOnFrom message before → key_number message.key ≡ slot_number before
+number_stays message None h = absurd h
+number_stays message (Some m) h = ap key_number (sym h.0)
+
+pub number_kept : (os : List (Option OpenMessage)) (ns : List ℕ) (i : ℕ) (o before : Option OpenMessage) (message : OpenMessage) → take (length os) ns ≡ map slot_number os
+    → o ≡ Some message → before ≡ get_or os i before → IsGoneOnFrom message before → take (length (set os i o)) ns ≡ map slot_number (set os i o)
+number_kept os ns i o before message same is there h =
+    ap (λ k. take k ns) (length-set os i o) ∙ same ∙ sym (map-set_same slot_number os i o before (ap slot_number is ∙ number_stays message before h ∙ ap slot_number there))
 
 -- nothing is open
 pub numbers_free : (os : List (Option OpenMessage)) (k : ℕ) → All (λ o. o ≡ None) os → length os ≤ k → take (length os) (replicate k 4096) ≡ map slot_number os

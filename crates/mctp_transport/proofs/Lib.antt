@@ -17,5 +17,5 @@ pub mod Arrivals
 pub mod Collecting
 pub mod InOrder
 pub mod Sending
-pub mod Heard
+pub mod SomeAnswers
 pub mod Spellings

@@ -5,37 +5,37 @@ use Rattle.std.proofs.lemmas.Bool.{cases_lt, ne_eqb}
 use Rattle.std.proofs.lemmas.Bool.Decides.{nat_tests}
 use Rattle.std.proofs.lemmas.Option.{same_Some, none-some, slice_get_within}
 use Rattle.std.proofs.lemmas.List.{length-map, length-take, length-drop, take-append-drop}
-use Rattle.mctp_transport.specs.Frames.{Frame, KeyValue, key_of}
+use Rattle.mctp_transport.specs.PacketValues.{PacketValue, KeyValue, key_of}
 use Rattle.mctp_transport.specs.Messages.{EachPacket, Joined, payloads_of}
 use Rattle.mctp_transport.specs.Cutting.{IsCut, ArePacketsOf}
 use Rattle.mctp_transport.specs.PacketsLeft.{cut}
 use Rattle.mctp_transport.proofs.PacketsLeftLaws.{first_of, later_of}
 use Rattle.mctp_transport.proofs.Cuts.{cut_nothing, cut_more, cut_some, some_payloads, same_cuts}
 
-abbrev payloads : List Frame → List (List ℕ)
+abbrev payloads : List PacketValue → List (List ℕ)
 payloads fs = map (λ f. f.payload) fs
 
 -- the headers are equal
-record SameHeader (f g : Frame) : Type 0 where
+record SameHeader (f g : PacketValue) : Type 0 where
   reserved : f.reserved ≡ g.reserved
   destination : f.destination ≡ g.destination
   key : key_of f ≡ key_of g
   som : f.som ≡ g.som
   eom : f.eom ≡ g.eom
-  number : f.number ≡ g.number
+  sequence : f.sequence ≡ g.sequence
 
-same_frame : (f g : Frame) → f.payload ≡ g.payload → SameHeader f g → f ≡ g
+same_frame : (f g : PacketValue) → f.payload ≡ g.payload → SameHeader f g → f ≡ g
 same_frame f g p h =
     let r = h.reserved in
     let d = h.destination in
     let k = h.key in
     let a = h.som in
     let b = h.eom in
-    let n = h.number in
-    λ i. record { reserved = r i; destination = d i; source = (k i).source; som = a i; eom = b i; number = n i; owner = (k i).owner; tag = (k i).tag; payload = p i }
+    let n = h.sequence in
+    λ i. record { reserved = r i; destination = d i; source = (k i).source; som = a i; eom = b i; sequence = n i; owner = (k i).owner; tag = (k i).tag; payload = p i }
 
-same_frames : (fs gs : List Frame) → payloads fs ≡ payloads gs
-    → ((i : ℕ) (f g : Frame) → slice_get fs i ≡ Some f → slice_get gs i ≡ Some g → SameHeader f g) → fs ≡ gs
+same_frames : (fs gs : List PacketValue) → payloads fs ≡ payloads gs
+    → ((i : ℕ) (f g : PacketValue) → slice_get fs i ≡ Some f → slice_get gs i ≡ Some g → SameHeader f g) → fs ≡ gs
 same_frames [] [] e same = refl
 same_frames [] (g ∷ gs) e same = absurd (cc)
 same_frames (f ∷ fs) [] e same = absurd (cc)
@@ -46,10 +46,10 @@ same_frames (f ∷ fs) (g ∷ gs) e same =
     let more = same_frames fs gs rest (λ i x y a b. same (suc i) x y a b) in
     cc
 
-pub payloads_length : (fs : List Frame) → length (payloads fs) ≡ length fs
+pub payloads_length : (fs : List PacketValue) → length (payloads fs) ≡ length fs
 payloads_length fs = length-map fs (λ f. f.payload)
 
-pub same_packets : (unit : ℕ) (message : List ℕ) (destination : ℕ) (key : KeyValue) (start : ℕ) (fs gs : List Frame)
+pub same_packets : (unit : ℕ) (message : List ℕ) (destination : ℕ) (key : KeyValue) (start : ℕ) (fs gs : List PacketValue)
     → ArePacketsOf unit message destination key start fs → ArePacketsOf unit message destination key start gs → fs ≡ gs
 same_packets unit message destination key start fs gs x y =
     let e = same_cuts unit message (payloads fs) (payloads gs) x.cut y.cut in
@@ -60,15 +60,15 @@ same_packets unit message destination key start fs gs x y =
       key = x.of_key i f a ∙ sym (y.of_key i g b);
       som = x.som i f a ∙ sym (y.som i g b);
       eom = x.eom i f a ∙ ap (λ n. nat_eq (i + 1) n) long ∙ sym (y.eom i g b);
-      number = x.numbers i f a ∙ sym (y.numbers i g b);
+      sequence = x.numbers i f a ∙ sym (y.numbers i g b);
     })
 
-pub payload_at : (fs : List Frame) (i : ℕ) (f : Frame) → slice_get fs i ≡ Some f → slice_get (payloads fs) i ≡ Some f.payload
+pub payload_at : (fs : List PacketValue) (i : ℕ) (f : PacketValue) → slice_get fs i ≡ Some f → slice_get (payloads fs) i ≡ Some f.payload
 payload_at [] i f a = absurd (none-some f a)
-payload_at (g ∷ fs) zero f a = ap (λ (x : Frame). Some x.payload) (same_Some g f a)
+payload_at (g ∷ fs) zero f a = ap (λ (x : PacketValue). Some x.payload) (same_Some g f a)
 payload_at (g ∷ fs) (suc i) f a = payload_at fs i f a
 
-pub joined_payloads : (fs : List Frame) → concat (payloads fs) ≡ payloads_of fs
+pub joined_payloads : (fs : List PacketValue) → concat (payloads fs) ≡ payloads_of fs
 joined_payloads [] = refl
 joined_payloads (f ∷ fs) = ap (λ xs. f.payload ++ xs) (joined_payloads fs)
 
@@ -83,7 +83,7 @@ within_unit unit message ps i p c inside a = elim (last_or_not i (length ps) ins
 ]
 
 -- the packets of a message join to it
-pub packets_join : (unit : ℕ) (message : List ℕ) (destination : ℕ) (key : KeyValue) (start : ℕ) (fs : List Frame)
+pub packets_join : (unit : ℕ) (message : List ℕ) (destination : ℕ) (key : KeyValue) (start : ℕ) (fs : List PacketValue)
     → 0 < length message → ArePacketsOf unit message destination key start fs → Joined fs message
 packets_join unit message destination key start fs some x =
     let long = payloads_length fs in
@@ -105,22 +105,22 @@ packets_join unit message destination key start fs some x =
             | inr h ↦
                 let at : i ≡ 0 = omega arith in
                 let same : q ≡ p = same_Some q p (sym (subst (λ n. slice_get fs n ≡ Some q) at b) ∙ a) in
-                omega (arith, ap (λ (f : Frame). length f.payload) same)
+                omega (arith, ap (λ (f : PacketValue). length f.payload) same)
           ];
       whole = x.cut.whole ∙ joined_payloads fs;
     }
 
 -- what the iterator has left, index by index
-record AreLeft (unit : ℕ) (f : Frame) (fs : List Frame) : Type 0 where
+record AreLeft (unit : ℕ) (f : PacketValue) (fs : List PacketValue) : Type 0 where
   pub cut : IsCut unit f.payload (payloads fs)
   pub addressed : EachPacket fs (λ i g. g.destination ≡ f.destination)
   pub of_key : EachPacket fs (λ i g. key_of g ≡ key_of f)
-  pub numbers : EachPacket fs (λ i g. g.number ≡ (f.number + i) % 4)
+  pub numbers : EachPacket fs (λ i g. g.sequence ≡ (f.sequence + i) % 4)
   pub som : EachPacket fs (λ i g. g.som ≡ cond (nat_eq i 0) f.som false)
   pub eom : EachPacket fs (λ i g. g.eom ≡ nat_eq (i + 1) (length fs))
   pub reserved : EachPacket fs (λ i g. g.reserved ≡ f.reserved)
 
-left_none : (unit : ℕ) (f : Frame) → length f.payload ≡ 0 → AreLeft unit f []
+left_none : (unit : ℕ) (f : PacketValue) → length f.payload ≡ 0 → AreLeft unit f []
 left_none unit f e = record {
   cut = subst (λ m. IsCut unit m []) (empty f.payload e) (cut_nothing unit);
   addressed = λ i g a. absurd (none-some g a);
@@ -162,7 +162,7 @@ later_end : (i n : ℕ) → nat_eq (i + 1) n ≡ nat_eq (suc i + 1) (suc n)
 later_end i n = grind (arith, nat_tests)
 
 -- one more packet, which begins with the bytes that are left
-left_more : (unit : ℕ) (f : Frame) (fs : List Frame) → 0 < unit → f.number < 4 → 0 < length f.payload → AreLeft unit (later_of unit f) fs
+left_more : (unit : ℕ) (f : PacketValue) (fs : List PacketValue) → 0 < unit → f.sequence < 4 → 0 < length f.payload → AreLeft unit (later_of unit f) fs
     → AreLeft unit f (first_of unit f ∷ fs)
 left_more unit f fs wide small some left =
     let size = length-take unit f.payload in
@@ -188,37 +188,37 @@ left_more unit f fs wide small some left =
       | inr h ↦ omega arith
     ]
 
-    addressed_at : (i : ℕ) (g : Frame) → slice_get (first_of unit f ∷ fs) i ≡ Some g → g.destination ≡ f.destination
-    addressed_at zero g a = ap (λ (x : Frame). x.destination) (sym (same_Some (first_of unit f) g a))
+    addressed_at : (i : ℕ) (g : PacketValue) → slice_get (first_of unit f ∷ fs) i ≡ Some g → g.destination ≡ f.destination
+    addressed_at zero g a = ap (λ (x : PacketValue). x.destination) (sym (same_Some (first_of unit f) g a))
     addressed_at (suc i) g a = left.addressed i g a
 
-    key_at : (i : ℕ) (g : Frame) → slice_get (first_of unit f ∷ fs) i ≡ Some g → key_of g ≡ key_of f
+    key_at : (i : ℕ) (g : PacketValue) → slice_get (first_of unit f ∷ fs) i ≡ Some g → key_of g ≡ key_of f
     key_at zero g a = ap key_of (sym (same_Some (first_of unit f) g a))
     key_at (suc i) g a = left.of_key i g a
 
-    number_at : (i : ℕ) (g : Frame) → slice_get (first_of unit f ∷ fs) i ≡ Some g → g.number ≡ (f.number + i) % 4
-    number_at zero g a = let e = ap (λ (x : Frame). x.number) (sym (same_Some (first_of unit f) g a)) in omega arith
+    number_at : (i : ℕ) (g : PacketValue) → slice_get (first_of unit f ∷ fs) i ≡ Some g → g.sequence ≡ (f.sequence + i) % 4
+    number_at zero g a = let e = ap (λ (x : PacketValue). x.sequence) (sym (same_Some (first_of unit f) g a)) in omega arith
     number_at (suc i) g a = let e = left.numbers i g a in omega arith
 
-    som_at : (i : ℕ) (g : Frame) → slice_get (first_of unit f ∷ fs) i ≡ Some g → g.som ≡ cond (nat_eq i 0) f.som false
-    som_at zero g a = ap (λ (x : Frame). x.som) (sym (same_Some (first_of unit f) g a))
+    som_at : (i : ℕ) (g : PacketValue) → slice_get (first_of unit f ∷ fs) i ≡ Some g → g.som ≡ cond (nat_eq i 0) f.som false
+    som_at zero g a = ap (λ (x : PacketValue). x.som) (sym (same_Some (first_of unit f) g a))
     som_at (suc i) g a = left.som i g a ∙ cond_same (nat_eq i 0) ∙ later_start i f.som
 
-    eom_at : (i : ℕ) (g : Frame) → slice_get (first_of unit f ∷ fs) i ≡ Some g → g.eom ≡ nat_eq (i + 1) (length (first_of unit f ∷ fs))
+    eom_at : (i : ℕ) (g : PacketValue) → slice_get (first_of unit f ∷ fs) i ≡ Some g → g.eom ≡ nat_eq (i + 1) (length (first_of unit f ∷ fs))
     eom_at zero g a =
         let rest = length-drop unit f.payload in
         let long = payloads_length fs in
-        ap (λ (x : Frame). x.eom) (sym (same_Some (first_of unit f) g a))
+        ap (λ (x : PacketValue). x.eom) (sym (same_Some (first_of unit f) g a))
         ∙ last_packet unit (length f.payload) (length fs)
         (λ fits. none_after fits)
         (λ over. let more = some_payloads unit (drop unit f.payload) (payloads fs) left.cut (omega arith) in omega arith)
     eom_at (suc i) g a = left.eom i g a ∙ later_end i (length fs)
 
-    reserved_at : (i : ℕ) (g : Frame) → slice_get (first_of unit f ∷ fs) i ≡ Some g → g.reserved ≡ f.reserved
-    reserved_at zero g a = ap (λ (x : Frame). x.reserved) (sym (same_Some (first_of unit f) g a))
+    reserved_at : (i : ℕ) (g : PacketValue) → slice_get (first_of unit f ∷ fs) i ≡ Some g → g.reserved ≡ f.reserved
+    reserved_at zero g a = ap (λ (x : PacketValue). x.reserved) (sym (same_Some (first_of unit f) g a))
     reserved_at (suc i) g a = left.reserved i g a
 
-cut_left : (unit n : ℕ) (f : Frame) → 0 < unit → f.number < 4 → length f.payload ≤ n → AreLeft unit f (cut unit n f)
+cut_left : (unit n : ℕ) (f : PacketValue) → 0 < unit → f.sequence < 4 → length f.payload ≤ n → AreLeft unit f (cut unit n f)
 unfolding cut
 cut_left unit zero f wide small fits = left_none unit f (omega arith)
 cut_left unit (suc n) f wide small fits =
@@ -232,8 +232,8 @@ cut_left unit (suc n) f wide small fits =
         left_more unit f (cut unit n (later_of unit f)) wide small some (rest some)
 
 -- with all bytes left, SOM set and the reserved bits 0, these are the message's packets
-pub all_packets : (unit : ℕ) (f : Frame) → 0 < unit → f.number < 4 → f.som ≡ true → f.reserved ≡ 0
-    → ArePacketsOf unit f.payload f.destination (key_of f) f.number (cut unit (length f.payload) f)
+pub all_packets : (unit : ℕ) (f : PacketValue) → 0 < unit → f.sequence < 4 → f.som ≡ true → f.reserved ≡ 0
+    → ArePacketsOf unit f.payload f.destination (key_of f) f.sequence (cut unit (length f.payload) f)
 all_packets unit f wide small starts clear =
     let left = cut_left unit (length f.payload) f wide small (omega arith) in
     record {

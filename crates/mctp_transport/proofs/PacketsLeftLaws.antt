@@ -3,7 +3,7 @@ use Rattle.std.proofs.Common.{◌≡◌, ℕ, zero, suc, ◌<◌, ◌≤◌, ◌
 use Rattle.std.proofs.lemmas.Bool.{cond-false, cond-true, ne_eqb}
 use Rattle.std.proofs.lemmas.Bool.Decides.{nat_tests}
 use Rattle.std.proofs.lemmas.List.{length-drop, take_all, drop_all}
-use Rattle.mctp_transport.specs.Frames.{Frame}
+use Rattle.mctp_transport.specs.PacketValues.{PacketValue}
 use Rattle.mctp_transport.specs.PacketsLeft.{cut}
 
 pick : {A : Type 0} (b : Bool) (x y z : A) → (b ≡ false → y ≡ z) → cond b x y ≡ cond b x z
@@ -14,14 +14,14 @@ not_empty : (n : ℕ) → nat_eq n 0 ≡ false → 0 < n
 not_empty n h = grind (arith, nat_tests)
 
 -- the first packet, and the frame of what is left
-abbrev pub first_of : ℕ → Frame → Frame
+abbrev pub first_of : ℕ → PacketValue → PacketValue
 first_of unit f = record f { payload = take unit f.payload; eom = nat_le (length f.payload) unit }
 
-abbrev pub later_of : ℕ → Frame → Frame
-later_of unit f = record f { payload = drop unit f.payload; som = false; number = (f.number + 1) % 4 }
+abbrev pub later_of : ℕ → PacketValue → PacketValue
+later_of unit f = record f { payload = drop unit f.payload; som = false; sequence = (f.sequence + 1) % 4 }
 
 -- more leave than there are bytes changes nothing
-cut-fuel : (unit n k : ℕ) (f : Frame) → 0 < unit → length f.payload ≤ n → length f.payload ≤ k → cut unit n f ≡ cut unit k f
+cut-fuel : (unit n k : ℕ) (f : PacketValue) → 0 < unit → length f.payload ≤ n → length f.payload ≤ k → cut unit n f ≡ cut unit k f
 unfolding cut
 cut-fuel unit zero zero f u hn hk = refl
 cut-fuel unit zero (suc k) f u hn hk = let e : length f.payload ≡ 0 = omega arith in sym (cond-true (nat_eq (length f.payload) 0) _ _ (ap (λ m. nat_eq m 0) e))
@@ -30,11 +30,11 @@ cut-fuel unit (suc n) (suc k) f u hn hk = pick (nat_eq (length f.payload) 0) [] 
     let some : 0 < length f.payload = not_empty (length f.payload) h in
     ap (λ fs. first_of unit f ∷ fs) (cut-fuel unit n k (later_of unit f) u (omega (arith, length-drop unit f.payload)) (omega (arith, length-drop unit f.payload))))
 
-pub cut-none : (unit : ℕ) (f : Frame) → length f.payload ≡ 0 → cut unit (length f.payload) f ≡ []
+pub cut-none : (unit : ℕ) (f : PacketValue) → length f.payload ≡ 0 → cut unit (length f.payload) f ≡ []
 unfolding cut
 cut-none unit f e = ap (λ n. cut unit n f) e
 
-pub cut-some : (unit : ℕ) (f : Frame) → 0 < unit → 0 < length f.payload
+pub cut-some : (unit : ℕ) (f : PacketValue) → 0 < unit → 0 < length f.payload
     → cut unit (length f.payload) f ≡ first_of unit f ∷ cut unit (length (drop unit f.payload)) (later_of unit f)
 unfolding cut
 cut-some unit f u some =
@@ -58,8 +58,8 @@ min_drop unit xs = elim (le-or-lt (length xs) unit) [
 ]
 
 -- the first packet has p, and r is left
-pub cut-next : (unit : ℕ) (f : Frame) (p r : List ℕ) (n : ℕ) → 0 < unit → 0 < length f.payload
-    → p ≡ take (min (length f.payload) unit) f.payload → r ≡ drop (min (length f.payload) unit) f.payload → n ≡ (f.number + 1) % 4
+pub cut-next : (unit : ℕ) (f : PacketValue) (p r : List ℕ) (n : ℕ) → 0 < unit → 0 < length f.payload
+    → p ≡ take (min (length f.payload) unit) f.payload → r ≡ drop (min (length f.payload) unit) f.payload → n ≡ (f.sequence + 1) % 4
     → cut unit (length f.payload) f
-    ≡ record f { payload = p; eom = nat_le (length f.payload) unit } ∷ cut unit (length r) (record f { payload = r; som = false; number = n })
+    ≡ record f { payload = p; eom = nat_le (length f.payload) unit } ∷ cut unit (length r) (record f { payload = r; som = false; sequence = n })
 cut-next unit f p r n u some front back e = rw (front, back, e, min_take, min_drop) (cut-some unit f u some)

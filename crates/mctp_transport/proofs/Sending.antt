@@ -4,7 +4,7 @@ use Rattle.std.specs.List.{AllByRecursion, concat}
 use Rattle.std.proofs.lemmas.Bool.{true≢false, eqb-true, eq-eqb, ne_eqb}
 use Rattle.std.proofs.lemmas.List.{length-map}
 use Rattle.std.proofs.lemmas.Option.{same_Some, none-some, slice_get_within, slice_get_cases}
-use Rattle.mctp_transport.specs.Frames.{Frame, KeyValue, key_of}
+use Rattle.mctp_transport.specs.PacketValues.{PacketValue, KeyValue, key_of}
 use Rattle.mctp_transport.specs.Messages.{Joined, payloads_of}
 use Rattle.mctp_transport.specs.Cutting.{IsCut, ArePacketsOf}
 use Rattle.mctp_transport.specs.Sending.{IsPacketOf}
@@ -22,18 +22,18 @@ few_payloads unit (suc n) message (p ∷ q ∷ ps) cut most =
     let rest = few_payloads unit n (concat (q ∷ ps)) (q ∷ ps) (cut_rest unit message p q ps cut) (omega (arith, suc-mul n unit, length-append p (concat (q ∷ ps)))) in
     omega arith
 
-pub few_packets : (unit n : ℕ) (message : List ℕ) (d : ℕ) (key : KeyValue) (start : ℕ) (ps : List Frame) → ArePacketsOf unit message d key start ps → length message ≤ n * unit
+pub few_packets : (unit n : ℕ) (message : List ℕ) (d : ℕ) (key : KeyValue) (start : ℕ) (ps : List PacketValue) → ArePacketsOf unit message d key start ps → length message ≤ n * unit
     → length ps ≤ n
 few_packets unit n message d key start ps are most =
-    omega (arith, few_payloads unit n message (map (λ f. f.payload) ps) are.cut most, length-map ps (λ (f : Frame). f.payload))
+    omega (arith, few_payloads unit n message (map (λ f. f.payload) ps) are.cut most, length-map ps (λ (f : PacketValue). f.payload))
 
 -- numbers modulo 4 tell four places in a row apart
 next_place : (s i j : ℕ) → 1 ≤ i → i ≤ 4 → j + 1 ≤ 4 → (s + i) % 4 ≡ ((s + j) % 4 + 1) % 4 → i ≡ j + 1
 next_place s i j least most most' e = omega arith
 
 -- what joins packets of the list stands in it index by index
-stands : (unit : ℕ) (message whole : List ℕ) (d : ℕ) (key : KeyValue) (s : ℕ) (qs ps : List Frame) → ArePacketsOf unit message d key s qs → length qs ≤ 5 → Joined ps whole
-    → ((j : ℕ) (p : Frame) → slice_get ps j ≡ Some p → (i : ℕ) × (slice_get qs i ≡ Some p)) → (j : ℕ) (p : Frame) → slice_get ps j ≡ Some p → slice_get qs j ≡ Some p
+stands : (unit : ℕ) (message whole : List ℕ) (d : ℕ) (key : KeyValue) (s : ℕ) (qs ps : List PacketValue) → ArePacketsOf unit message d key s qs → length qs ≤ 5 → Joined ps whole
+    → ((j : ℕ) (p : PacketValue) → slice_get ps j ≡ Some p → (i : ℕ) × (slice_get qs i ≡ Some p)) → (j : ℕ) (p : PacketValue) → slice_get ps j ≡ Some p → slice_get qs j ≡ Some p
 stands unit message whole d key s qs ps are few joined placed zero p at =
     let (i, is) = placed zero p at in
     let first : i ≡ 0 = eqb-true i 0 (sym (are.som i p is) ∙ joined.start 0 p at) in
@@ -42,10 +42,10 @@ stands unit message whole d key s qs ps are few joined placed (suc j) p at =
     let more : suc j < length ps = slice_get_within ps (suc j) p at in
     by (λ q there. stands unit message whole d key s qs ps are few joined placed j q there) (before j (omega arith))
   where
-    before : (k : ℕ) → k < length ps → (q : Frame) × (slice_get ps k ≡ Some q)
+    before : (k : ℕ) → k < length ps → (q : PacketValue) × (slice_get ps k ≡ Some q)
     before k within = elim (slice_get_cases ps k).1 [ inl h ↦ (h.0, h.2) | inr h ↦ absurd (omega (arith, h.0)) ]
 
-    by : ((q : Frame) → slice_get ps j ≡ Some q → slice_get qs j ≡ Some q) → (q : Frame) × (slice_get ps j ≡ Some q) → slice_get qs (suc j) ≡ Some p
+    by : ((q : PacketValue) → slice_get ps j ≡ Some q → slice_get qs j ≡ Some q) → (q : PacketValue) × (slice_get ps j ≡ Some q) → slice_get qs (suc j) ≡ Some p
     by earlier (q, there) =
         let more : suc j < length ps = slice_get_within ps (suc j) p at in
         let here = earlier q there in
@@ -56,13 +56,13 @@ stands unit message whole d key s qs ps are few joined placed (suc j) p at =
         let no_start : i ≢ 0 = λ e. true≢false (sym (eq-eqb i 0 e) ∙ sym (are.som i p is) ∙ joined.start (suc j) p at ∙ ne_eqb (suc j) 0 (λ z. omega arith)) in
         let same_spot : suc j ≡ j + 1 = omega arith in
         let P : ℕ → Type 0 = λ k. slice_get ps k ≡ Some p in
-        let step : p.number ≡ (q.number + 1) % 4 = joined.numbers j q p there (subst P same_spot at) in
+        let step : p.sequence ≡ (q.sequence + 1) % 4 = joined.numbers j q p there (subst P same_spot at) in
         let counts : (s + i) % 4 ≡ ((s + j) % 4 + 1) % 4 = sym (are.numbers i p is) ∙ step ∙ ap (λ n. (n + 1) % 4) (are.numbers j q here) in
         let next : i ≡ suc j = omega (arith, next_place s i j (omega (arith, no_start)) (omega arith) (omega (arith, goes_on)) counts) in
         let Q : ℕ → Type 0 = λ k. slice_get qs k ≡ Some p in
         subst Q next is
 
-same_list : (ps qs : List Frame) → length ps ≡ length qs → ((j : ℕ) (p : Frame) → slice_get ps j ≡ Some p → slice_get qs j ≡ Some p) → ps ≡ qs
+same_list : (ps qs : List PacketValue) → length ps ≡ length qs → ((j : ℕ) (p : PacketValue) → slice_get ps j ≡ Some p → slice_get qs j ≡ Some p) → ps ≡ qs
 same_list [] [] long each = refl
 same_list [] (q ∷ qs) long each = absurd (omega arith)
 same_list (p ∷ ps) [] long each = absurd (omega arith)
@@ -72,13 +72,13 @@ same_list (p ∷ ps) (q ∷ qs) long each =
     λ i. sym first i ∷ rest i
 
 -- what holds of each packet holds of the one at an index
-at_place : (P : Frame → Type 0) (ps : List Frame) (i : ℕ) (p : Frame) → AllByRecursion P ps → slice_get ps i ≡ Some p → P p
+at_place : (P : PacketValue → Type 0) (ps : List PacketValue) (i : ℕ) (p : PacketValue) → AllByRecursion P ps → slice_get ps i ≡ Some p → P p
 at_place P [] i p all at = absurd (none-some p at)
 at_place P (q ∷ ps) zero p all at = subst P (same_Some q p at) all.0
 at_place P (q ∷ ps) (suc i) p all at = at_place P ps i p all.1 at
 
 -- Packets of one message, five at most, join to that message and to no other.
-pub joins_to_itself : (unit : ℕ) (message : List ℕ) (d : ℕ) (key : KeyValue) (s : ℕ) (ps : List Frame) (whole : List ℕ) → length message ≤ 5 * unit
+pub joins_to_itself : (unit : ℕ) (message : List ℕ) (d : ℕ) (key : KeyValue) (s : ℕ) (ps : List PacketValue) (whole : List ℕ) → length message ≤ 5 * unit
     → AllByRecursion (IsPacketOf unit message d key s) ps → Joined ps whole → whole ≡ message
 joins_to_itself unit message d key s [] whole short all joined = absurd (omega (arith, joined.some))
 joins_to_itself unit message d key s (p ∷ ps) whole short all joined = by all.0
@@ -86,18 +86,18 @@ joins_to_itself unit message d key s (p ∷ ps) whole short all joined = by all.
     by : IsPacketOf unit message d key s p → whole ≡ message
     by (qs, k, are, here) =
         let few = few_packets unit 5 message d key s qs are short in
-        let placed : (j : ℕ) (r : Frame) → slice_get (p ∷ ps) j ≡ Some r → (i : ℕ) × (slice_get qs i ≡ Some r) = λ j r at.
+        let placed : (j : ℕ) (r : PacketValue) → slice_get (p ∷ ps) j ≡ Some r → (i : ℕ) × (slice_get qs i ≡ Some r) = λ j r at.
         let (rs, i, others, there) = at_place (IsPacketOf unit message d key s) (p ∷ ps) j r all at in
-        let G : List Frame → Type 0 = λ fs. slice_get fs i ≡ Some r in
+        let G : List PacketValue → Type 0 = λ fs. slice_get fs i ≡ Some r in
         (i, subst G (same_packets unit message d key s rs qs others are) there) in
         let each = stands unit message whole d key s qs (p ∷ ps) are few joined placed in
         last (last_there (length ps) (omega arith)) few are each
       where
-        last_there : (i : ℕ) → i < length (p ∷ ps) → (r : Frame) × (slice_get (p ∷ ps) i ≡ Some r)
+        last_there : (i : ℕ) → i < length (p ∷ ps) → (r : PacketValue) × (slice_get (p ∷ ps) i ≡ Some r)
         last_there i within = elim (slice_get_cases (p ∷ ps) i).1 [ inl h ↦ (h.0, h.2) | inr h ↦ absurd (omega (arith, h.0)) ]
 
-        last : (r : Frame) × (slice_get (p ∷ ps) (length ps) ≡ Some r) → length qs ≤ 5 → ArePacketsOf unit message d key s qs
-            → ((j : ℕ) (p' : Frame) → slice_get (p ∷ ps) j ≡ Some p' → slice_get qs j ≡ Some p') → whole ≡ message
+        last : (r : PacketValue) × (slice_get (p ∷ ps) (length ps) ≡ Some r) → length qs ≤ 5 → ArePacketsOf unit message d key s qs
+            → ((j : ℕ) (p' : PacketValue) → slice_get (p ∷ ps) j ≡ Some p' → slice_get qs j ≡ Some p') → whole ≡ message
         last (r, at) few are each =
             let ends : r.eom ≡ true = joined.finish (length ps) r at ∙ eq-eqb (length ps + 1) (length (p ∷ ps)) (omega arith) in
             let count : length ps + 1 ≡ length qs = eqb-true (length ps + 1) (length qs) (sym (are.eom (length ps) r (each (length ps) r at)) ∙ ends) in
@@ -117,15 +117,15 @@ room_of unit message (p ∷ q ∷ ps) cut =
     let rest = room_of unit (concat (q ∷ ps)) (q ∷ ps) (cut_rest unit message p q ps cut) in
     omega (arith, length-append p (concat (q ∷ ps)), suc-mul (length (q ∷ ps)) unit)
 
-pub many_packets : (unit : ℕ) (message : List ℕ) (d : ℕ) (key : KeyValue) (start : ℕ) (ps : List Frame) → ArePacketsOf unit message d key start ps
+pub many_packets : (unit : ℕ) (message : List ℕ) (d : ℕ) (key : KeyValue) (start : ℕ) (ps : List PacketValue) → ArePacketsOf unit message d key start ps
     → length message ≤ length ps * unit
 many_packets unit message d key start ps are =
-    let long = length-map ps (λ (f : Frame). f.payload) in
+    let long = length-map ps (λ (f : PacketValue). f.payload) in
     let R : ℕ → Type 0 = λ n. length message ≤ n * unit in
     subst R long (room_of unit message (map (λ f. f.payload) ps) are.cut)
 
 -- The first and the last of six packets join, to a message of at most twice the unit.
-pub ends_of_six_join : (unit : ℕ) (message : List ℕ) (d : ℕ) (key : KeyValue) (s : ℕ) (a b c e f g : Frame) → ArePacketsOf unit message d key s (a ∷ b ∷ c ∷ e ∷ f ∷ g ∷ [])
+pub ends_of_six_join : (unit : ℕ) (message : List ℕ) (d : ℕ) (key : KeyValue) (s : ℕ) (a b c e f g : PacketValue) → ArePacketsOf unit message d key s (a ∷ b ∷ c ∷ e ∷ f ∷ g ∷ [])
     → Joined (a ∷ g ∷ []) (payloads_of (a ∷ g ∷ [])) × (length (payloads_of (a ∷ g ∷ [])) ≤ 2 * unit)
 ends_of_six_join unit message d key s a b c e f g are =
     let full = are.cut.full 0 a.payload refl (omega arith) in
@@ -145,19 +145,19 @@ ends_of_six_join unit message d key s a b c e f g are =
       omega (arith, length-append a.payload (payloads_of (g ∷ [])), length-append g.payload []),
     )
   where
-    each : (P : ℕ → Frame → Type 0) → P 0 a → P 1 g → (i : ℕ) (p : Frame) → slice_get (a ∷ g ∷ []) i ≡ Some p → P i p
+    each : (P : ℕ → PacketValue → Type 0) → P 0 a → P 1 g → (i : ℕ) (p : PacketValue) → slice_get (a ∷ g ∷ []) i ≡ Some p → P i p
     each P x y zero p at = subst (P 0) (same_Some a p at) x
     each P x y (suc zero) p at = subst (P 1) (same_Some g p at) y
     each P x y (suc (suc i)) p at = absurd (none-some p at)
 
-    pairs : (R : ℕ → Frame → Frame → Type 0) → R 0 a a → R 1 a g → (i : ℕ) (p q : Frame) → slice_get (a ∷ g ∷ []) 0 ≡ Some p → slice_get (a ∷ g ∷ []) i ≡ Some q → R i p q
+    pairs : (R : ℕ → PacketValue → PacketValue → Type 0) → R 0 a a → R 1 a g → (i : ℕ) (p q : PacketValue) → slice_get (a ∷ g ∷ []) 0 ≡ Some p → slice_get (a ∷ g ∷ []) i ≡ Some q → R i p q
     pairs R x y i p q first at =
-        let P : Frame → Type 0 = λ o. R i o q in
+        let P : PacketValue → Type 0 = λ o. R i o q in
         subst P (same_Some a p first) (each (λ j o. R j a o) x y i q at)
 
-    nexts : g.number ≡ (a.number + 1) % 4 → (i : ℕ) (p q : Frame) → slice_get (a ∷ g ∷ []) i ≡ Some p → slice_get (a ∷ g ∷ []) (i + 1) ≡ Some q → q.number ≡ (p.number + 1) % 4
+    nexts : g.sequence ≡ (a.sequence + 1) % 4 → (i : ℕ) (p q : PacketValue) → slice_get (a ∷ g ∷ []) i ≡ Some p → slice_get (a ∷ g ∷ []) (i + 1) ≡ Some q → q.sequence ≡ (p.sequence + 1) % 4
     nexts counts zero p q at next =
-        let A : Frame → Type 0 = λ o. q.number ≡ (o.number + 1) % 4 in
-        let G : Frame → Type 0 = λ o. o.number ≡ (a.number + 1) % 4 in
+        let A : PacketValue → Type 0 = λ o. q.sequence ≡ (o.sequence + 1) % 4 in
+        let G : PacketValue → Type 0 = λ o. o.sequence ≡ (a.sequence + 1) % 4 in
         subst A (same_Some a p at) (subst G (same_Some g q next) counts)
     nexts counts (suc i) p q at next = absurd (omega (arith, slice_get_within (a ∷ g ∷ []) (suc i + 1) q next))

@@ -1,11 +1,11 @@
 -- Bytes are a packet's, or no packet's.
 use Rattle.std.proofs.Common.{◌≡◌, ◌⊎◌, ℕ, ◌/◌, ◌%◌, ◌<◌, ◌≤◌, Bool, true, false, List, [], ◌∷◌, length, ap, arith, inl, inr}
 use Rattle.std.proofs.lemmas.Bool.{cases_lt, cases_order}
-use Rattle.mctp_transport.specs.Frames.{Frame, Spelled, bit, flag_byte, version_byte}
+use Rattle.mctp_transport.specs.PacketValues.{PacketValue, Spelled, bit, flag_byte, version_byte}
 use Rattle.mctp_transport.specs.Bits.{bit_most}
 
 -- a digit of 0 or 1 is a flag
-flag_of : (n : ℕ) → n < 2 → (b : Bool) × (bit b ≡ n)
+pub flag_of : (n : ℕ) → n < 2 → (b : Bool) × (bit b ≡ n)
 flag_of n small = elim (cases_lt n 1) [ inl none ↦ (false, omega arith) | inr one ↦ (true, omega arith) ]
 
 -- numbers in the ranges of a header, and the flag byte that they make
@@ -18,7 +18,7 @@ pub record IsInRange (unit version destination source flags : ℕ) (payload : Li
   pub some : 0 < length payload
   pub most : length payload ≤ unit
 
-in_range : (unit v d s f : ℕ) (payload : List ℕ) → IsInRange unit v d s f payload → (p : Frame) × Spelled unit p (v ∷ d ∷ s ∷ f ∷ payload)
+in_range : (unit v d s f : ℕ) (payload : List ℕ) → IsInRange unit v d s f payload → (p : PacketValue) × Spelled unit p (v ∷ d ∷ s ∷ f ∷ payload)
 in_range unit v d s f payload h =
     let reserved = h.reserved in
     let version = h.version_is in
@@ -26,13 +26,13 @@ in_range unit v d s f payload h =
     let som = flag_of (f / 128) (omega arith) in
     let eom = flag_of (f / 64 % 2) (omega arith) in
     let owner = flag_of (f / 8 % 2) (omega arith) in
-    let p : Frame = record {
+    let p : PacketValue = record {
       reserved = v / 16;
       destination = d;
       source = s;
       som = som.0;
       eom = eom.0;
-      number = f / 16 % 4;
+      sequence = f / 16 % 4;
       owner = owner.0;
       tag = f % 8;
       payload = payload;
@@ -45,7 +45,7 @@ in_range unit v d s f payload h =
           reserved = omega arith;
           destination = h.destination_is;
           source = h.source_is;
-          number = omega arith;
+          sequence = omega arith;
           tag = omega arith;
           some = h.some;
           most = h.most;
@@ -55,7 +55,7 @@ in_range unit v d s f payload h =
     )
 
 -- what bytes of a packet are
-of_packet : (unit v d s f : ℕ) (payload : List ℕ) (p : Frame) → Spelled unit p (v ∷ d ∷ s ∷ f ∷ payload) → IsInRange unit v d s f payload
+of_packet : (unit v d s f : ℕ) (payload : List ℕ) (p : PacketValue) → Spelled unit p (v ∷ d ∷ s ∷ f ∷ payload) → IsInRange unit v d s f payload
 of_packet unit v d s f payload p (fits, same) =
     let first : v ≡ version_byte p = cc in
     let second : d ≡ p.destination = cc in
@@ -66,7 +66,7 @@ of_packet unit v d s f payload p (fits, same) =
     let a = fits.reserved in
     let b = fits.destination in
     let c = fits.source in
-    let n = fits.number in
+    let n = fits.sequence in
     let t = fits.tag in
     let some = fits.some in
     let most = fits.most in
@@ -122,7 +122,7 @@ range_or_not unit v d s f payload = elim (cases_lt v 256) [
 ]
 
 -- the bytes are some packet's, or no packet's
-pub spelled_or_not : (unit : ℕ) (bytes : List ℕ) → ((p : Frame) × Spelled unit p bytes) ⊎ ((p : Frame) → ¬ Spelled unit p bytes)
+pub spelled_or_not : (unit : ℕ) (bytes : List ℕ) → ((p : PacketValue) × Spelled unit p bytes) ⊎ ((p : PacketValue) → ¬ Spelled unit p bytes)
 spelled_or_not unit [] = inr (λ p h. let e = ap length h.1 in omega arith)
 spelled_or_not unit (v ∷ []) = inr (λ p h. let e = ap length h.1 in omega arith)
 spelled_or_not unit (v ∷ d ∷ []) = inr (λ p h. let e = ap length h.1 in omega arith)

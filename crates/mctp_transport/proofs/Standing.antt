@@ -4,7 +4,7 @@ use Rattle.std.specs.Prelude.{◌↔◌, nat_lt}
 use Rattle.std.proofs.lemmas.Bool.{false≢true, true≢false, cases_Bool, ltb-true, ltb-false}
 use Rattle.std.proofs.lemmas.Option.{same_Some, none-some, slice_get_within}
 use Rattle.std.proofs.lemmas.List.{length-append, set-set}
-use Rattle.mctp_transport.specs.Frames.{Frame, KeyValue, key_of}
+use Rattle.mctp_transport.specs.PacketValues.{PacketValue, KeyValue, key_of}
 use Rattle.mctp_transport.specs.Messages.{payloads_of, AtFirst}
 use Rattle.mctp_transport.specs.Histories.{Arrived, TimeUp, History, after, has_start, inputs_of, last_of, ArePackets, IsKeyCount, IsOpen}
 use Rattle.mctp_transport.specs.Hearing.{Answer, Whole, Held, Dropped, HearsOnly}
@@ -20,35 +20,35 @@ use Rattle.mctp_transport.proofs.Slots.{Among, get_set_same, position-none, posi
 use Rattle.mctp_transport.proofs.Clearing.{Cleared, found_key, ended_cleared, cleared_stands, placed_stands, room, full}
 use Rattle.mctp_transport.proofs.Faults.{Means, means}
 
-only_first : (p q : Frame) (i : ℕ) → slice_get (p ∷ []) i ≡ Some q → p ≡ q
+only_first : (p q : PacketValue) (i : ℕ) → slice_get (p ∷ []) i ≡ Some q → p ≡ q
 only_first p q zero a = same_Some p q a
 only_first p q (suc i) a = absurd (none-some q a)
 
-begun_holds : (history : History) (p : Frame) → p.som ≡ true → HoldsLast (after history (Arrived p)) (begun p)
+begun_holds : (history : History) (p : PacketValue) → p.som ≡ true → HoldsLast (after history (Arrived p)) (begun p)
 begun_holds history p s = record {
   packets = p ∷ [];
   are = are_alone history p s;
   bytes = sym (one_payload p);
-  unit = λ q a. ap (λ (x : Frame). length x.payload) (only_first p q 0 a);
-  number = λ i q e a. ap (λ (x : Frame). x.number) (only_first p q i a);
+  unit = λ q a. ap (λ (x : PacketValue). length x.payload) (only_first p q 0 a);
+  sequence = λ i q e a. ap (λ (x : PacketValue). x.sequence) (only_first p q i a);
 }
 
 -- a table after a packet: what is heard, and what it stands for
-pub record Stands (slots limit : ℕ) (history : History) (p : Frame) (result : Table × Answer) : Type 0 where
+pub record Stands (slots limit : ℕ) (history : History) (p : PacketValue) (result : Table × Answer) : Type 0 where
   pub told : Told slots limit history p result.1
   pub stands : TableStandsFor slots limit result.0 (after history (Arrived p))
 
-shut : (slots limit : ℕ) (history : History) (p : Frame) (a : Answer) → Told slots limit history p a → (a ≡ Held → ⊥) → ¬ IsOpen slots limit (after history (Arrived p)) (key_of p)
+shut : (slots limit : ℕ) (history : History) (p : PacketValue) (a : Answer) → Told slots limit history p a → (a ≡ Held → ⊥) → ¬ IsOpen slots limit (after history (Arrived p)) (key_of p)
 shut slots limit history p a t n o = n (hears_one slots limit history p a Held (heard_from slots limit history p a t) o)
 
-closed : (slots limit : ℕ) (t u : Table) (history : History) (p : Frame) (a : Answer) → TableStandsFor slots limit t history → Cleared (key_of p) t u
+closed : (slots limit : ℕ) (t u : Table) (history : History) (p : PacketValue) (a : Answer) → TableStandsFor slots limit t history → Cleared (key_of p) t u
     → Told slots limit history p a → (a ≡ Held → ⊥) → Stands slots limit history p (u, a)
 closed slots limit t u history p a s c told n = record {
   told = told;
   stands = cleared_stands slots limit t u history (Arrived p) s c (shut slots limit history p a told n);
 }
 
-placed_is : (slots limit : ℕ) (t u : Table) (history : History) (p : Frame) (found : Option ℕ) → TableStandsFor slots limit t history → Cleared (key_of p) t u → length t ≡ slots
+placed_is : (slots limit : ℕ) (t u : Table) (history : History) (p : PacketValue) (found : Option ℕ) → TableStandsFor slots limit t history → Cleared (key_of p) t u → length t ≡ slots
     → p.som ≡ true → length p.payload ≤ limit → p.eom ≡ false → position is_none u ≡ found → Stands slots limit history p (placed u p found)
 placed_is slots limit t u history p None s c long som fits going e =
     closed slots limit t u history p (Dropped drop_cause.Full) s c
@@ -74,7 +74,7 @@ pub pick_false : (P : Table × Answer → Type 0) (b : Bool) (x y : Table × Ans
 pick_false P true x y e h = absurd (true≢false e)
 pick_false P false x y e h = h
 
-started_is : (slots limit : ℕ) (t u : Table) (history : History) (p : Frame) → TableStandsFor slots limit t history → Cleared (key_of p) t u → length t ≡ slots
+started_is : (slots limit : ℕ) (t u : Table) (history : History) (p : PacketValue) → TableStandsFor slots limit t history → Cleared (key_of p) t u → length t ≡ slots
     → p.som ≡ true → Stands slots limit history p (started limit u p)
 started_is slots limit t u history p s c long som = elim (cases_Bool (nat_lt limit (length p.payload))) [
   | inl y ↦ pick_true (Stands slots limit history p) (nat_lt limit (length p.payload)) _ _ y
@@ -89,21 +89,21 @@ started_is slots limit t u history p s c long som = elim (cases_Bool (nat_lt lim
       ])
 ]
 
-extended_holds : (history : History) (p : Frame) (q : Partial) (ps : List Frame) → p.som ≡ false → q.key ≡ key_of p → has_start (inputs_of history (key_of p)) ≡ true → 0 < length ps
+extended_holds : (history : History) (p : PacketValue) (q : Partial) (ps : List PacketValue) → p.som ≡ false → q.key ≡ key_of p → has_start (inputs_of history (key_of p)) ≡ true → 0 < length ps
     → ArePackets (last_of history (key_of p)) ps → q.bytes ≡ payloads_of ps → AtFirst ps (λ f. q.unit ≡ length f.payload) → HoldsLast (after history (Arrived p)) (extended q p)
 extended_holds history p q ps som key started some are bytes unit = record {
   packets = ps ++ p ∷ [];
   are = subst (λ k. ArePackets (last_of (after history (Arrived p)) k) (ps ++ p ∷ [])) (sym key) (are_more history p ps som started are);
   bytes = ap (λ bs. bs ++ p.payload) bytes ∙ sym (payloads_snoc ps p);
   unit = λ f a. unit f (first_of_snoc ps p f some a);
-  number = λ i f e a. elim (get_cases ps p i f a) [
+  sequence = λ i f e a. elim (get_cases ps p i f a) [
     | inl h ↦ absurd (omega (arith, h.1, length-append ps (p ∷ [])))
-    | inr h ↦ ap (λ (x : Frame). x.number) h.1
+    | inr h ↦ ap (λ (x : PacketValue). x.sequence) h.1
   ];
 }
 
 -- the packet goes on, or not, from what is held
-gone : (slots limit : ℕ) (t : Table) (history : History) (p : Frame) (i : ℕ) (q : Partial) (ps : List Frame) → TableStandsFor slots limit t history → p.som ≡ false
+gone : (slots limit : ℕ) (t : Table) (history : History) (p : PacketValue) (i : ℕ) (q : Partial) (ps : List PacketValue) → TableStandsFor slots limit t history → p.som ≡ false
     → Cleared (key_of p) t (set t i None) → i < length t → q.key ≡ key_of p → IsOpen slots limit history (key_of p) → ArePackets (last_of history (key_of p)) ps
     → q.bytes ≡ payloads_of ps → AtFirst ps (λ f. q.unit ≡ length f.payload)
     → (fault : Option DropCause) (ends : Bool) → p.eom ≡ ends → Means limit ps p fault
@@ -130,7 +130,7 @@ gone slots limit t history p i q ps s som c within key o are bytes unit None fal
           (extended_holds history p q ps som key (has_started slots limit history (key_of p) o) some are bytes unit));
     }
 
-carried_is : (slots limit : ℕ) (t : Table) (history : History) (p : Frame) (found : Option ℕ) → TableStandsFor slots limit t history → p.som ≡ false
+carried_is : (slots limit : ℕ) (t : Table) (history : History) (p : PacketValue) (found : Option ℕ) → TableStandsFor slots limit t history → p.som ≡ false
     → position (is_at (key_of p)) t ≡ found → Stands slots limit history p (carried limit t p found)
 carried_is slots limit t history p None s som e =
     closed slots limit t t history p (Dropped drop_cause.NotOpen) s (ended_cleared slots limit t history (key_of p) None s e)
@@ -159,7 +159,7 @@ carried_is slots limit t history p (Some i) s som e =
     (fault_at limit q p) p.eom refl (means limit history q h p some))
 
 -- a table that stands for a history: what is heard of a packet, and what the table stands for then
-pub moved_is : (slots limit : ℕ) (t : Table) (history : History) (p : Frame) → TableStandsFor slots limit t history → length t ≡ slots
+pub moved_is : (slots limit : ℕ) (t : Table) (history : History) (p : PacketValue) → TableStandsFor slots limit t history → length t ≡ slots
     → HearsOnly slots limit history p (moved limit t p).1 × TableStandsFor slots limit (moved limit t p).0 (after history (Arrived p))
 moved_is slots limit t history p s long = elim (cases_Bool p.som) [
   | inl y ↦ heard (pick_true (Stands slots limit history p) p.som _ _ y (started_is slots limit t (ended t (position (is_at (key_of p)) t)) history p s (ended_cleared slots limit t history (key_of p) (position (is_at (key_of p)) t) s refl) long y))

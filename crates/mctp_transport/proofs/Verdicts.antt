@@ -1,10 +1,10 @@
 -- What is heard, test by test in the order in which an assembler goes.
 use Rattle.std.proofs.Common.{◌≡◌, ◌⊎◌, ℕ, ◌+◌, ◌<◌, ◌≤◌, Bool, true, false, List, ◌++◌, length, refl, sym, ap, ◌∙◌, arith, inl, inr, subst}
 use Rattle.std.proofs.lemmas.Bool.{false≢true, cases_Bool}
-use Rattle.mctp_transport.specs.Frames.{Frame, KeyValue, key_of}
+use Rattle.mctp_transport.specs.PacketValues.{PacketValue, KeyValue, key_of}
 use Rattle.mctp_transport.specs.Messages.{payloads_of, NumberFollows, LengthFits}
 use Rattle.mctp_transport.specs.Histories.{History, last_of, ArePackets, FewerThan, AsManyAs, IsOpen, IsOtherOpen}
-use Rattle.mctp_transport.specs.Hearing.{Answer, Whole, Held, Dropped, GoesOn, Hears, HearsOnly}
+use Rattle.mctp_transport.specs.Hearing.{Answer, Whole, Held, Dropped, ContinuesMessage, Hears, HearsOnly}
 use Rattle.mctp_transport.specs.declared.drop_cause.DropCause.TheVariants as drop_cause
 use Rattle.mctp_transport.proofs.LastStarts.{packets_same}
 use Rattle.mctp_transport.proofs.Openness.{open_start, open_start_from, Continues, open_more, open_more_from, comes_start, comes_start_from, comes_more, comes_more_from}
@@ -22,14 +22,14 @@ test_one P answer Q rest apart one b c x y = elim x [
   | inr p ↦ elim y [ inl q ↦ absurd (apart q.0 p.0) | inr q ↦ one b c p.1 q.1 ]
 ]
 
-abbrev pub ToldOfStart : ℕ → ℕ → History → Frame → Answer → Type 0
+abbrev pub ToldOfStart : ℕ → ℕ → History → PacketValue → Answer → Type 0
 ToldOfStart slots limit history p =
     Test (limit < length p.payload) (Dropped drop_cause.Limit) (length p.payload ≤ limit)
     (Test (p.eom ≡ true) (Whole p.payload) (p.eom ≡ false)
     (Test (AsManyAs slots (IsOtherOpen slots limit history (key_of p))) (Dropped drop_cause.Full) (FewerThan slots (IsOtherOpen slots limit history (key_of p)))
     (λ b. b ≡ Held)))
 
-abbrev pub ToldOfMore : ℕ → List Frame → Frame → Answer → Type 0
+abbrev pub ToldOfMore : ℕ → List PacketValue → PacketValue → Answer → Type 0
 ToldOfMore limit ps p =
     Test (¬ NumberFollows ps p) (Dropped drop_cause.Number) (NumberFollows ps p)
     (Test (¬ LengthFits ps p) (Dropped drop_cause.Length) (LengthFits ps p)
@@ -37,13 +37,13 @@ ToldOfMore limit ps p =
     (Test (p.eom ≡ true) (Whole (payloads_of ps ++ p.payload)) (p.eom ≡ false)
     (λ b. b ≡ Held))))
 
-abbrev pub ToldOfOpen : ℕ → History → Frame → Answer → Type 0
-ToldOfOpen limit history p b = (ps : List Frame) × ArePackets (last_of history (key_of p)) ps × ToldOfMore limit ps p b
+abbrev pub ToldOfOpen : ℕ → History → PacketValue → Answer → Type 0
+ToldOfOpen limit history p b = (ps : List PacketValue) × ArePackets (last_of history (key_of p)) ps × ToldOfMore limit ps p b
 
-abbrev pub ToldOfLater : ℕ → ℕ → History → Frame → Answer → Type 0
+abbrev pub ToldOfLater : ℕ → ℕ → History → PacketValue → Answer → Type 0
 ToldOfLater slots limit history p = Test (¬ IsOpen slots limit history (key_of p)) (Dropped drop_cause.NotOpen) (IsOpen slots limit history (key_of p)) (ToldOfOpen limit history p)
 
-abbrev pub Told : ℕ → ℕ → History → Frame → Answer → Type 0
+abbrev pub Told : ℕ → ℕ → History → PacketValue → Answer → Type 0
 Told slots limit history p b = ((p.som ≡ true) × ToldOfStart slots limit history p b) ⊎ ((p.som ≡ false) × ToldOfLater slots limit history p b)
 
 not_both : (b : Bool) → b ≡ true → b ≡ false → ⊥
@@ -55,18 +55,18 @@ full_apart slots P many fewer = let lt = fewer many.0 many.1 many.2 in let e = m
 held_one : One (λ b. b ≡ Held)
 held_one b c x y = x ∙ sym y
 
-start_one : (slots limit : ℕ) (history : History) (p : Frame) → One (ToldOfStart slots limit history p)
+start_one : (slots limit : ℕ) (history : History) (p : PacketValue) → One (ToldOfStart slots limit history p)
 start_one slots limit history p = test_one _ _ _ _ (λ x y. omega arith) (test_one _ _ _ _ (not_both p.eom) (test_one _ _ _ _ (full_apart slots (IsOtherOpen slots limit history (key_of p))) held_one))
 
-more_one : (limit : ℕ) (ps : List Frame) (p : Frame) → One (ToldOfMore limit ps p)
+more_one : (limit : ℕ) (ps : List PacketValue) (p : PacketValue) → One (ToldOfMore limit ps p)
 more_one limit ps p = test_one _ _ _ _ (λ x y. x y) (test_one _ _ _ _ (λ x y. x y) (test_one _ _ _ _ (λ x y. omega arith) (test_one _ _ _ _ (not_both p.eom) held_one)))
 
-open_one : (limit : ℕ) (history : History) (p : Frame) → One (ToldOfOpen limit history p)
+open_one : (limit : ℕ) (history : History) (p : PacketValue) → One (ToldOfOpen limit history p)
 open_one limit history p b c x y =
     let e : x.0 ≡ y.0 = packets_same (last_of history (key_of p)) x.0 y.0 x.1 y.1 in
     more_one limit y.0 p b c (subst (λ ps. ToldOfMore limit ps p b) e x.2) y.2
 
-told_one : (slots limit : ℕ) (history : History) (p : Frame) → One (Told slots limit history p)
+told_one : (slots limit : ℕ) (history : History) (p : PacketValue) → One (Told slots limit history p)
 told_one slots limit history p b c x y = elim x [
   | inl h ↦ elim y [ inl k ↦ start_one slots limit history p b c h.1 k.1 | inr k ↦ absurd (not_both p.som h.0 k.0) ]
   | inr h ↦ elim y [
@@ -76,15 +76,15 @@ told_one slots limit history p b c x y = elim x [
 ]
 
 -- what is heard is told
-later : (slots limit : ℕ) (history : History) (p : Frame) (b : Answer) (P : List Frame → Type 0) → GoesOn slots limit history p P
-    → ((ps : List Frame) → P ps → ToldOfMore limit ps p b) → Told slots limit history p b
+later : (slots limit : ℕ) (history : History) (p : PacketValue) (b : Answer) (P : List PacketValue → Type 0) → ContinuesMessage slots limit history p P
+    → ((ps : List PacketValue) → P ps → ToldOfMore limit ps p b) → Told slots limit history p b
 later slots limit history p b P g f = inr (g.0, inr (g.1, (g.2.0, g.2.1, f g.2.0 g.2.2)))
 
-going : (slots limit : ℕ) (history : History) (p : Frame) (b : Answer) (ps : List Frame) → p.som ≡ false → Continues slots limit history p ps
+going : (slots limit : ℕ) (history : History) (p : PacketValue) (b : Answer) (ps : List PacketValue) → p.som ≡ false → Continues slots limit history p ps
     → Test (p.eom ≡ true) (Whole (payloads_of ps ++ p.payload)) (p.eom ≡ false) (λ b. b ≡ Held) b → Told slots limit history p b
-going slots limit history p b ps s c t = inr (s, inr (c.opened, (ps, c.are, inr (c.number, inr (c.size, inr (c.fits, t))))))
+going slots limit history p b ps s c t = inr (s, inr (c.opened, (ps, c.are, inr (c.sequence, inr (c.size, inr (c.fits, t))))))
 
-told_from : (slots limit : ℕ) (history : History) (p : Frame) (b : Answer) → Hears slots limit history p b → Told slots limit history p b
+told_from : (slots limit : ℕ) (history : History) (p : PacketValue) (b : Answer) → Hears slots limit history p b → Told slots limit history p b
 told_from slots limit history p (Whole message) h = elim (cases_Bool p.som) [
   | inl s ↦ let c = comes_start slots limit history p message s h in inl (s, inr (c.1, inl (c.0, ap Whole c.2)))
   | inr s ↦ let c = comes_more slots limit history p message s h in going slots limit history p (Whole message) c.0 s c.1 (inl (c.2, ap Whole c.3))
@@ -103,10 +103,10 @@ told_from slots limit history p (Dropped drop_cause.Limit) h = elim h [
 told_from slots limit history p (Dropped drop_cause.Full) h = inl (h.0, inr (h.2, inr (h.1, inl (h.3, refl))))
 
 -- what is told is heard
-as_answer : (slots limit : ℕ) (history : History) (p : Frame) (a b : Answer) → b ≡ a → Hears slots limit history p a → Hears slots limit history p b
+as_answer : (slots limit : ℕ) (history : History) (p : PacketValue) (a b : Answer) → b ≡ a → Hears slots limit history p a → Hears slots limit history p b
 as_answer slots limit history p a b e h = subst (Hears slots limit history p) (sym e) h
 
-heard_start : (slots limit : ℕ) (history : History) (p : Frame) (b : Answer) → p.som ≡ true → ToldOfStart slots limit history p b → Hears slots limit history p b
+heard_start : (slots limit : ℕ) (history : History) (p : PacketValue) (b : Answer) → p.som ≡ true → ToldOfStart slots limit history p b → Hears slots limit history p b
 heard_start slots limit history p b s t = elim t [
   | inl x ↦ as_answer slots limit history p _ b x.1 (inl (s, x.0))
   | inr x ↦ elim x.1 [
@@ -118,7 +118,7 @@ heard_start slots limit history p b s t = elim t [
   ]
 ]
 
-heard_more : (slots limit : ℕ) (history : History) (p : Frame) (b : Answer) (ps : List Frame) → p.som ≡ false → IsOpen slots limit history (key_of p) → ArePackets (last_of history (key_of p)) ps
+heard_more : (slots limit : ℕ) (history : History) (p : PacketValue) (b : Answer) (ps : List PacketValue) → p.som ≡ false → IsOpen slots limit history (key_of p) → ArePackets (last_of history (key_of p)) ps
     → ToldOfMore limit ps p b → Hears slots limit history p b
 heard_more slots limit history p b ps s o a t = elim t [
   | inl x ↦ as_answer slots limit history p _ b x.1 (s, o, (ps, a, x.0))
@@ -127,7 +127,7 @@ heard_more slots limit history p b ps s o a t = elim t [
     | inr y ↦ elim y.1 [
       | inl z ↦ as_answer slots limit history p _ b z.1 (inr (s, o, (ps, a, (x.0, y.0, z.0))))
       | inr z ↦
-          let c : Continues slots limit history p ps = record { opened = o; are = a; number = x.0; size = y.0; fits = z.0 } in
+          let c : Continues slots limit history p ps = record { opened = o; are = a; sequence = x.0; size = y.0; fits = z.0 } in
           elim z.1 [
             | inl w ↦ as_answer slots limit history p _ b w.1 (comes_more_from slots limit history p ps s c w.0)
             | inr w ↦ as_answer slots limit history p _ b w.1 (open_more_from slots limit history p ps s c w.0)
@@ -136,7 +136,7 @@ heard_more slots limit history p b ps s o a t = elim t [
   ]
 ]
 
-pub heard_from : (slots limit : ℕ) (history : History) (p : Frame) (b : Answer) → Told slots limit history p b → Hears slots limit history p b
+pub heard_from : (slots limit : ℕ) (history : History) (p : PacketValue) (b : Answer) → Told slots limit history p b → Hears slots limit history p b
 heard_from slots limit history p b t = elim t [
   | inl h ↦ heard_start slots limit history p b h.0 h.1
   | inr h ↦ elim h.1 [
@@ -146,10 +146,10 @@ heard_from slots limit history p b t = elim t [
 ]
 
 -- two answers are never heard at once
-pub hears_one : (slots limit : ℕ) (history : History) (p : Frame) (a b : Answer) → Hears slots limit history p a → Hears slots limit history p b → a ≡ b
+pub hears_one : (slots limit : ℕ) (history : History) (p : PacketValue) (a b : Answer) → Hears slots limit history p a → Hears slots limit history p b → a ≡ b
 hears_one slots limit history p a b x y = told_one slots limit history p a b (told_from slots limit history p a x) (told_from slots limit history p b y)
 
-pub hears_only : (slots limit : ℕ) (history : History) (p : Frame) (a : Answer) → Told slots limit history p a → HearsOnly slots limit history p a
+pub hears_only : (slots limit : ℕ) (history : History) (p : PacketValue) (a : Answer) → Told slots limit history p a → HearsOnly slots limit history p a
 hears_only slots limit history p a t = record {
   hears = heard_from slots limit history p a t;
   only = λ b h. hears_one slots limit history p b a h (heard_from slots limit history p a t);

@@ -1,6 +1,6 @@
 -- What an assembler stands for, and what feeding it does.
 use Rattle.std.specs.Prelude.{◌≡◌, ℕ, List, length, take, Option, Some, None, vec_capacity}
-use Rattle.mctp_transport.specs.Frames.{Frame}
+use Rattle.mctp_transport.specs.PacketValues.{PacketValue}
 use Rattle.mctp_transport.specs.Histories.{History, Arrived, after}
 use Rattle.mctp_transport.specs.Hearing.{Answer, Whole, Held, Dropped, HearsOnly}
 use Rattle.mctp_transport.specs.Tables.{Partial, Table, TableStandsFor}
@@ -15,7 +15,7 @@ use Rattle.mctp_transport.specs.declared.assembler.Fed.TheVariants as fed
 abbrev pub partial_of : Option OpenMessage → List ℕ → Option Partial
 partial_of None bytes = None
 partial_of (Some o) bytes =
-    Some (record { key = key_value o.key; number = o.number.value; unit = o.unit; bytes = take o.len bytes })
+    Some (record { key = key_value o.key; sequence = o.sequence.value; unit = o.unit; bytes = take o.len bytes })
 
 -- slot by slot, the message that is open there
 abbrev pub table_of : Assembler → Table
@@ -33,7 +33,7 @@ assembler_memory a = (vec_capacity a.slots, vec_capacity a.block)
 
 -- The assembler stands for the history: the keys that it holds are those that are open after the history,
 -- each with what was given since its last start.
-pub record StandsFor (a : Assembler) (history : History) : Type 0 where
+pub record HoldsHistory (a : Assembler) (history : History) : Type 0 where
   pub table : TableStandsFor (assembler_slots a) (assembler_limit a) (table_of a) history
 
 -- `feed`'s answer without where it lies in memory
@@ -45,10 +45,10 @@ answer_of (fed.Dropped w) = Dropped w
 -- Packet p is fed: for each history that the assembler stood for, the answer is what is heard of the
 -- packet after it, no other answer is, and the assembler then stands for the history with the packet
 -- at its end. Its memory stays the same.
-pub record Feeds (old : Assembler) (p : Frame) (answer : Answer) (new : Assembler) : Type 0 where
+pub record Feeds (old : Assembler) (p : PacketValue) (answer : Answer) (new : Assembler) : Type 0 where
   pub slots : assembler_slots new ≡ assembler_slots old
   pub limit : assembler_limit new ≡ assembler_limit old
   pub memory : assembler_memory new ≡ assembler_memory old
-  pub hears : (history : History) → StandsFor old history
+  pub hears : (history : History) → HoldsHistory old history
       → HearsOnly (assembler_slots old) (assembler_limit old) history p answer
-  pub stands : (history : History) → StandsFor old history → StandsFor new (after history (Arrived p))
+  pub stands : (history : History) → HoldsHistory old history → HoldsHistory new (after history (Arrived p))

@@ -2,12 +2,12 @@
 use Rattle.std.specs.Prelude.{◌≡◌, ◌≢◌, ◌⊎◌, ℕ, zero, suc, ◌<◌, ◌≤◌, List, [], ◌∷◌, ◌++◌, length}
 use Rattle.std.specs.Prelude.{Bool, true, false, ◌&&◌, ◌==◌, filter, if◌then◌else◌, All, AllPairs}
 use Rattle.std.specs.Bool.{beq}
-use Rattle.mctp_transport.specs.Frames.{Frame, KeyValue, key_of}
+use Rattle.mctp_transport.specs.PacketValues.{PacketValue, KeyValue, key_of}
 use Rattle.mctp_transport.specs.Messages.{Joined, payloads_of}
 
 -- one thing that an assembler is given: a packet, or word that a key's time is up
 pub data Input : Type 0 where
-  Arrived : Frame → Input
+  Arrived : PacketValue → Input
   TimeUp : KeyValue → Input
 
 -- everything that an assembler was given, oldest first
@@ -15,7 +15,7 @@ abbrev pub History : Type 0
 History = List Input
 
 -- each packet that arrived has the property
-abbrev pub EachArrival : (Frame → Type 0) → History → Type 0
+abbrev pub EachArrival : (PacketValue → Type 0) → History → Type 0
 EachArrival P [] = Unit {0}
 EachArrival P (Arrived p ∷ is) = P p × EachArrival P is
 EachArrival P (TimeUp k ∷ is) = EachArrival P is
@@ -54,7 +54,7 @@ abbrev pub last_of : History → KeyValue → List Input
 last_of history key = from_last_start (inputs_of history key)
 
 -- these inputs are these packets, with no word of time among them
-abbrev pub ArePackets : List Input → List Frame → Type 0
+abbrev pub ArePackets : List Input → List PacketValue → Type 0
 ArePackets [] [] = Unit {0}
 ArePackets (Arrived p ∷ is) (q ∷ qs) = (p ≡ q) × ArePackets is qs
 ArePackets [] (q ∷ qs) = ⊥
@@ -62,14 +62,14 @@ ArePackets (Arrived p ∷ is) [] = ⊥
 ArePackets (TimeUp k ∷ is) qs = ⊥
 
 -- packets that begin a message and don't end it
-abbrev pub IsBegun : List Frame → Type 0
+abbrev pub IsBegun : List PacketValue → Type 0
 IsBegun ps =
-    (0 < length ps) × ((rest : List Frame) × (message : List ℕ) × (0 < length rest) × Joined (ps ++ rest) message)
+    (0 < length ps) × ((rest : List PacketValue) × (message : List ℕ) × (0 < length rest) × Joined (ps ++ rest) message)
 
 -- The key's message has begun, isn't whole and fits the limit, whether or not a slot was free for it.
 abbrev pub IsUnderWay : ℕ → History → KeyValue → Type 0
 IsUnderWay limit history key =
-    (ps : List Frame) × ArePackets (last_of history key) ps × IsBegun ps × (length (payloads_of ps) ≤ limit)
+    (ps : List PacketValue) × ArePackets (last_of history key) ps × IsBegun ps × (length (payloads_of ps) ≤ limit)
 
 -- the history before the key's last start
 abbrev pub before_last_start : KeyValue → History → History
@@ -110,8 +110,8 @@ IsOtherOpen slots limit history key other = (other ≢ key) × IsOpen slots limi
 -- last start join to it, it fits the limit, and that packet starts it or the key was open before.
 pub record Comes (slots limit : ℕ) (history : History) (message : List ℕ) : Type 0 where
   pub earlier : History
-  pub packet : Frame
-  pub packets : List Frame
+  pub packet : PacketValue
+  pub packets : List PacketValue
   pub ends : history ≡ after earlier (Arrived packet)
   pub since_start : ArePackets (last_of history (key_of packet)) packets
   pub joined : Joined packets message

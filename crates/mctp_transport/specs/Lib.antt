@@ -1,8 +1,8 @@
 pub mod Wire
-pub mod Frames
+pub mod PacketValues
 pub mod Bits
 pub mod First
-pub mod FrameLaws
+pub mod PacketValueLaws
 pub mod Packets
 pub mod Refusals
 pub mod Messages
@@ -20,3 +20,4 @@ pub mod KeyNumbers
 pub mod Assembly
 pub mod Steps
 pub mod Lending
+pub mod Heard

@@ -4,26 +4,26 @@ use Rattle.mctp_transport.specs.declared.address.Key.{Key}
 use Rattle.mctp_transport.specs.declared.packet.Header.{Header}
 use Rattle.mctp_transport.specs.declared.packet.Packet.{Packet}
 use Rattle.mctp_transport.specs.declared.packet.PacketView.{PacketView}
-use Rattle.mctp_transport.specs.Frames.{Frame, KeyValue}
+use Rattle.mctp_transport.specs.PacketValues.{PacketValue, KeyValue}
 
-abbrev pub frame : Header → List ℕ → Frame
-frame h payload = record {
+abbrev pub packet_value : Header → List ℕ → PacketValue
+packet_value h payload = record {
   reserved = h.reserved.value;
   destination = h.destination.value;
   source = h.source.value;
   som = h.som;
   eom = h.eom;
-  number = h.number.value;
+  sequence = h.sequence.value;
   owner = h.owner;
   tag = h.tag.value;
   payload = payload;
 }
 
-abbrev pub frame_of : PacketView → Frame
-frame_of p = frame p.header p.payload.now
+abbrev pub packet_value_of : PacketView → PacketValue
+packet_value_of p = packet_value p.header p.payload.now
 
-abbrev pub packet_frame : Packet → Frame
-packet_frame p = frame p.header p.payload.items
+abbrev pub owned_packet_value : Packet → PacketValue
+owned_packet_value p = packet_value p.header p.payload.items
 
 abbrev pub key_value : Key → KeyValue
 key_value k = record { source = k.source.value; tag = k.tag.value; owner = k.owner }

@@ -1,6 +1,6 @@
 -- What an assembler's private calls do, by the table.
 use Rattle.std.specs.Prelude.{◌≡◌, ◌≤◌, length, slice_range}
-use Rattle.mctp_transport.specs.Frames.{Frame}
+use Rattle.mctp_transport.specs.PacketValues.{PacketValue}
 use Rattle.mctp_transport.specs.Hearing.{Answer, Whole, Held, Dropped}
 use Rattle.mctp_transport.specs.TableChanges.{moved}
 use Rattle.mctp_transport.specs.Assembly.{table_of, assembler_slots, assembler_limit, assembler_memory}
@@ -9,7 +9,7 @@ use Rattle.mctp_transport.specs.declared.assembler.Step.{Step}
 use Rattle.mctp_transport.specs.declared.assembler.Step.TheVariants as step
 
 -- what a step says, as an answer
-abbrev pub step_answer : Assembler → Frame → Step → Answer
+abbrev pub step_answer : Assembler → PacketValue → Step → Answer
 step_answer new p step.Alone = Whole p.payload
 step_answer new p (step.At start end) = Whole (slice_range new.block.items start end)
 step_answer new p step.Held = Held
@@ -23,7 +23,7 @@ IsWithinBlock new step.Held = Unit {0}
 IsWithinBlock new (step.Dropped w) = Unit {0}
 
 -- the step is what the table does
-pub record Takes (old : Assembler) (p : Frame) (answer : Answer) (new : Assembler) : Type 0 where
+pub record Takes (old : Assembler) (p : PacketValue) (answer : Answer) (new : Assembler) : Type 0 where
   pub slots : assembler_slots new ≡ assembler_slots old
   pub limit : assembler_limit new ≡ assembler_limit old
   pub memory : assembler_memory new ≡ assembler_memory old

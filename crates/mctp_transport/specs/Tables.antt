@@ -1,13 +1,13 @@
 -- A table of the messages that are open, and the histories that it stands for.
 use Rattle.std.specs.Prelude.{◌≡◌, ℕ, Bool, false, List, length, slice_get, Option, Some, None}
-use Rattle.mctp_transport.specs.Frames.{Frame, KeyValue}
+use Rattle.mctp_transport.specs.PacketValues.{PacketValue, KeyValue}
 use Rattle.mctp_transport.specs.Messages.{payloads_of, AtFirst, AtLast}
 use Rattle.mctp_transport.specs.Histories.{History, same_key, last_of, ArePackets, IsOpen}
 
 -- an open message: the number of its last packet, the length of its first payload, its bytes
 pub record Partial : Type 0 where
   pub key : KeyValue
-  pub number : ℕ
+  pub sequence : ℕ
   pub unit : ℕ
   pub bytes : List ℕ
 
@@ -17,11 +17,11 @@ Holds table i q = slice_get table i ≡ Some (Some q)
 
 -- what is held is what was given since the key's last start
 pub record HoldsLast (history : History) (q : Partial) : Type 0 where
-  pub packets : List Frame
+  pub packets : List PacketValue
   pub are : ArePackets (last_of history q.key) packets
   pub bytes : q.bytes ≡ payloads_of packets
   pub unit : AtFirst packets (λ p. q.unit ≡ length p.payload)
-  pub number : AtLast packets (λ p. q.number ≡ p.number)
+  pub sequence : AtLast packets (λ p. q.sequence ≡ p.sequence)
 
 -- The table stands for the history: the keys that it holds are the open ones, each in one slot, with
 -- the joined payloads, the first length and the last number of what was given since its last start.

@@ -4,12 +4,13 @@ ghost use Rattle.std.specs.Prelude.{◌≡◌, ◌<◌, ◌≤◌, ◌+◌, ◌%
 /// An endpoint ID (DSP0236, section 8.2): 0 is null, 1 to 7 are reserved, 8 to 254 can be assigned, 255 is broadcast.
 #[derive(Clone, Copy, Debug, PartialEq, Eq)]
 pub struct Eid {
+    /// One byte: the number.
     pub value: u8,
     pub ghost in_range: { value < 256 },
 }
 
 impl Eid {
-    ghost use Rattle.mctp_transport.specs.Frames.{IsAssignable};
+    ghost use Rattle.mctp_transport.specs.PacketValues.{IsAssignable};
 
     /// The endpoint ID of this number: any byte is one.
     pub fn new(value: u8) -> Self
@@ -29,6 +30,7 @@ impl Eid {
 /// A message tag, 0 to 7, in three bits (DSP0236, section 8.1).
 #[derive(Clone, Copy, Debug, PartialEq, Eq)]
 pub struct Tag {
+    /// Three bits: the number.
     pub value: u8,
     pub ghost in_range: { value < 8 },
 }
@@ -46,6 +48,7 @@ impl Tag {
 /// A packet sequence number, 0 to 3, in two bits (DSP0236, section 8.1). The number after 3 is 0.
 #[derive(Clone, Copy, Debug, PartialEq, Eq)]
 pub struct Seq {
+    /// Two bits: the number.
     pub value: u8,
     pub ghost in_range: { value < 4 },
 }
@@ -70,6 +73,7 @@ impl Seq {
 /// The reserved bits 7 to 4 of a header's first byte, as a number from 0 to 15. They are kept as read.
 #[derive(Clone, Copy, Debug, PartialEq, Eq)]
 pub struct Reserved {
+    /// Four bits, of which bit 7 is the highest.
     pub value: u8,
     pub ghost in_range: { value < 16 },
 }

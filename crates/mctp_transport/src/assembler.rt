@@ -1,7 +1,8 @@
 //! Joining packets to messages (DSP0236, "Message assembly").
 ghost use Rattle.std.specs.Prelude.{◌≡◌, ◌<◌, ◌≤◌, ◌+◌, ◌*◌, length, All, IfSome, IfOk, take, map};
 ghost use Rattle.std.proofs.Props.{props};
-ghost use Rattle.mctp_transport.specs.KeyNumbers.{slot_number};
+ghost use Rattle.mctp_transport.specs.KeyNumbers.{slot_number, IsGoneOnFrom};
+ghost use Rattle.mctp_transport.specs.declared.assembler.open_message.OpenMessage.{OpenMessage};
 
 mod block;
 mod key_numbers;
@@ -14,7 +15,7 @@ use crate::drop_cause::DropCause;
 use crate::packet::PacketView;
 use block::write;
 use key_numbers::{FREE, first_index, number_in, number_of};
-use open_message::OpenMessage;
+use open_message::{OpenMessage, go_on_as};
 use open_slots::open_in;
 use std::alloc::{AllocError, Global};
 
@@ -38,7 +39,7 @@ pub enum Fed<'a> {
 /// packet of its key is dropped, another first packet of its key comes, or its time is up.
 ///
 /// The contracts speak of histories, the lists of all packets and all expiries that an assembler may have been
-/// given. `StandsFor` says which histories fit what it holds, and each answer follows from such a history.
+/// given. `HoldsHistory` says which histories fit what it holds, and each answer follows from such a history.
 #[derive(Debug, Drop)]
 pub struct Assembler {
     slots: Vec<Option<OpenMessage>>,
@@ -66,15 +67,15 @@ enum Step {
 }
 
 impl Assembler {
-    ghost use Rattle.std.specs.Prelude.{◌↔◌, IsTrue, position, is_none, is_some, slice_set, slice_get, count_by, Some, None, [], ◌++◌, ◌==◌};
+    ghost use Rattle.std.specs.Prelude.{◌↔◌, IsTrue, position, is_none, is_some, slice_set, slice_get, count_by, Option, Some, None, [], ◌++◌, ◌==◌};
     ghost use Rattle.std.specs.Borrow.{sem};
-    ghost use Rattle.mctp_transport.specs.Frames.{key_of};
-    ghost use Rattle.mctp_transport.specs.Packets.{frame_of, key_value};
+    ghost use Rattle.mctp_transport.specs.PacketValues.{key_of};
+    ghost use Rattle.mctp_transport.specs.Packets.{packet_value_of, key_value};
     ghost use Rattle.mctp_transport.specs.Histories.{History, TimeUp, after, IsOpen, IsKeyCount};
     ghost use Rattle.mctp_transport.specs.Tables.{Partial, is_at};
     ghost use Rattle.mctp_transport.specs.TableChanges.{begun, started, carried, expired, next_partial, next_answer};
     ghost use Rattle.mctp_transport.specs.Parts.{part};
-    ghost use Rattle.mctp_transport.specs.Assembly.{answer_of, Feeds, StandsFor, partial_of, table_of, assembler_slots, assembler_limit, assembler_memory};
+    ghost use Rattle.mctp_transport.specs.Assembly.{answer_of, Feeds, HoldsHistory, partial_of, table_of, assembler_slots, assembler_limit, assembler_memory};
     ghost use Rattle.mctp_transport.specs.Hearing.{HearsOnly};
     ghost use Rattle.mctp_transport.specs.Lending.{EndsAs};
     ghost use Rattle.mctp_transport.specs.Steps.{IsWithinBlock, Takes, step_answer};
@@ -86,7 +87,7 @@ impl Assembler {
         requires limit { (1 ≤ limit) × (limit ≤ MAX_MESSAGE) }
         ensures slots { IfOk result (λ assembler. assembler_slots assembler ≡ slots) }
         ensures limit { IfOk result (λ assembler. assembler_limit assembler ≡ limit) }
-        ensures stands { IfOk result (λ assembler. StandsFor assembler []) }
+        ensures stands { IfOk result (λ assembler. HoldsHistory assembler []) }
     {
         let mut table = Vec::with_capacity(alloc, slots)?;
         for _ in 0..slots {
@@ -107,9 +108,9 @@ impl Assembler {
     /// bytes are lent. A packet that starts a message first ends an open one of its key, even where it is dropped
     /// itself.
     pub fn feed<'a>(&'a mut self, packet: PacketView<'a>) -> Fed<'a>
-        ensures* ends { sem 𝓛 (EndsAs self.entry (Feeds self.old (frame_of packet.entry) (answer_of result))) }
-        ensures hears { (h : History) → StandsFor self.old h
-            → HearsOnly (assembler_slots self.old) (assembler_limit self.old) h (frame_of packet.entry) (answer_of result) }
+        ensures* ends { sem 𝓛 (EndsAs self.entry (Feeds self.old (packet_value_of packet.entry) (answer_of result))) }
+        ensures hears { (h : History) → HoldsHistory self.old h
+            → HearsOnly (assembler_slots self.old) (assembler_limit self.old) h (packet_value_of packet.entry) (answer_of result) }
     {
         match self.take(&packet) {
             Step::Alone => Fed::Whole(packet.payload),
@@ -125,10 +126,10 @@ impl Assembler {
         ensures slots { assembler_slots self.new ≡ assembler_slots self.old }
         ensures limit { assembler_limit self.new ≡ assembler_limit self.old }
         ensures memory { assembler_memory self.new ≡ assembler_memory self.old }
-        ensures was_open { (h : History) → StandsFor self.old h
+        ensures was_open { (h : History) → HoldsHistory self.old h
             → IsTrue result ↔ IsOpen (assembler_slots self.old) (assembler_limit self.old) h (key_value key) }
-        ensures stands { (h : History) → StandsFor self.old h
-            → StandsFor self.new (after h (TimeUp (key_value key))) }
+        ensures stands { (h : History) → HoldsHistory self.old h
+            → HoldsHistory self.new (after h (TimeUp (key_value key))) }
     {
         self.end(key)
     }
@@ -136,7 +137,7 @@ impl Assembler {
     /// Whether a message of the key is open.
     #[tactic(auto, using(crate::proofs::AssemblyLaws::found_is_open))]
     pub fn is_open(&self, key: Key) -> bool
-        ensures { (h : History) → StandsFor self.now h
+        ensures { (h : History) → HoldsHistory self.now h
             → IsTrue result ↔ IsOpen (assembler_slots self.now) (assembler_limit self.now) h (key_value key) }
     {
         self.slot_of_key(key).is_some()
@@ -145,7 +146,7 @@ impl Assembler {
     /// How many messages are open, each of another key.
     pub fn open_slots(&self) -> usize
         ensures most { result ≤ assembler_slots self.now }
-        ensures open_keys { (h : History) → StandsFor self.now h
+        ensures open_keys { (h : History) → HoldsHistory self.now h
             → IsKeyCount (IsOpen (assembler_slots self.now) (assembler_limit self.now) h) result }
     {
         self.open_count()
@@ -218,18 +219,37 @@ impl Assembler {
         self.numbers[index] = number_in(message);
     }
 
+    /// Writes more bytes of the message that is open in a slot, which goes on as this one. Its key stays, and with it the
+    /// slot's number.
+    fn extend(&mut self, index: usize, at: usize, bytes: &[u8], message: OpenMessage)
+        requires index { index < assembler_slots self.old }
+        requires fits { at + length bytes.now ≤ assembler_limit self.old }
+        requires within { message.len ≤ assembler_limit self.old }
+        requires open { (o : Option OpenMessage) → slice_get self.old.slots.items index ≡ Some o → IsGoneOnFrom message o }
+        ensures table { let bytes = part (assembler_limit self.old) self.new.block.items index in
+            table_of self.new ≡ slice_set (table_of self.old) index (partial_of (Some message) bytes) }
+        ensures part { take (at + length bytes.now) (part (assembler_limit self.old) self.new.block.items index)
+            ≡ take at (part (assembler_limit self.old) self.old.block.items index) ++ bytes.now }
+        ensures slots { assembler_slots self.new ≡ assembler_slots self.old }
+        ensures limit { assembler_limit self.new ≡ assembler_limit self.old }
+        ensures memory { assembler_memory self.new ≡ assembler_memory self.old }
+    {
+        go_on_as(&mut self.slots[index], message);
+        write(&mut self.block, index * self.limit + at, bytes);
+    }
+
     /// Opens a message in a slot.
     fn begin(&mut self, index: usize, packet: &PacketView)
         requires index { index < assembler_slots self.old }
         requires fits { length packet.now.payload.now ≤ assembler_limit self.old }
-        ensures table { table_of self.new ≡ slice_set (table_of self.old) index (Some (begun (frame_of packet.now))) }
+        ensures table { table_of self.new ≡ slice_set (table_of self.old) index (Some (begun (packet_value_of packet.now))) }
         ensures slots { assembler_slots self.new ≡ assembler_slots self.old }
         ensures limit { assembler_limit self.new ≡ assembler_limit self.old }
         ensures memory { assembler_memory self.new ≡ assembler_memory self.old }
     {
         let message = OpenMessage {
             key: packet.key(),
-            number: packet.header.number,
+            sequence: packet.header.sequence,
             unit: packet.payload.len(),
             len: packet.payload.len(),
         };
@@ -256,7 +276,7 @@ impl Assembler {
     /// Takes a packet in. All changes are made here, since `feed` lends the block.
     fn take(&mut self, packet: &PacketView) -> Step
         ensures index { IsWithinBlock self.new result }
-        ensures takes { let frame = frame_of packet.now in
+        ensures takes { let frame = packet_value_of packet.now in
             Takes self.old frame (step_answer self.new frame result) self.new }
     {
         if packet.header.som {
@@ -270,9 +290,9 @@ impl Assembler {
     /// Takes a first packet, with no message of its key open.
     fn start(&mut self, packet: &PacketView) -> Step
         ensures index { IsWithinBlock self.new result }
-        ensures table { let frame = frame_of packet.now in
+        ensures table { let frame = packet_value_of packet.now in
             table_of self.new ≡ (started (assembler_limit self.old) (table_of self.old) frame).0 }
-        ensures answer { let frame = frame_of packet.now in
+        ensures answer { let frame = packet_value_of packet.now in
             step_answer self.new frame result ≡ (started (assembler_limit self.old) (table_of self.old) frame).1 }
         ensures slots { assembler_slots self.new ≡ assembler_slots self.old }
         ensures limit { assembler_limit self.new ≡ assembler_limit self.old }
@@ -294,10 +314,10 @@ impl Assembler {
     /// Takes a middle packet or an end packet.
     fn carry(&mut self, packet: &PacketView) -> Step
         ensures index { IsWithinBlock self.new result }
-        ensures table { let frame = frame_of packet.now in
+        ensures table { let frame = packet_value_of packet.now in
             let index = position (is_at (key_of frame)) (table_of self.old) in
             table_of self.new ≡ (carried (assembler_limit self.old) (table_of self.old) frame index).0 }
-        ensures answer { let frame = frame_of packet.now in
+        ensures answer { let frame = packet_value_of packet.now in
             let index = position (is_at (key_of frame)) (table_of self.old) in
             step_answer self.new frame result
             ≡ (carried (assembler_limit self.old) (table_of self.old) frame index).1 }
@@ -316,10 +336,10 @@ impl Assembler {
         requires { index < assembler_slots self.old }
         ensures index { IsWithinBlock self.new result }
         ensures table { (q : Partial) → slice_get (table_of self.old) index ≡ Some (Some q)
-            → let next = next_partial (assembler_limit self.old) q (frame_of packet.now) in
+            → let next = next_partial (assembler_limit self.old) q (packet_value_of packet.now) in
             table_of self.new ≡ slice_set (table_of self.old) index next }
         ensures answer { (q : Partial) → slice_get (table_of self.old) index ≡ Some (Some q)
-            → let frame = frame_of packet.now in
+            → let frame = packet_value_of packet.now in
             step_answer self.new frame result ≡ next_answer (assembler_limit self.old) q frame }
         ensures slots { assembler_slots self.new ≡ assembler_slots self.old }
         ensures limit { assembler_limit self.new ≡ assembler_limit self.old }
@@ -339,7 +359,7 @@ impl Assembler {
                     let start = index * self.limit;
                     Step::At(start, start + next.len)
                 } else {
-                    self.put(index, open.len, packet.payload, Some(next));
+                    self.extend(index, open.len, packet.payload, next);
                     Step::Held
                 }
             }

@@ -1,6 +1,6 @@
 //! Cutting a message into packets (DSP0236, section 8.3).
 ghost use Rattle.std.specs.Prelude.{◌≡◌, ◌<◌, ◌≤◌, ◌+◌, ◌%◌, length, true, false};
-ghost use Rattle.mctp_transport.specs.Frames.{IsUnit};
+ghost use Rattle.mctp_transport.specs.PacketValues.{IsUnit};
 
 mod laws;
 
@@ -60,7 +60,7 @@ impl<'a> Packets<'a> {
             source: key.source,
             som: true,
             eom: false,
-            number: start,
+            sequence: start,
             owner: key.owner,
             tag: key.tag,
         };
@@ -91,12 +91,12 @@ impl<'a> Clone for Packets<'a> {
 
 impl<'a> Iterator for Packets<'a> {
     ghost use Rattle.std.specs.Iterator.{YieldsFirstBy, item_count};
-    ghost use Rattle.mctp_transport.specs.Packets.{frame_of};
+    ghost use Rattle.mctp_transport.specs.Packets.{packet_value_of};
     ghost use Rattle.mctp_transport.specs.PacketsLeft.{frames_left};
 
     type Item = PacketView<'a>;
 
-    ghost next_gives = { YieldsFirstBy frame_of frames_left };
+    ghost next_gives = { YieldsFirstBy packet_value_of frames_left };
 
     ghost remaining = { item_count frames_left };
 
@@ -109,7 +109,7 @@ impl<'a> Iterator for Packets<'a> {
         let header = Header { eom, ..self.header };
         self.rest = rest;
         self.header.som = false;
-        self.header.number = self.header.number.next();
+        self.header.sequence = self.header.sequence.next();
         Some(PacketView { header, payload })
     }
 }

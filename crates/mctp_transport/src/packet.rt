@@ -32,7 +32,7 @@ pub struct Header {
     /// Byte 3, bit 6: end of message.
     pub eom: bool,
     /// Byte 3, bits 5 and 4: the sequence number, which goes up by one with each packet of a message.
-    pub number: Seq,
+    pub sequence: Seq,
     /// Byte 3, bit 3: whether the source owns the tag: set in a request, clear in its response.
     pub owner: bool,
     /// Byte 3, bits 2 to 0: the message tag.
@@ -48,6 +48,7 @@ pub struct Header {
 pub struct PacketView<'a> {
     /// The first four bytes.
     pub header: Header,
+    /// The bytes from byte 4 on: 1 to 1024 of the message.
     pub payload: &'a [u8],
     ghost some: { 0 < length payload.now },
     ghost most: { length payload.now ≤ 1024 },
@@ -55,23 +56,23 @@ pub struct PacketView<'a> {
 
 impl<'a> PacketView<'a> {
     ghost use Rattle.std.specs.Prelude.{◌↔◌, ◌++◌, drop, IfOk, IsOkAnd, Err};
-    ghost use Rattle.mctp_transport.specs.Frames.{Frame, IsFrame, IsUnit, Spelled, frame_bytes, key_of};
-    ghost use Rattle.mctp_transport.specs.Packets.{frame, frame_of, key_value};
+    ghost use Rattle.mctp_transport.specs.PacketValues.{PacketValue, IsPacketValue, IsUnit, Spelled, packet_value_bytes, key_of};
+    ghost use Rattle.mctp_transport.specs.Packets.{packet_value, packet_value_of, key_value};
     ghost use Rattle.mctp_transport.specs.Refusals.{IsShort, IsEmpty, IsLong, HasOtherVersion};
 
     /// The packet of a header and a payload of 1 to 1024 bytes.
     pub fn new(header: Header, payload: &'a [u8]) -> PacketView<'a>
         requires some { 0 < length payload.now }
         requires most { length payload.now ≤ MAX_UNIT }
-        ensures { frame_of result ≡ frame header payload.now }
+        ensures { packet_value_of result ≡ packet_value header payload.now }
     {
         PacketView { header, payload }
     }
 
     /// The packet that the bytes are, all of them, under the baseline transmission unit of 64 bytes.
     pub fn read(bytes: &'a [u8]) -> Result<PacketView<'a>, PacketError>
-        ensures ok { IfOk result (λ packet. Spelled 64 (frame_of packet) bytes.now) }
-        ensures all { (f : Frame) → Spelled 64 f bytes.now → IsOkAnd result (λ packet. frame_of packet ≡ f) }
+        ensures ok { IfOk result (λ packet. Spelled 64 (packet_value_of packet) bytes.now) }
+        ensures all { (f : PacketValue) → Spelled 64 f bytes.now → IsOkAnd result (λ packet. packet_value_of packet ≡ f) }
         ensures short { (result ≡ Err PacketError.Short) ↔ IsShort bytes.now }
         ensures empty { (result ≡ Err PacketError.Empty) ↔ (¬ IsShort bytes.now × IsEmpty bytes.now) }
         ensures long { (result ≡ Err PacketError.Long) ↔ IsLong 64 bytes.now }
@@ -85,8 +86,8 @@ impl<'a> PacketView<'a> {
     /// unit is refused.
     pub fn read_within(bytes: &'a [u8], unit: usize) -> Result<PacketView<'a>, PacketError>
         requires { IsUnit unit }
-        ensures ok { IfOk result (λ packet. Spelled unit (frame_of packet) bytes.now) }
-        ensures all { (f : Frame) → Spelled unit f bytes.now → IsOkAnd result (λ packet. frame_of packet ≡ f) }
+        ensures ok { IfOk result (λ packet. Spelled unit (packet_value_of packet) bytes.now) }
+        ensures all { (f : PacketValue) → Spelled unit f bytes.now → IsOkAnd result (λ packet. packet_value_of packet ≡ f) }
         ensures short { (result ≡ Err PacketError.Short) ↔ IsShort bytes.now }
         ensures empty { (result ≡ Err PacketError.Empty) ↔ (¬ IsShort bytes.now × IsEmpty bytes.now) }
         ensures long { (result ≡ Err PacketError.Long) ↔ IsLong unit bytes.now }
@@ -111,7 +112,7 @@ impl<'a> PacketView<'a> {
             source: Eid::new(*source),
             som: flags / 128 != 0,
             eom: flags / 64 % 2 != 0,
-            number: Seq::new(flags / 16 % 4),
+            sequence: Seq::new(flags / 16 % 4),
             owner: flags / 8 % 2 != 0,
             tag: Tag::new(flags % 8),
         };
@@ -120,8 +121,8 @@ impl<'a> PacketView<'a> {
 
     /// How many bytes the packet has, its header of 4 among them.
     pub fn len(&self) -> usize
-        ensures lawful { IsFrame 1024 (frame_of self.now) }
-        ensures count { result ≡ length (frame_bytes (frame_of self.now)) }
+        ensures lawful { IsPacketValue 1024 (packet_value_of self.now) }
+        ensures count { result ≡ length (packet_value_bytes (packet_value_of self.now)) }
     {
         HEADER_LENGTH + self.payload.len()
     }
@@ -129,10 +130,10 @@ impl<'a> PacketView<'a> {
     /// Writes the packet's bytes at the front of `out`, leaves the rest of it as it was, and returns how many bytes it
     /// wrote. `out` has at least `len` bytes.
     pub fn put(&self, out: &mut [u8]) -> usize
-        requires { length (frame_bytes (frame_of self.now)) ≤ length out.old }
-        ensures lawful { IsFrame 1024 (frame_of self.now) }
-        ensures count { result ≡ length (frame_bytes (frame_of self.now)) }
-        ensures front { out.new ≡ frame_bytes (frame_of self.now) ++ drop result out.old }
+        requires { length (packet_value_bytes (packet_value_of self.now)) ≤ length out.old }
+        ensures lawful { IsPacketValue 1024 (packet_value_of self.now) }
+        ensures count { result ≡ length (packet_value_bytes (packet_value_of self.now)) }
+        ensures front { out.new ≡ packet_value_bytes (packet_value_of self.now) ++ drop result out.old }
     {
         let header = &self.header;
         out[0] = 16 * header.reserved.value + 1;
@@ -140,7 +141,7 @@ impl<'a> PacketView<'a> {
         out[2] = header.source.value;
         out[3] = 128 * u8::from(header.som)
             + 64 * u8::from(header.eom)
-            + 16 * header.number.value
+            + 16 * header.sequence.value
             + 8 * u8::from(header.owner)
             + header.tag.value;
         let len = self.len();
@@ -150,7 +151,7 @@ impl<'a> PacketView<'a> {
 
     /// The key of the packet's message.
     pub fn key(&self) -> Key
-        ensures { key_value result ≡ key_of (frame_of self.now) }
+        ensures { key_value result ≡ key_of (packet_value_of self.now) }
     {
         Key {
             source: self.header.source,
@@ -165,16 +166,17 @@ impl<'a> PacketView<'a> {
 pub struct Packet {
     /// The first four bytes.
     pub header: Header,
+    /// The bytes from byte 4 on: 1 to 1024 of the message.
     pub payload: ArrayVec<u8, MAX_UNIT>,
     pub ghost some: { 0 < array_vec_len payload },
 }
 
 impl Packet {
-    ghost use Rattle.mctp_transport.specs.Packets.{frame_of, packet_frame};
+    ghost use Rattle.mctp_transport.specs.Packets.{packet_value_of, owned_packet_value};
 
     /// The packet that a view shows, with its bytes.
     pub fn of(view: PacketView) -> Packet
-        ensures { packet_frame result ≡ frame_of view.entry }
+        ensures { owned_packet_value result ≡ packet_value_of view.entry }
     {
         let mut payload = ArrayVec::new();
         let _ = payload.try_extend_from_slice(view.payload);
@@ -186,7 +188,7 @@ impl Packet {
 
     /// The packet, with its payload lent.
     pub fn view(&self) -> PacketView<'_>
-        ensures { frame_of result ≡ packet_frame self.now }
+        ensures { packet_value_of result ≡ owned_packet_value self.now }
     {
         PacketView {
             header: self.header,

@@ -3,3 +3,4 @@ mod Numeric
 mod ListsRead
 mod BodyFaults
 mod RecordFaults
+mod OtherRecords

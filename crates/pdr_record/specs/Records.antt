@@ -1,5 +1,5 @@
 -- Records and their bytes, and why bytes are no record (DSP0248).
-use Rattle.std.specs.Prelude.{◌≢◌, ℕ, List, [], ◌∷◌, ◌++◌, length, ⊤}
+use Rattle.std.specs.Prelude.{◌≡◌, ◌≢◌, ℕ, List, [], ◌∷◌, ◌++◌, length, ⊤}
 use Rattle.mctp_transport.specs.Wire.{Spells}
 use Rattle.pdr_record.specs.Fields.{Field, U8, U16, U32, Raw, bytes_of, Fit}
 use Rattle.pdr_record.specs.Layouts.{TerminusValue, terminus_fields, NumericValue, numeric_fields, IsNumeric}
@@ -74,3 +74,8 @@ pub record IsRecord (r : RecordValue) : Type 0 where
 -- the bytes are the record's, all of them
 abbrev pub Spelled : RecordValue → List ℕ → Type 0
 Spelled r bytes = Spells IsRecord record_bytes r bytes
+
+-- the bytes are those of a record of this handle, all of them, and its type has none of the four layouts
+abbrev pub IsOtherRecordOf : ℕ → List ℕ → Type 0
+IsOtherRecordOf handle bytes =
+    (r : RecordValue) × Spelled r bytes × IsOtherType (type_of r.body) × (r.handle ≡ handle)

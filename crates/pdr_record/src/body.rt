@@ -1,5 +1,5 @@
 //! What follows the header of a record.
-ghost use Rattle.std.specs.Prelude.{◌≡◌, ◌≤◌, ◌++◌, [], length, drop, IfOk, IfErr};
+ghost use Rattle.std.specs.Prelude.{◌≡◌, ◌↔◌, ◌≤◌, ◌++◌, [], length, drop, IfOk, IfErr, IsTrue};
 ghost use Rattle.pdr_record.specs.Fields.{bytes_of, followed};
 ghost use Rattle.pdr_record.specs.Records.{type_of, body_fields, IsBody, IsOtherType};
 
@@ -12,16 +12,26 @@ use crate::state_sensor::StateSensor;
 use crate::terminus_locator::TerminusLocator;
 
 /// The type of a terminus locator (DSP0248, PDR types).
-const TERMINUS_LOCATOR: u8 = 1;
+pub const TERMINUS_LOCATOR: u8 = 1;
 
 /// The type of a numeric sensor.
-const NUMERIC_SENSOR: u8 = 2;
+pub const NUMERIC_SENSOR: u8 = 2;
 
 /// The type of a state sensor.
 const STATE_SENSOR: u8 = 4;
 
 /// The type of an entity association.
 const ENTITY_ASSOCIATION: u8 = 15;
+
+/// Whether a type has none of the four layouts.
+pub fn is_other_type(record_type: u8) -> bool
+    ensures { IsTrue result ↔ IsOtherType record_type }
+{
+    !matches!(
+        record_type,
+        TERMINUS_LOCATOR | NUMERIC_SENSOR | STATE_SENSOR | ENTITY_ASSOCIATION
+    )
+}
 
 /// What follows the header of a record: one of four layouts (DSP0248), or the bytes of another type. A number's lowest
 /// byte comes first.

@@ -8,9 +8,13 @@ use byteorder::{ByteOrder, LittleEndian};
 /// A field of a record: a number, whose lowest byte comes first, or bytes as they are.
 #[derive(Clone, Copy, Debug)]
 pub enum Field<'a> {
+    /// One byte.
     U8(u8),
+    /// Two bytes.
     U16(u16),
+    /// Four bytes.
     U32(u32),
+    /// As many bytes as these.
     Raw(&'a [u8]),
 }
 

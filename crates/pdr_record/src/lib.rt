@@ -22,7 +22,7 @@ mod terminus_locator;
 mod timing;
 mod units;
 
-pub use body::Body;
+pub use body::{Body, NUMERIC_SENSOR, TERMINUS_LOCATOR};
 pub use entities::{Entities, EntitiesIter};
 pub use entity::Entity;
 pub use entity_association::EntityAssociation;
@@ -31,7 +31,7 @@ pub use numeric_sensor::NumericSensor;
 pub use precision::Precision;
 pub use range_field_format::RangeFieldFormat;
 pub use ranges::Ranges;
-pub use record::{HEADER_LENGTH, Record};
+pub use record::{HEADER_LENGTH, Record, has_type, other_handle};
 pub use record_error::RecordError;
 pub use sensor::Sensor;
 pub use sensor_data_size::SensorDataSize;

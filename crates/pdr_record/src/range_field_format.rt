@@ -9,7 +9,9 @@ use crate::sensor_data_size::SensorDataSize;
 /// real number of 32 bits.
 #[derive(Clone, Copy, Debug, PartialEq, Eq)]
 pub enum RangeFieldFormat {
+    /// 0 to 5: an integer of the data size of this code.
     Integer(SensorDataSize),
+    /// 6: a real32, in four bytes.
     Real32,
 }
 

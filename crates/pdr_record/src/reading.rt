@@ -8,6 +8,7 @@ use byteorder::{ByteOrder, LittleEndian};
 /// The bytes of a body that are not read yet.
 #[derive(Clone, Copy, Debug)]
 pub struct FieldReader<'a> {
+    /// They begin with the next field.
     pub rest: &'a [u8],
 }
 

@@ -1,10 +1,10 @@
 //! Records: the common header and a body.
-ghost use Rattle.std.specs.Prelude.{◌≡◌, IfOk, IfErr};
-ghost use Rattle.pdr_record.specs.Records.{record_of, IsRecord};
+ghost use Rattle.std.specs.Prelude.{◌≡◌, ◌↔◌, ℕ, IfOk, IfErr, IsTrue, Some, slice_get};
+ghost use Rattle.pdr_record.specs.Records.{record_of, IsRecord, IsOtherRecordOf};
 ghost use Rattle.pdr_record.specs.Bodies.{body_value};
 ghost use Rattle.pdr_record.specs.Props.{record_prop};
 
-use crate::body::Body;
+use crate::body::{Body, is_other_type};
 use crate::field::{Field, put_fields};
 use crate::reading::FieldReader;
 use crate::record_error::RecordError;
@@ -16,6 +16,34 @@ pub const HEADER_LENGTH: usize = 10;
 
 /// The version of the common header.
 const HEADER_VERSION: u8 = 1;
+
+/// Where the type stands in the common header.
+const TYPE_AT: usize = 5;
+
+/// Whether the bytes have this type where the common header has its own.
+pub fn has_type(bytes: &[u8], record_type: u8) -> bool
+    ensures { IsTrue result ↔ (slice_get bytes.now 5 ≡ Some record_type) }
+{
+    bytes.get(TYPE_AT) == Some(&record_type)
+}
+
+/// The handle of the record that the bytes are, all of them, where its type has none of the four layouts. It is told by
+/// the header and the number of bytes behind it.
+pub fn other_handle(bytes: &[u8]) -> Option<u32>
+    ensures { (handle : ℕ) → (result ≡ Some handle) ↔ IsOtherRecordOf handle bytes.now }
+{
+    let [h0, h1, h2, h3, version, number, _, _, l0, l1, body @ ..] = bytes else {
+        return None;
+    };
+    let data_length = u16::from_le_bytes([*l0, *l1]);
+    if *version != HEADER_VERSION || usize::from(data_length) != body.len() {
+        return None;
+    }
+    if !is_other_type(*number) {
+        return None;
+    }
+    Some(u32::from_le_bytes([*h0, *h1, *h2, *h3]))
+}
 
 /// A platform descriptor record: the common header of 10 bytes, and at most 65535 bytes behind it, each number with its
 /// lowest byte first (DSP0248, Common PDR header). The header version is 1, so it is not kept, nor is the number of

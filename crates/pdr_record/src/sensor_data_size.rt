@@ -8,11 +8,17 @@ use crate::record_error::RecordError;
 /// (U) or two's complement (S). The number is its code.
 #[derive(Clone, Copy, Debug, PartialEq, Eq)]
 pub enum SensorDataSize {
+    /// One byte, unsigned.
     U8 = 0,
+    /// One byte, two's complement.
     S8 = 1,
+    /// Two bytes, unsigned.
     U16 = 2,
+    /// Two bytes, two's complement.
     S16 = 3,
+    /// Four bytes, unsigned.
     U32 = 4,
+    /// Four bytes, two's complement.
     S32 = 5,
 }
 

@@ -11,13 +11,14 @@ use Rattle.pldm_message.specs.declared.kind.MessageKind.TheVariants.{Request, Da
 use Rattle.pldm_message.specs.declared.command.Command.TheVariants.{GetPdr}
 use Rattle.pldm_message.specs.Commands.{type_of, command_byte}
 use Rattle.pldm_message.specs.Headers.{HeaderValue, IsHeader, header_bytes, kind_bits, instance_byte, BeginsWith}
-use Rattle.pldm_message.specs.Messages.{AnswerMessage, AnswerHeadValue, answer_header}
+use Rattle.pldm_message.specs.Messages.{ResponseMessage, ResponseHeadValue, answer_header}
 use Rattle.pldm_message.specs.Pdrs.{Part, IsPart, part_bytes, IsChecked}
 use Rattle.pdr_repository.specs.Parts.{PartAnswer}
 use Rattle.pdr_repository.specs.Walkers.{IsAnswerIn}
-use Rattle.pdr_repository.proofs.SomeAnswers.{EachByte, flag_of}
+use Rattle.pdr_repository.proofs.SomeAnswers.{EachByte}
 use Rattle.pdr_repository.proofs.Deciding.{OrNot, both_or_not, same_or_not, less_or_not}
 use Rattle.pdr_repository.proofs.Searching.{each_or_not, three_or_not, four_or_not}
+use Rattle.mctp_transport.proofs.Spellings.{flag_of}
 
 -- ---- headers
 
@@ -206,23 +207,23 @@ part_or_none tail = elim (cases_lt (length tail) 11) [
 
 -- ---- answers
 
-pub answer_or_none : (bytes : List ℕ) → ((m : AnswerMessage Part) × IsAnswerIn bytes m) ⊎ ((m : AnswerMessage Part) → ¬ IsAnswerIn bytes m)
+pub answer_or_none : (bytes : List ℕ) → ((m : ResponseMessage Part) × IsAnswerIn bytes m) ⊎ ((m : ResponseMessage Part) → ¬ IsAnswerIn bytes m)
 answer_or_none bytes = elim (cases_lt (length bytes) 5) [
   | inl short ↦ inr (λ m is. too_short m.head m.outcome short is)
   | inr long ↦ by bytes long
 ]
   where
-    too_short : (head : AnswerHeadValue) (outcome : PartAnswer) → length bytes < 5 → ¬ IsAnswerIn bytes (record { head = head; outcome = outcome })
+    too_short : (head : ResponseHeadValue) (outcome : PartAnswer) → length bytes < 5 → ¬ IsAnswerIn bytes (record { head = head; outcome = outcome })
     too_short head (Ok p) short is = let e = ap length is.1 in omega arith
     too_short head (Err code) short is = let e = ap length is.1 in omega arith
 
-    by : (bytes : List ℕ) → 5 ≤ length bytes → ((m : AnswerMessage Part) × IsAnswerIn bytes m) ⊎ ((m : AnswerMessage Part) → ¬ IsAnswerIn bytes m)
+    by : (bytes : List ℕ) → 5 ≤ length bytes → ((m : ResponseMessage Part) × IsAnswerIn bytes m) ⊎ ((m : ResponseMessage Part) → ¬ IsAnswerIn bytes m)
     by (a ∷ b ∷ c ∷ d ∷ k ∷ tail) long =
         elim (four_or_not _ _ _ _ (same_or_not a 1) (less_or_not b 64) (same_or_not c (type_of GetPdr)) (same_or_not d (command_byte GetPdr))) [
           | inr not ↦ inr (λ m is. not (front m.head m.outcome is))
           | inl (first, second, third, fourth) ↦
               let reserved = flag_of (b / 32 % 2) (omega arith) in
-              let head : AnswerHeadValue = record { reserved = reserved.0; instance = b % 32 } in
+              let head : ResponseHeadValue = record { reserved = reserved.0; instance = b % 32 } in
               let byte : b ≡ instance_byte (answer_header GetPdr head) = omega (arith, reserved.1) in
               elim (same_or_not k 0) [
                 | inl success ↦ elim (part_or_none tail) [
@@ -244,21 +245,21 @@ answer_or_none bytes = elim (cases_lt (length bytes) 5) [
         empty [] = inl refl
         empty (x ∷ xs) = inr (λ e. cc)
 
-        instance_small : (head : AnswerHeadValue) → head.instance < 32 → b ≡ instance_byte (answer_header GetPdr head) → b < 64
+        instance_small : (head : ResponseHeadValue) → head.instance < 32 → b ≡ instance_byte (answer_header GetPdr head) → b < 64
         instance_small head small is = let reserved = bit_most head.reserved in omega arith
 
-        front : (head : AnswerHeadValue) (outcome : PartAnswer) → IsAnswerIn whole (record { head = head; outcome = outcome })
+        front : (head : ResponseHeadValue) (outcome : PartAnswer) → IsAnswerIn whole (record { head = head; outcome = outcome })
             → (a ≡ 1) × (b < 64) × (c ≡ type_of GetPdr) × (d ≡ command_byte GetPdr)
         front head (Ok p) ((small, part), same) =
             let byte : b ≡ instance_byte (answer_header GetPdr head) = cc in (cc, instance_small head small byte, cc, cc)
         front head (Err code) ((small, part), same) =
             let byte : b ≡ instance_byte (answer_header GetPdr head) = cc in (cc, instance_small head small byte, cc, cc)
 
-        no_part : (head : AnswerHeadValue) (outcome : PartAnswer) → k ≡ 0 → ((p : Part) → ¬ IsPartIn tail p) → ¬ IsAnswerIn whole (record { head = head; outcome = outcome })
+        no_part : (head : ResponseHeadValue) (outcome : PartAnswer) → k ≡ 0 → ((p : Part) → ¬ IsPartIn tail p) → ¬ IsAnswerIn whole (record { head = head; outcome = outcome })
         no_part head (Ok p) success none ((small, part), same) = none p (part, ap (drop 5) same)
         no_part head (Err code) success none ((small, some), same) = let e : k ≡ code = cc in let positive = some.0 in omega arith
 
-        no_code : (head : AnswerHeadValue) (outcome : PartAnswer) → ¬ (k ≡ 0) → ¬ ((k < 256) × (tail ≡ [])) → ¬ IsAnswerIn whole (record { head = head; outcome = outcome })
+        no_code : (head : ResponseHeadValue) (outcome : PartAnswer) → ¬ (k ≡ 0) → ¬ ((k < 256) × (tail ≡ [])) → ¬ IsAnswerIn whole (record { head = head; outcome = outcome })
         no_code head (Ok p) fails not ((small, part), same) = fails (cc)
         no_code head (Err code) fails not ((small, some), same) = let e : k ≡ code = cc in let below = some.1 in not (omega arith, ap (drop 5) same)
     by bytes long = absurd (omega arith)

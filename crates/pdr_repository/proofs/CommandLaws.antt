@@ -4,7 +4,7 @@ use Rattle.pldm_message.specs.declared.kind.MessageKind.TheVariants.{Request, Re
 use Rattle.pldm_message.specs.declared.command.Command.{Command}
 use Rattle.pldm_message.specs.declared.command.Command.TheVariants.{SetTid, GetTid, GetPldmTypes, GetPdr}
 use Rattle.pldm_message.specs.Headers.{HeaderValue, BeginsWith, header_bytes}
-use Rattle.pldm_message.specs.Messages.{AnswerHeadValue, answer_header}
+use Rattle.pldm_message.specs.Messages.{ResponseHeadValue, answer_header}
 use Rattle.pdr_repository.specs.Records.{Entry}
 use Rattle.pdr_repository.specs.Answers.{Answers, AnswersCommand, IsOf, reply_header}
 use Rattle.pdr_repository.specs.Replying.{CarriesOut, NamesCommand, Replies}
@@ -60,7 +60,7 @@ pub same_header : (h : HeaderValue) (c : Command) → IsOf c h → answer_header
 same_header h c (type, command) = λ i. record { kind = Response; reserved = false; instance = h.instance; pldm_type = sym type i; command = sym command i }
 
 -- the answer to a command, in the terms of the code
-pub replied_as : (c d : Command) (head : AnswerHeadValue) (instance tid : ℕ) (records : List Entry) (request answer reply : List ℕ) (next : ℕ) → c ≡ d → head ≡ record { reserved = false; instance = instance }
+pub replied_as : (c d : Command) (head : ResponseHeadValue) (instance tid : ℕ) (records : List Entry) (request answer reply : List ℕ) (next : ℕ) → c ≡ d → head ≡ record { reserved = false; instance = instance }
     → answer ≡ header_bytes (answer_header d head) ++ reply → CarriesOut d tid records request reply next → Replies c instance tid records request answer next
 replied_as c d head instance tid records request answer reply next is same whole carries =
     let P : Command → Type 0 = λ b. Replies b instance tid records request answer next in

@@ -49,7 +49,7 @@ is_within : (e : Entry) (offset : ℕ) (r : PartRequest) → offset < length e.b
 is_within e offset r within (inl (o, op)) = λ h. absurd (omega arith)
 is_within e offset r within (inr (o, op, t, c)) = λ h. (omega arith, omega arith)
 
-at_offset : (e : Entry) (offset : ℕ) (r : PartRequest) → IsAt e offset r → offset_of r ≡ offset
+pub at_offset : (e : Entry) (offset : ℕ) (r : PartRequest) → IsAt e offset r → offset_of r ≡ offset
 at_offset e offset r (inl (o, op)) = rw (op, o) refl
 at_offset e offset r (inr (o, op, t, c)) = rw op t
 

@@ -7,19 +7,19 @@ use Rattle.std.proofs.lemmas.List.{append-nil, length-map, length-take, length_p
 use Rattle.pldm_message.specs.declared.command.Command.TheVariants.{GetPdr}
 use Rattle.pldm_message.specs.Headers.{HeaderValue, BeginsWith, IsHeader, header_bytes}
 use Rattle.pldm_message.specs.HeaderLaws.{one_header}
-use Rattle.pldm_message.specs.Messages.{AnswerMessage, answer_header}
+use Rattle.pldm_message.specs.Messages.{ResponseMessage, answer_header}
 use Rattle.pldm_message.specs.Pdrs.{PartRequest, Part}
-use Rattle.pldm_message.specs.PdrLaws.{one_get_pdr_answer}
+use Rattle.pldm_message.specs.PdrLaws.{one_get_pdr_response}
 use Rattle.pdr_repository.specs.Crc.{IsCrc}
 use Rattle.pdr_repository.specs.Records.{Entry, IsLawful, handle_in, handle_at, bytes_by_place}
 use Rattle.pdr_repository.specs.Parts.{PartAnswer, AnswersPart, IsPartOf}
 use Rattle.pdr_repository.specs.Walks.{Exchange, Walk, Collects, IsFinished, due_after, follows, data_of, flag_of, HasFlag}
 use Rattle.pdr_repository.specs.Faults.{Room, Judges, IsLast, HasWrongFlag, HasWrongSize, HasWrongCrc, HasWrongHandle, HasDoubledHandle}
-use Rattle.pdr_repository.specs.declared.walk_fault.Step.{Step}
+use Rattle.pdr_repository.specs.declared.walk_fault.WalkProgress.{WalkProgress}
 use Rattle.pdr_repository.specs.declared.walk_fault.WalkFault.{WalkFault}
 use Rattle.pdr_repository.specs.declared.walk_fault.WalkFault.TheVariants.{TooMuch, OutOfMemory}
-use Rattle.pdr_repository.specs.Walkers.{WalkState, StandsFor, Fails, Proceeds, state_after, completed, data_with, room_of, Takes, TakesOutcome, IsAnswerIn, IsDueAnswer, WalksOn, GoesOn, Tells, TellsStep}
-use Rattle.pdr_repository.specs.declared.walk_fault.Step.TheVariants.{Done}
+use Rattle.pdr_repository.specs.Walkers.{WalkState, HasTakenIn, Fails, Proceeds, state_after, completed, data_with, room_of, Takes, TakesOutcome, IsAnswerIn, IsDueAnswer, WalksOn, TakesDueAnswer, Tells, TellsStep}
+use Rattle.pdr_repository.specs.declared.walk_fault.WalkProgress.TheVariants.{Done}
 use Rattle.pdr_repository.proofs.Headers.{HasHeader, lawful_header}
 use Rattle.pdr_repository.proofs.Collecting.{start_more, middle_more, whole_more, end_more, one_rest, collects_once}
 use Rattle.pdr_repository.proofs.Dues.{IsDue, FlagBy, More, Complete}
@@ -150,14 +150,14 @@ judged_right room records before r p fault flag size crc handle double (inr (_, 
 judged_right room records before r p fault flag size crc handle double (inr (_, inr (_, inr (_, inr (_, inr (_, inr (_, is))))))) = inr is
 
 -- the walker after a part stands for one exchange more
-stands_push : (old : WalkState) (xs : List Exchange) (x : Exchange) (p : Part) (offset : ℕ) (place : ℕ) (e : Entry) (count : ℕ) → StandsFor old xs → x.answer ≡ Ok p → Kind place e count offset x.request p
-    → (c : Collects xs old.records old.under_way) → (offset ≡ 0 → c.rest ≡ []) → (0 < offset → c.rest ≢ []) → StandsFor (state_after old x.request p) (xs ++ x ∷ [])
+stands_push : (old : WalkState) (xs : List Exchange) (x : Exchange) (p : Part) (offset : ℕ) (place : ℕ) (e : Entry) (count : ℕ) → HasTakenIn old xs → x.answer ≡ Ok p → Kind place e count offset x.request p
+    → (c : Collects xs old.records old.under_way) → (offset ≡ 0 → c.rest ≡ []) → (0 < offset → c.rest ≢ []) → HasTakenIn (state_after old x.request p) (xs ++ x ∷ [])
 stands_push old xs x p offset place e count stands is kind c at_start after_start =
     let due : follows x.request (Ok p) ≡ due_after old.count (xs ++ x ∷ []) = ap (follows x.request) (sym is) ∙ sym (due_push old.count xs x) in
     let given : data_of x.answer ≡ p.bytes = ap data_of is in
     let flagged : (flag : ℕ) → p.flag ≡ flag → HasFlag flag x = λ flag h. ap flag_of is ∙ ap Some h in
     let P : List (List ℕ) → List ℕ → Type 0 = λ rs d. Collects (xs ++ x ∷ []) rs d in
-    let make : P (old.records ++ completed old.under_way p) (data_with old.under_way p) → StandsFor (state_after old x.request p) (xs ++ x ∷ []) = λ all. record { collects = all; due = due; goes = stands.goes } in
+    let make : P (old.records ++ completed old.under_way p) (data_with old.under_way p) → HasTakenIn (state_after old x.request p) (xs ++ x ∷ []) = λ all. record { collects = all; due = due; goes = stands.goes } in
     elim kind [
       | inl more ↦ elim more.flag [
         | inl (o, _, flag) ↦ make (rw (flag, append-nil) (let Q : List ℕ → Type 0 = λ d. P old.records d in subst Q given (start_more xs old.records old.under_way x c (at_start o) (flagged 0 flag)).all))
@@ -170,14 +170,14 @@ stands_push old xs x p offset place e count stands is kind c at_start after_star
     ]
 
 -- the header that begins an answer is the answer's
-same_header : (h : HeaderValue) (m : AnswerMessage Part) (bytes : List ℕ) → BeginsWith h bytes → IsAnswerIn bytes m → h.instance ≡ m.head.instance
+same_header : (h : HeaderValue) (m : ResponseMessage Part) (bytes : List ℕ) → BeginsWith h bytes → IsAnswerIn bytes m → h.instance ≡ m.head.instance
 same_header h m bytes begins spelled =
     let front : take 4 bytes ≡ header_bytes (answer_header GetPdr m.head) = ap (take 4) spelled.1 in
     let lawful : IsHeader (answer_header GetPdr m.head) = record { instance = spelled.0.0; pldm_type = omega arith; command = omega arith } in
     ap (λ (g : HeaderValue). g.instance) (one_header h (answer_header GetPdr m.head) begins.0 lawful (sym begins.1 ∙ front))
 
 -- a message that is an answer under the outstanding ID is taken as that answer
-takes_outcome : (old new : WalkState) (r : PartRequest) (m : AnswerMessage Part) (bytes : List ℕ) (result : Result Step WalkFault) → old.failed ≡ false → old.due ≡ Some r
+takes_outcome : (old new : WalkState) (r : PartRequest) (m : ResponseMessage Part) (bytes : List ℕ) (result : Result WalkProgress WalkFault) → old.failed ≡ false → old.due ≡ Some r
     → old.waiting ≡ Some m.head.instance → IsAnswerIn bytes m → Takes old bytes result new → TakesOutcome old r m.outcome result new
 takes_outcome old new r m bytes result goes due waiting spelled (inl (failed, _)) = absurd (let f : true ≡ false = sym failed ∙ goes in cc)
 takes_outcome old new r m bytes result goes due waiting spelled (inr (_, inl (none, _))) = absurd (let f : None ≡ Some m.head.instance = sym none ∙ waiting in cc)
@@ -188,11 +188,11 @@ takes_outcome old new r m bytes result goes due waiting spelled (inr (_, inr (_,
 takes_outcome old new r m bytes result goes due waiting spelled (inr (_, inr (_, inr (_, (h, begins, inr (_, inl (unlike, _))))))) = absurd (unlike m spelled)
 takes_outcome old new r m bytes result goes due waiting spelled (inr (_, inr (_, inr (_, (h, begins, inr (_, inr (_, (n, s, other, asked, rest)))))))) =
     let P : PartRequest → Type 0 = λ q. TakesOutcome old q m.outcome result new in
-    let Q : AnswerMessage Part → Type 0 = λ a. TakesOutcome old s a.outcome result new in
-    subst P (same_Some s r (sym asked ∙ due)) (subst Q (one_get_pdr_answer n m other.0 spelled.0 (sym other.1 ∙ spelled.1)) rest)
+    let Q : ResponseMessage Part → Type 0 = λ a. TakesOutcome old s a.outcome result new in
+    subst P (same_Some s r (sym asked ∙ due)) (subst Q (one_get_pdr_response n m other.0 spelled.0 (sym other.1 ∙ spelled.1)) rest)
 
 -- a walker that stands for a walk has collected its beginning
-walks_on : (records : List Entry) (xs : List Exchange) (step : Step) (new : WalkState) → IsLawful records → 8 ≤ new.count → new.count ≤ 4079 → Walk records new.count xs → StandsFor new xs
+walks_on : (records : List Entry) (xs : List Exchange) (step : WalkProgress) (new : WalkState) → IsLawful records → 8 ≤ new.count → new.count ≤ 4079 → Walk records new.count xs → HasTakenIn new xs
     → (step ≡ Done → new.due ≡ None) → WalksOn records xs step new
 walks_on records xs step new lawful least most walk stands done =
     let all = every_walk_collects records new.count xs lawful least most walk in
@@ -206,19 +206,19 @@ walks_on records xs step new lawful least most walk stands done =
       exact = λ is. all.exact.0 (finished is);
     }
 
-proceeds : (records : List Entry) (xs : List Exchange) (x : Exchange) (old new : WalkState) (p : Part) (result : Result Step WalkFault) → IsLawful records → 8 ≤ old.count → old.count ≤ 4079
-    → Walk records old.count (xs ++ x ∷ []) → StandsFor (state_after old x.request p) (xs ++ x ∷ []) → Proceeds old x.request p result new → Tells result old new
+proceeds : (records : List Entry) (xs : List Exchange) (x : Exchange) (old new : WalkState) (p : Part) (result : Result WalkProgress WalkFault) → IsLawful records → 8 ≤ old.count → old.count ≤ 4079
+    → Walk records old.count (xs ++ x ∷ []) → HasTakenIn (state_after old x.request p) (xs ++ x ∷ []) → Proceeds old x.request p result new → Tells result old new
     → MatchResult result (λ step. WalksOn records (xs ++ x ∷ []) step new) (λ fault. (fault ≡ TooMuch) ⊎ (fault ≡ OutOfMemory))
 proceeds records xs x old new p (Ok step) lawful least most walk after (_, is) told =
-    let P : WalkState → Type 0 = λ w. StandsFor w (xs ++ x ∷ []) in
+    let P : WalkState → Type 0 = λ w. HasTakenIn w (xs ++ x ∷ []) in
     let count : new.count ≡ old.count = ap (λ (w : WalkState). w.count) is in
     let W : ℕ → Type 0 = λ n. Walk records n (xs ++ x ∷ []) in
-    let T : Step → Type 0 = λ s. TellsStep s old new in
+    let T : WalkProgress → Type 0 = λ s. TellsStep s old new in
     walks_on records (xs ++ x ∷ []) step new lawful (omega arith) (omega arith) (subst W (sym count) walk) (subst P (sym is) after) (λ done. (subst T done told).2)
 proceeds records xs x old new p (Err fault) lawful least most walk after (is, same) told = inr is
 
 -- the outcome of the request that is due in a walk
-goes_on_outcome : (old new : WalkState) (bytes : List ℕ) (result : Result Step WalkFault) (records : List Entry) (xs : List Exchange) (x : Exchange) → 8 ≤ old.count → old.count ≤ 4079
+goes_on_outcome : (old new : WalkState) (bytes : List ℕ) (result : Result WalkProgress WalkFault) (records : List Entry) (xs : List Exchange) (x : Exchange) → 8 ≤ old.count → old.count ≤ 4079
     → IsDueAnswer old bytes records xs x → (w : Within records old.count xs) → TakesOutcome old x.request x.answer result new → Tells result old new
     → MatchResult result (λ step. WalksOn records (xs ++ x ∷ []) step new) (λ fault. (fault ≡ TooMuch) ⊎ (fault ≡ OutOfMemory))
 goes_on_outcome old new bytes result records xs x least most given w takes told =
@@ -255,7 +255,7 @@ goes_on_outcome old new bytes result records xs x least most given w takes told 
       | inr is ↦ proceeds records xs x old new p result given.lawful least most on after (subst P is out.2) told
     ]
 
-pub goes_on : (old new : WalkState) (bytes : List ℕ) (result : Result Step WalkFault) → 8 ≤ old.count → old.count ≤ 4079 → Takes old bytes result new → GoesOn old bytes result new
+pub goes_on : (old new : WalkState) (bytes : List ℕ) (result : Result WalkProgress WalkFault) → 8 ≤ old.count → old.count ≤ 4079 → Takes old bytes result new → TakesDueAnswer old bytes result new
 goes_on old new bytes result least most takes records xs x given =
     let asked : due_after old.count xs ≡ Some x.request = sym given.stands.due ∙ given.due in
     let outcome = takes_outcome old new x.request (record { head = given.head; outcome = x.answer }) bytes result given.stands.goes given.due given.waiting given.spelled takes in

@@ -50,7 +50,7 @@ rows_whole records place e here =
     ap (λ (r : IndexRow). r.handle) row ∙ ap (λ (r : ℕ × (ℕ × Vec ℕ _)). r.1.0) is ∙ ap (λ (r : ℕ × Vec ℕ _). r.0) (get_or_from_slice_get records place y.0 y.0 y.1) ∙ ap (λ (f : Entry). f.handle) (sym y.2) in
     list_any_at (λ (r : IndexRow). r.handle == e.handle) (rows_of records) place (row_at d) (omega (arith, length-map (enumerate_from 0 records) row_at)) (eq-eqb _ _ handle)
 
-enumerate_push : {X : Type 0} (n : ℕ) (xs : List X) (x : X) → enumerate_from n (xs ++ x ∷ []) ≡ enumerate_from n xs ++ (n + length xs, x) ∷ []
+pub enumerate_push : {X : Type 0} (n : ℕ) (xs : List X) (x : X) → enumerate_from n (xs ++ x ∷ []) ≡ enumerate_from n xs ++ (n + length xs, x) ∷ []
 enumerate_push n [] x = let e : n ≡ n + 0 = omega arith in ap (λ k. (k, x) ∷ []) e
 enumerate_push n (y ∷ ys) x =
     let e : (n + 1) + length ys ≡ n + length (y ∷ ys) = omega arith in

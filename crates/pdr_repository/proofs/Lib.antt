@@ -5,7 +5,7 @@ pub mod Dues
 pub mod Walks
 mod CommandLaws
 mod Places
-mod Indexing
+pub mod Indexing
 mod Blocks
 mod OneLentParts
 mod Handles
@@ -13,7 +13,7 @@ mod Collected
 mod Judging
 pub mod Taking
 mod Wanting
-mod FivePackets
+pub mod FivePackets
 pub mod Following
 mod Telling
 pub mod Ascending

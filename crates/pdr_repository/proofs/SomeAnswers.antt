@@ -10,7 +10,7 @@ use Rattle.std.proofs.lemmas.List.Elements.{All-head, All-tail}
 use Rattle.std.proofs.lemmas.Nat.{xor_of_8}
 use Rattle.std.proofs.Common.{append_assoc}
 use Rattle.mctp_transport.specs.Bits.{bit_most}
-use Rattle.mctp_transport.specs.Frames.{bit}
+use Rattle.mctp_transport.specs.PacketValues.{bit}
 use Rattle.pldm_message.specs.declared.kind.MessageKind.TheVariants.{Request}
 use Rattle.pldm_message.specs.declared.command.Command.{Command}
 use Rattle.pldm_message.specs.declared.command.Command.TheVariants.{SetTid, GetTid, GetPldmTypes, GetPdr}
@@ -24,6 +24,7 @@ use Rattle.pdr_repository.specs.Records.{Entry, IsMeant, handle_at, change_in}
 use Rattle.pdr_repository.specs.Parts.{PartAnswer, offset_of, HasChange, IsWithin, IsPartOf, AnswersFrom, AnswersPart}
 use Rattle.pdr_repository.specs.Answers.{IsAsked, reply_header, known_types, request_length, AnswersData, IsOf, AnswersCommand, Answers}
 use Rattle.pdr_repository.proofs.Deciding.{OrNot, both_or_not, implied_or_not, not_or_not, same_or_not, less_or_not, at_most_or_not}
+use Rattle.mctp_transport.proofs.Spellings.{flag_of}
 
 -- each number is a byte
 abbrev pub EachByte : List ℕ → Type 0
@@ -258,10 +259,6 @@ some_command h tid records asked all bytes = elim (both_or_not _ _ (not_or_not _
     ]
   ]
 ]
-
--- the bytes are those of a request that is to be answered, or not
-pub flag_of : (n : ℕ) → n < 2 → (b : Bool) × (bit b ≡ n)
-flag_of n small = elim (cases_lt n 1) [ inl none ↦ (false, omega arith) | inr one ↦ (true, omega arith) ]
 
 asked_or_not : (request : List ℕ) → OrNot (IsAsked request)
 asked_or_not [] = inr (λ (h, (is, same), kind). let e = ap length same in omega arith)

@@ -7,10 +7,10 @@ use Rattle.pldm_message.specs.Pdrs.{PartRequest, Part, get_pdr_request_bytes}
 use Rattle.pdr_repository.specs.Parts.{PartAnswer}
 use Rattle.pdr_repository.specs.Walks.{first_part, follows}
 use Rattle.pdr_repository.specs.Faults.{Judges, HasWrongFlag}
-use Rattle.pdr_repository.specs.declared.walk_fault.Step.{Step}
-use Rattle.pdr_repository.specs.declared.walk_fault.Step.TheVariants.{Record, Done}
+use Rattle.pdr_repository.specs.declared.walk_fault.WalkProgress.{WalkProgress}
+use Rattle.pdr_repository.specs.declared.walk_fault.WalkProgress.TheVariants.{Record, Done}
 use Rattle.pdr_repository.specs.declared.walk_fault.WalkFault.{WalkFault}
-use Rattle.pdr_repository.specs.Walkers.{WalkState, StandsFor, Asks, AsksWhatIsDue, asked_under, Proceeds, Fails, TakesOutcome, Takes, TellsStep, Tells, state_after, step_after, room_of}
+use Rattle.pdr_repository.specs.Walkers.{WalkState, HasTakenIn, Asks, AsksWhatIsDue, asked_under, Proceeds, Fails, TakesOutcome, Takes, TellsStep, Tells, state_after, step_after, room_of}
 
 -- the flags of a part without a fault
 abbrev Flags : Part → Type 0
@@ -39,11 +39,11 @@ completes : (old : WalkState) (r : PartRequest) (p : Part) (bytes : List ℕ) �
     → (state_after old r p).records ≡ old.records ++ bytes ∷ [] → follows r (Ok p) ≡ (if p.next == 0 then None else Some (first_part r.count p.next)) → TellsStep (step_after p) old (state_after old r p)
 completes old r p bytes says more due = elim (eqb_tells p.next 0) [
   | inl none ↦
-      let P : Step → Type 0 = λ s. TellsStep s old (state_after old r p) in
+      let P : WalkProgress → Type 0 = λ s. TellsStep s old (state_after old r p) in
       let done : step_after p ≡ Done = says ∙ rw none.0 refl in
       subst P (sym done) (bytes, more, due ∙ rw none.0 refl)
   | inr some ↦
-      let P : Step → Type 0 = λ s. TellsStep s old (state_after old r p) in
+      let P : WalkProgress → Type 0 = λ s. TellsStep s old (state_after old r p) in
       let one_more : step_after p ≡ Record = says ∙ rw some.0 refl in
       let asks : follows r (Ok p) ≡ Some (first_part r.count p.next) = due ∙ rw some.0 refl in
       subst P (sym one_more) (bytes, more, λ over. let e : Some (first_part r.count p.next) ≡ None = sym asks ∙ over in cc)
@@ -55,29 +55,29 @@ told old r p (inr (inl is)) = rw is (append-nil old.records, λ none. cc)
 told old r p (inr (inr (inl is))) = completes old r p (old.under_way ++ p.bytes) (rw is refl) (rw is refl) (rw is refl)
 told old r p (inr (inr (inr is))) = completes old r p p.bytes (rw is refl) (rw is refl) (rw is refl)
 
-told_after : (old new : WalkState) (r : PartRequest) (p : Part) (result : Result Step WalkFault) → Flags p → Proceeds old r p result new → Tells result old new
+told_after : (old new : WalkState) (r : PartRequest) (p : Part) (result : Result WalkProgress WalkFault) → Flags p → Proceeds old r p result new → Tells result old new
 told_after old new r p (Err fault) flagged proceeds = tt
 told_after old new r p (Ok step) flagged (says, state) =
-    let P : Step → Type 0 = λ s. TellsStep s old new in
+    let P : WalkProgress → Type 0 = λ s. TellsStep s old new in
     let Q : WalkState → Type 0 = λ w. TellsStep (step_after p) old w in
     subst P (sym says) (subst Q (sym state) (told old r p flagged))
 
-nothing_said : (old new : WalkState) (fault : WalkFault) (result : Result Step WalkFault) → result ≡ Err fault → Tells result old new
+nothing_said : (old new : WalkState) (fault : WalkFault) (result : Result WalkProgress WalkFault) → result ≡ Err fault → Tells result old new
 nothing_said old new fault result is = rw is tt
 
-by_fault : (old new : WalkState) (r : PartRequest) (p : Part) (result : Result Step WalkFault) (fault : Option WalkFault) → Judges (room_of old) old.records old.under_way r p fault
+by_fault : (old new : WalkState) (r : PartRequest) (p : Part) (result : Result WalkProgress WalkFault) (fault : Option WalkFault) → Judges (room_of old) old.records old.under_way r p fault
     → MatchOption fault (Proceeds old r p result new) (λ f. Fails old f result new) → Tells result old new
 by_fault old new r p result (Some fault) judges out = nothing_said old new fault result out.0
 by_fault old new r p result None (inl (_, e)) out = absurd (let f : None ≡ Some _ = e in cc)
 by_fault old new r p result None (inr (right, _)) out = told_after old new r p result (flags r p right) out
 
-by_outcome : (old new : WalkState) (r : PartRequest) (a : PartAnswer) (result : Result Step WalkFault) → TakesOutcome old r a result new → Tells result old new
+by_outcome : (old new : WalkState) (r : PartRequest) (a : PartAnswer) (result : Result WalkProgress WalkFault) → TakesOutcome old r a result new → Tells result old new
 by_outcome old new r (Err code) result (inl (_, out)) = nothing_said old new _ result out.0
 by_outcome old new r (Err code) result (inr (_, out)) = nothing_said old new _ result out.0
 by_outcome old new r (Ok p) result (fault, judges, out) = by_fault old new r p result fault judges out
 
 -- each step says what was taken
-pub tells : (old new : WalkState) (bytes : List ℕ) (result : Result Step WalkFault) → Takes old bytes result new → Tells result old new
+pub tells : (old new : WalkState) (bytes : List ℕ) (result : Result WalkProgress WalkFault) → Takes old bytes result new → Tells result old new
 tells old new bytes result (inl (_, out)) = nothing_said old new _ result out.0
 tells old new bytes result (inr (_, inl (_, out))) = nothing_said old new _ result out.0
 tells old new bytes result (inr (_, inr (_, inl (_, out)))) = nothing_said old new _ result out.0
@@ -88,9 +88,9 @@ tells old new bytes result (inr (_, inr (_, inr (_, (h, _, inr (_, inr (_, (m, r
 -- the request is the one that is due
 pub asks_what_is_due : (old new : WalkState) (id : ℕ) (request : Option (List ℕ)) → Asks old id request new → AsksWhatIsDue old id request new
 asks_what_is_due old new id request (inl (over, (none, same))) xs stands =
-    let P : WalkState → Type 0 = λ w. StandsFor w xs in
+    let P : WalkState → Type 0 = λ w. HasTakenIn w xs in
     let due : old.due ≡ None = elim over [ inl failed ↦ absurd (let f : true ≡ false = sym failed ∙ stands.goes in cc) | inr done ↦ done ] in
     (none ∙ ap (option_map (λ r. get_pdr_request_bytes (asked_under id r))) (sym due ∙ stands.due), subst P (sym same) stands)
 asks_what_is_due old new id request (inr (_, (r, due, _, is, state))) xs stands =
-    let P : WalkState → Type 0 = λ w. StandsFor w xs in
+    let P : WalkState → Type 0 = λ w. HasTakenIn w xs in
     (is ∙ ap (option_map (λ s. get_pdr_request_bytes (asked_under id s))) (sym due ∙ stands.due), subst P (sym state) (record { collects = stands.collects; due = stands.due; goes = stands.goes }))

@@ -9,10 +9,10 @@ abbrev pub request_of : ℕ → Due → PartRequest
 request_of count due =
     record {
       handle = due.record_handle;
-      transfer = due.transfer_handle;
+      transfer = due.data_transfer_handle;
       operation = due.operation.value;
       count = count;
-      change = due.change_number;
+      change = due.record_change_number;
     }
 
 abbrev pub room : Limits → Room

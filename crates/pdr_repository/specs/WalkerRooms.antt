@@ -1,6 +1,6 @@
 -- The room that a walker's vectors have, and when a part lacks room.
 use Rattle.std.specs.Prelude.{◌≡◌, ◌⊎◌, ◌+◌, ◌<◌, ◌≤◌, ℕ, List, length, Ok, vec_len, vec_capacity}
-use Rattle.pldm_message.specs.Messages.{AnswerMessage}
+use Rattle.pldm_message.specs.Messages.{ResponseMessage}
 use Rattle.pldm_message.specs.Pdrs.{Part}
 use Rattle.pdr_repository.specs.Faults.{IsLast}
 use Rattle.pdr_repository.specs.Walkers.{IsAnswerIn}
@@ -22,4 +22,5 @@ LacksRoom w p =
 
 -- the bytes are an answer with a part that lacks room
 abbrev pub BringsTooMuch : Walker → List ℕ → Type 0
-BringsTooMuch w bytes = (m : AnswerMessage Part) × (p : Part) × IsAnswerIn bytes m × (m.outcome ≡ Ok p) × LacksRoom w p
+BringsTooMuch w bytes =
+    (m : ResponseMessage Part) × (p : Part) × IsAnswerIn bytes m × (m.outcome ≡ Ok p) × LacksRoom w p

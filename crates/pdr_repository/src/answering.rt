@@ -1,4 +1,4 @@
-//! What all termini do with a request.
+//! What all termini do with a request (DSP0240, PLDM message fields).
 ghost use Rattle.std.specs.Prelude.{◌≡◌, ◌≤◌, [], length, false, MatchOption};
 ghost use Rattle.pldm_message.specs.declared.command.Command.{Command};
 ghost use Rattle.pldm_message.specs.declared.kind.MessageKind.TheVariants as kind;
@@ -14,8 +14,8 @@ use crate::terminus::MAX_ANSWER;
 use arrayvec::ArrayVec;
 use mctp_transport::Wire;
 use pldm_message::{
-    AnswerHead, Command, ErrorAnswer, ErrorCode, GetPdrAnswer, GetPldmTypesAnswer, GetTidAnswer,
-    InstanceId, MessageKind, PldmHeader, PldmType, SetTidAnswer, Tid,
+    Command, CompletionCode, ErrorResponse, GetPdrResponse, GetPldmTypesResponse, GetTidResponse,
+    InstanceId, MessageKind, PldmHeader, PldmType, ResponseHead, SetTidResponse, Tid,
 };
 
 /// The header of a request that is to be answered.
@@ -51,14 +51,14 @@ fn command_of(header: &PldmHeader) -> Option<Command>
 }
 
 /// The command of a header, or the code that is answered where its PLDM type or its command is unknown.
-fn known_command(header: &PldmHeader) -> Result<Command, ErrorCode>
+fn known_command(header: &PldmHeader) -> Result<Command, CompletionCode>
     ensures { NamesCommand (header_value header.now) (outcome_value (λ c. c) result) }
 {
     let pldm_type = header.pldm_type;
     if pldm_type != PldmType::MESSAGING_CONTROL && pldm_type != PldmType::PLATFORM_MONITORING {
-        return Err(ErrorCode::INVALID_PLDM_TYPE);
+        return Err(CompletionCode::INVALID_PLDM_TYPE);
     }
-    command_of(header).ok_or(ErrorCode::UNSUPPORTED_COMMAND)
+    command_of(header).ok_or(CompletionCode::UNSUPPORTED_COMMAND)
 }
 
 /// Writes an answer, in place of what stands there.
@@ -87,23 +87,23 @@ fn reply<R: Repository>(
     requires { IsAskedFor command request.now }
     ensures { Replies command instance.value tid.old.value (R.records records.now) request.now out.new.items tid.new.value }
 {
-    let head = AnswerHead::new(instance);
+    let head = ResponseHead::new(instance);
     match command {
         Command::SetTid => {
             let outcome = set_tid(tid, request);
-            write(&SetTidAnswer { head, outcome }, out);
+            write(&SetTidResponse { head, outcome }, out);
         }
         Command::GetTid => {
             let outcome = get_tid(*tid, request);
-            write(&GetTidAnswer { head, outcome }, out);
+            write(&GetTidResponse { head, outcome }, out);
         }
         Command::GetPldmTypes => {
             let outcome = get_pldm_types(request);
-            write(&GetPldmTypesAnswer { head, outcome }, out);
+            write(&GetPldmTypesResponse { head, outcome }, out);
         }
         Command::GetPdr => {
             let outcome = get_pdr(records, request);
-            write(&GetPdrAnswer { head, outcome }, out);
+            write(&GetPdrResponse { head, outcome }, out);
         }
     }
 }
@@ -126,7 +126,7 @@ pub(crate) fn answer_request<R: Repository>(
         Ok(command) => reply(tid, records, command, header.instance, request, out),
         Err(code) => {
             let header = header.answer();
-            write(&ErrorAnswer { header, code }, out);
+            write(&ErrorResponse { header, code }, out);
         }
     }
     true

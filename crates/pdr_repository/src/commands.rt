@@ -1,4 +1,4 @@
-//! What a terminus does with each command.
+//! What a terminus does with each command (DSP0240, SetTID, GetTID and GetPLDMTypes; DSP0248, section 26.2).
 ghost use Rattle.std.specs.Prelude.{◌≡◌, ◌≤◌, ℕ, List, IfOk, length, option_map};
 ghost use Rattle.pldm_message.specs.declared.command.Command.TheVariants as command;
 ghost use Rattle.pldm_message.specs.BaseCommands.{nothing, one_byte, type_bits};
@@ -15,7 +15,7 @@ use crate::parts::Found;
 use crate::repository::Repository;
 use mctp_transport::Wire;
 use pldm_message::{
-    ErrorCode, GetPdrRequest, GetPldmTypes, GetTid, PdrPart, PldmTypes, SetTid, Tid,
+    CompletionCode, GetPdrRequest, GetPldmTypes, GetTid, PdrPart, PldmTypes, SetTid, Tid,
     TransferOperation,
 };
 
@@ -23,39 +23,39 @@ use pldm_message::{
 const KNOWN_TYPES: [u8; 8] = [0b101, 0, 0, 0, 0, 0, 0, 0];
 
 /// Sets the TID that is held.
-pub(crate) fn set_tid(held: &mut Tid, request: &[u8]) -> Result<(), ErrorCode>
+pub(crate) fn set_tid(held: &mut Tid, request: &[u8]) -> Result<(), CompletionCode>
     requires { IsAskedFor command.SetTid request.now }
     ensures { (records : List Entry) → CarriesOut command.SetTid held.old.value records request.now (outcome_bytes nothing (outcome_value (λ done. done) result)) held.new.value }
 {
     let Ok(request) = SetTid::read(request) else {
-        return Err(ErrorCode::INVALID_LENGTH);
+        return Err(CompletionCode::INVALID_LENGTH);
     };
     if !request.tid.is_assignable() {
-        return Err(ErrorCode::INVALID_DATA);
+        return Err(CompletionCode::INVALID_DATA);
     }
     *held = request.tid;
     Ok(())
 }
 
 /// Tells the TID that is held.
-pub(crate) fn get_tid(held: Tid, request: &[u8]) -> Result<Tid, ErrorCode>
+pub(crate) fn get_tid(held: Tid, request: &[u8]) -> Result<Tid, CompletionCode>
     requires { IsAskedFor command.GetTid request.now }
     ensures { (records : List Entry) → CarriesOut command.GetTid held.value records request.now (outcome_bytes one_byte (outcome_value (λ tid. tid.value) result)) held.value }
 {
     match GetTid::read(request) {
         Ok(_) => Ok(held),
-        Err(_) => Err(ErrorCode::INVALID_LENGTH),
+        Err(_) => Err(CompletionCode::INVALID_LENGTH),
     }
 }
 
 /// Tells the PLDM types of a terminus.
-pub(crate) fn get_pldm_types(request: &[u8]) -> Result<PldmTypes, ErrorCode>
+pub(crate) fn get_pldm_types(request: &[u8]) -> Result<PldmTypes, CompletionCode>
     requires { IsAskedFor command.GetPldmTypes request.now }
     ensures { (tid : ℕ) (records : List Entry) → CarriesOut command.GetPldmTypes tid records request.now (outcome_bytes type_bits (outcome_value (λ types. types.bits) result)) tid }
 {
     match GetPldmTypes::read(request) {
         Ok(_) => Ok(PldmTypes::new(KNOWN_TYPES)),
-        Err(_) => Err(ErrorCode::INVALID_LENGTH),
+        Err(_) => Err(CompletionCode::INVALID_LENGTH),
     }
 }
 
@@ -63,14 +63,14 @@ pub(crate) fn get_pldm_types(request: &[u8]) -> Result<PldmTypes, ErrorCode>
 pub(crate) fn get_pdr<'a, R: Repository>(
     records: &'a R,
     request: &[u8],
-) -> Result<PdrPart<'a>, ErrorCode>
+) -> Result<PdrPart<'a>, CompletionCode>
     requires { IsAskedFor command.GetPdr request.now }
     ensures most { IfOk result (λ p. length p.bytes.now ≤ 4079) }
     ensures answered { (tid : ℕ) → CarriesOut command.GetPdr tid (R.records records.now) request.now (outcome_bytes part_bytes (outcome_value part result)) tid }
 {
     match GetPdrRequest::read(request) {
         Ok(request) => give(records, &request),
-        Err(_) => Err(ErrorCode::INVALID_LENGTH),
+        Err(_) => Err(CompletionCode::INVALID_LENGTH),
     }
 }
 
@@ -78,19 +78,19 @@ pub(crate) fn get_pdr<'a, R: Repository>(
 fn give<'a, R: Repository>(
     records: &'a R,
     request: &GetPdrRequest,
-) -> Result<PdrPart<'a>, ErrorCode>
+) -> Result<PdrPart<'a>, CompletionCode>
     ensures most { IfOk result (λ p. length p.bytes.now ≤ 4079) }
     ensures answers { AnswersPart (R.records records.now) (part_request request.now) (outcome_value part result) }
 {
     let operation = request.operation;
     if operation != TransferOperation::FIRST_PART && operation != TransferOperation::NEXT_PART {
-        return Err(ErrorCode::INVALID_TRANSFER_OPERATION);
+        return Err(CompletionCode::INVALID_TRANSFER_OPERATION);
     }
-    if request.count == 0 {
-        return Err(ErrorCode::INVALID_DATA);
+    if request.request_count == 0 {
+        return Err(CompletionCode::INVALID_DATA);
     }
     let Some(found) = find(records, request.record_handle) else {
-        return Err(ErrorCode::INVALID_RECORD_HANDLE);
+        return Err(CompletionCode::INVALID_RECORD_HANDLE);
     };
     found.give(request)
 }

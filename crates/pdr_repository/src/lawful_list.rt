@@ -6,13 +6,23 @@ ghost use Rattle.pdr_repository.specs.Records.{IsRecordOf, IsLawful, IsLawfulAt,
 
 use arrayvec::ArrayVec;
 use mctp_transport::Wire;
-use pdr_record::Record;
+use pdr_record::{Record, other_handle};
 
 /// The most records of a terminus.
 pub const MAX_RECORDS: usize = 4096;
 
 /// Whether the bytes are those of a record of this handle, all of them.
-fn is_record(handle: u32, bytes: &[u8]) -> bool
+pub fn is_record(handle: u32, bytes: &[u8]) -> bool
+    ensures { IsTrue result ↔ IsRecordOf handle bytes.now }
+{
+    if let Some(own) = other_handle(bytes) {
+        return own == handle;
+    }
+    is_read_record(handle, bytes)
+}
+
+/// The same by a `Record`. Its room is filled with zeros at the beginning, so it is a function of its own.
+fn is_read_record(handle: u32, bytes: &[u8]) -> bool
     ensures { IsTrue result ↔ IsRecordOf handle bytes.now }
 {
     match Record::read(bytes) {
@@ -46,7 +56,7 @@ fn handles_of(records: &[(u32, Vec<u8>)]) -> ArrayVec<u32, MAX_RECORDS>
 }
 
 /// Whether the first number is above 0, and each other one above the one before it.
-fn ascend(numbers: &[u32]) -> bool
+pub fn ascend(numbers: &[u32]) -> bool
     ensures { IsTrue result ↔ IsStrictlyIncreasing (0 ∷ numbers.now) }
 {
     let mut last = 0;

@@ -20,7 +20,7 @@ mod walker;
 
 pub use block_terminus::BlockTerminus;
 pub use crc::crc8;
-pub use lawful_list::{MAX_RECORDS, is_lawful_list};
+pub use lawful_list::{MAX_RECORDS, ascend, is_lawful_list, is_record};
 pub use laws::{
     collects_once, one_answer, one_check_byte, one_lent_part, requests_are_answered,
     walks_collect_all,
@@ -28,5 +28,5 @@ pub use laws::{
 pub use list_terminus::ListTerminus;
 pub use parts::{MAX_PART, five_packets};
 pub use terminus::{MAX_ANSWER, Terminus};
-pub use walk_fault::{Step, WalkFault};
+pub use walk_fault::{WalkFault, WalkProgress};
 pub use walker::Walker;

@@ -8,7 +8,7 @@ ghost use Rattle.pdr_repository.specs.Found.{BeginsAt};
 ghost use Rattle.pdr_repository.specs.FivePackets.{FitFive, PassFive};
 
 use crate::crc::crc8;
-use pldm_message::{ErrorCode, GetPdrRequest, PdrPart, TransferFlag, TransferOperation};
+use pldm_message::{CompletionCode, GetPdrRequest, PdrPart, TransferFlag, TransferOperation};
 
 /// The most bytes of a record that an answer has.
 pub const MAX_PART: u16 = 4079;
@@ -49,19 +49,19 @@ pub(crate) struct Found<'a> {
 
 impl<'a> Found<'a> {
     /// Where the part begins that is asked for, or why it is not given.
-    fn offset(self, request: &GetPdrRequest) -> Result<usize, ErrorCode>
+    fn offset(self, request: &GetPdrRequest) -> Result<usize, CompletionCode>
         requires { request.now.operation.value ≤ 1 }
         ensures { BeginsAt (part_request request.now) self.entry.bytes.now (outcome_value (λ offset. offset) result) }
     {
         if request.operation == TransferOperation::FIRST_PART {
             return Ok(0);
         }
-        if request.change_number != change_of(self.bytes) {
-            return Err(ErrorCode::INVALID_CHANGE_NUMBER);
+        if request.record_change_number != change_of(self.bytes) {
+            return Err(CompletionCode::INVALID_RECORD_CHANGE_NUMBER);
         }
-        let offset = request.transfer_handle as usize;
+        let offset = request.data_transfer_handle as usize;
         if offset == 0 || offset >= self.bytes.len() {
-            return Err(ErrorCode::INVALID_TRANSFER_HANDLE);
+            return Err(CompletionCode::INVALID_TRANSFER_HANDLE);
         }
         Ok(offset)
     }
@@ -73,27 +73,30 @@ impl<'a> Found<'a> {
         requires within { IsWithin (part_request request.now) self.bytes.now }
         ensures { IsPartOf self.entry.next self.entry.bytes.now (part_request request.now) (part result) }
     {
-        let limit = usize::from(request.count.min(MAX_PART));
+        let limit = usize::from(request.request_count.min(MAX_PART));
         let bytes = cut(self.bytes, offset, limit);
         let end = offset + bytes.len();
         let is_first = request.operation == TransferOperation::FIRST_PART;
-        let (flag, next_transfer, check) = match (is_first, end < self.bytes.len()) {
+        let (flag, next_data_transfer_handle, transfer_crc) = match (
+            is_first,
+            end < self.bytes.len(),
+        ) {
             (true, true) => (TransferFlag::START, end as u32, None),
             (false, true) => (TransferFlag::MIDDLE, end as u32, None),
             (false, false) => (TransferFlag::END, 0, Some(crc8(self.bytes))),
             (true, false) => (TransferFlag::START_AND_END, 0, None),
         };
         PdrPart {
-            next_record: self.next,
-            next_transfer,
+            next_record_handle: self.next,
+            next_data_transfer_handle,
             flag,
             bytes,
-            check,
+            transfer_crc,
         }
     }
 
     /// Gives the part that is asked for, as a first or as a next one.
-    pub(crate) fn give(self, request: &GetPdrRequest) -> Result<PdrPart<'a>, ErrorCode>
+    pub(crate) fn give(self, request: &GetPdrRequest) -> Result<PdrPart<'a>, CompletionCode>
         requires { request.now.operation.value ≤ 1 }
         ensures most { IfOk result (λ p. length p.bytes.now ≤ 4079) }
         ensures answers { AnswersFrom self.entry.next self.entry.bytes.now (part_request request.now) (outcome_value part result) }

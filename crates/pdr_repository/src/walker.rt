@@ -8,14 +8,14 @@ mod judging;
 mod pieces;
 
 use crate::parts::change_of;
-use crate::walk_fault::{Step, WalkFault};
+use crate::walk_fault::{WalkFault, WalkProgress};
 use collected::Collected;
 use due::Due;
 use judging::{Limits, is_last, judge};
 use mctp_transport::Wire;
 use pieces::record_length;
 use pldm_message::{
-    ErrorCode, GetPdrAnswer, GetPdrRequest, InstanceId, PdrPart, PldmHeader, TransferFlag,
+    CompletionCode, GetPdrRequest, GetPdrResponse, InstanceId, PdrPart, PldmHeader, TransferFlag,
     TransferOperation,
 };
 use std::alloc::{AllocError, Global};
@@ -23,7 +23,7 @@ use std::mem;
 
 /// A walk under way: from the first record on, each record part by part, until an answer names no next record.
 ///
-/// The contracts speak of lists of exchanges, the requests and answers so far: `StandsFor` says which of them fit what
+/// The contracts speak of lists of exchanges, the requests and answers so far: `HasTakenIn` says which of them fit what
 /// a walker holds.
 #[derive(Debug, Drop)]
 pub struct Walker {
@@ -61,7 +61,7 @@ impl Walker {
     ghost use Rattle.pdr_repository.specs.Walks.{Exchange, Collects, first_part};
     ghost use Rattle.pdr_repository.specs.Faults.{Judges};
     ghost use Rattle.pdr_repository.specs.Dues.{request_of};
-    ghost use Rattle.pdr_repository.specs.Walkers.{room_of, fresh, StandsFor, Asks, AsksWhatIsDue, Fails, Proceeds, TakesOutcome, TakesMessage, Takes, Tells, GoesOn};
+    ghost use Rattle.pdr_repository.specs.Walkers.{room_of, fresh, HasTakenIn, Asks, AsksWhatIsDue, Fails, Proceeds, TakesOutcome, TakesMessage, Takes, Tells, TakesDueAnswer};
     ghost use Rattle.pdr_repository.specs.WalkerStates.{state_of};
     ghost use Rattle.pdr_repository.specs.WalkerRooms.{HasRoom, LacksRoom, BringsTooMuch};
 
@@ -77,7 +77,7 @@ impl Walker {
         requires count { (8 ≤ count) × (count ≤ 4079) }
         requires max_bytes { max_bytes + 1 < 2 ^ 64 }
         ensures state { IfOk result (λ walker. state_of walker ≡ fresh count max_records max_bytes) }
-        ensures stands { IfOk result (λ walker. StandsFor (state_of walker) []) }
+        ensures stands { IfOk result (λ walker. HasTakenIn (state_of walker) []) }
     {
         let under_way = Vec::with_capacity(alloc, usize::from(count))?;
         Ok(Walker {
@@ -90,9 +90,9 @@ impl Walker {
             bytes: 0,
             due: Some(Due {
                 record_handle: 0,
-                transfer_handle: 0,
+                data_transfer_handle: 0,
                 operation: TransferOperation::FIRST_PART,
-                change_number: 0,
+                record_change_number: 0,
             }),
             waiting: None,
             failed: false,
@@ -118,7 +118,7 @@ impl Walker {
     }
 
     /// Takes a part that goes on, of which no fault was found.
-    fn go_on(&mut self, due: Due, given: &PdrPart) -> Result<Step, WalkFault>
+    fn go_on(&mut self, due: Due, given: &PdrPart) -> Result<WalkProgress, WalkFault>
         requires some { 0 < length given.now.bytes.now }
         requires few { self.old.taken ≤ self.old.bytes }
         requires fits { self.old.bytes + length given.now.bytes.now ≤ self.old.max_bytes }
@@ -140,22 +140,22 @@ impl Walker {
         self.bytes += given.bytes.len();
         self.waiting = None;
         self.taken += 1;
-        let change_number = if given.flag == TransferFlag::START {
+        let record_change_number = if given.flag == TransferFlag::START {
             change_of(given.bytes)
         } else {
-            due.change_number
+            due.record_change_number
         };
         self.due = Some(Due {
             record_handle: due.record_handle,
-            transfer_handle: given.next_transfer,
+            data_transfer_handle: given.next_data_transfer_handle,
             operation: TransferOperation::NEXT_PART,
-            change_number,
+            record_change_number,
         });
-        Ok(Step::More)
+        Ok(WalkProgress::More)
     }
 
     /// Takes a part that completes a record, of which no fault was found.
-    fn complete(&mut self, given: &PdrPart) -> Result<Step, WalkFault>
+    fn complete(&mut self, given: &PdrPart) -> Result<WalkProgress, WalkFault>
         requires some { 0 < length given.now.bytes.now }
         requires few { self.old.taken ≤ self.old.bytes }
         requires fits { self.old.bytes + length given.now.bytes.now ≤ self.old.max_bytes }
@@ -175,17 +175,17 @@ impl Walker {
         self.taken += 1;
         let bytes = mem::replace(&mut self.under_way, Vec::new(self.alloc));
         self.collected.push_reserved(bytes);
-        if given.next_record == 0 {
+        if given.next_record_handle == 0 {
             self.due = None;
-            return Ok(Step::Done);
+            return Ok(WalkProgress::Done);
         }
         self.due = Some(Due {
-            record_handle: given.next_record,
-            transfer_handle: 0,
+            record_handle: given.next_record_handle,
+            data_transfer_handle: 0,
             operation: TransferOperation::FIRST_PART,
-            change_number: 0,
+            record_change_number: 0,
         });
-        Ok(Step::Record)
+        Ok(WalkProgress::Record)
     }
 
     /// The first fault of a part.
@@ -209,7 +209,7 @@ impl Walker {
     }
 
     /// Fails from now on.
-    fn fail(&mut self, fault: WalkFault) -> Result<Step, WalkFault>
+    fn fail(&mut self, fault: WalkFault) -> Result<WalkProgress, WalkFault>
         requires { self.old.failed ≡ false }
         ensures { Fails (state_of self.old) fault result (state_of self.new) }
     {
@@ -219,7 +219,7 @@ impl Walker {
     }
 
     /// Takes the part that an answer gives.
-    fn take_part(&mut self, due: Due, given: &PdrPart) -> Result<Step, WalkFault>
+    fn take_part(&mut self, due: Due, given: &PdrPart) -> Result<WalkProgress, WalkFault>
         requires due { self.old.due ≡ Some due }
         requires goes { self.old.failed ≡ false }
         ensures takes { TakesOutcome (state_of self.old) (request_of self.old.count due) (Ok (part given.now)) result (state_of self.new) }
@@ -241,15 +241,15 @@ impl Walker {
     fn take_outcome(
         &mut self,
         due: Due,
-        outcome: &Result<PdrPart, ErrorCode>,
-    ) -> Result<Step, WalkFault>
+        outcome: &Result<PdrPart, CompletionCode>,
+    ) -> Result<WalkProgress, WalkFault>
         requires due { self.old.due ≡ Some due }
         requires goes { self.old.failed ≡ false }
         ensures takes { TakesOutcome (state_of self.old) (request_of self.old.count due) (outcome_value part outcome.now) result (state_of self.new) }
         ensures wants { result ≡ Err WalkFault.OutOfMemory → (p : Part) × (outcome_value part outcome.now ≡ Ok p) × LacksRoom self.old p }
     {
         match outcome {
-            Err(code) => self.fail(if *code == ErrorCode::INVALID_CHANGE_NUMBER {
+            Err(code) => self.fail(if *code == CompletionCode::INVALID_RECORD_CHANGE_NUMBER {
                 WalkFault::RecordChanged
             } else {
                 WalkFault::OtherCode
@@ -259,13 +259,13 @@ impl Walker {
     }
 
     /// Takes a message under the outstanding ID.
-    fn take_message(&mut self, due: Due, answer: &[u8]) -> Result<Step, WalkFault>
+    fn take_message(&mut self, due: Due, answer: &[u8]) -> Result<WalkProgress, WalkFault>
         requires due { self.old.due ≡ Some due }
         requires goes { self.old.failed ≡ false }
         ensures takes { TakesMessage (state_of self.old) answer.now result (state_of self.new) }
         ensures wants { result ≡ Err WalkFault.OutOfMemory → BringsTooMuch self.old answer.now }
     {
-        match GetPdrAnswer::read(answer) {
+        match GetPdrResponse::read(answer) {
             Ok(read) => self.take_outcome(due, &read.outcome),
             Err(_) => self.fail(WalkFault::Unreadable),
         }
@@ -286,10 +286,10 @@ impl Walker {
     /// suffice for the part that they bring.
     ///
     /// A terminus over a lawful list answers so that there is no fault but G09 and out of memory.
-    pub fn take(&mut self, answer: &[u8]) -> Result<Step, WalkFault>
+    pub fn take(&mut self, answer: &[u8]) -> Result<WalkProgress, WalkFault>
         ensures takes { Takes (state_of self.old) answer.now result (state_of self.new) }
         ensures tells { Tells result (state_of self.old) (state_of self.new) }
-        ensures goes_on { GoesOn (state_of self.old) answer.now result (state_of self.new) }
+        ensures goes_on { TakesDueAnswer (state_of self.old) answer.now result (state_of self.new) }
         ensures wants { result ≡ Err WalkFault.OutOfMemory → BringsTooMuch self.old answer.now }
         ensures room { HasRoom self.old → result ≢ Err WalkFault.OutOfMemory }
     {
@@ -297,7 +297,7 @@ impl Walker {
     }
 
     /// Takes bytes, by the tests in their order. What `take` promises beside is drawn from this for all tests at once.
-    fn take_bytes(&mut self, answer: &[u8]) -> Result<Step, WalkFault>
+    fn take_bytes(&mut self, answer: &[u8]) -> Result<WalkProgress, WalkFault>
         ensures takes { Takes (state_of self.old) answer.now result (state_of self.new) }
         ensures wants { result ≡ Err WalkFault.OutOfMemory → BringsTooMuch self.old answer.now }
     {
@@ -319,7 +319,7 @@ impl Walker {
     /// The records that are complete, by place.
     pub fn records(&self) -> &[Vec<u8>]
         ensures records { map (λ v. v.items) result.now ≡ (state_of self.now).records }
-        ensures collected { (xs : List Exchange) → StandsFor (state_of self.now) xs → Collects xs (map (λ v. v.items) result.now) (state_of self.now).under_way }
+        ensures collected { (xs : List Exchange) → HasTakenIn (state_of self.now) xs → Collects xs (map (λ v. v.items) result.now) (state_of self.now).under_way }
     {
         self.collected.records.as_slice()
     }

@@ -2,7 +2,8 @@
 -- and discovery).
 use Rattle.std.specs.Prelude.{◌≡◌, ℕ, ◌<◌, ◌≤◌, ◌/◌, ◌%◌, ◌^◌, List, [], ◌∷◌, length, slice_index}
 use Rattle.pldm_message.specs.declared.command.Command.TheVariants as command
-use Rattle.pldm_message.specs.Messages.{RequestMessage, AnswerMessage, IsRequest, IsAnswer, request_bytes, answer_bytes}
+use Rattle.pldm_message.specs.Messages.{RequestMessage, ResponseMessage, IsRequest, IsAnswer}
+use Rattle.pldm_message.specs.Messages.{request_bytes, answer_bytes}
 
 -- no data, and their bytes
 abbrev pub IsNothing : Unit {0} → Type 0
@@ -39,11 +40,11 @@ IsSetTid m = IsRequest IsByte m
 abbrev pub set_tid_bytes : RequestMessage ℕ → List ℕ
 set_tid_bytes m = request_bytes command.SetTid one_byte m
 
-abbrev pub IsSetTidAnswer : AnswerMessage (Unit {0}) → Type 0
-IsSetTidAnswer m = IsAnswer IsNothing m
+abbrev pub IsSetTidResponse : ResponseMessage (Unit {0}) → Type 0
+IsSetTidResponse m = IsAnswer IsNothing m
 
-abbrev pub set_tid_answer_bytes : AnswerMessage (Unit {0}) → List ℕ
-set_tid_answer_bytes m = answer_bytes command.SetTid nothing m
+abbrev pub set_tid_response_bytes : ResponseMessage (Unit {0}) → List ℕ
+set_tid_response_bytes m = answer_bytes command.SetTid nothing m
 
 abbrev pub IsGetTid : RequestMessage (Unit {0}) → Type 0
 IsGetTid m = IsRequest IsNothing m
@@ -51,11 +52,11 @@ IsGetTid m = IsRequest IsNothing m
 abbrev pub get_tid_bytes : RequestMessage (Unit {0}) → List ℕ
 get_tid_bytes m = request_bytes command.GetTid nothing m
 
-abbrev pub IsGetTidAnswer : AnswerMessage ℕ → Type 0
-IsGetTidAnswer m = IsAnswer IsByte m
+abbrev pub IsGetTidResponse : ResponseMessage ℕ → Type 0
+IsGetTidResponse m = IsAnswer IsByte m
 
-abbrev pub get_tid_answer_bytes : AnswerMessage ℕ → List ℕ
-get_tid_answer_bytes m = answer_bytes command.GetTid one_byte m
+abbrev pub get_tid_response_bytes : ResponseMessage ℕ → List ℕ
+get_tid_response_bytes m = answer_bytes command.GetTid one_byte m
 
 abbrev pub IsGetPldmTypes : RequestMessage (Unit {0}) → Type 0
 IsGetPldmTypes m = IsRequest IsNothing m
@@ -63,8 +64,8 @@ IsGetPldmTypes m = IsRequest IsNothing m
 abbrev pub get_pldm_types_bytes : RequestMessage (Unit {0}) → List ℕ
 get_pldm_types_bytes m = request_bytes command.GetPldmTypes nothing m
 
-abbrev pub IsGetPldmTypesAnswer : AnswerMessage (List ℕ) → Type 0
-IsGetPldmTypesAnswer m = IsAnswer AreTypes m
+abbrev pub IsGetPldmTypesResponse : ResponseMessage (List ℕ) → Type 0
+IsGetPldmTypesResponse m = IsAnswer AreTypes m
 
-abbrev pub get_pldm_types_answer_bytes : AnswerMessage (List ℕ) → List ℕ
-get_pldm_types_answer_bytes m = answer_bytes command.GetPldmTypes type_bits m
+abbrev pub get_pldm_types_response_bytes : ResponseMessage (List ℕ) → List ℕ
+get_pldm_types_response_bytes m = answer_bytes command.GetPldmTypes type_bits m

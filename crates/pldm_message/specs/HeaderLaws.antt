@@ -1,7 +1,7 @@
 -- No two headers have the same bytes.
 use Rattle.std.specs.Prelude.{◌≡◌, ℕ, ◌<◌, ◌≤◌, ◌+◌, ◌*◌, refl}
 use Rattle.std.proofs.Common.{arith}
-use Rattle.mctp_transport.specs.Frames.{bit}
+use Rattle.mctp_transport.specs.PacketValues.{bit}
 use Rattle.mctp_transport.specs.Bits.{bit_most, bit_one}
 use Rattle.pldm_message.specs.declared.kind.MessageKind.{MessageKind}
 use Rattle.pldm_message.specs.declared.kind.MessageKind.TheVariants.{Request, Datagram, Response}

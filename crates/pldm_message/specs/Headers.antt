@@ -1,6 +1,6 @@
 -- The four bytes that each PLDM message begins with (DSP0240, PLDM message fields).
 use Rattle.std.specs.Prelude.{◌≡◌, ℕ, ◌<◌, ◌+◌, ◌*◌, Bool, List, [], ◌∷◌, take}
-use Rattle.mctp_transport.specs.Frames.{bit}
+use Rattle.mctp_transport.specs.PacketValues.{bit}
 use Rattle.pldm_message.specs.declared.kind.MessageKind.{MessageKind}
 use Rattle.pldm_message.specs.declared.kind.MessageKind.TheVariants.{Request, Datagram, Response}
 

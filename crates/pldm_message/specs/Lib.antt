@@ -6,9 +6,9 @@ pub mod Faults
 pub mod Messages
 pub mod MessageLaws
 pub mod Heads
-pub mod ErrorAnswers
-pub mod ErrorAnswerLaws
-pub mod ErrorAnswerValues
+pub mod ErrorResponses
+pub mod ErrorResponseLaws
+pub mod ErrorResponseValues
 pub mod Pdrs
 pub mod PdrLaws
 pub mod PdrValues

@@ -1,14 +1,14 @@
 -- No two messages of a command have the same bytes, where no two of their data have.
 use Rattle.std.specs.Prelude.{◌≡◌, ℕ, List, Result, Ok, Err, refl}
 use Rattle.std.proofs.Common.{arith, ap}
-use Rattle.mctp_transport.specs.Frames.{bit}
+use Rattle.mctp_transport.specs.PacketValues.{bit}
 use Rattle.mctp_transport.specs.Bits.{bit_most, bit_one}
 use Rattle.pldm_message.specs.declared.kind.RequestKind.{RequestKind}
 use Rattle.pldm_message.specs.declared.kind.RequestKind.TheVariants.{Request, Datagram}
 use Rattle.pldm_message.specs.declared.command.Command.{Command}
 use Rattle.pldm_message.specs.Headers.{instance_byte, kind_bits}
 use Rattle.pldm_message.specs.HeaderLaws.{digits}
-use Rattle.pldm_message.specs.Messages.{RequestHeadValue, AnswerHeadValue, RequestMessage, AnswerMessage}
+use Rattle.pldm_message.specs.Messages.{RequestHeadValue, ResponseHeadValue, RequestMessage, ResponseMessage}
 use Rattle.pldm_message.specs.Messages.{IsRequest, IsAnswer, IsOutcome, request_bytes, answer_bytes}
 use Rattle.pldm_message.specs.Messages.{outcome_bytes, request_header, answer_header, message_kind}
 
@@ -26,13 +26,13 @@ same_request_head : (m n : RequestHeadValue) → m.kind ≡ n.kind → m.reserve
     → m ≡ n
 same_request_head m n k r i = λ j. record { kind = k j; reserved = r j; instance = i j }
 
-same_answer_head : (m n : AnswerHeadValue) → m.reserved ≡ n.reserved → m.instance ≡ n.instance → m ≡ n
+same_answer_head : (m n : ResponseHeadValue) → m.reserved ≡ n.reserved → m.instance ≡ n.instance → m ≡ n
 same_answer_head m n r i = λ j. record { reserved = r j; instance = i j }
 
 same_request : {A : Type 0} (m n : RequestMessage A) → m.head ≡ n.head → m.body ≡ n.body → m ≡ n
 same_request m n h d = λ j. record { head = h j; body = d j }
 
-same_answer : {A : Type 0} (m n : AnswerMessage A) → m.head ≡ n.head → m.outcome ≡ n.outcome → m ≡ n
+same_answer : {A : Type 0} (m n : ResponseMessage A) → m.head ≡ n.head → m.outcome ≡ n.outcome → m ≡ n
 same_answer m n h o = λ j. record { head = h j; outcome = o j }
 
 one_outcome : {A : Type 0} (lawful : A → Type 0) (spell : A → List ℕ) → IsOneValue lawful spell → (m n : Result A ℕ)

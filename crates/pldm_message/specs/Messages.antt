@@ -15,7 +15,7 @@ pub record RequestHeadValue : Type 0 where
   pub instance : ℕ
 
 -- what an answer's header says besides its command
-pub record AnswerHeadValue : Type 0 where
+pub record ResponseHeadValue : Type 0 where
   pub reserved : Bool
   pub instance : ℕ
 
@@ -33,7 +33,7 @@ request_header c h =
       command = command_byte c;
     }
 
-abbrev pub answer_header : Command → AnswerHeadValue → HeaderValue
+abbrev pub answer_header : Command → ResponseHeadValue → HeaderValue
 answer_header c h =
     record {
       kind = message.Response;
@@ -49,8 +49,8 @@ pub record RequestMessage (A : Type 0) : Type 0 where
   pub body : A
 
 -- an answer: the rest of its header, and its data, or a completion code other than 0
-pub record AnswerMessage (A : Type 0) : Type 0 where
-  pub head : AnswerHeadValue
+pub record ResponseMessage (A : Type 0) : Type 0 where
+  pub head : ResponseHeadValue
   pub outcome : Result A ℕ
 
 -- the header, and then the data
@@ -70,10 +70,10 @@ IsOutcome IsBody (Ok a) = IsBody a
 IsOutcome IsBody (Err code) = (0 < code) × (code < 256)
 
 -- the header, and then the outcome
-abbrev pub answer_bytes : {A : Type 0} → Command → (A → List ℕ) → AnswerMessage A → List ℕ
+abbrev pub answer_bytes : {A : Type 0} → Command → (A → List ℕ) → ResponseMessage A → List ℕ
 answer_bytes c spell m = header_bytes (answer_header c m.head) ++ outcome_bytes spell m.outcome
 
-abbrev pub IsAnswer : {A : Type 0} → (A → Type 0) → AnswerMessage A → Type 0
+abbrev pub IsAnswer : {A : Type 0} → (A → Type 0) → ResponseMessage A → Type 0
 IsAnswer IsBody m = (m.head.instance < 32) × IsOutcome IsBody m.outcome
 
 -- data that are any bytes, as they stand in a message

@@ -1,8 +1,8 @@
 -- What the messages for parts of records stand for.
 use Rattle.pldm_message.specs.declared.get_pdr_request.GetPdrRequest.{GetPdrRequest}
 use Rattle.pldm_message.specs.declared.pdr_part.PdrPart.{PdrPart}
-use Rattle.pldm_message.specs.declared.get_pdr_answer.GetPdrAnswer.{GetPdrAnswer}
-use Rattle.pldm_message.specs.Messages.{RequestMessage, AnswerMessage}
+use Rattle.pldm_message.specs.declared.get_pdr_response.GetPdrResponse.{GetPdrResponse}
+use Rattle.pldm_message.specs.Messages.{RequestMessage, ResponseMessage}
 use Rattle.pldm_message.specs.Heads.{request_of, answer_of}
 use Rattle.pldm_message.specs.Pdrs.{PartRequest, Part}
 
@@ -10,10 +10,10 @@ abbrev pub part_request : GetPdrRequest → PartRequest
 part_request r =
     record {
       handle = r.record_handle;
-      transfer = r.transfer_handle;
+      transfer = r.data_transfer_handle;
       operation = r.operation.value;
-      count = r.count;
-      change = r.change_number;
+      count = r.request_count;
+      change = r.record_change_number;
     }
 
 abbrev pub get_pdr_request : GetPdrRequest → RequestMessage PartRequest
@@ -21,7 +21,13 @@ get_pdr_request r = request_of r.head (part_request r)
 
 abbrev pub part : PdrPart → Part
 part p =
-    record { next = p.next_record; transfer = p.next_transfer; flag = p.flag.value; bytes = p.bytes.now; crc = p.check }
+    record {
+      next = p.next_record_handle;
+      transfer = p.next_data_transfer_handle;
+      flag = p.flag.value;
+      bytes = p.bytes.now;
+      crc = p.transfer_crc;
+    }
 
-abbrev pub get_pdr_answer : GetPdrAnswer → AnswerMessage Part
-get_pdr_answer a = answer_of part a.head a.outcome
+abbrev pub get_pdr_response : GetPdrResponse → ResponseMessage Part
+get_pdr_response a = answer_of part a.head a.outcome

@@ -4,7 +4,8 @@ use Rattle.std.specs.Prelude.{slice_index, Option, is_some, Some, ◌==◌, if�
 use Rattle.std.specs.Option.{option_to_list}
 use Rattle.byteorder.specs.Endian.{little_bytes, little_number}
 use Rattle.pldm_message.specs.declared.command.Command.TheVariants as command
-use Rattle.pldm_message.specs.Messages.{RequestMessage, AnswerMessage, IsRequest, IsAnswer, request_bytes, answer_bytes}
+use Rattle.pldm_message.specs.Messages.{RequestMessage, ResponseMessage, IsRequest, IsAnswer}
+use Rattle.pldm_message.specs.Messages.{request_bytes, answer_bytes}
 
 -- what is asked for: the record (0 the first one), where its part begins, whether that is a first or a next part, how
 -- many bytes at most, and the number by which a change of the record is noticed
@@ -78,8 +79,8 @@ IsGetPdrRequest m = IsRequest IsPartRequest m
 abbrev pub get_pdr_request_bytes : RequestMessage PartRequest → List ℕ
 get_pdr_request_bytes m = request_bytes command.GetPdr part_request_bytes m
 
-abbrev pub IsGetPdrAnswer : AnswerMessage Part → Type 0
-IsGetPdrAnswer m = IsAnswer IsPart m
+abbrev pub IsGetPdrResponse : ResponseMessage Part → Type 0
+IsGetPdrResponse m = IsAnswer IsPart m
 
-abbrev pub get_pdr_answer_bytes : AnswerMessage Part → List ℕ
-get_pdr_answer_bytes m = answer_bytes command.GetPdr part_bytes m
+abbrev pub get_pdr_response_bytes : ResponseMessage Part → List ℕ
+get_pdr_response_bytes m = answer_bytes command.GetPdr part_bytes m

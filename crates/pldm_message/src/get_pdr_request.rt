@@ -20,17 +20,17 @@ pub struct GetPdrRequest {
     /// Four bytes: the record's handle, 0 for the first record.
     pub record_handle: u32,
     /// Four bytes: where the part begins. Of no meaning for a first part.
-    pub transfer_handle: u32,
+    pub data_transfer_handle: u32,
     /// One byte: whether a first or a next part is asked for.
     pub operation: TransferOperation,
     /// Two bytes: how many bytes of the record the answer may have at most.
-    pub count: u16,
+    pub request_count: u16,
     /// Two bytes: the change number that the record's first part had. Of no meaning for a first part.
-    pub change_number: u16,
+    pub record_change_number: u16,
     pub ghost record_in_range: { record_handle < 2 ^ 32 },
-    pub ghost transfer_in_range: { transfer_handle < 2 ^ 32 },
-    pub ghost count_in_range: { count < 2 ^ 16 },
-    pub ghost change_in_range: { change_number < 2 ^ 16 },
+    pub ghost transfer_in_range: { data_transfer_handle < 2 ^ 32 },
+    pub ghost count_in_range: { request_count < 2 ^ 16 },
+    pub ghost change_in_range: { record_change_number < 2 ^ 16 },
 }
 
 impl GetPdrRequest {
@@ -69,22 +69,22 @@ impl<'a> Wire<'a> for GetPdrRequest {
     {
         let (head, data) = RequestHead::read(bytes, Command::GetPdr)?;
         let (record_handle, data) = split_u32(data)?;
-        let (transfer_handle, data) = split_u32(data)?;
+        let (data_transfer_handle, data) = split_u32(data)?;
         let [operation, data @ ..] = data else {
             return Err(PldmError::Length);
         };
-        let (count, data) = split_u16(data)?;
-        let (change_number, data) = split_u16(data)?;
+        let (request_count, data) = split_u16(data)?;
+        let (record_change_number, data) = split_u16(data)?;
         if !data.is_empty() {
             return Err(PldmError::Length);
         }
         Ok(GetPdrRequest {
             head,
             record_handle,
-            transfer_handle,
+            data_transfer_handle,
             operation: TransferOperation::new(*operation),
-            count,
-            change_number,
+            request_count,
+            record_change_number,
         })
     }
 
@@ -95,10 +95,10 @@ impl<'a> Wire<'a> for GetPdrRequest {
     fn put(&self, out: &mut [u8]) -> usize {
         self.head.put(Command::GetPdr, out);
         LittleEndian::write_u32(&mut out[4..], self.record_handle);
-        LittleEndian::write_u32(&mut out[8..], self.transfer_handle);
+        LittleEndian::write_u32(&mut out[8..], self.data_transfer_handle);
         out[12] = self.operation.value;
-        LittleEndian::write_u16(&mut out[13..], self.count);
-        LittleEndian::write_u16(&mut out[15..], self.change_number);
+        LittleEndian::write_u16(&mut out[13..], self.request_count);
+        LittleEndian::write_u16(&mut out[15..], self.record_change_number);
         GetPdrRequest::LENGTH
     }
 

@@ -3,15 +3,15 @@ ghost use Rattle.std.specs.Prelude.{◌≡◌, ◌++◌, ℕ, List, length, drop
 ghost use Rattle.std.specs.Result.{result_err};
 ghost use Rattle.mctp_transport.specs.Wire.{Spells};
 ghost use Rattle.pldm_message.specs.declared.command.Command.TheVariants as command;
-ghost use Rattle.pldm_message.specs.Messages.{RequestMessage, AnswerMessage};
-ghost use Rattle.pldm_message.specs.BaseCommands.{IsGetTid, get_tid_bytes, IsGetTidAnswer, get_tid_answer_bytes};
-ghost use Rattle.pldm_message.specs.BaseCommandLaws.{one_get_tid, one_get_tid_answer};
-ghost use Rattle.pldm_message.specs.BaseCommandValues.{get_tid, get_tid_answer};
+ghost use Rattle.pldm_message.specs.Messages.{RequestMessage, ResponseMessage};
+ghost use Rattle.pldm_message.specs.BaseCommands.{IsGetTid, get_tid_bytes, IsGetTidResponse, get_tid_response_bytes};
+ghost use Rattle.pldm_message.specs.BaseCommandLaws.{one_get_tid, one_get_tid_response};
+ghost use Rattle.pldm_message.specs.BaseCommandValues.{get_tid, get_tid_response};
 ghost use Rattle.pldm_message.specs.Faults.{MessageFault, IsRequestOf, IsAnswerOf, answer_length};
 
 use crate::command::Command;
-use crate::error_code::{ErrorCode, SUCCESS};
-use crate::head::{AnswerHead, OUTCOME_LENGTH, RequestHead};
+use crate::completion_code::{CompletionCode, SUCCESS};
+use crate::head::{OUTCOME_LENGTH, RequestHead, ResponseHead};
 use crate::header::HEADER_LENGTH;
 use crate::pldm_error::PldmError;
 use crate::tid::Tid;
@@ -64,37 +64,37 @@ impl<'a> Wire<'a> for GetTid {
 /// The answer to a request for a terminus ID: the header, the completion code 0 and the ID, 6 bytes; or another
 /// completion code alone, 5 bytes (DSP0240, GetTID).
 #[derive(Clone, Copy, Debug, PartialEq, Eq)]
-pub struct GetTidAnswer {
+pub struct GetTidResponse {
     /// What the sender chooses of the first four bytes.
-    pub head: AnswerHead,
+    pub head: ResponseHead,
     /// Byte 4 and what follows: one byte of a terminus ID, or another completion code.
-    pub outcome: Result<Tid, ErrorCode>,
+    pub outcome: Result<Tid, CompletionCode>,
 }
 
-impl<'a> Wire<'a> for GetTidAnswer {
+impl<'a> Wire<'a> for GetTidResponse {
     type Error = PldmError;
 
-    ghost Meaning = { AnswerMessage ℕ };
+    ghost Meaning = { ResponseMessage ℕ };
 
-    ghost meaning = { get_tid_answer };
+    ghost meaning = { get_tid_response };
 
-    ghost IsLawful = { IsGetTidAnswer };
+    ghost IsLawful = { IsGetTidResponse };
 
-    ghost spelling = { get_tid_answer_bytes };
+    ghost spelling = { get_tid_response_bytes };
 
     /// The answer that the bytes are, all of them.
     fn read(bytes: &'a [u8]) -> Result<Self, PldmError>
-        ensures ok { IfOk result (λ a. Spells IsGetTidAnswer get_tid_answer_bytes (get_tid_answer a) bytes.now) }
-        ensures all { (m : AnswerMessage ℕ) → Spells IsGetTidAnswer get_tid_answer_bytes m bytes.now → IsOkAnd result (λ a. get_tid_answer a ≡ m) }
+        ensures ok { IfOk result (λ a. Spells IsGetTidResponse get_tid_response_bytes (get_tid_response a) bytes.now) }
+        ensures all { (m : ResponseMessage ℕ) → Spells IsGetTidResponse get_tid_response_bytes m bytes.now → IsOkAnd result (λ a. get_tid_response a ≡ m) }
         ensures fault { MessageFault (IsAnswerOf command.GetTid bytes.now) (answer_length 6 bytes.now) bytes.now (result_err result) }
     {
-        let (head, outcome) = AnswerHead::read(bytes, Command::GetTid)?;
+        let (head, outcome) = ResponseHead::read(bytes, Command::GetTid)?;
         match outcome {
-            Err(code) => Ok(GetTidAnswer {
+            Err(code) => Ok(GetTidResponse {
                 head,
                 outcome: Err(code),
             }),
-            Ok([tid]) => Ok(GetTidAnswer {
+            Ok([tid]) => Ok(GetTidResponse {
                 head,
                 outcome: Ok(Tid::new(*tid)),
             }),
@@ -123,5 +123,5 @@ impl<'a> Wire<'a> for GetTidAnswer {
         }
     }
 
-    ghost one_value = { one_get_tid_answer };
+    ghost one_value = { one_get_tid_response };
 }

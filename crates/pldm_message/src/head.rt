@@ -3,7 +3,7 @@
 ghost use Rattle.std.specs.Prelude.{◌≡◌, ◌≤◌, ◌++◌, ◌∷◌, [], length, drop};
 
 use crate::command::Command;
-use crate::error_code::ErrorCode;
+use crate::completion_code::CompletionCode;
 use crate::header::{HEADER_LENGTH, PldmHeader};
 use crate::instance::InstanceId;
 use crate::kind::{MessageKind, RequestKind};
@@ -92,20 +92,20 @@ impl RequestHead {
 
 /// What an answer's header says besides its command.
 #[derive(Clone, Copy, Debug, PartialEq, Eq)]
-pub struct AnswerHead {
+pub struct ResponseHead {
     /// Byte 1, bit 5, as it was read.
     pub reserved: bool,
     /// Byte 1, bits 4 to 0: the instance ID.
     pub instance: InstanceId,
 }
 
-impl AnswerHead {
+impl ResponseHead {
     ghost use Rattle.std.specs.Prelude.{◌≡◌, List, ℕ, IfOk, IsOkAnd, None, false, length, max};
     ghost use Rattle.std.specs.Result.{result_err};
     ghost use Rattle.mctp_transport.specs.Wire.{Spells};
     ghost use Rattle.pldm_message.specs.Headers.{header_bytes};
     ghost use Rattle.pldm_message.specs.HeaderValues.{header_value};
-    ghost use Rattle.pldm_message.specs.Messages.{AnswerMessage, IsAnswer, IsAny, answer_bytes, answer_header, itself};
+    ghost use Rattle.pldm_message.specs.Messages.{ResponseMessage, IsAnswer, IsAny, answer_bytes, answer_header, itself};
     ghost use Rattle.pldm_message.specs.Heads.{answer_head, answer_of};
     ghost use Rattle.pldm_message.specs.Faults.{IsAnswerOf, MessageFault, answer_length};
 
@@ -113,7 +113,7 @@ impl AnswerHead {
     pub fn new(instance: InstanceId) -> Self
         ensures { answer_head result ≡ record { reserved = false; instance = instance.value } }
     {
-        AnswerHead {
+        ResponseHead {
             reserved: false,
             instance,
         }
@@ -137,22 +137,22 @@ impl AnswerHead {
     pub fn read(
         message: &[u8],
         command: Command,
-    ) -> Result<(AnswerHead, Result<&[u8], ErrorCode>), PldmError>
+    ) -> Result<(ResponseHead, Result<&[u8], CompletionCode>), PldmError>
         ensures ok { IfOk result (λ r. Spells (IsAnswer IsAny) (answer_bytes command itself) (answer_of (λ b. b.now) r.0 r.1) message.now) }
-        ensures all { (m : AnswerMessage (List ℕ)) → Spells (IsAnswer IsAny) (answer_bytes command itself) m message.now → IsOkAnd result (λ r. answer_of (λ b. b.now) r.0 r.1 ≡ m) }
+        ensures all { (m : ResponseMessage (List ℕ)) → Spells (IsAnswer IsAny) (answer_bytes command itself) m message.now → IsOkAnd result (λ r. answer_of (λ b. b.now) r.0 r.1 ≡ m) }
         ensures fault { MessageFault (IsAnswerOf command message.now) (answer_length (max 5 (length message.now)) message.now) message.now (result_err result) }
     {
         let header = PldmHeader::front(message)?;
         if header.kind != MessageKind::Response || !header.is_of(command) {
             return Err(PldmError::OtherMessage);
         }
-        let head = AnswerHead {
+        let head = ResponseHead {
             reserved: header.reserved,
             instance: header.instance,
         };
         match &message[HEADER_LENGTH..] {
             [0, data @ ..] => Ok((head, Ok(data))),
-            [code] => Ok((head, Err(ErrorCode::new(*code)))),
+            [code] => Ok((head, Err(CompletionCode::new(*code)))),
             _ => Err(PldmError::Length),
         }
     }

@@ -13,6 +13,7 @@ pub const HEADER_LENGTH: usize = 4;
 /// A PLDM type, 0 to 63 (DSP0245).
 #[derive(Clone, Copy, Debug, PartialEq, Eq)]
 pub struct PldmType {
+    /// Six bits: the number.
     pub value: u8,
     pub ghost in_range: { value < 64 },
 }

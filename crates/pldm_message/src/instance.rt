@@ -5,6 +5,7 @@ ghost use Rattle.std.specs.Prelude.{◌≡◌, ◌<◌};
 /// that of its request.
 #[derive(Clone, Copy, Debug, PartialEq, Eq)]
 pub struct InstanceId {
+    /// Five bits: the number.
     pub value: u8,
     pub ghost in_range: { value < 32 },
 }

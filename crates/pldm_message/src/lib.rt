@@ -3,11 +3,11 @@
 #![tactic(auto)]
 
 mod command;
-mod error_answer;
-mod error_code;
+mod completion_code;
+mod error_response;
 mod fields;
-mod get_pdr_answer;
 mod get_pdr_request;
+mod get_pdr_response;
 mod get_pldm_types;
 mod get_tid;
 mod head;
@@ -24,13 +24,13 @@ mod tid;
 mod transfer;
 
 pub use command::Command;
-pub use error_answer::ErrorAnswer;
-pub use error_code::ErrorCode;
-pub use get_pdr_answer::GetPdrAnswer;
+pub use completion_code::CompletionCode;
+pub use error_response::ErrorResponse;
 pub use get_pdr_request::GetPdrRequest;
-pub use get_pldm_types::{GetPldmTypes, GetPldmTypesAnswer};
-pub use get_tid::{GetTid, GetTidAnswer};
-pub use head::{AnswerHead, RequestHead};
+pub use get_pdr_response::GetPdrResponse;
+pub use get_pldm_types::{GetPldmTypes, GetPldmTypesResponse};
+pub use get_tid::{GetTid, GetTidResponse};
+pub use head::{RequestHead, ResponseHead};
 pub use header::{HEADER_LENGTH, PldmHeader, PldmType};
 pub use instance::InstanceId;
 pub use instance_ids::InstanceIds;
@@ -39,6 +39,6 @@ pub use laws::one_fault;
 pub use pdr_part::PdrPart;
 pub use pldm_error::PldmError;
 pub use pldm_types::PldmTypes;
-pub use set_tid::{SetTid, SetTidAnswer};
+pub use set_tid::{SetTid, SetTidResponse};
 pub use tid::Tid;
 pub use transfer::{TransferFlag, TransferOperation};

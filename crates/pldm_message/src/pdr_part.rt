@@ -18,20 +18,20 @@ const PART_NUMBERS: usize = 11;
 #[derive(Clone, Copy, Debug)]
 pub struct PdrPart<'a> {
     /// Four bytes: the handle of the record after this one, 0 where there is none.
-    pub next_record: u32,
+    pub next_record_handle: u32,
     /// Four bytes: the handle of the record's next part, 0 where there is none.
-    pub next_transfer: u32,
+    pub next_data_transfer_handle: u32,
     /// One byte: which part of the record this is.
     pub flag: TransferFlag,
     /// Two bytes for how many follow, and the bytes of the record, fewer than 65,536.
     pub bytes: &'a [u8],
     /// One byte, where the flag is 4 and only there: the check byte over the whole record.
-    pub check: Option<u8>,
-    pub ghost record_in_range: { next_record < 2 ^ 32 },
-    pub ghost transfer_in_range: { next_transfer < 2 ^ 32 },
+    pub transfer_crc: Option<u8>,
+    pub ghost record_in_range: { next_record_handle < 2 ^ 32 },
+    pub ghost transfer_in_range: { next_data_transfer_handle < 2 ^ 32 },
     pub ghost short: { length bytes.now < 2 ^ 16 },
-    pub ghost check_in_range: { (crc : ℕ) → check ≡ Some crc → crc < 256 },
-    pub ghost checked: { is_some check ≡ (flag.value == 4) },
+    pub ghost check_in_range: { (crc : ℕ) → transfer_crc ≡ Some crc → crc < 256 },
+    pub ghost checked: { is_some transfer_crc ≡ (flag.value == 4) },
 }
 
 impl<'a> PdrPart<'a> {
@@ -44,8 +44,8 @@ impl<'a> PdrPart<'a> {
         requires { 11 ≤ length out.old }
         ensures { out.new ≡ part_numbers (part self.now) ++ drop 11 out.old }
     {
-        LittleEndian::write_u32(out, self.next_record);
-        LittleEndian::write_u32(&mut out[4..], self.next_transfer);
+        LittleEndian::write_u32(out, self.next_record_handle);
+        LittleEndian::write_u32(&mut out[4..], self.next_data_transfer_handle);
         out[8] = self.flag.value;
         LittleEndian::write_u16(&mut out[9..], self.bytes.len() as u16);
     }
@@ -77,30 +77,30 @@ impl<'a> Wire<'a> for PdrPart<'a> {
         ensures all { (m : Part) → Spells IsPart part_bytes m bytes.now → IsOkAnd result (λ p. part p ≡ m) }
         ensures fault { First (length bytes.now ≢ part_length bytes.now) (result_err result ≡ Some PldmError.Length) (result_err result ≡ None) }
     {
-        let (next_record, data) = split_u32(bytes)?;
-        let (next_transfer, data) = split_u32(data)?;
+        let (next_record_handle, data) = split_u32(bytes)?;
+        let (next_data_transfer_handle, data) = split_u32(data)?;
         let [flag, data @ ..] = data else {
             return Err(PldmError::Length);
         };
         let flag = TransferFlag::new(*flag);
         let (count, data) = split_u16(data)?;
-        let (bytes, check) = split_checked(data, count, flag)?;
+        let (bytes, transfer_crc) = split_checked(data, count, flag)?;
         Ok(PdrPart {
-            next_record,
-            next_transfer,
+            next_record_handle,
+            next_data_transfer_handle,
             flag,
             bytes,
-            check,
+            transfer_crc,
         })
     }
 
     fn len(&self) -> usize {
-        PART_NUMBERS + self.bytes.len() + usize::from(self.check.is_some())
+        PART_NUMBERS + self.bytes.len() + usize::from(self.transfer_crc.is_some())
     }
 
     fn put(&self, out: &mut [u8]) -> usize {
         self.put_numbers(out);
-        PART_NUMBERS + put_checked(self.bytes, self.check, &mut out[PART_NUMBERS..])
+        PART_NUMBERS + put_checked(self.bytes, self.transfer_crc, &mut out[PART_NUMBERS..])
     }
 
     ghost one_value = { one_part };

@@ -4,6 +4,7 @@ ghost use Rattle.std.specs.Prelude.{◌≡◌, ◌<◌, ◌↔◌, IsTrue};
 /// A terminus ID, in one byte (DSP0240, SetTID): 0 says that none is set, 1 to 254 can be set, 255 is reserved.
 #[derive(Clone, Copy, Debug, PartialEq, Eq)]
 pub struct Tid {
+    /// One byte: the number.
     pub value: u8,
     pub ghost in_range: { value < 256 },
 }

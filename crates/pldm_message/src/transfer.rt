@@ -5,6 +5,7 @@ ghost use Rattle.std.specs.Prelude.{◌≡◌, ◌<◌};
 /// Other bytes can be read too, and a terminus refuses them.
 #[derive(Clone, Copy, Debug, PartialEq, Eq)]
 pub struct TransferOperation {
+    /// One byte: 0 for the next part, 1 for the first.
     pub value: u8,
     pub ghost in_range: { value < 256 },
 }
@@ -27,6 +28,7 @@ impl TransferOperation {
 /// and a walker refuses them.
 #[derive(Clone, Copy, Debug, PartialEq, Eq)]
 pub struct TransferFlag {
+    /// One byte: 0 start, 1 middle, 4 end, 5 start and end.
     pub value: u8,
     pub ghost in_range: { value < 256 },
 }

@@ -1,12 +1,8 @@
 -- Fields that are added one part after another.
-use Rattle.std.proofs.Common.{◌≡◌, ◌+◌, ◌<◌, ◌≤◌, ℕ, List, [], ◌∷◌, ◌++◌, Result, Ok, Err, OnOk, All, length, map, take, get_or, ap, subst, ◌∙◌}
+use Rattle.std.proofs.Common.{◌≡◌, ◌+◌, ◌<◌, ◌≤◌, ℕ, List, ◌++◌, Result, Ok, Err, OnOk, All, length, map, take, get_or, ap, subst, ◌∙◌}
 use Rattle.std.proofs.lemmas.List.{append_assoc, map_more, take_all}
 use Rattle.std.proofs.lemmas.List.Elements.{All-push}
 use Rattle.record_fields.specs.Named.{Named}
-
--- one field more, and those that are left
-pub one_more : (new old all rest : List Named) (x : Named) → new ≡ old ++ x ∷ [] → old ++ x ∷ rest ≡ all → new ++ rest ≡ all
-one_more new old all rest x is before = ap (λ m. m ++ rest) is ∙ append_assoc old (x ∷ []) rest ∙ before
 
 -- three parts
 pub three : {T E : Type 0} (r : Result T E) (new second first old a b c one two last : List Named) → first ≡ old ++ a → second ≡ first ++ b

@@ -28,6 +28,7 @@ pub enum Held<'a> {
 pub struct NamedField<'a> {
     /// The standard's name (DSP0248), in small letters with dashes.
     pub name: &'static str,
+    /// What it holds.
     pub held: Held<'a>,
 }
 

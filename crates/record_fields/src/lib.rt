@@ -1,4 +1,5 @@
-//! The fields of platform descriptor records by their names: what they hold, and records that are made from words.
+//! The fields of platform descriptor records (DSP0248) by their names: what they hold, and records that are made from
+//! words. Sections are those of DSP0248 1.2.
 #![tactic(auto)]
 
 mod fields;

@@ -6,7 +6,9 @@ use std::num::f32_to_bits_with_nan;
 /// Words, each a field's name, a sign of equality and a value.
 #[derive(Clone, Copy, Debug)]
 pub struct Words<'a> {
+    /// Where memory for what they give is from.
     pub alloc: Global,
+    /// The words, in their order.
     pub list: &'a [String],
 }
 

@@ -1,5 +1,6 @@
 //! A message of which some packets have come.
 ghost use Rattle.std.specs.Prelude.{◌≡◌, ◌≤◌, ◌+◌, length, IfOk, MatchResult, Some, None};
+ghost use Rattle.mctp_transport.specs.KeyNumbers.{IsGoneOnFrom};
 
 use crate::address::{Key, Seq};
 use crate::drop_cause::DropCause;
@@ -10,30 +11,42 @@ use crate::packet::PacketView;
 pub(super) struct OpenMessage {
     pub(super) key: Key,
     /// The number of its last packet so far.
-    pub(super) number: Seq,
+    pub(super) sequence: Seq,
     /// The length of its first packet's payload.
     pub(super) unit: usize,
     /// How many bytes have come.
     pub(super) len: usize,
 }
 
+/// Makes the message that is open in a slot this one, which has a packet more: its sequence number and its length are
+/// written.
+pub(super) fn go_on_as(slot: &mut Option<OpenMessage>, message: OpenMessage)
+    requires { IsGoneOnFrom message slot.old }
+    ensures { slot.new ≡ Some message }
+{
+    if let Some(open) = slot {
+        open.sequence = message.sequence;
+        open.len = message.len;
+    }
+}
+
 impl OpenMessage {
-    ghost use Rattle.mctp_transport.specs.Packets.{frame_of};
+    ghost use Rattle.mctp_transport.specs.Packets.{packet_value_of};
     ghost use Rattle.mctp_transport.specs.TableChanges.{fault_of};
 
     /// The message with one more packet, or why the packet doesn't go on from it.
     pub(super) fn next(self, limit: usize, packet: &PacketView) -> Result<OpenMessage, DropCause>
         requires { self.len ≤ limit }
-        ensures fault { let fault = fault_of limit self.number.value self.unit self.len (frame_of packet.now) in
+        ensures fault { let fault = fault_of limit self.sequence.value self.unit self.len (packet_value_of packet.now) in
             MatchResult result (λ _. fault ≡ None) (λ why. fault ≡ Some why) }
         ensures key { IfOk result (λ next. next.key ≡ self.key) }
-        ensures number { IfOk result (λ next. next.number ≡ packet.now.header.number) }
+        ensures sequence { IfOk result (λ next. next.sequence ≡ packet.now.header.sequence) }
         ensures unit { IfOk result (λ next. next.unit ≡ self.unit) }
         ensures len { IfOk result (λ next. next.len ≡ self.len + length packet.now.payload.now) }
         ensures fits { IfOk result (λ next. next.len ≤ limit) }
     {
         let len = packet.payload.len();
-        if packet.header.number != self.number.next() {
+        if packet.header.sequence != self.sequence.next() {
             return Err(DropCause::Number);
         }
         if len > self.unit || (!packet.header.eom && len < self.unit) {
@@ -43,7 +56,7 @@ impl OpenMessage {
             return Err(DropCause::Limit);
         }
         Ok(OpenMessage {
-            number: packet.header.number,
+            sequence: packet.header.sequence,
             len: self.len + len,
             ..self
         })

@@ -4,8 +4,8 @@ use mctp_control::{ControlError, Request, Response, RouteEntry};
 use mctp_transport::Wire;
 use pdr_record::Record;
 use pldm_message::{
-    ErrorAnswer, GetPdrAnswer, GetPdrRequest, GetPldmTypes, GetPldmTypesAnswer, GetTid,
-    GetTidAnswer, PldmError, PldmHeader, SetTid, SetTidAnswer,
+    ErrorResponse, GetPdrRequest, GetPdrResponse, GetPldmTypes, GetPldmTypesResponse, GetTid,
+    GetTidResponse, PldmError, PldmHeader, SetTid, SetTidResponse,
 };
 
 /// What bytes are read as.
@@ -16,14 +16,14 @@ enum Reader {
     Response,
     Header,
     SetTid,
-    SetTidAnswer,
+    SetTidResponse,
     GetTid,
-    GetTidAnswer,
+    GetTidResponse,
     GetTypes,
     GetTypesAnswer,
     GetPdr,
-    GetPdrAnswer,
-    ErrorAnswer,
+    GetPdrResponse,
+    ErrorResponse,
     Record,
 }
 
@@ -91,34 +91,34 @@ fn read_by(reader: Reader, bytes: &[u8]) -> (bool, &'static str) {
 fn read_as_pldm(reader: Reader, bytes: &[u8]) -> (bool, &'static str) {
     match reader {
         Reader::SetTid => (is_kept::<SetTid>(bytes), pldm_code(SetTid::read(bytes))),
-        Reader::SetTidAnswer => (
-            is_kept::<SetTidAnswer>(bytes),
-            pldm_code(SetTidAnswer::read(bytes)),
+        Reader::SetTidResponse => (
+            is_kept::<SetTidResponse>(bytes),
+            pldm_code(SetTidResponse::read(bytes)),
         ),
         Reader::GetTid => (is_kept::<GetTid>(bytes), pldm_code(GetTid::read(bytes))),
-        Reader::GetTidAnswer => (
-            is_kept::<GetTidAnswer>(bytes),
-            pldm_code(GetTidAnswer::read(bytes)),
+        Reader::GetTidResponse => (
+            is_kept::<GetTidResponse>(bytes),
+            pldm_code(GetTidResponse::read(bytes)),
         ),
         Reader::GetTypes => (
             is_kept::<GetPldmTypes>(bytes),
             pldm_code(GetPldmTypes::read(bytes)),
         ),
         Reader::GetTypesAnswer => (
-            is_kept::<GetPldmTypesAnswer>(bytes),
-            pldm_code(GetPldmTypesAnswer::read(bytes)),
+            is_kept::<GetPldmTypesResponse>(bytes),
+            pldm_code(GetPldmTypesResponse::read(bytes)),
         ),
         Reader::GetPdr => (
             is_kept::<GetPdrRequest>(bytes),
             pldm_code(GetPdrRequest::read(bytes)),
         ),
-        Reader::GetPdrAnswer => (
-            is_kept::<GetPdrAnswer>(bytes),
-            pldm_code(GetPdrAnswer::read(bytes)),
+        Reader::GetPdrResponse => (
+            is_kept::<GetPdrResponse>(bytes),
+            pldm_code(GetPdrResponse::read(bytes)),
         ),
-        Reader::ErrorAnswer => (
-            is_kept::<ErrorAnswer>(bytes),
-            pldm_code(ErrorAnswer::read(bytes)),
+        Reader::ErrorResponse => (
+            is_kept::<ErrorResponse>(bytes),
+            pldm_code(ErrorResponse::read(bytes)),
         ),
         _ => (
             is_kept::<PldmHeader>(bytes),
@@ -253,16 +253,40 @@ const HEADERS: [Row; 16] = [
     (Reader::Header, &[0x01, 0x40, 0x42, 0x50, 0], "L03"),
     (Reader::Header, &[0x01, 0x40, 0x02, 0x50, 0], "L05"),
     (Reader::Header, &[0x01, 0x80, 0x02, 0x51, 0], "L04"),
-    (Reader::ErrorAnswer, &[0x01, 0x02, 0x02, 0x51, 0x82], "kept"),
-    (Reader::ErrorAnswer, &[0x01, 0x1f, 0x3f, 0xff, 0x20], "kept"),
-    (Reader::ErrorAnswer, &[0x01, 0x02, 0x02], "L01"),
-    (Reader::ErrorAnswer, &[0x02, 0x02, 0x02, 0x51, 0x82], "L02"),
-    (Reader::ErrorAnswer, &[0x01, 0x42, 0x02, 0x51, 0x82], "L05"),
-    (Reader::ErrorAnswer, &[0x01, 0x82, 0x02, 0x51, 0x82], "L06"),
-    (Reader::ErrorAnswer, &[0x01, 0x02, 0x02, 0x51], "L04"),
-    (Reader::ErrorAnswer, &[0x01, 0x02, 0x02, 0x51, 0x00], "L04"),
     (
-        Reader::ErrorAnswer,
+        Reader::ErrorResponse,
+        &[0x01, 0x02, 0x02, 0x51, 0x82],
+        "kept",
+    ),
+    (
+        Reader::ErrorResponse,
+        &[0x01, 0x1f, 0x3f, 0xff, 0x20],
+        "kept",
+    ),
+    (Reader::ErrorResponse, &[0x01, 0x02, 0x02], "L01"),
+    (
+        Reader::ErrorResponse,
+        &[0x02, 0x02, 0x02, 0x51, 0x82],
+        "L02",
+    ),
+    (
+        Reader::ErrorResponse,
+        &[0x01, 0x42, 0x02, 0x51, 0x82],
+        "L05",
+    ),
+    (
+        Reader::ErrorResponse,
+        &[0x01, 0x82, 0x02, 0x51, 0x82],
+        "L06",
+    ),
+    (Reader::ErrorResponse, &[0x01, 0x02, 0x02, 0x51], "L04"),
+    (
+        Reader::ErrorResponse,
+        &[0x01, 0x02, 0x02, 0x51, 0x00],
+        "L04",
+    ),
+    (
+        Reader::ErrorResponse,
         &[0x01, 0x02, 0x02, 0x51, 0x82, 0],
         "L04",
     ),
@@ -275,31 +299,51 @@ const BASE: [Row; 28] = [
     (Reader::SetTid, &[0x01, 0x80, 0x00, 0x02], "L06"),
     (Reader::SetTid, &[0x01, 0x80, 0x00, 0x01], "L04"),
     (
-        Reader::SetTidAnswer,
+        Reader::SetTidResponse,
         &[0x01, 0x00, 0x00, 0x01, 0x00],
         "kept",
     ),
     (
-        Reader::SetTidAnswer,
+        Reader::SetTidResponse,
         &[0x01, 0x00, 0x00, 0x01, 0x02],
         "kept",
     ),
-    (Reader::SetTidAnswer, &[0x01, 0x80, 0x00, 0x01, 0x05], "L06"),
-    (Reader::SetTidAnswer, &[0x01, 0x00, 0x00, 0x02, 0x00], "L06"),
-    (Reader::SetTidAnswer, &[0x01, 0x00, 0x00, 0x01, 0, 5], "L04"),
+    (
+        Reader::SetTidResponse,
+        &[0x01, 0x80, 0x00, 0x01, 0x05],
+        "L06",
+    ),
+    (
+        Reader::SetTidResponse,
+        &[0x01, 0x00, 0x00, 0x02, 0x00],
+        "L06",
+    ),
+    (
+        Reader::SetTidResponse,
+        &[0x01, 0x00, 0x00, 0x01, 0, 5],
+        "L04",
+    ),
     (Reader::GetTid, &[0x01, 0x80, 0x00, 0x02], "kept"),
     (Reader::GetTid, &[0x01, 0x80, 0x00], "L01"),
     (Reader::GetTid, &[0x01, 0x00, 0x00, 0x02, 0], "L06"),
     (Reader::GetTid, &[0x01, 0x80, 0x00, 0x02, 0], "L04"),
     (
-        Reader::GetTidAnswer,
+        Reader::GetTidResponse,
         &[0x01, 0x00, 0x00, 0x02, 0, 1],
         "kept",
     ),
-    (Reader::GetTidAnswer, &[0x01, 0x00, 0x00, 0x02, 5], "kept"),
-    (Reader::GetTidAnswer, &[0x01, 0x00, 0x00, 0x02, 0], "L04"),
-    (Reader::GetTidAnswer, &[0x01, 0x00, 0x00, 0x02, 5, 1], "L04"),
-    (Reader::GetTidAnswer, &[0x01, 0x00, 0x02, 0x02, 0, 1], "L06"),
+    (Reader::GetTidResponse, &[0x01, 0x00, 0x00, 0x02, 5], "kept"),
+    (Reader::GetTidResponse, &[0x01, 0x00, 0x00, 0x02, 0], "L04"),
+    (
+        Reader::GetTidResponse,
+        &[0x01, 0x00, 0x00, 0x02, 5, 1],
+        "L04",
+    ),
+    (
+        Reader::GetTidResponse,
+        &[0x01, 0x00, 0x02, 0x02, 0, 1],
+        "L06",
+    ),
     (Reader::GetTypes, &[0x01, 0x80, 0x00, 0x04], "kept"),
     (Reader::GetTypes, &[0x01, 0xc0, 0x00, 0x04], "kept"),
     (Reader::GetTypes, &[0x01, 0x40, 0x00, 0x04], "L05"),
@@ -362,54 +406,54 @@ const ASKING: [Row; 13] = [
 const GIVEN: [Row; 11] = [
     // a first part, a part in the middle, a last one with its check byte, and a whole record
     (
-        Reader::GetPdrAnswer,
+        Reader::GetPdrResponse,
         &[1, 0, 2, 0x51, 0, 0, 0, 0, 0, 2, 0, 0, 0, 0, 2, 0, 1, 0],
         "kept",
     ),
     (
-        Reader::GetPdrAnswer,
+        Reader::GetPdrResponse,
         &[1, 0, 2, 0x51, 0, 0, 0, 0, 0, 3, 0, 0, 0, 1, 1, 0, 1],
         "kept",
     ),
     (
-        Reader::GetPdrAnswer,
+        Reader::GetPdrResponse,
         &[1, 1, 2, 0x51, 0, 9, 8, 7, 6, 0, 0, 0, 0, 4, 1, 0, 1, 0xa6],
         "kept",
     ),
     (
-        Reader::GetPdrAnswer,
+        Reader::GetPdrResponse,
         &[1, 0, 2, 0x51, 0, 0, 0, 0, 0, 0, 0, 0, 0, 5, 2, 0, 1, 0],
         "kept",
     ),
     (
-        Reader::GetPdrAnswer,
+        Reader::GetPdrResponse,
         &[0x01, 0x02, 0x02, 0x51, 0x82],
         "kept",
     ),
     (
-        Reader::GetPdrAnswer,
+        Reader::GetPdrResponse,
         &[1, 0x80, 2, 0x51, 0, 0, 0, 0, 0, 0, 0, 0, 0, 5, 0, 0],
         "L06",
     ),
-    (Reader::GetPdrAnswer, &[0x01, 0x00, 0x02, 0x51], "L04"),
+    (Reader::GetPdrResponse, &[0x01, 0x00, 0x02, 0x51], "L04"),
     (
-        Reader::GetPdrAnswer,
+        Reader::GetPdrResponse,
         &[0x01, 0x00, 0x02, 0x51, 0x82, 0x00],
         "L04",
     ),
     // a byte too few, no check byte, and a byte behind it
     (
-        Reader::GetPdrAnswer,
+        Reader::GetPdrResponse,
         &[1, 0, 2, 0x51, 0, 0, 0, 0, 0, 2, 0, 0, 0, 0, 2, 0, 1],
         "L04",
     ),
     (
-        Reader::GetPdrAnswer,
+        Reader::GetPdrResponse,
         &[1, 1, 2, 0x51, 0, 0, 0, 0, 0, 0, 0, 0, 0, 4, 1, 0, 1],
         "L04",
     ),
     (
-        Reader::GetPdrAnswer,
+        Reader::GetPdrResponse,
         &[1, 0, 2, 0x51, 0, 0, 0, 0, 0, 0, 0, 0, 0, 5, 1, 0, 1, 0xa6],
         "L04",
     ),

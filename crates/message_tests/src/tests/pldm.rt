@@ -1,6 +1,8 @@
 //! PLDM types, completion codes and instance IDs.
 use mctp_transport::Wire;
-use pldm_message::{ErrorCode, GetPldmTypesAnswer, InstanceId, InstanceIds, PldmType, PldmTypes};
+use pldm_message::{
+    CompletionCode, GetPldmTypesResponse, InstanceId, InstanceIds, PldmType, PldmTypes,
+};
 use std::test::Fail;
 
 /// The first PLDM type of which it is otherwise that the answer has it.
@@ -16,7 +18,7 @@ fn first_other_type(types: &PldmTypes, rows: &[(u8, bool)]) -> Option<u8> {
 #[test]
 fn an_answer_has_pldm_types(rt: HostRuntime) -> Result<(), Fail> {
     let bytes = [0x01, 0x00, 0x00, 0x04, 0x00, 0x05, 0, 0, 0, 0, 0, 0, 0];
-    let types = GetPldmTypesAnswer::read(&bytes)?
+    let types = GetPldmTypesResponse::read(&bytes)?
         .outcome
         .ok()
         .ok_or("no types")?;
@@ -25,21 +27,21 @@ fn an_answer_has_pldm_types(rt: HostRuntime) -> Result<(), Fail> {
     Ok(())
 }
 
-const CODES: [(ErrorCode, u8); 10] = [
-    (ErrorCode::ERROR, 0x01),
-    (ErrorCode::INVALID_DATA, 0x02),
-    (ErrorCode::INVALID_LENGTH, 0x03),
-    (ErrorCode::NOT_READY, 0x04),
-    (ErrorCode::UNSUPPORTED_COMMAND, 0x05),
-    (ErrorCode::INVALID_PLDM_TYPE, 0x20),
-    (ErrorCode::INVALID_TRANSFER_HANDLE, 0x80),
-    (ErrorCode::INVALID_TRANSFER_OPERATION, 0x81),
-    (ErrorCode::INVALID_RECORD_HANDLE, 0x82),
-    (ErrorCode::INVALID_CHANGE_NUMBER, 0x83),
+const CODES: [(CompletionCode, u8); 10] = [
+    (CompletionCode::ERROR, 0x01),
+    (CompletionCode::INVALID_DATA, 0x02),
+    (CompletionCode::INVALID_LENGTH, 0x03),
+    (CompletionCode::NOT_READY, 0x04),
+    (CompletionCode::UNSUPPORTED_COMMAND, 0x05),
+    (CompletionCode::INVALID_PLDM_TYPE, 0x20),
+    (CompletionCode::INVALID_TRANSFER_HANDLE, 0x80),
+    (CompletionCode::INVALID_TRANSFER_OPERATION, 0x81),
+    (CompletionCode::INVALID_RECORD_HANDLE, 0x82),
+    (CompletionCode::INVALID_RECORD_CHANGE_NUMBER, 0x83),
 ];
 
 /// The first of these values that a code hasn't.
-fn first_other_code(rows: &[(ErrorCode, u8)]) -> Option<u8> {
+fn first_other_code(rows: &[(CompletionCode, u8)]) -> Option<u8> {
     for (code, value) in rows {
         if code.value != *value {
             return Some(*value);

@@ -3,7 +3,7 @@ ghost use Rattle.std.specs.Prelude.{◌<◌, ◌≤◌, ◌+◌, ◌^◌};
 
 use super::repositories::{list_over, record_of, records_of};
 use arrayvec::ArrayVec;
-use pdr_repository::{Step, Terminus, WalkFault, Walker};
+use pdr_repository::{Terminus, WalkFault, WalkProgress, Walker};
 use pldm_message::{InstanceId, InstanceIds};
 use std::alloc::{AllocError, Global};
 use std::test::Fail;
@@ -185,14 +185,18 @@ const EMPTY: [u8; 16] = [
 ];
 
 /// The most records, answers that come each after a request, and what the walker says of the last. It refuses none before.
-type Told = (usize, &'static [&'static [u8]], Result<Step, WalkFault>);
+type Told = (
+    usize,
+    &'static [&'static [u8]],
+    Result<WalkProgress, WalkFault>,
+);
 
 const TOLD: [Told; 24] = [
-    (9, &[&ONE_ENDS], Ok(Step::Done)),
-    (9, &[&ONE_TO_TWO], Ok(Step::Record)),
-    (9, &[&ONE_TO_TWO, &TWO_ENDS], Ok(Step::Done)),
-    (9, &[&BEGUN], Ok(Step::More)),
-    (9, &[&BEGUN, &ENDS], Ok(Step::Done)),
+    (9, &[&ONE_ENDS], Ok(WalkProgress::Done)),
+    (9, &[&ONE_TO_TWO], Ok(WalkProgress::Record)),
+    (9, &[&ONE_TO_TWO, &TWO_ENDS], Ok(WalkProgress::Done)),
+    (9, &[&BEGUN], Ok(WalkProgress::More)),
+    (9, &[&BEGUN, &ENDS], Ok(WalkProgress::Done)),
     (9, &[&BEGUN, &ENDS_WRONG], Err(WalkFault::WrongCrc)),
     (9, &[&BEGUN, &ENDS_LONG], Err(WalkFault::WrongSize)),
     (9, &[&BEGUN, &ONE_ENDS], Err(WalkFault::WrongFlag)),
@@ -240,7 +244,7 @@ fn told_of(
     alloc: Global,
     max_records: usize,
     answers: &[&[u8]],
-) -> Result<Option<Result<Step, WalkFault>>, AllocError> {
+) -> Result<Option<Result<WalkProgress, WalkFault>>, AllocError> {
     let mut walker = Walker::new(alloc, 64, max_records, 640)?;
     let mut told = None;
     for answer in answers {
@@ -270,7 +274,11 @@ fn answers_are_taken_or_refused_by_their_first_cause(rt: HostRuntime) -> Result<
 }
 
 /// What the walker says where this answer comes so many times, each after a request: the last thing.
-fn told_at_last(walker: &mut Walker, answer: &[u8], times: u32) -> Option<Result<Step, WalkFault>> {
+fn told_at_last(
+    walker: &mut Walker,
+    answer: &[u8],
+    times: u32,
+) -> Option<Result<WalkProgress, WalkFault>> {
     let mut told = None;
     for _ in 0..times {
         let _ = walker.next_request(InstanceId::new(0));
@@ -290,8 +298,8 @@ fn a_peer_that_sends_one_byte_for_ever_is_left(rt: HostRuntime) -> Result<(), Fa
         told_at_last(&mut walker, &ONE_MORE, 1),
     );
     let wanted = (
-        Some(Ok(Step::More)),
-        Some(Ok(Step::More)),
+        Some(Ok(WalkProgress::More)),
+        Some(Ok(WalkProgress::More)),
         Some(Err(WalkFault::TooMuch)),
         Some(Err(WalkFault::FailedBefore)),
     );

@@ -7,9 +7,9 @@ use pldm_message::{GetPdrRequest, InstanceId, RequestHead, TransferOperation};
 #[derive(Clone, Copy, Debug)]
 pub(crate) struct Due {
     pub(crate) record_handle: u32,
-    pub(crate) transfer_handle: u32,
+    pub(crate) data_transfer_handle: u32,
     pub(crate) operation: TransferOperation,
-    pub(crate) change_number: u16,
+    pub(crate) record_change_number: u16,
 }
 
 impl Due {
@@ -26,10 +26,10 @@ impl Due {
         let request = GetPdrRequest {
             head: RequestHead::new(id),
             record_handle: self.record_handle,
-            transfer_handle: self.transfer_handle,
+            data_transfer_handle: self.data_transfer_handle,
             operation: self.operation,
-            count,
-            change_number: self.change_number,
+            request_count: count,
+            record_change_number: self.record_change_number,
         };
         let mut bytes = [0; GetPdrRequest::LENGTH];
         let _ = request.put(&mut bytes);

@@ -1,4 +1,4 @@
-//! The tests of a part that a walker is given.
+//! The tests of a part that a walker is given (DSP0248, section 26.2).
 ghost use Rattle.std.specs.Prelude.{◌≡◌, ◌≤◌, IsTrue, ◌↔◌, slice_index, map};
 ghost use Rattle.pldm_message.specs.PdrValues.{part};
 ghost use Rattle.pdr_repository.specs.Faults.{IsLast, HasWrongFlag, HasWrongSize, HasWrongCrc, HasWrongHandle, HasDoubledHandle, IsTooMuch, Judges};
@@ -42,7 +42,7 @@ fn has_wrong_flag(due: &Due, given: &PdrPart) -> bool
         due.operation == TransferOperation::NEXT_PART
             && (flag == TransferFlag::MIDDLE || flag == TransferFlag::END)
     };
-    !fits || !is_last(given) && given.next_transfer == 0
+    !fits || !is_last(given) && given.next_data_transfer_handle == 0
 }
 
 /// Whether the part, or the record that it completes, has a wrong length.
@@ -62,7 +62,7 @@ fn has_wrong_size(count: u16, before: &[u8], due: &Due, given: &PdrPart) -> bool
 fn has_wrong_crc(before: &[u8], given: &PdrPart) -> bool
     ensures { IsTrue result ↔ HasWrongCrc before.now (part given.now) }
 {
-    match given.check {
+    match given.transfer_crc {
         Some(check) => check != crc8_after(crc8(before), given.bytes),
         None => false,
     }

@@ -1,21 +1,5 @@
-use Rattle.std.proofs.Common.{◌≡◌, ◌<◌, ◌+◌, All, List, [], length, sym, ◌∙◌, ap, subst, arith}
-use Rattle.std.proofs.lemmas.List.{length_push}
-use Rattle.std.proofs.lemmas.List.Elements.{All-push}
-use Rattle.mctp_transport.specs.declared.assembler.Assembler.{Assembler}
-use Rattle.heard_captures.specs.Stations.{HasBeenGiven}
+use Rattle.heard_captures.proofs.StationLaws.{idle_given}
 use Rattle.heard_captures.proofs.assembling.idle_assemblers.Goals as goal
 
-pub loop-preserved : goal.loop-preserved
-loop-preserved c =
-    let made = c.in_ok-new.field-0 in
-    let IsIdle : Assembler → Type 0 = λ a. HasBeenGiven a [] in
-    let P : List Assembler → Type 0 = All IsIdle in (
-      ap length c.in_ok-push.ensures.items ∙ (length_push c.loop.assemblers.items made ∙ ap (λ n. n + 1) c.loop.invariant.0),
-      subst P (sym c.in_ok-push.ensures.items) (All-push IsIdle c.loop.assemblers.items made c.loop.invariant.1 (c.in_ok-new.ensures.stands, c.in_ok-new.ensures.slots, c.in_ok-new.ensures.limit)),
-    )
-
 pub returns : goal.returns
-returns c = record {
-  many = c.loop.invariant.0 ∙ omega arith;
-  each = λ d x small. c.loop.invariant.1 d x (omega arith);
-}
+returns c = idle_given c.idle_assemblers.result c.idle_assemblers.ensures.many c.idle_assemblers.ensures.idle

@@ -1,5 +1,5 @@
-use Rattle.std.proofs.Common.{rules, ◌≡◌, ◌<◌, [], List, length, slice_index_or, subst, sym, map, arith}
-use Rattle.heard_captures.specs.Messages.{MessageValue, message_value}
+use Rattle.std.proofs.Common.{rules, ◌≡◌, ◌<◌, [], List, length, slice_index_or, subst, sym, map}
+use Rattle.heard_captures.specs.Messages.{message_value}
 use Rattle.heard_captures.specs.declared.messages.Message.{Message}
 use Rattle.heard_captures.proofs.HearingLaws.{HaveHeard, nothing_heard, next_heard}
 use Rattle.heard_captures.proofs.messages.heard_messages.Goals as goal
@@ -7,7 +7,7 @@ use Rattle.heard_captures.proofs.messages.heard_messages.Goals as goal
 pub loop-entry-init : goal.loop-entry-init
 loop-entry-init c =
     let assemblers = c.in_ok-assemblers.assemblers.items in
-    subst (λ (messages : List Message). HaveHeard [] assemblers (map message_value messages)) (sym c.new-messages.ensures.items) (nothing_heard assemblers c.in_ok-assemblers.ensures)
+    subst (λ (messages : List Message). HaveHeard c.args.unit [] assemblers (map message_value messages)) (sym c.new-messages.ensures.items) (nothing_heard c.args.unit assemblers c.in_ok-assemblers.ensures)
 
 pub loop-entry-preserved : goal.loop-entry-preserved
 loop-entry-preserved c =
@@ -16,4 +16,4 @@ loop-entry-preserved c =
     let item = c.entry-item.result in
     let within : i < length items = search rules in
     let is : item ≡ slice_index_or items i item = search rules in
-    next_heard items i item c.loop-entry.assemblers.items c.hear.new.assemblers.items c.loop-entry.messages.items c.hear.new.messages.items within is c.loop-entry.invariant c.in_ok-hear.ensures
+    next_heard c.args.unit items i item c.loop-entry.assemblers.items c.hear.new.assemblers.items c.loop-entry.messages.items c.hear.new.messages.items within is c.loop-entry.invariant c.in_ok-hear.ensures

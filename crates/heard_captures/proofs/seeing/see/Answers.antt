@@ -1,4 +1,4 @@
-use Rattle.std.proofs.Common.{refl, sym}
+use Rattle.std.proofs.Common.{refl}
 use Rattle.heard_captures.proofs.seeing.see.Goals as goal
 
 pub returns-in-Message : goal.returns-in-Message

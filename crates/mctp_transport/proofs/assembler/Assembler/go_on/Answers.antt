@@ -1,7 +1,7 @@
 use Rattle.std.proofs.Common.{refl, sym, ap, ◌∙◌, Some, None, Option}
 use Rattle.std.specs.Prelude.{slice_set}
 use Rattle.std.proofs.lemmas.Option.{none-some}
-use Rattle.mctp_transport.specs.Packets.{frame_of}
+use Rattle.mctp_transport.specs.Packets.{packet_value_of}
 use Rattle.mctp_transport.specs.Hearing.{Whole}
 use Rattle.mctp_transport.specs.Tables.{Partial}
 use Rattle.mctp_transport.specs.Assembly.{table_of, partial_of}
@@ -23,39 +23,39 @@ returns-in_default-clause-answer c = λ q e.
 -- the packet doesn't go on
 pub returns-in-Err-clause-table : goal.returns-in-Err-clause-table
 returns-in-Err-clause-table c = λ q e.
-    let h = held_with c.args.self.now c.args.index c.index.result.now c.in-Some.open q (frame_of c.args.packet.now) (Some c.in-Err.why)
+    let h = held_with c.args.self.now c.args.index c.index.result.now c.in-Some.open q (packet_value_of c.args.packet.now) (Some c.in-Err.why)
     c.in-Some.is c.requires c.index.ensures c.in-Err.ensures.fault e in
-    let l = leaves_nothing c.args.self.now.limit q (frame_of c.args.packet.now) c.in-Err.why h.fault_is in
+    let l = leaves_nothing c.args.self.now.limit q (packet_value_of c.args.packet.now) c.in-Err.why h.fault_is in
     c.close.ensures.table ∙ ap (λ (o : Option Partial). slice_set (table_of c.args.self.now) c.args.index o) (sym l.rest_is)
 
 pub returns-in-Err-clause-answer : goal.returns-in-Err-clause-answer
 returns-in-Err-clause-answer c = λ q e.
-    let h = held_with c.args.self.now c.args.index c.index.result.now c.in-Some.open q (frame_of c.args.packet.now) (Some c.in-Err.why)
+    let h = held_with c.args.self.now c.args.index c.index.result.now c.in-Some.open q (packet_value_of c.args.packet.now) (Some c.in-Err.why)
     c.in-Some.is c.requires c.index.ensures c.in-Err.ensures.fault e in
-    sym (leaves_nothing c.args.self.now.limit q (frame_of c.args.packet.now) c.in-Err.why h.fault_is).answer_is
+    sym (leaves_nothing c.args.self.now.limit q (packet_value_of c.args.packet.now) c.in-Err.why h.fault_is).answer_is
 
 -- the packet ends the message
 pub returns-then-packet-clause-answer : goal.returns-then-packet-clause-answer
 returns-then-packet-clause-answer c = λ q e.
-    let h = held_with c.args.self.now c.args.index c.index.result.now c.in-Some.open q (frame_of c.args.packet.now) None
+    let h = held_with c.args.self.now c.args.index c.index.result.now c.in-Some.open q (packet_value_of c.args.packet.now) None
     c.in-Some.is c.requires c.index.ensures c.in-Ok.ensures.fault e in
-    let l = leaves_whole c.args.self.now.limit q (frame_of c.args.packet.now) h.fault_is c.if-packet.true in
-    ap Whole (whole_is c.args.self.now c.args.index c.in-Some.open c.in-Ok.next q (frame_of c.args.packet.now) c.put.new.self.block.items c.put.new.self.limit h.held
+    let l = leaves_whole c.args.self.now.limit q (packet_value_of c.args.packet.now) h.fault_is c.if-packet.true in
+    ap Whole (whole_is c.args.self.now c.args.index c.in-Some.open c.in-Ok.next q (packet_value_of c.args.packet.now) c.put.new.self.block.items c.put.new.self.limit h.held
     c.put.ensures.limit c.in-Ok.ensures.fits c.in-Ok.ensures.len c.put.ensures.part)
     ∙ sym l.answer_is
 
 -- the packet goes on, and more has to come
 pub returns-else-packet-clause-table : goal.returns-else-packet-clause-table
 returns-else-packet-clause-table c = λ q e.
-    let h = held_with c.args.self.now c.args.index c.index.result.now c.in-Some.open q (frame_of c.args.packet.now) None
+    let h = held_with c.args.self.now c.args.index c.index.result.now c.in-Some.open q (packet_value_of c.args.packet.now) None
     c.in-Some.is c.requires c.index.ensures c.in-Ok.ensures.fault e in
-    let l = leaves_more c.args.self.now.limit q (frame_of c.args.packet.now) h.fault_is c.if-packet.false in
-    let n = next_is c.args.self.now c.args.index c.in-Some.open c.in-Ok.next q (frame_of c.args.packet.now) c.put-else-packet.new.self.block.items h.held
-    c.in-Ok.ensures.key (rw c.in-Ok.ensures.number refl) c.in-Ok.ensures.unit c.in-Ok.ensures.len c.put-else-packet.ensures.part in
-    c.put-else-packet.ensures.table ∙ ap (λ (o : Option Partial). slice_set (table_of c.args.self.now) c.args.index o) (n ∙ sym l.rest_is)
+    let l = leaves_more c.args.self.now.limit q (packet_value_of c.args.packet.now) h.fault_is c.if-packet.false in
+    let n = next_is c.args.self.now c.args.index c.in-Some.open c.in-Ok.next q (packet_value_of c.args.packet.now) c.extend.new.self.block.items h.held
+    c.in-Ok.ensures.key (rw c.in-Ok.ensures.sequence refl) c.in-Ok.ensures.unit c.in-Ok.ensures.len c.extend.ensures.part in
+    c.extend.ensures.table ∙ ap (λ (o : Option Partial). slice_set (table_of c.args.self.now) c.args.index o) (n ∙ sym l.rest_is)
 
 pub returns-else-packet-clause-answer : goal.returns-else-packet-clause-answer
 returns-else-packet-clause-answer c = λ q e.
-    let h = held_with c.args.self.now c.args.index c.index.result.now c.in-Some.open q (frame_of c.args.packet.now) None
+    let h = held_with c.args.self.now c.args.index c.index.result.now c.in-Some.open q (packet_value_of c.args.packet.now) None
     c.in-Some.is c.requires c.index.ensures c.in-Ok.ensures.fault e in
-    sym (leaves_more c.args.self.now.limit q (frame_of c.args.packet.now) h.fault_is c.if-packet.false).answer_is
+    sym (leaves_more c.args.self.now.limit q (packet_value_of c.args.packet.now) h.fault_is c.if-packet.false).answer_is

@@ -13,14 +13,14 @@ pub record ErrorMessage : Type 0 where
   pub code : ℕ
 
 -- a response's header, and a code other than 0
-pub record IsErrorAnswer (m : ErrorMessage) : Type 0 where
+pub record IsErrorResponse (m : ErrorMessage) : Type 0 where
   pub header : IsHeader m.header
   pub response : m.header.kind ≡ Response
   pub some : 0 < m.code
   pub in_range : m.code < 256
 
-abbrev pub error_answer_bytes : ErrorMessage → List ℕ
-error_answer_bytes m = header_bytes m.header ++ m.code ∷ []
+abbrev pub error_response_bytes : ErrorMessage → List ℕ
+error_response_bytes m = header_bytes m.header ++ m.code ∷ []
 
 -- a response: Rq 0
 abbrev pub IsResponse : List ℕ → Type 0
@@ -31,6 +31,6 @@ abbrev pub HasCodeAlone : List ℕ → Type 0
 HasCodeAlone bytes = (length bytes ≡ 5) × (slice_index bytes 4 ≢ 0)
 
 -- the first fault of such an answer, or none
-abbrev pub ErrorAnswerFault : List ℕ → Option PldmError → Type 0
-ErrorAnswerFault bytes fault =
+abbrev pub ErrorResponseFault : List ℕ → Option PldmError → Type 0
+ErrorResponseFault bytes fault =
     WantedFault (IsResponse bytes) bytes fault (First (¬ HasCodeAlone bytes) (fault ≡ Some error.Length) (fault ≡ None))

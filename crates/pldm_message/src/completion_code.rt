@@ -6,40 +6,40 @@ pub const SUCCESS: u8 = 0;
 
 /// A completion code other than 0, which is success (DSP0240, completion codes; of GetPDR DSP0248, GetPDR).
 #[derive(Clone, Copy, Debug, PartialEq, Eq)]
-pub struct ErrorCode {
+pub struct CompletionCode {
     /// 1 to 255.
     pub value: u8,
     pub ghost some: { 0 < value },
     pub ghost in_range: { value < 256 },
 }
 
-impl ErrorCode {
+impl CompletionCode {
     /// Any other failure.
-    pub const ERROR: ErrorCode = ErrorCode { value: 0x01 };
+    pub const ERROR: CompletionCode = CompletionCode { value: 0x01 };
     /// A field of the request has a value that is not allowed.
-    pub const INVALID_DATA: ErrorCode = ErrorCode { value: 0x02 };
+    pub const INVALID_DATA: CompletionCode = CompletionCode { value: 0x02 };
     /// The request has more or fewer bytes than its command.
-    pub const INVALID_LENGTH: ErrorCode = ErrorCode { value: 0x03 };
+    pub const INVALID_LENGTH: CompletionCode = CompletionCode { value: 0x03 };
     /// The terminus can not answer yet.
-    pub const NOT_READY: ErrorCode = ErrorCode { value: 0x04 };
+    pub const NOT_READY: CompletionCode = CompletionCode { value: 0x04 };
     /// The terminus has no such command of this PLDM type.
-    pub const UNSUPPORTED_COMMAND: ErrorCode = ErrorCode { value: 0x05 };
+    pub const UNSUPPORTED_COMMAND: CompletionCode = CompletionCode { value: 0x05 };
     /// The terminus has no such PLDM type.
-    pub const INVALID_PLDM_TYPE: ErrorCode = ErrorCode { value: 0x20 };
+    pub const INVALID_PLDM_TYPE: CompletionCode = CompletionCode { value: 0x20 };
     /// GetPDR: no part begins at the data transfer handle.
-    pub const INVALID_TRANSFER_HANDLE: ErrorCode = ErrorCode { value: 0x80 };
+    pub const INVALID_TRANSFER_HANDLE: CompletionCode = CompletionCode { value: 0x80 };
     /// GetPDR: the transfer operation flag is neither that of a first nor of a next part.
-    pub const INVALID_TRANSFER_OPERATION: ErrorCode = ErrorCode { value: 0x81 };
+    pub const INVALID_TRANSFER_OPERATION: CompletionCode = CompletionCode { value: 0x81 };
     /// GetPDR: no record has the handle.
-    pub const INVALID_RECORD_HANDLE: ErrorCode = ErrorCode { value: 0x82 };
+    pub const INVALID_RECORD_HANDLE: CompletionCode = CompletionCode { value: 0x82 };
     /// GetPDR: the change number is not the record's.
-    pub const INVALID_CHANGE_NUMBER: ErrorCode = ErrorCode { value: 0x83 };
+    pub const INVALID_RECORD_CHANGE_NUMBER: CompletionCode = CompletionCode { value: 0x83 };
 
     /// The code of any byte but 0.
     pub fn new(value: u8) -> Self
         requires { 0 < value }
         ensures { result.value ≡ value }
     {
-        ErrorCode { value }
+        CompletionCode { value }
     }
 }

@@ -6,7 +6,7 @@ use Rattle.pldm_message.specs.Heads.{answer_head}
 use Rattle.pldm_message.specs.Pdrs.{part_bytes}
 use Rattle.pldm_message.specs.PdrValues.{part}
 use Rattle.pldm_message.proofs.Writing.{written_behind}
-use Rattle.pldm_message.proofs.get_pdr_answer.GetPdrAnswerWire.put.Goals as goal
+use Rattle.pldm_message.proofs.get_pdr_response.GetPdrResponseWire.put.Goals as goal
 
 pub returns-in-Ok-clause-front : goal.returns-in-Ok-clause-front
 returns-in-Ok-clause-front c =

@@ -2,10 +2,10 @@
 use Rattle.std.specs.Prelude.{◌≡◌}
 use Rattle.pldm_message.specs.HeaderLaws.{one_header}
 use Rattle.pldm_message.specs.MessageLaws.{IsOneValue}
-use Rattle.pldm_message.specs.ErrorAnswers.{ErrorMessage, IsErrorAnswer, error_answer_bytes}
+use Rattle.pldm_message.specs.ErrorResponses.{ErrorMessage, IsErrorResponse, error_response_bytes}
 
 same_message : (m n : ErrorMessage) → m.header ≡ n.header → m.code ≡ n.code → m ≡ n
 same_message m n h c = λ j. record { header = h j; code = c j }
 
-pub one_error_answer : IsOneValue IsErrorAnswer error_answer_bytes
-one_error_answer m n hm hn e = same_message m n (one_header m.header n.header hm.header hn.header (cc)) (cc)
+pub one_error_response : IsOneValue IsErrorResponse error_response_bytes
+one_error_response m n hm hn e = same_message m n (one_header m.header n.header hm.header hn.header (cc)) (cc)

@@ -2,7 +2,7 @@
 ghost use Rattle.std.specs.Prelude.{◌≡◌};
 ghost use Rattle.pldm_message.specs.declared.kind.MessageKind.TheVariants as kind;
 
-use crate::error_code::ErrorCode;
+use crate::completion_code::CompletionCode;
 use crate::head::OUTCOME_LENGTH;
 use crate::header::{HEADER_LENGTH, PldmHeader};
 use crate::kind::MessageKind;
@@ -13,48 +13,48 @@ use mctp_transport::Wire;
 /// than 0, 5 bytes (DSP0240, PLDM message fields). Where a command has an answer of its own here, that one can say the
 /// same.
 #[derive(Clone, Copy, Debug, PartialEq, Eq)]
-pub struct ErrorAnswer {
+pub struct ErrorResponse {
     /// The first four bytes, the header of a response.
     pub header: PldmHeader,
     /// Byte 4: the completion code.
-    pub code: ErrorCode,
+    pub code: CompletionCode,
     pub ghost response: { header.kind ≡ kind.Response },
 }
 
-impl<'a> Wire<'a> for ErrorAnswer {
+impl<'a> Wire<'a> for ErrorResponse {
     ghost use Rattle.std.specs.Prelude.{◌≡◌, ◌++◌, ℕ, List, length, drop, IfOk, IsOkAnd};
     ghost use Rattle.std.specs.Result.{result_err};
     ghost use Rattle.mctp_transport.specs.Wire.{Spells};
-    ghost use Rattle.pldm_message.specs.ErrorAnswers.{ErrorMessage, IsErrorAnswer, error_answer_bytes, ErrorAnswerFault};
-    ghost use Rattle.pldm_message.specs.ErrorAnswerLaws.{one_error_answer};
-    ghost use Rattle.pldm_message.specs.ErrorAnswerValues.{error_answer};
+    ghost use Rattle.pldm_message.specs.ErrorResponses.{ErrorMessage, IsErrorResponse, error_response_bytes, ErrorResponseFault};
+    ghost use Rattle.pldm_message.specs.ErrorResponseLaws.{one_error_response};
+    ghost use Rattle.pldm_message.specs.ErrorResponseValues.{error_response};
 
     type Error = PldmError;
 
     ghost Meaning = { ErrorMessage };
 
-    ghost meaning = { error_answer };
+    ghost meaning = { error_response };
 
-    ghost IsLawful = { IsErrorAnswer };
+    ghost IsLawful = { IsErrorResponse };
 
-    ghost spelling = { error_answer_bytes };
+    ghost spelling = { error_response_bytes };
 
     /// The answer that the bytes are, all of them. A success has the wrong length here: what follows its code depends
     /// on the command.
-    #[tactic(auto, using(crate::specs::ErrorAnswerLaws::one_error_answer))]
+    #[tactic(auto, using(crate::specs::ErrorResponseLaws::one_error_response))]
     fn read(bytes: &'a [u8]) -> Result<Self, PldmError>
-        ensures ok { IfOk result (λ a. Spells IsErrorAnswer error_answer_bytes (error_answer a) bytes.now) }
-        ensures all { (m : ErrorMessage) → Spells IsErrorAnswer error_answer_bytes m bytes.now → IsOkAnd result (λ a. error_answer a ≡ m) }
-        ensures fault { ErrorAnswerFault bytes.now (result_err result) }
+        ensures ok { IfOk result (λ a. Spells IsErrorResponse error_response_bytes (error_response a) bytes.now) }
+        ensures all { (m : ErrorMessage) → Spells IsErrorResponse error_response_bytes m bytes.now → IsOkAnd result (λ a. error_response a ≡ m) }
+        ensures fault { ErrorResponseFault bytes.now (result_err result) }
     {
         let header = PldmHeader::front(bytes)?;
         if header.kind != MessageKind::Response {
             return Err(PldmError::OtherMessage);
         }
         match &bytes[HEADER_LENGTH..] {
-            [code @ 1..] => Ok(ErrorAnswer {
+            [code @ 1..] => Ok(ErrorResponse {
                 header,
-                code: ErrorCode::new(*code),
+                code: CompletionCode::new(*code),
             }),
             _ => Err(PldmError::Length),
         }
@@ -70,5 +70,5 @@ impl<'a> Wire<'a> for ErrorAnswer {
         OUTCOME_LENGTH
     }
 
-    ghost one_value = { one_error_answer };
+    ghost one_value = { one_error_response };
 }

@@ -4,7 +4,7 @@ use Rattle.std.specs.Prelude.{◌↔◌, nat_lt}
 use Rattle.std.proofs.lemmas.Bool.{cases_Bool}
 use Rattle.std.proofs.lemmas.List.{length-set, append_assoc, append-nil}
 use Rattle.std.proofs.lemmas.Option.{same_Some, none-some}
-use Rattle.mctp_transport.specs.Frames.{Frame, KeyValue, key_of}
+use Rattle.mctp_transport.specs.PacketValues.{PacketValue, KeyValue, key_of}
 use Rattle.mctp_transport.specs.Histories.{Input, Arrived, TimeUp, History, after, IsOpen}
 use Rattle.mctp_transport.specs.Hearing.{Answer, HearsOnly}
 use Rattle.mctp_transport.specs.Tables.{Partial, Holds, TableStandsFor, Table, is_at}
@@ -30,26 +30,26 @@ ended_length : (t : Table) (found : Option ℕ) → length (ended t found) ≡ l
 ended_length t None = refl
 ended_length t (Some i) = length-set t i None
 
-placed_length : (t : Table) (p : Frame) (found : Option ℕ) → length (placed t p found).0 ≡ length t
+placed_length : (t : Table) (p : PacketValue) (found : Option ℕ) → length (placed t p found).0 ≡ length t
 placed_length t p None = refl
 placed_length t p (Some i) = length-set t i _
 
-started_length : (limit : ℕ) (t : Table) (p : Frame) → length (started limit t p).0 ≡ length t
+started_length : (limit : ℕ) (t : Table) (p : PacketValue) → length (started limit t p).0 ≡ length t
 started_length limit t p = elim (cases_Bool (nat_lt limit (length p.payload))) [
   | inl y ↦ rw y refl
   | inr n ↦ elim (cases_Bool p.eom) [ inl y ↦ rw (n, y) refl | inr z ↦ rw (n, z) (placed_length t p (position is_none t)) ]
 ]
 
-carried_at_length : (limit : ℕ) (t : Table) (p : Frame) (i : ℕ) (o : Option (Option Partial)) → length (carried_at limit t p i o).0 ≡ length t
+carried_at_length : (limit : ℕ) (t : Table) (p : PacketValue) (i : ℕ) (o : Option (Option Partial)) → length (carried_at limit t p i o).0 ≡ length t
 carried_at_length limit t p i None = refl
 carried_at_length limit t p i (Some None) = refl
 carried_at_length limit t p i (Some (Some q)) = length-set t i (next_partial limit q p)
 
-carried_length : (limit : ℕ) (t : Table) (p : Frame) (found : Option ℕ) → length (carried limit t p found).0 ≡ length t
+carried_length : (limit : ℕ) (t : Table) (p : PacketValue) (found : Option ℕ) → length (carried limit t p found).0 ≡ length t
 carried_length limit t p None = refl
 carried_length limit t p (Some i) = carried_at_length limit t p i (slice_get t i)
 
-moved_length : (limit : ℕ) (t : Table) (p : Frame) → length (moved limit t p).0 ≡ length t
+moved_length : (limit : ℕ) (t : Table) (p : PacketValue) → length (moved limit t p).0 ≡ length t
 moved_length limit t p =
     let P : Table × Answer → Type 0 = λ x. length x.0 ≡ length t in
     let index = position (is_at (key_of p)) t in
@@ -90,7 +90,7 @@ some_table slots limit history = table_after_all slots limit [] history (record 
 })
 
 -- each packet has an answer, and no other
-pub some_answer : (slots limit : ℕ) (history : History) (p : Frame) → (a : Answer) × HearsOnly slots limit history p a
+pub some_answer : (slots limit : ℕ) (history : History) (p : PacketValue) → (a : Answer) × HearsOnly slots limit history p a
 some_answer slots limit history p =
     let s = some_table slots limit history in
     ((moved limit s.table p).1, (moved_is slots limit s.table history p s.stands s.long).0)

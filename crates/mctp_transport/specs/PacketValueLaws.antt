@@ -1,7 +1,8 @@
 -- No two packets have the same bytes.
 use Rattle.std.specs.Prelude.{◌≡◌, ℕ, ◌<◌, ◌≤◌, ◌+◌, ◌*◌}
 use Rattle.std.proofs.Common.{arith}
-use Rattle.mctp_transport.specs.Frames.{Frame, IsFrame, frame_bytes, bit, flag_byte, version_byte}
+use Rattle.mctp_transport.specs.PacketValues.{PacketValue, IsPacketValue, packet_value_bytes}
+use Rattle.mctp_transport.specs.PacketValues.{bit, flag_byte, version_byte}
 use Rattle.mctp_transport.specs.Bits.{bit_most, bit_one}
 
 -- digits in the places 128, 64, 16, 8 and 1: from the sum each is known
@@ -25,9 +26,9 @@ digits a b n c t a' b' n' c' t' ha hb hn hc ht ha' hb' hn' hc' ht' e = record {
 }
 
 -- frames are equal where their fields are
-same_frame : (m n : Frame) → m.reserved ≡ n.reserved → m.destination ≡ n.destination → m.source ≡ n.source
+same_frame : (m n : PacketValue) → m.reserved ≡ n.reserved → m.destination ≡ n.destination → m.source ≡ n.source
     → m.som ≡ n.som → m.eom ≡ n.eom
-    → m.number ≡ n.number → m.owner ≡ n.owner → m.tag ≡ n.tag → m.payload ≡ n.payload → m ≡ n
+    → m.sequence ≡ n.sequence → m.owner ≡ n.owner → m.tag ≡ n.tag → m.payload ≡ n.payload → m ≡ n
 same_frame m n r d s a b q o t p =
     λ i. record {
       reserved = r i;
@@ -35,19 +36,20 @@ same_frame m n r d s a b q o t p =
       source = s i;
       som = a i;
       eom = b i;
-      number = q i;
+      sequence = q i;
       owner = o i;
       tag = t i;
       payload = p i;
     }
 
-pub one_frame : (unit : ℕ) (m n : Frame) → IsFrame unit m → IsFrame unit n → frame_bytes m ≡ frame_bytes n → m ≡ n
-one_frame unit m n hm hn e =
+pub one_packet_value : (unit : ℕ) (m n : PacketValue) → IsPacketValue unit m → IsPacketValue unit n
+    → packet_value_bytes m ≡ packet_value_bytes n → m ≡ n
+one_packet_value unit m n hm hn e =
     let e0 : version_byte m ≡ version_byte n = cc in
     let e3 : flag_byte m ≡ flag_byte n = cc in
     let f =
-    digits (bit m.som) (bit m.eom) m.number (bit m.owner) m.tag (bit n.som) (bit n.eom) n.number (bit n.owner) n.tag
-    (bit_most m.som) (bit_most m.eom) hm.number (bit_most m.owner) hm.tag (bit_most n.som) (bit_most n.eom) hn.number
-    (bit_most n.owner) hn.tag e3 in
+    digits (bit m.som) (bit m.eom) m.sequence (bit m.owner) m.tag (bit n.som) (bit n.eom) n.sequence (bit n.owner) n.tag
+    (bit_most m.som) (bit_most m.eom) hm.sequence (bit_most m.owner) hm.tag (bit_most n.som) (bit_most n.eom)
+    hn.sequence (bit_most n.owner) hn.tag e3 in
     same_frame m n (omega arith) (cc) (cc) (bit_one m.som n.som f.first) (bit_one m.eom n.eom f.second) f.third
     (bit_one m.owner n.owner f.fourth) f.fifth (cc)
