@@ -1,5 +1,5 @@
 -- Members that are gathered one after another.
-use Rattle.std.proofs.Common.{◌≡◌, ℕ, ◌<◌, ◌≤◌, List, [], ◌∷◌, ◌++◌, length, map, subst, Bool, true, false, not, ◌&&◌, ◌||◌, cond, is_some, Option, Some, None, IfSome, option_map, Ok, refl, sym, ap, ◌∙◌, true≢false, append-nil, append_assoc, codes, IsUtf8}
+use Rattle.std.proofs.Common.{◌≡◌, ℕ, ◌^◌, ◌<◌, ◌≤◌, List, [], ◌∷◌, ◌++◌, length, map, subst, Bool, true, false, not, ◌&&◌, ◌||◌, cond, is_some, Option, Some, None, IfSome, option_map, Ok, refl, sym, ap, ◌∙◌, true≢false, append-nil, append_assoc, codes, IsUtf8, arith}
 use Rattle.std.proofs.lemmas.List.{length-map}
 use Rattle.std.proofs.lemmas.Slice.Eq.{bytes_eq-Decides}
 use Rattle.std.specs.List.{list_any}
@@ -14,15 +14,17 @@ use Rattle.serde_json.specs.Data as whole
 use Rattle.serde_json.specs.Data.{Data, Num, unsigned, negative, float, number}
 use Rattle.serde_json.specs.Find.{as_u64}
 use Rattle.serde_json.specs.Read.{number_of}
-use Rattle.net_json.specs.Gathered.{with_last, IsPlain, ArePlain, IsGathered, IsNext, EachIs, IsArrayOf, IsPlainText}
+use Rattle.net_json.specs.Gathered.{with_last, IsPlain, ArePlain, IsGathered, IsRead, Slot, AreRead, AreParts, IsNext, IsMore, IsThere, EachIs, IsArrayOf, IsPlainText}
 use Rattle.net_json.specs.Json.{is_among}
-use Rattle.net_json.specs.JsonWords.{HasKeys, At, AreItems, IsShortListOf, IsNumber, IsName, IsIndexOfName, IsText, IsTruth, IsHex}
+use Rattle.net_json.specs.JsonWords.{HasKeys, At, AreItems, IsListOf, IsShortListOf, IsNumber, IsName, IsIndexOfName, IsText, IsTruth, IsHex}
 use Rattle.net_plan.specs.NameText.{is_name}
 use Rattle.net_json.specs.Names.{are_new, names_differ}
 use Rattle.net_json.specs.NameIndexes.{IsIndexOf}
 use Rattle.net_json.specs.SingleKeys.{single, items_single, members_single}
-use Rattle.net_json.specs.Texts.{StandsFor}
+use Rattle.net_json.specs.Texts.{IsJsonTextOf}
 use Rattle.net_json.specs.Trees.{data_of, items_of, members_of, or_other, num_of, fits, items_fit, members_fit}
+use Rattle.plain_json.specs.Plain.{IsNextNumber}
+use Rattle.net_json.proofs.JsonNumbers.{numeral_u64}
 use Rattle.net_json.proofs.KeysLaw.{among_Contains, any_false, not_false}
 use Rattle.net_json.proofs.WordsLaw.{first_index}
 use Rattle.net_json.proofs.Telling.{both}
@@ -68,13 +70,6 @@ latest false j o p = refl
 pub get_last : (name : List ℕ) (ms : Members) (k : List ℕ) (j : Json) → get_member name (with_last ms k j) ≡ cond (bytes_eq k name) (Some j) (get_member name ms)
 get_last name no_members k j = refl
 get_last name (member l i ms) k j = ap (λ o. later_or o (cond (bytes_eq l name) (Some i) None)) (get_last name ms k j) ∙ latest (bytes_eq k name) j (get_member name ms) (cond (bytes_eq l name) (Some i) None)
-
-pub gathered_now : {A : Type 0} (R : Data → A → Type 0) (x : A) (ms : Members) (k : List ℕ) (j : Json) → R (data_of j) x → IsGathered k R (Some x) (with_last ms k j)
-gathered_now R x ms k j r = (j, get_last k ms k j ∙ ap (λ b. cond b (Some j) (get_member k ms)) ((bytes_eq-Decides k k).1 refl), r)
-
-pub gathered_other : {A : Type 0} (name : List ℕ) (R : Data → A → Type 0) (o : Option A) (ms : Members) (k : List ℕ) (j : Json) → bytes_eq k name ≡ false → IsGathered name R o ms → IsGathered name R o (with_last ms k j)
-gathered_other name R None ms k j other h = get_last name ms k j ∙ ap (λ b. cond b (Some j) (get_member name ms)) other ∙ h
-gathered_other name R (Some x) ms k j other h = (h.0, get_last name ms k j ∙ ap (λ b. cond b (Some j) (get_member name ms)) other ∙ h.1, h.2)
 
 -- ---- plain members
 
@@ -146,6 +141,66 @@ module _ (known : List (List ℕ)) where
         ),
       )
 
+-- ---- what is read at keys
+
+abbrev pick : Bool → (Option Json → Type 0) → (Option Json → Type 0) → Option Json → Type 0
+pick true P Q = P
+pick false P Q = Q
+
+-- what holds of what stands at a key
+abbrev pub look : List ℕ → List Slot → Option Json → Type 0
+look k [] = λ o. Unit {0}
+look k (s ∷ slots) = pick (bytes_eq k s.0) s.1 (look k slots)
+
+-- the same slots, but for what holds at a key
+abbrev pub put : List ℕ → (Option Json → Type 0) → List Slot → List Slot
+put k P [] = []
+put k P (s ∷ slots) = (s.0, pick (bytes_eq k s.0) P s.1) ∷ put k P slots
+
+pub at_key : (k : List ℕ) (slots : List Slot) (ms : Members) → AreRead slots ms → look k slots (get_member k ms)
+at_key k [] ms h = tt
+at_key k (s ∷ slots) ms h = by (bytes_eq k s.0) refl (at_key k slots ms h.1)
+  where
+    by : (b : Bool) → bytes_eq k s.0 ≡ b → look k slots (get_member k ms) → pick b s.1 (look k slots) (get_member k ms)
+    by true e rest = subst (λ name. s.1 (get_member name ms)) (sym ((bytes_eq-Decides k s.0).0 e)) h.0
+    by false e rest = rest
+
+read_more : (k : List ℕ) (P : Option Json → Type 0) (slots : List Slot) (ms : Members) (j : Json) → P (Some j) → AreRead slots ms → AreRead (put k P slots) (with_last ms k j)
+read_more k P [] ms j is h = tt
+read_more k P (s ∷ slots) ms j is h = (subst (pick (bytes_eq k s.0) P s.1) (sym (get_last s.0 ms k j)) (by (bytes_eq k s.0)), read_more k P slots ms j is h.1)
+  where
+    by : (b : Bool) → pick b P s.1 (cond b (Some j) (get_member s.0 ms))
+    by true = is
+    by false = h.0
+
+same_keys : (k : List ℕ) (P : Option Json → Type 0) (slots : List Slot) → map (λ s. s.0) (put k P slots) ≡ map (λ s. s.0) slots
+same_keys k P [] = refl
+same_keys k P (s ∷ slots) = ap (λ ks. s.0 ∷ ks) (same_keys k P slots)
+
+-- one more value was read, at a key at which none stood
+module _ {A : Type 0} (R : Data → A → Type 0) (k : List ℕ) (slots : List Slot) (old new : Option A) (x : A) where
+  pub parts_more : old ≡ None → new ≡ Some x → ((o : Option Json) → look k slots o → IsRead R old o) → is_among (map (λ s. s.0) slots) k ≡ true → (ms : Members) (j : Json) → R (data_of j) x × IsPlain j → AreParts slots ms
+      → AreParts (put k (IsRead R new) slots) (with_last ms k j)
+  parts_more none is at known ms j made h =
+      let none_there : get_member k ms ≡ None = subst (λ o. IsRead R o (get_member k ms)) none (at (get_member k ms) (at_key k slots ms h.read)) in record {
+        plain = subst (λ ks. ArePlain ks (with_last ms k j)) (sym (same_keys k (IsRead R new) slots)) (plain_last (map (λ s. s.0) slots) ms k j h.plain known none_there made.1);
+        read = read_more k (IsRead R new) slots ms j (subst (λ o. IsRead R o (Some j)) (sym is) (j, refl, made.0)) h.read;
+      }
+
+  pub there_taken : (r : Option Unit) (key : List ℕ) (depth : ℕ) (ts us : List Token) → key ≡ k → ((o : Option Json) → look k slots o → IsRead R old o) → is_among (map (λ s. s.0) slots) k ≡ true
+      → IsThere depth ts us (λ j. R (data_of j) x × IsPlain j) → IfSome r (λ _. (old ≡ None) × (new ≡ Some x)) → IfSome r (λ _. IsMore depth key ts us (AreParts slots) (AreParts (put k (IsRead R new) slots)))
+  there_taken r key depth ts us same at known took set =
+      if_some r (λ _ is. subst (λ key. IsMore depth key ts us (AreParts slots) (AreParts (put k (IsRead R new) slots))) (sym same)
+      (took.0, took.1, λ ms h. parts_more is.0 is.1 at known ms took.0 took.2 h)) set
+
+  pub next_taken : (r : Option Unit) (key : List ℕ) (depth : ℕ) (ts us : List Token) → key ≡ k → ((o : Option Json) → look k slots o → IsRead R old o) → is_among (map (λ s. s.0) slots) k ≡ true
+      → IsNext ts us (λ j. R (data_of j) x × IsPlain j) → IfSome r (λ _. (old ≡ None) × (new ≡ Some x)) → IfSome r (λ _. IsMore depth key ts us (AreParts slots) (AreParts (put k (IsRead R new) slots)))
+  next_taken r key depth ts us same at known took = there_taken r key depth ts us same at known (took.0, took.1 depth, took.2)
+
+-- what stands at a key at which this was read
+pub here : {A : Type 0} (key : List ℕ) (R : Data → A → Type 0) (o : Option A) (ms : Members) → IsGathered key R o ms → (x : A) → o ≡ Some x → IsGathered key R (Some x) ms
+here key R o ms h x e = subst (λ o. IsGathered key R o ms) e h
+
 -- where nothing stands at the other keys, all keys are among these
 pub only_keys : (known own : List (List ℕ)) (ms : Members) → ArePlain known ms → list_any (λ key. not (is_among own key) && is_some (get_member key ms)) known ≡ false → ArePlain own ms
 only_keys known own ms h none = record {
@@ -169,10 +224,6 @@ pub placed_at : (names : List (List ℕ)) (find : List ℕ → Option ℕ) → I
     → At (codes "node") (IsIndexOfName names) (data_of (object ms)) place
 placed_at names find places name place found ms h = at_gathered (codes "node") (IsIndexOfName names) place ms (h.0, h.1, (name, h.2, first_index names name place (sym (places name) ∙ found)))
 
-pub not_yet : {A : Type 0} (key : List ℕ) (R : Data → A → Type 0) (o : Option A) (ms : Members) → is_some o ≡ false → IsGathered key R o ms → get_member key ms ≡ None
-not_yet key R None ms e h = h
-not_yet key R (Some x) ms e h = absurd (true≢false e)
-
 -- ---- values that stand in one token
 
 whole_number_plain : (o : Option Num) (n : ℕ) → as_u64 (or_other o) ≡ Some n → (or_other o ≡ unsigned n) × (is_some o ≡ true)
@@ -184,15 +235,14 @@ whole_number_plain (Some (float x)) n e = absurd (no_Some (sym e))
 pub next_is : (j : Json) (P : Json → Type 0) (t : Token) (old new : List Token) → old ≡ t ∷ new → ((depth : ℕ) → value depth (t ∷ new) ≡ Some (j, new)) → P j → IsNext old new P
 next_is j P t old new is read h = (j, λ depth. ap (value depth) is ∙ read depth, h)
 
-pub number_next : (old new : List Token) (s : List ℕ) (o : Option ℕ) → old ≡ Token.number s ∷ new → o ≡ as_u64 (num_of s) → IfSome o (λ n. IsNext old new (λ j. IsNumber (data_of j) n × IsPlain j))
+number_next : (old new : List Token) (s : List ℕ) (o : Option ℕ) → old ≡ Token.number s ∷ new → o ≡ as_u64 (num_of s) → IfSome o (λ n. IsNext old new (λ j. IsNumber (data_of j) n × IsPlain j))
 number_next old new s None is e = tt
 number_next old new s (Some n) is e =
     let h = whole_number_plain (number_of s) n (sym e) in
     next_is (Json.number s) (λ j. IsNumber (data_of j) n × IsPlain j) (Token.number s) old new is (λ depth. value_is depth (Token.number s ∷ new)) (ap number h.0, (h.1, refl))
 
-pub short_next : (old new : List Token) (s : List ℕ) (o : Option ℕ) → old ≡ Token.number s ∷ new → IfSome o (λ n. as_u64 (num_of s) ≡ Some n) → IfSome o (λ n. IsNext old new (λ j. IsNumber (data_of j) n × IsPlain j))
-short_next old new s None is e = tt
-short_next old new s (Some n) is e = number_next old new s (Some n) is (sym e)
+pub numeral_next : (old new : List Token) (n : ℕ) → IsNextNumber old n new → n < 2 ^ 64 → IsNext old new (λ j. IsNumber (data_of j) n × IsPlain j)
+numeral_next old new n (s, numeral, value, is) fits = number_next old new s (Some n) is (sym (numeral_u64 s n numeral value fits))
 
 pub hex_next : (old new : List Token) (s bytes : List ℕ) → old ≡ Token.string s ∷ new → decode_of s ≡ Ok bytes → IsNext old new (λ j. IsHex (data_of j) bytes × IsPlain j)
 hex_next old new s bytes is e = next_is (Json.string s) (λ j. IsHex (data_of j) bytes × IsPlain j) (Token.string s) old new is (λ depth. value_is depth (Token.string s ∷ new)) ((s, refl, e), (refl, refl))
@@ -257,9 +307,17 @@ list_of R see most j xs h few =
     let plain = array_plain (λ j x. R (data_of j) (see x) × IsPlain j) h.0 xs (λ j x r. r.1) h.2 in
     ((((items_of h.0, ap data_of h.1, all)), subst (λ n. n ≤ most) (sym (length-map xs see)) few), (ap fits h.1 ∙ plain.0, ap single h.1 ∙ plain.1))
 
+pub list_there : {A B : Type 0} (R : Data → A → Type 0) (see : B → A) (most depth : ℕ) (ts us : List Token) (xs : List B) → IsThere depth ts us (λ j. IsArrayOf (λ j x. R (data_of j) (see x) × IsPlain j) j xs) → length xs ≤ most
+    → IsThere depth ts us (λ j. IsShortListOf most R (data_of j) (map see xs) × IsPlain j)
+list_there R see most depth ts us xs took few = (took.0, took.1, list_of R see most took.0 xs took.2 few)
+
+pub any_list_there : {A B : Type 0} (R : Data → A → Type 0) (see : B → A) (depth : ℕ) (ts us : List Token) (xs : List B) → IsThere depth ts us (λ j. IsArrayOf (λ j x. R (data_of j) (see x) × IsPlain j) j xs)
+    → IsThere depth ts us (λ j. IsListOf R (data_of j) (map see xs) × IsPlain j)
+any_list_there R see depth ts us xs took = let listed = list_of R see (length xs) took.0 xs took.2 (omega arith) in (took.0, took.1, (listed.0.0, listed.1))
+
 -- ---- the whole text
 
-pub stands_for_plain : {A : Type 0} (R : Data → A → Type 0) (text : List ℕ) (x : A) → IsUtf8 text → IsPlainText R text x → StandsFor R text x
+pub stands_for_plain : {A : Type 0} (R : Data → A → Type 0) (text : List ℕ) (x : A) → IsUtf8 text → IsPlainText R text x → IsJsonTextOf R text x
 stands_for_plain R text x utf8 h = (data_of h.0, (utf8, read_whole text h.0 h.1 h.2.0), (h.0, whole_tree text h.0 h.1, single_sound h.0 h.2.1), h.3)
 
 -- where two values stand in the same place, so do they in a longer list

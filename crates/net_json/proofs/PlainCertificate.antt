@@ -1,19 +1,19 @@
--- What is gathered of a certificate, with one more key.
-use Rattle.std.proofs.Common.{◌≡◌, ◌≢◌, ◌<◌, ◌+◌, ◌∙◌, ◌||◌, ◌==◌, ℕ, zero, suc, List, [], ◌∷◌, length, map, take, get_or, Vec, Global, Bor, Bool, true, false, is_some, Some, None, codes, option_map, AllPairs, subst, sym, ap, refl, true≢false, arith}
+-- What is gathered of a certificate, as a value.
+use Rattle.std.proofs.Common.{◌≡◌, ◌≢◌, ◌<◌, ◌+◌, ◌∙◌, ◌||◌, ◌==◌, ℕ, zero, suc, List, [], ◌∷◌, length, map, take, get_or, Vec, Global, Bor, Bool, true, false, Some, None, codes, AllPairs, subst, sym, ap, refl, true≢false, arith}
 use Rattle.std.proofs.lemmas.Bool.Decides.{Decides-eqb}
 use Rattle.std.proofs.lemmas.List.{length-map, get_or-map}
 use Rattle.std.specs.List.{list_any}
-use Rattle.json.specs.Json.{Json, object, Members, no_members}
+use Rattle.json.specs.Json.{object, Members, no_members}
 use Rattle.serde_json.specs.Data.{Data}
 use Rattle.net_json.specs.CertificateText.{IsLevelOf, ArePlacesOf, AreRanksOf}
 use Rattle.net_plan.specs.CertificateValues.{level_value, places_value, node_ranks_value}
-use Rattle.net_json.specs.Gathered.{with_last, IsPlain, IsGathered}
+use Rattle.net_json.specs.Gathered.{IsPlain, AreParts}
 use Rattle.net_json.specs.JsonWords.{IsNumber, IsNumberWithin, IsListOf}
 use Rattle.net_json.specs.Keys.{certificate_keys}
 use Rattle.net_json.specs.LevelParts.{IsLevelBy}
 use Rattle.net_json.specs.PlaceParts.{ArePlacesBy}
 use Rattle.net_json.specs.NameIndexes.{noted}
-use Rattle.net_json.specs.PlainCertificate.{AreCertificateParts, IsCertificateBy}
+use Rattle.net_json.specs.PlainCertificate.{certificate_slots, IsCertificateBy}
 use Rattle.net_plan.specs.PlanValues.{node_names}
 use Rattle.net_json.specs.RankParts.{AreRanksBy}
 use Rattle.net_json.specs.Trees.{data_of}
@@ -22,51 +22,10 @@ use Rattle.net_plan.specs.declared.certificate.NodePlaces.{NodePlaces}
 use Rattle.net_plan.specs.declared.certificate.NodeRanks.{NodeRanks}
 use Rattle.net_json.specs.declared.name_index.NameIndex.{NameIndex}
 use Rattle.net_json.specs.declared.plain_certificate.CertificateParts.{CertificateParts}
-use Rattle.net_json.proofs.Gathered.{gathered_now, gathered_other, none_plain, plain_last, object_plain, all_keys, at_gathered, not_yet, is_some_map, each_moved}
+use Rattle.net_json.proofs.Gathered.{none_plain, object_plain, all_keys, at_gathered, here, each_moved}
 
-module _ (p : CertificateParts) (ms : Members) (j : Json) (plain : IsPlain j) (h : AreCertificateParts p ms) where
-  pub with_format : (x : ℕ) → is_some p.format ≡ false → (IsNumberWithin 1 1) (data_of j) x
-      → AreCertificateParts (record { nodes = p.nodes; format = Some x; levels = p.levels; places = p.places; ranks = p.ranks }) (with_last ms (codes "format") j)
-  with_format x none is = record {
-    plain = plain_last certificate_keys ms (codes "format") j h.plain refl (not_yet (codes "format") (IsNumberWithin 1 1) p.format ms none h.format) plain;
-    format = gathered_now (IsNumberWithin 1 1) x ms (codes "format") j is;
-    levels = gathered_other (codes "levels") (IsListOf (IsLevelBy (noted p.nodes.now))) (option_map (λ v. map level_value v.items) p.levels) ms (codes "format") j refl h.levels;
-    places = gathered_other (codes "places") (IsListOf (ArePlacesBy (noted p.nodes.now))) (option_map (λ v. map places_value v.items) p.places) ms (codes "format") j refl h.places;
-    ranks = gathered_other (codes "ranks") (IsListOf (AreRanksBy (noted p.nodes.now))) (option_map (λ v. map node_ranks_value v.items) p.ranks) ms (codes "format") j refl h.ranks;
-  }
-
-  pub with_levels : (x : Vec NodeLevel Global) → is_some p.levels ≡ false → (IsListOf (IsLevelBy (noted p.nodes.now))) (data_of j) (map level_value x.items)
-      → AreCertificateParts (record { nodes = p.nodes; format = p.format; levels = Some x; places = p.places; ranks = p.ranks }) (with_last ms (codes "levels") j)
-  with_levels x none is = record {
-    plain = plain_last certificate_keys ms (codes "levels") j h.plain refl (not_yet (codes "levels") (IsListOf (IsLevelBy (noted p.nodes.now))) (option_map (λ v. map level_value v.items) p.levels) ms (is_some_map (λ (x : Vec NodeLevel Global). map level_value x.items) p.levels ∙ none) h.levels) plain;
-    format = gathered_other (codes "format") (IsNumberWithin 1 1) p.format ms (codes "levels") j refl h.format;
-    levels = gathered_now (IsListOf (IsLevelBy (noted p.nodes.now))) (map level_value x.items) ms (codes "levels") j is;
-    places = gathered_other (codes "places") (IsListOf (ArePlacesBy (noted p.nodes.now))) (option_map (λ v. map places_value v.items) p.places) ms (codes "levels") j refl h.places;
-    ranks = gathered_other (codes "ranks") (IsListOf (AreRanksBy (noted p.nodes.now))) (option_map (λ v. map node_ranks_value v.items) p.ranks) ms (codes "levels") j refl h.ranks;
-  }
-
-  pub with_places : (x : Vec NodePlaces Global) → is_some p.places ≡ false → (IsListOf (ArePlacesBy (noted p.nodes.now))) (data_of j) (map places_value x.items)
-      → AreCertificateParts (record { nodes = p.nodes; format = p.format; levels = p.levels; places = Some x; ranks = p.ranks }) (with_last ms (codes "places") j)
-  with_places x none is = record {
-    plain = plain_last certificate_keys ms (codes "places") j h.plain refl (not_yet (codes "places") (IsListOf (ArePlacesBy (noted p.nodes.now))) (option_map (λ v. map places_value v.items) p.places) ms (is_some_map (λ (x : Vec NodePlaces Global). map places_value x.items) p.places ∙ none) h.places) plain;
-    format = gathered_other (codes "format") (IsNumberWithin 1 1) p.format ms (codes "places") j refl h.format;
-    levels = gathered_other (codes "levels") (IsListOf (IsLevelBy (noted p.nodes.now))) (option_map (λ v. map level_value v.items) p.levels) ms (codes "places") j refl h.levels;
-    places = gathered_now (IsListOf (ArePlacesBy (noted p.nodes.now))) (map places_value x.items) ms (codes "places") j is;
-    ranks = gathered_other (codes "ranks") (IsListOf (AreRanksBy (noted p.nodes.now))) (option_map (λ v. map node_ranks_value v.items) p.ranks) ms (codes "places") j refl h.ranks;
-  }
-
-  pub with_ranks : (x : Vec NodeRanks Global) → is_some p.ranks ≡ false → (IsListOf (AreRanksBy (noted p.nodes.now))) (data_of j) (map node_ranks_value x.items)
-      → AreCertificateParts (record { nodes = p.nodes; format = p.format; levels = p.levels; places = p.places; ranks = Some x }) (with_last ms (codes "ranks") j)
-  with_ranks x none is = record {
-    plain = plain_last certificate_keys ms (codes "ranks") j h.plain refl (not_yet (codes "ranks") (IsListOf (AreRanksBy (noted p.nodes.now))) (option_map (λ v. map node_ranks_value v.items) p.ranks) ms (is_some_map (λ (x : Vec NodeRanks Global). map node_ranks_value x.items) p.ranks ∙ none) h.ranks) plain;
-    format = gathered_other (codes "format") (IsNumberWithin 1 1) p.format ms (codes "ranks") j refl h.format;
-    levels = gathered_other (codes "levels") (IsListOf (IsLevelBy (noted p.nodes.now))) (option_map (λ v. map level_value v.items) p.levels) ms (codes "ranks") j refl h.levels;
-    places = gathered_other (codes "places") (IsListOf (ArePlacesBy (noted p.nodes.now))) (option_map (λ v. map places_value v.items) p.places) ms (codes "ranks") j refl h.places;
-    ranks = gathered_now (IsListOf (AreRanksBy (noted p.nodes.now))) (map node_ranks_value x.items) ms (codes "ranks") j is;
-  }
-
-pub no_parts : (nodes : Bor NameIndex) → AreCertificateParts (record { nodes = nodes; format = None; levels = None; places = None; ranks = None }) no_members
-no_parts nodes = record { plain = none_plain certificate_keys; format = refl; levels = refl; places = refl; ranks = refl }
+pub no_parts : (nodes : Bor NameIndex) → AreParts (certificate_slots (record { nodes = nodes; format = None; levels = None; places = None; ranks = None })) no_members
+no_parts nodes = record { plain = none_plain certificate_keys; read = (refl, (refl, (refl, (refl, tt)))) }
 
 -- ---- entries of other nodes
 
@@ -128,13 +87,13 @@ only_one d n h =
     subst (IsNumber d) one h.0
 
 pub certificate_of : (p : CertificateParts) (format : ℕ) (levels : Vec NodeLevel Global) (places : Vec NodePlaces Global) (ranks : Vec NodeRanks Global) → p.format ≡ Some format → p.levels ≡ Some levels → p.places ≡ Some places → p.ranks ≡ Some ranks
-    → AllPairs (λ a b. a.node ≢ b.node) levels.items → AllPairs (λ a b. a.node ≢ b.node) places.items → AllPairs (λ a b. a.node ≢ b.node) ranks.items → (ms : Members) → AreCertificateParts p ms
+    → AllPairs (λ a b. a.node ≢ b.node) levels.items → AllPairs (λ a b. a.node ≢ b.node) places.items → AllPairs (λ a b. a.node ≢ b.node) ranks.items → (ms : Members) → AreParts (certificate_slots p) ms
     → IsCertificateBy (noted p.nodes.now) (data_of (object ms)) (record { levels = map level_value levels.items; places = map places_value places.items; ranks = map node_ranks_value ranks.items }) × IsPlain (object ms)
 certificate_of p format levels places ranks is_format is_levels is_places is_ranks one_level one_places one_ranks ms h =
-    let format_here = subst (λ o. IsGathered (codes "format") (IsNumberWithin 1 1) o ms) is_format h.format in
-    let levels_here = subst (λ o. IsGathered (codes "levels") (IsListOf (IsLevelBy (noted p.nodes.now))) (option_map (λ v. map level_value v.items) o) ms) is_levels h.levels in
-    let places_here = subst (λ o. IsGathered (codes "places") (IsListOf (ArePlacesBy (noted p.nodes.now))) (option_map (λ v. map places_value v.items) o) ms) is_places h.places in
-    let ranks_here = subst (λ o. IsGathered (codes "ranks") (IsListOf (AreRanksBy (noted p.nodes.now))) (option_map (λ v. map node_ranks_value v.items) o) ms) is_ranks h.ranks in (
+    let format_here = here (codes "format") (IsNumberWithin 1 1) p.format ms h.read.0 format is_format in
+    let levels_here = here (codes "levels") (λ d v. IsListOf (IsLevelBy (noted p.nodes.now)) d (map level_value v.items)) p.levels ms h.read.1.0 levels is_levels in
+    let places_here = here (codes "places") (λ d v. IsListOf (ArePlacesBy (noted p.nodes.now)) d (map places_value v.items)) p.places ms h.read.1.1.0 places is_places in
+    let ranks_here = here (codes "ranks") (λ d v. IsListOf (AreRanksBy (noted p.nodes.now)) d (map node_ranks_value v.items)) p.ranks ms h.read.1.1.1.0 ranks is_ranks in (
       λ plan found. let names = node_names plan.nodes in record {
         keys = all_keys certificate_keys ms h.plain (rw (format_here.1, levels_here.1, places_here.1, ranks_here.1) refl);
         format = at_gathered (codes "format") IsNumber 1 ms (format_here.0, format_here.1, only_one (data_of format_here.0) format format_here.2);

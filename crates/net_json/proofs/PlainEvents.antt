@@ -1,17 +1,17 @@
--- What is gathered of a list of events, with one more key.
-use Rattle.std.proofs.Common.{◌≡◌, ◌≢◌, ◌∙◌, ◌∷◌, ℕ, List, [], map, Vec, Global, Bor, true, false, is_some, Option, Some, None, codes, option_map, subst, sym, refl, true≢false}
+-- What is gathered of a list of events, as a value.
+use Rattle.std.proofs.Common.{◌≡◌, ◌≢◌, ◌∷◌, ℕ, List, [], map, Vec, Global, Bor, true, Option, Some, None, codes, sym, refl, true≢false}
 use Rattle.std.specs.List.{list_all}
-use Rattle.json.specs.Json.{Json, object, Members, no_members}
+use Rattle.json.specs.Json.{object, Members, no_members}
 use Rattle.serde_json.specs.Data as whole
 use Rattle.serde_json.specs.Data.{Data}
 use Rattle.net_json.specs.EventParts.{IsEventBy}
 use Rattle.net_json.specs.EventReading.{has_switches, has_walks}
 use Rattle.net_json.specs.EventText.{IsFormat, IsEventOf}
 use Rattle.net_plan.specs.EventValues.{EventEntry, put, move, lose, expire, answer, switch, walk, ask, collected, event_entry}
-use Rattle.net_json.specs.Gathered.{with_last, IsPlain, IsGathered}
+use Rattle.net_json.specs.Gathered.{IsPlain, AreParts}
 use Rattle.net_json.specs.JsonWords.{AreItems, IsShortListOf}
 use Rattle.net_json.specs.Keys.{events_keys}
-use Rattle.net_json.specs.PlainEvents.{AreEventsParts, AreEventsBy, is_event_in}
+use Rattle.net_json.specs.PlainEvents.{events_slots, AreEventsBy, is_event_in}
 use Rattle.net_json.specs.NameIndexes.{noted, IsIndexOf}
 use Rattle.net_plan.specs.PlanValues.{node_names}
 use Rattle.net_json.specs.Trees.{data_of}
@@ -20,30 +20,11 @@ use Rattle.net_json.specs.declared.event_format.Format.{Format}
 use Rattle.net_json.specs.declared.event_format.Format.TheVariants.{One, Two, Three}
 use Rattle.net_json.specs.declared.plain_events.EventsParts.{EventsParts}
 use Rattle.net_json.specs.declared.name_index.NameIndex.{NameIndex}
-use Rattle.net_json.proofs.Gathered.{gathered_now, gathered_other, none_plain, plain_last, object_plain, all_keys, at_gathered, not_yet, is_some_map}
+use Rattle.net_json.proofs.Gathered.{none_plain, object_plain, all_keys, at_gathered, here}
 use Rattle.net_json.proofs.Telling.{both}
 
-module _ (p : EventsParts) (ms : Members) (j : Json) (plain : IsPlain j) (h : AreEventsParts p ms) where
-  abbrev AreBy : Data → List EventEntry → Type 0
-  AreBy = IsShortListOf 100000 (IsEventBy (noted p.nodes.now))
-
-  pub with_format : (f : Format) → is_some p.format ≡ false → IsFormat (data_of j) f → AreEventsParts (record { nodes = p.nodes; format = Some f; events = p.events }) (with_last ms (codes "format") j)
-  with_format f none is = record {
-    plain = plain_last events_keys ms (codes "format") j h.plain refl (not_yet (codes "format") IsFormat p.format ms none h.format) plain;
-    format = gathered_now IsFormat f ms (codes "format") j is;
-    events = gathered_other (codes "events") AreBy (option_map (λ v. map event_entry v.items) p.events) ms (codes "format") j refl h.events;
-  }
-
-  pub with_events : (v : Vec Event Global) → is_some p.events ≡ false → AreBy (data_of j) (map event_entry v.items) → AreEventsParts (record { nodes = p.nodes; format = p.format; events = Some v }) (with_last ms (codes "events") j)
-  with_events v none is = record {
-    plain = plain_last events_keys ms (codes "events") j h.plain refl
-        (not_yet (codes "events") AreBy (option_map (λ v. map event_entry v.items) p.events) ms (is_some_map (λ (v : Vec Event Global). map event_entry v.items) p.events ∙ none) h.events) plain;
-    format = gathered_other (codes "format") IsFormat p.format ms (codes "events") j refl h.format;
-    events = gathered_now AreBy (map event_entry v.items) ms (codes "events") j is;
-  }
-
-pub no_parts : (nodes : Bor NameIndex) → AreEventsParts (record { nodes = nodes; format = None; events = None }) no_members
-no_parts nodes = record { plain = none_plain events_keys; format = refl; events = refl }
+pub no_parts : (nodes : Bor NameIndex) → AreParts (events_slots (record { nodes = nodes; format = None; events = None })) no_members
+no_parts nodes = record { plain = none_plain events_keys; read = (refl, (refl, tt)) }
 
 -- ---- the format
 
@@ -77,13 +58,13 @@ module _ (f : Format) (names : List (List ℕ)) where
       let p = both (is_event_in f e) (list_all (is_event_in f) es) has in
       (in_format d e (h.0 names places) p.0, all_in_format find places ds es h.1 p.1)
 
-pub events_of : (p : EventsParts) (f : Format) (v : Vec Event Global) → p.format ≡ Some f → p.events ≡ Some v → list_all (is_event_in f) (map event_entry v.items) ≡ true → (ms : Members) → AreEventsParts p ms
+pub events_of : (p : EventsParts) (f : Format) (v : Vec Event Global) → p.format ≡ Some f → p.events ≡ Some v → list_all (is_event_in f) (map event_entry v.items) ≡ true → (ms : Members) → AreParts (events_slots p) ms
     → AreEventsBy (noted p.nodes.now) (data_of (object ms)) (map event_entry v.items) × IsPlain (object ms)
 events_of p f v is_format is_events has ms h =
     let find = noted p.nodes.now in
     let es = map event_entry v.items in
-    let formatted = subst (λ o. IsGathered (codes "format") IsFormat o ms) is_format h.format in
-    let listed = subst (λ o. IsGathered (codes "events") (IsShortListOf 100000 (IsEventBy find)) (option_map (λ v. map event_entry v.items) o) ms) is_events h.events in
+    let formatted = here (codes "format") IsFormat p.format ms h.read.0 f is_format in
+    let listed = here (codes "events") (λ d v. IsShortListOf 100000 (IsEventBy find) d (map event_entry v.items)) p.events ms h.read.1.0 v is_events in
     let short = listed.2 in (
       λ plan places. record {
         keys = all_keys events_keys ms h.plain (rw (formatted.1, listed.1) refl);

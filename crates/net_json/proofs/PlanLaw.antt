@@ -1,15 +1,15 @@
 -- What is read of a plan is what the relation tells.
-use Rattle.std.proofs.Common.{◌≡◌, ◌≢◌, ℕ, suc, ◌≤◌, List, [], ◌∷◌, map, length, Bool, true, cond, nat_le, ◌&&◌, Some, None, Ok, Err, refl, sym, ap, ◌∙◌, subst, is_ok, codes, arith}
+use Rattle.std.proofs.Common.{◌≡◌, ℕ, suc, List, [], ◌∷◌, map, length, true, cond, ◌&&◌, Some, None, Ok, Err, refl, sym, ap, ◌∙◌, subst, is_ok, codes, arith}
 use Rattle.std.proofs.lemmas.List.{length-map}
 use Rattle.std.specs.List.{list_all}
 use Rattle.serde_json.specs.Data.{Data, null, object, string, array, Items, no_items, item, Members}
 use Rattle.net_plan.specs.Placed.{is_port_placed, is_row_placed, is_owner_placed, is_node_placed, are_placed}
-use Rattle.net_plan.specs.PlanValues.{BusValue, PortValue, RowValue, PoolValue, RecordValue, TerminusValue, NodeValue, PlanValue, bus_names, node_names}
+use Rattle.net_plan.specs.PlanValues.{BusValue, NodeValue, PlanValue, bus_names, node_names}
 use Rattle.net_json.specs.Finding.{first_fault, refused}
 use Rattle.net_json.specs.Fitting.{HasAt, Fits, FieldsFit}
 use Rattle.net_json.specs.Grammar.{a_list, an_optional, Known}
-use Rattle.net_json.specs.Json.{items_count, at_key, demand, whole_number, found}
-use Rattle.net_json.specs.JsonWords.{HasKeys, At, AreItems, IsShortListOf, IsOptional, IsNumber, IsNumberWithin, IsName, IsIndexOfName}
+use Rattle.net_json.specs.Json.{at_key, demand, whole_number, found}
+use Rattle.net_json.specs.JsonWords.{HasKeys, At, AreItems, IsShortListOf, IsOptional, IsNumber, IsName, IsIndexOfName}
 use Rattle.net_json.specs.Keys.{plan_keys}
 use Rattle.net_json.specs.Made.{index_in, each_made, within_in, found_or, within_at, optional_at, bus_made, port_made, row_made, pool_made, record_made, terminus_made, node_made, unit_made, buses_made, nodes_made, plan_made}
 use Rattle.net_json.specs.Names.{index_among, names_differ, text_found, each_text_at, names_in, names_at}

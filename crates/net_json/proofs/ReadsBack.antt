@@ -19,7 +19,7 @@ use Rattle.net_json.specs.Keys.{certificate_keys, level_keys, places_keys, ranks
 use Rattle.net_plan.specs.NameText.{is_name}
 use Rattle.net_plan.specs.PlanValues.{PlanValue, node_value, node_names, plan_value}
 use Rattle.net_json.specs.Refusals.{IsFaulty, IsRefused}
-use Rattle.net_json.specs.Texts.{StandsFor}
+use Rattle.net_json.specs.Texts.{IsJsonTextOf}
 use Rattle.net_plan.specs.WellFormed.{IsWellFormed}
 use Rattle.net_plan.specs.declared.certificate.Certificate.{Certificate}
 use Rattle.net_plan.specs.declared.certificate.NodeLevel.{NodeLevel}
@@ -142,8 +142,8 @@ same_value nodes d v w e f = same_Ok (sym e ∙ f)
 same_data : (bytes : List ℕ) (d e : Data) → read bytes ≡ Some d → read bytes ≡ Some e → d ≡ e
 same_data bytes d e p q = let both : Some d ≡ Some e = sym p ∙ q in cc
 
-module _ (p : PlanValue) (bytes : List ℕ) (v : CertificateValue) (stands : StandsFor (IsCertificateOf p) bytes v) where
-  pub one_certificate : (w : CertificateValue) → StandsFor (IsCertificateOf p) bytes w → w ≡ v
+module _ (p : PlanValue) (bytes : List ℕ) (v : CertificateValue) (stands : IsJsonTextOf (IsCertificateOf p) bytes v) where
+  pub one_certificate : (w : CertificateValue) → IsJsonTextOf (IsCertificateOf p) bytes w → w ≡ v
   one_certificate w other =
       let here : IsCertificateOf p stands.0 w = subst (λ d. IsCertificateOf p d w) (same_data bytes other.0 stands.0 other.1.1 stands.1.1) other.3 in
       same_value (node_names p.nodes) stands.0 w v ((certificate_tells p).whole stands.0 w here) ((certificate_tells p).whole stands.0 v stands.3)
@@ -179,6 +179,6 @@ module _ (p : PlanValue) (bytes : List ℕ) (v : CertificateValue) (stands : Sta
 
 -- what is said of a text that is a certificate's is said of the certificate's text
 pub text_stands : (p : Plan) (c : Certificate) (text : List ℕ) → text ≡ certificate_text (node_names (plan_value p).nodes) (certificate_value c)
-    → (IsWellFormed (plan_value p) (certificate_value c) → StandsFor (IsCertificateOf (plan_value p)) text (certificate_value c))
-    → IsWellFormed (plan_value p) (certificate_value c) → StandsFor (IsCertificateOf (plan_value p)) (certificate_text (node_names (plan_value p).nodes) (certificate_value c)) (certificate_value c)
-text_stands p c text same stands well = subst (λ t. StandsFor (IsCertificateOf (plan_value p)) t (certificate_value c)) same (stands well)
+    → (IsWellFormed (plan_value p) (certificate_value c) → IsJsonTextOf (IsCertificateOf (plan_value p)) text (certificate_value c))
+    → IsWellFormed (plan_value p) (certificate_value c) → IsJsonTextOf (IsCertificateOf (plan_value p)) (certificate_text (node_names (plan_value p).nodes) (certificate_value c)) (certificate_value c)
+text_stands p c text same stands well = subst (λ t. IsJsonTextOf (IsCertificateOf (plan_value p)) t (certificate_value c)) same (stands well)

@@ -6,8 +6,7 @@ use Rattle.json.specs.Strict.{HasUniqueKeys}
 use Rattle.serde_json.specs.Data.{Data}
 use Rattle.net_json.specs.Reading.{error_of, IsReadOf}
 use Rattle.net_json.specs.Refusals.{IsFaultyValue, IsNoValue, IsNoneFor, IsRefused, GaveNoValue, GaveNone}
-use Rattle.net_json.specs.Stream.{TakesMoreThan}
-use Rattle.net_json.specs.TextFaults.{text_error, error_count}
+use Rattle.net_json.specs.TextFaults.{error_count}
 use Rattle.net_json.specs.SingleKeys.{single, doubled_first, unless_doubled}
 use Rattle.net_json.specs.Texts.{IsJson, IsTree}
 use Rattle.net_json.specs.Trees.{data_of}
@@ -15,8 +14,6 @@ use Rattle.net_json.specs.declared.error.ValueFault.{ValueFault}
 use Rattle.net_json.specs.declared.error.ValueFault.TheVariants as fault
 use Rattle.net_json.specs.declared.error.PlanError.{PlanError}
 use Rattle.net_json.specs.declared.error.PlanError.TheVariants as errors
-use Rattle.net_json.specs.declared.stream.TextFault.{TextFault}
-use Rattle.net_json.specs.declared.stream.TextFault.TheVariants as text
 use Rattle.net_json.proofs.SingleKeys.{single_sound, single_whole}
 use Rattle.net_json.proofs.Telling.{Tells, any, no_value, same_Ok, none_told}
 
@@ -160,23 +157,3 @@ module _ {A : Type 0} (said : Data → Result A ValueFault) (R : Data → A → 
   refused_count bytes errors.Doubled h = refl
   refused_count bytes errors.Device h = absurd h
   refused_count bytes errors.OutOfMemory h = refl
-
--- the source gave the bytes that are no JSON value
-pub no_value_given : (old new : Option (List ℕ)) (bytes : List ℕ) (e : PlanError) → Consumes old new bytes → IsAtEnd new → length bytes ≤ 16777216 → IsNoValue bytes e → GaveNoValue old new e
-no_value_given old new bytes errors.NotJson took end few h = (bytes, took, end, few, h)
-no_value_given old new bytes errors.OverLimit took end few h = absurd (omega (arith, few, h))
-no_value_given old new bytes errors.OutOfMemory took end few h = tt
-no_value_given old new bytes errors.WrongKind took end few h = absurd h
-no_value_given old new bytes errors.MissingKey took end few h = absurd h
-no_value_given old new bytes errors.UnknownKey took end few h = absurd h
-no_value_given old new bytes errors.OutOfRange took end few h = absurd h
-no_value_given old new bytes errors.UnknownName took end few h = absurd h
-no_value_given old new bytes errors.BadHex took end few h = absurd h
-no_value_given old new bytes errors.Doubled took end few h = absurd h
-no_value_given old new bytes errors.Device took end few h = tt
-
--- the source gave no bytes to read
-pub no_text_given : (old new : Option (List ℕ)) (f : TextFault) → (f ≡ text.TooLong → TakesMoreThan 16777216 old new) → GaveNoValue old new (text_error f)
-no_text_given old new text.TooLong h = h refl
-no_text_given old new text.Device h = tt
-no_text_given old new text.OutOfMemory h = tt

@@ -1,5 +1,5 @@
 -- What is gathered of an object's members, one after another.
-use Rattle.std.specs.Prelude.{ℕ, ◌≡◌, List, [], ◌∷◌, true, Option, Some, None, IsSome}
+use Rattle.std.specs.Prelude.{ℕ, ◌≡◌, List, [], ◌∷◌, map, true, Option, Some, None, IsSome}
 use Rattle.json.specs.Find as find
 use Rattle.json.specs.Json.{Json, array, Items, no_items, item, Members, no_members, member, value}
 use Rattle.json.specs.Lex.{tokens}
@@ -28,18 +28,35 @@ pub record ArePlain (known : List (List ℕ)) (ms : Members) : Type 0 where
   pub single : members_single ms ≡ true
   pub among : (k : List ℕ) → IsSome (find.get_member k ms) → is_among known k ≡ true
 
--- nothing stands at the key yet; or what stands there is R to the value
+-- nothing stands there yet; or what stands there is R to the value
+abbrev pub IsRead : {A : Type 0} → (Data → A → Type 0) → Option A → Option Json → Type 0
+IsRead R None stands = stands ≡ None
+IsRead R (Some x) stands = (j : Json) × (stands ≡ Some j) × R (data_of j) x
+
+-- the same of what stands at a key
 abbrev pub IsGathered : {A : Type 0} → List ℕ → (Data → A → Type 0) → Option A → Members → Type 0
-IsGathered key R None ms = find.get_member key ms ≡ None
-IsGathered key R (Some x) ms = (j : Json) × (find.get_member key ms ≡ Some j) × R (data_of j) x
+IsGathered key R o ms = IsRead R o (find.get_member key ms)
+
+-- a key of an object, and what holds of what stands there
+abbrev pub Slot : Type 1
+Slot = List ℕ × (Option Json → Type 0)
+
+-- what may stand at a key, and what was read there
+abbrev pub slot : {A : Type 0} → List ℕ → (Data → A → Type 0) → Option A → Slot
+slot key R o = (key, IsRead R o)
+
+abbrev pub AreRead : List Slot → Members → Type 0
+AreRead [] ms = Unit {0}
+AreRead (s ∷ slots) ms = s.1 (find.get_member s.0 ms) × AreRead slots ms
+
+-- what was read at each key is that of these members, which have no other keys
+pub record AreParts (slots : List Slot) (ms : Members) : Type 0 where
+  pub plain : ArePlain (map (λ s. s.0) slots) ms
+  pub read : AreRead slots ms
 
 -- the tokens begin with a value of which P holds, whatever it is nested in, and go on with these
 abbrev pub IsNext : List Token → List Token → (Json → Type 0) → Type 0
 IsNext old new P = (j : Json) × ((depth : ℕ) → value depth old ≡ Some (j, new)) × P j
-
--- the tokens begin with a value, whatever it is nested in, that is one more member at a key
-abbrev pub IsOneMore : List ℕ → List Token → List Token → (Members → Type 0) → (Members → Type 0) → Type 0
-IsOneMore key old new Before After = IsNext old new (λ j. (ms : Members) → Before ms → After (with_last ms key j))
 
 -- the tokens begin with a value, at a depth, that is one more member at a key
 abbrev pub IsMore : ℕ → List ℕ → List Token → List Token → (Members → Type 0) → (Members → Type 0) → Type 0

@@ -1,20 +1,18 @@
 -- What is gathered of the places of records, a key after another.
-use Rattle.std.specs.Prelude.{ℕ, codes, List, map, Option, option_map}
-use Rattle.json.specs.Json.{Members}
+use Rattle.std.specs.Prelude.{ℕ, codes, List, [], ◌∷◌, map, Option}
 use Rattle.serde_json.specs.Data.{Data}
 use Rattle.net_json.specs.CertificateText.{ArePlacesOf}
 use Rattle.net_plan.specs.CertificateValues.{PlacesValue}
-use Rattle.net_json.specs.Gathered.{ArePlain, IsGathered}
+use Rattle.net_json.specs.Gathered.{Slot, slot}
 use Rattle.net_json.specs.JsonWords.{IsName, IsNumberWithin, IsListOf}
-use Rattle.net_json.specs.Keys.{places_keys}
 use Rattle.net_json.specs.NameIndexes.{IsIndexOf}
 use Rattle.net_json.specs.declared.place_parts.PlacesParts.{PlacesParts}
 
-pub record ArePlacesParts (p : PlacesParts) (ms : Members) : Type 0 where
-  pub plain : ArePlain places_keys ms
-  pub node : IsGathered (codes "node") IsName (option_map (λ name. name.now) p.node) ms
-  pub places : IsGathered (codes "places") (IsListOf (IsNumberWithin 0 4095))
-      (option_map (λ v. map (λ place. place.value) v.items) p.places) ms
+abbrev pub places_slots : PlacesParts → List Slot
+places_slots p =
+    slot (codes "node") (λ d name. IsName d name.now) p.node
+    ∷ slot (codes "places") (λ d v. IsListOf (IsNumberWithin 0 4095) d (map (λ place. place.value) v.items)) p.places
+    ∷ []
 
 -- the places of the records of a node whose index is found
 abbrev pub ArePlacesBy : (List ℕ → Option ℕ) → Data → PlacesValue → Type 0

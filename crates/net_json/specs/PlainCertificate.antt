@@ -1,12 +1,10 @@
 -- What is gathered of a certificate, a key after another.
-use Rattle.std.specs.Prelude.{ℕ, codes, List, map, Option, option_map}
-use Rattle.json.specs.Json.{Members}
+use Rattle.std.specs.Prelude.{ℕ, codes, List, [], ◌∷◌, map, Option}
 use Rattle.serde_json.specs.Data.{Data}
 use Rattle.net_json.specs.CertificateText.{IsCertificateOf}
 use Rattle.net_plan.specs.CertificateValues.{CertificateValue, level_value, places_value, node_ranks_value}
-use Rattle.net_json.specs.Gathered.{ArePlain, IsGathered}
+use Rattle.net_json.specs.Gathered.{Slot, slot}
 use Rattle.net_json.specs.JsonWords.{IsNumberWithin, IsListOf}
-use Rattle.net_json.specs.Keys.{certificate_keys}
 use Rattle.net_json.specs.LevelParts.{IsLevelBy}
 use Rattle.net_json.specs.PlaceParts.{ArePlacesBy}
 use Rattle.net_json.specs.NameIndexes.{noted, IsIndexOf}
@@ -14,15 +12,13 @@ use Rattle.net_plan.specs.PlanValues.{PlanValue, node_names}
 use Rattle.net_json.specs.RankParts.{AreRanksBy}
 use Rattle.net_json.specs.declared.plain_certificate.CertificateParts.{CertificateParts}
 
-pub record AreCertificateParts (p : CertificateParts) (ms : Members) : Type 0 where
-  pub plain : ArePlain certificate_keys ms
-  pub format : IsGathered (codes "format") (IsNumberWithin 1 1) p.format ms
-  pub levels : IsGathered (codes "levels") (IsListOf (IsLevelBy (noted p.nodes.now)))
-      (option_map (λ v. map level_value v.items) p.levels) ms
-  pub places : IsGathered (codes "places") (IsListOf (ArePlacesBy (noted p.nodes.now)))
-      (option_map (λ v. map places_value v.items) p.places) ms
-  pub ranks : IsGathered (codes "ranks") (IsListOf (AreRanksBy (noted p.nodes.now)))
-      (option_map (λ v. map node_ranks_value v.items) p.ranks) ms
+abbrev pub certificate_slots : CertificateParts → List Slot
+certificate_slots p =
+    slot (codes "format") (IsNumberWithin 1 1) p.format
+    ∷ slot (codes "levels") (λ d v. IsListOf (IsLevelBy (noted p.nodes.now)) d (map level_value v.items)) p.levels
+    ∷ slot (codes "places") (λ d v. IsListOf (ArePlacesBy (noted p.nodes.now)) d (map places_value v.items)) p.places
+    ∷ slot (codes "ranks") (λ d v. IsListOf (AreRanksBy (noted p.nodes.now)) d (map node_ranks_value v.items)) p.ranks
+    ∷ []
 
 -- a certificate of the nodes whose indices are found
 abbrev pub IsCertificateBy : (List ℕ → Option ℕ) → Data → CertificateValue → Type 0

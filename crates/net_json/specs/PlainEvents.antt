@@ -1,25 +1,24 @@
 -- What is gathered of a list of events, and what its text stands for.
-use Rattle.std.specs.Prelude.{ℕ, Bool, true, codes, List, map, Option, option_map}
-use Rattle.json.specs.Json.{Members}
+use Rattle.std.specs.Prelude.{ℕ, Bool, true, codes, List, [], ◌∷◌, map, Option}
 use Rattle.serde_json.specs.Data.{Data}
 use Rattle.net_json.specs.EventParts.{IsEventBy}
 use Rattle.net_json.specs.EventReading.{has_switches, has_walks}
 use Rattle.net_json.specs.EventText.{IsFormat, AreEventsOf}
 use Rattle.net_plan.specs.EventValues.{EventEntry, put, move, lose, expire, answer}
 use Rattle.net_plan.specs.EventValues.{switch, walk, ask, collected, event_entry}
-use Rattle.net_json.specs.Gathered.{ArePlain, IsGathered}
+use Rattle.net_json.specs.Gathered.{Slot, slot}
 use Rattle.net_json.specs.JsonWords.{IsShortListOf}
-use Rattle.net_json.specs.Keys.{events_keys}
 use Rattle.net_json.specs.NameIndexes.{noted, IsIndexOf}
 use Rattle.net_plan.specs.PlanValues.{PlanValue, node_names}
 use Rattle.net_json.specs.declared.event_format.Format.{Format}
 use Rattle.net_json.specs.declared.plain_events.EventsParts.{EventsParts}
 
-pub record AreEventsParts (p : EventsParts) (ms : Members) : Type 0 where
-  pub plain : ArePlain events_keys ms
-  pub format : IsGathered (codes "format") IsFormat p.format ms
-  pub events : IsGathered (codes "events") (IsShortListOf 100000 (IsEventBy (noted p.nodes.now)))
-      (option_map (λ v. map event_entry v.items) p.events) ms
+abbrev pub events_slots : EventsParts → List Slot
+events_slots p =
+    slot (codes "format") IsFormat p.format
+    ∷ slot (codes "events") (λ d v. IsShortListOf 100000 (IsEventBy (noted p.nodes.now)) d (map event_entry v.items))
+    p.events
+    ∷ []
 
 -- lists of the format have this event
 abbrev pub is_event_in : Format → EventEntry → Bool

@@ -1,20 +1,18 @@
 -- What is gathered of a row, a key after another.
-use Rattle.std.specs.Prelude.{ℕ, codes, List, option_map}
-use Rattle.json.specs.Json.{Members}
+use Rattle.std.specs.Prelude.{ℕ, codes, List, [], ◌∷◌}
 use Rattle.serde_json.specs.Data.{Data}
-use Rattle.net_json.specs.Gathered.{ArePlain, IsGathered}
+use Rattle.net_json.specs.Gathered.{Slot, slot}
 use Rattle.net_json.specs.JsonWords.{HasKeys, At, IsString, IsNumberWithin}
 use Rattle.net_json.specs.Keys.{row_keys}
 use Rattle.net_json.specs.PlanText.{IsByte}
 use Rattle.net_json.specs.declared.row_parts.NamedRow.{NamedRow}
 use Rattle.net_json.specs.declared.row_parts.RowParts.{RowParts}
 
-pub record AreRowParts (p : RowParts) (ms : Members) : Type 0 where
-  pub plain : ArePlain row_keys ms
-  pub first : IsGathered (codes "first") IsByte p.first ms
-  pub size : IsGathered (codes "size") IsByte p.size ms
-  pub port : IsGathered (codes "port") (IsNumberWithin 0 31) p.port ms
-  pub next : IsGathered (codes "next") IsString (option_map (λ name. name.now) p.next) ms
+abbrev pub row_slots : RowParts → List Slot
+row_slots p =
+    slot (codes "first") IsByte p.first ∷ slot (codes "size") IsByte p.size
+    ∷ slot (codes "port") (IsNumberWithin 0 31) p.port
+    ∷ slot (codes "next") (λ d name. IsString d name.now) p.next ∷ []
 
 -- a row whose next node is still a text, which may be no name
 pub record NamedRowValue : Type 0 where

@@ -95,17 +95,7 @@ found_value find c = record { rows = map (found_row find) c.rows; terminus = c.t
 
 -- a node with these rows and this terminus
 abbrev pub with_part : NodeValue → PlacedValue → NodeValue
-with_part n p =
-    record {
-      name = n.name;
-      kind = n.kind;
-      eid = n.eid;
-      owner = n.owner;
-      pool = n.pool;
-      ports = n.ports;
-      rows = p.rows;
-      terminus = p.terminus;
-    }
+with_part n p = record n { rows = p.rows; terminus = p.terminus }
 
 -- nodes with these rows and termini, one by one
 abbrev pub with_parts : List NodeValue → List PlacedValue → List NodeValue

@@ -24,8 +24,8 @@ abbrev pub HasDoubledKey : List ℕ → Type 0
 HasDoubledKey text = (j : Json) × IsTree text j × ¬ HasUniqueKeys j
 
 -- the bytes are JSON, no object of it has a key twice, and its value is R to x
-abbrev pub StandsFor : {A : Type 0} → (Data → A → Type 0) → List ℕ → A → Type 0
-StandsFor R text x = (d : Data) × IsJson text d × HasSingleKeys text × R d x
+abbrev pub IsJsonTextOf : {A : Type 0} → (Data → A → Type 0) → List ℕ → A → Type 0
+IsJsonTextOf R text x = (d : Data) × IsJson text d × HasSingleKeys text × R d x
 
 -- the bytes are no JSON
 abbrev pub IsNoJson : List ℕ → Type 0

@@ -1,23 +1,23 @@
 //! Events straight from a text.
 ghost use Rattle.std.specs.Prelude.{◌≡◌, ◌≤◌, codes, IfSome, ℕ, List, Option, ⊤};
 ghost use Rattle.json.specs.Json.{Members, no_members, object};
-ghost use Rattle.net_json.specs.EventParts.{AreEventParts, IsEventBy, IsMadeOf, given, keys_given};
+ghost use Rattle.net_json.specs.EventParts.{event_slots, IsEventBy, IsMadeOf, given, keys_given};
 ghost use Rattle.net_json.specs.EventText.{IsBit};
 ghost use Rattle.net_plan.specs.EventValues.{event_entry};
-ghost use Rattle.net_json.specs.Gathered.{IsNext, IsOneMore, IsThere, IsPlain};
+ghost use Rattle.net_json.specs.Gathered.{AreParts, IsNext, IsThere, IsPlain};
 ghost use Rattle.net_json.specs.JsonWords.{IsNumberWithin};
 ghost use Rattle.net_json.specs.NameIndexes.{noted};
 ghost use Rattle.net_json.specs.Trees.{data_of};
 
 use crate::event_text::{LEAST_COUNT, MOST_COUNT};
-use crate::gather::{Gather, NextItem, read_object};
+use crate::gather::{Gather, NextItem, read_object, set_once};
 use crate::name_index::NameIndex;
 use crate::next_value::{
     next_byte, next_hex, next_name, next_number_within, next_text, next_truth, next_word,
 };
-use json::Reader;
 use mctp_transport::{Eid, Key, Tag};
 use net_plan::Event;
+use plain_json::PlainReader;
 use std::alloc::Global;
 
 /// What is known so far of an event.
@@ -38,7 +38,7 @@ pub struct EventParts<'t> {
 
 impl<'t> EventParts<'t> {
     fn none() -> EventParts<'t>
-        ensures { AreEventParts result no_members }
+        ensures { AreParts (event_slots result) no_members }
     {
         EventParts {
             does: None,
@@ -55,118 +55,8 @@ impl<'t> EventParts<'t> {
         }
     }
 
-    fn take_does(&mut self, reader: &mut Reader<'t>) -> Option<()>
-        ensures { IfSome result (λ _. IsOneMore (codes "do") reader.old reader.new (AreEventParts self.old) (AreEventParts self.new)) }
-    {
-        if self.does.is_some() {
-            return None;
-        }
-        self.does = Some(next_text(reader)?);
-        Some(())
-    }
-
-    fn take_node(&mut self, reader: &mut Reader<'t>) -> Option<()>
-        ensures { IfSome result (λ _. IsOneMore (codes "node") reader.old reader.new (AreEventParts self.old) (AreEventParts self.new)) }
-    {
-        if self.node.is_some() {
-            return None;
-        }
-        self.node = Some(next_name(reader)?);
-        Some(())
-    }
-
-    fn take_bytes(&mut self, alloc: Global, reader: &mut Reader<'_>) -> Option<()>
-        ensures { IfSome result (λ _. IsOneMore (codes "bytes") reader.old reader.new (AreEventParts self.old) (AreEventParts self.new)) }
-    {
-        if self.bytes.is_some() {
-            return None;
-        }
-        self.bytes = Some(next_hex(alloc, reader)?);
-        Some(())
-    }
-
-    fn take_flight(&mut self, reader: &mut Reader<'_>) -> Option<()>
-        ensures { IfSome result (λ _. IsOneMore (codes "flight") reader.old reader.new (AreEventParts self.old) (AreEventParts self.new)) }
-    {
-        if self.flight.is_some() {
-            return None;
-        }
-        self.flight = Some(next_word(reader)?);
-        Some(())
-    }
-
-    fn take_keep(&mut self, reader: &mut Reader<'_>) -> Option<()>
-        ensures { IfSome result (λ _. IsOneMore (codes "keep") reader.old reader.new (AreEventParts self.old) (AreEventParts self.new)) }
-    {
-        if self.keep.is_some() {
-            return None;
-        }
-        self.keep = Some(next_truth(reader)?);
-        Some(())
-    }
-
-    fn take_source(&mut self, reader: &mut Reader<'_>) -> Option<()>
-        ensures { IfSome result (λ _. IsOneMore (codes "source") reader.old reader.new (AreEventParts self.old) (AreEventParts self.new)) }
-    {
-        if self.source.is_some() {
-            return None;
-        }
-        self.source = Some(next_byte(reader)?);
-        Some(())
-    }
-
-    fn take_tag(&mut self, reader: &mut Reader<'_>) -> Option<()>
-        ensures { IfSome result (λ _. IsOneMore (codes "tag") reader.old reader.new (AreEventParts self.old) (AreEventParts self.new)) }
-    {
-        if self.tag.is_some() {
-            return None;
-        }
-        self.tag = Some(next_tag(reader)?);
-        Some(())
-    }
-
-    fn take_owner(&mut self, reader: &mut Reader<'_>) -> Option<()>
-        ensures { IfSome result (λ _. IsOneMore (codes "owner") reader.old reader.new (AreEventParts self.old) (AreEventParts self.new)) }
-    {
-        if self.owner.is_some() {
-            return None;
-        }
-        self.owner = Some(next_bit(reader)?);
-        Some(())
-    }
-
-    fn take_eid(&mut self, reader: &mut Reader<'_>) -> Option<()>
-        ensures { IfSome result (λ _. IsOneMore (codes "eid") reader.old reader.new (AreEventParts self.old) (AreEventParts self.new)) }
-    {
-        if self.eid.is_some() {
-            return None;
-        }
-        self.eid = Some(next_number_within(reader, 8, 254)? as u8);
-        Some(())
-    }
-
-    fn take_count(&mut self, reader: &mut Reader<'_>) -> Option<()>
-        ensures { IfSome result (λ _. IsOneMore (codes "count") reader.old reader.new (AreEventParts self.old) (AreEventParts self.new)) }
-    {
-        if self.count.is_some() {
-            return None;
-        }
-        self.count = Some(next_number_within(reader, LEAST_COUNT, MOST_COUNT)? as u16);
-        Some(())
-    }
-
-    fn take_walker(&mut self, reader: &mut Reader<'_>) -> Option<()>
-        ensures { IfSome result (λ _. IsOneMore (codes "walker") reader.old reader.new (AreEventParts self.old) (AreEventParts self.new)) }
-    {
-        if self.walker.is_some() {
-            return None;
-        }
-        self.walker = Some(next_word(reader)?);
-        Some(())
-    }
-
     fn event(self, nodes: &NameIndex) -> Option<Event>
-        ensures { IfSome result (λ e. (ms : Members) → AreEventParts self.entry ms → IsEventBy (noted nodes.now) (data_of (object ms)) (event_entry e) × IsPlain (object ms)) }
+        ensures { IfSome result (λ e. (ms : Members) → AreParts (event_slots self.entry) ms → IsEventBy (noted nodes.now) (data_of (object ms)) (event_entry e) × IsPlain (object ms)) }
     {
         match self.does? {
             "put" => self.put(nodes),
@@ -315,7 +205,7 @@ impl<'t> EventParts<'t> {
 }
 
 impl<'t> Gather<'t> for EventParts<'t> {
-    ghost Holds = { AreEventParts };
+    ghost Holds = { λ p. AreParts (event_slots p) };
 
     ghost Given = { ⊤ };
 
@@ -325,21 +215,24 @@ impl<'t> Gather<'t> for EventParts<'t> {
         &mut self,
         alloc: Global,
         key: &'t str,
-        reader: &mut Reader<'t>,
+        reader: &mut PlainReader<'t>,
         _depth: usize,
     ) -> Option<()> {
         match key {
-            "do" => self.take_does(reader),
-            "node" => self.take_node(reader),
-            "bytes" => self.take_bytes(alloc, reader),
-            "flight" => self.take_flight(reader),
-            "keep" => self.take_keep(reader),
-            "source" => self.take_source(reader),
-            "tag" => self.take_tag(reader),
-            "owner" => self.take_owner(reader),
-            "eid" => self.take_eid(reader),
-            "count" => self.take_count(reader),
-            "walker" => self.take_walker(reader),
+            "do" => set_once(&mut self.does, next_text(reader)?),
+            "node" => set_once(&mut self.node, next_name(reader)?),
+            "bytes" => set_once(&mut self.bytes, next_hex(alloc, reader)?),
+            "flight" => set_once(&mut self.flight, next_word(reader)?),
+            "keep" => set_once(&mut self.keep, next_truth(reader)?),
+            "source" => set_once(&mut self.source, next_byte(reader)?),
+            "tag" => set_once(&mut self.tag, next_tag(reader)?),
+            "owner" => set_once(&mut self.owner, next_bit(reader)?),
+            "eid" => set_once(&mut self.eid, next_number_within(reader, 8, 254)? as u8),
+            "count" => set_once(
+                &mut self.count,
+                next_number_within(reader, LEAST_COUNT, MOST_COUNT)? as u16,
+            ),
+            "walker" => set_once(&mut self.walker, next_word(reader)?),
             _ => None,
         }
     }
@@ -357,14 +250,14 @@ fn given<T>(part: &Option<T>) -> usize
 }
 
 /// A message tag.
-fn next_tag(reader: &mut Reader<'_>) -> Option<Tag>
+fn next_tag(reader: &mut PlainReader<'_>) -> Option<Tag>
     ensures { IfSome result (λ tag. IsNext reader.old reader.new (λ j. IsNumberWithin 0 7 (data_of j) tag.value × IsPlain j)) }
 {
     Some(Tag::new(next_number_within(reader, 0, 7)? as u8))
 }
 
 /// 1 for true, 0 for false.
-fn next_bit(reader: &mut Reader<'_>) -> Option<bool>
+fn next_bit(reader: &mut PlainReader<'_>) -> Option<bool>
     ensures { IfSome result (λ b. IsNext reader.old reader.new (λ j. IsBit (data_of j) b × IsPlain j)) }
 {
     Some(next_number_within(reader, 0, 1)? == 1)
@@ -381,7 +274,12 @@ impl<'p, 'n, 't> NextItem<'t> for NextEvent<'p, 'n> {
 
     ghost IsOf = { λ s j e. IsEventBy (noted s.nodes.now) (data_of j) (event_entry e) × IsPlain j };
 
-    fn next_item(&self, alloc: Global, reader: &mut Reader<'t>, depth: usize) -> Option<Event> {
+    fn next_item(
+        &self,
+        alloc: Global,
+        reader: &mut PlainReader<'t>,
+        depth: usize,
+    ) -> Option<Event> {
         let mut parts = EventParts::none();
         read_object(alloc, &mut parts, reader, depth)?;
         parts.event(self.nodes)

@@ -1,12 +1,12 @@
 //! Objects straight from a text, key by key.
-ghost use Rattle.std.specs.Prelude.{◌≡◌, ◌≤◌, Some, IfSome, [], length, vec_len};
+ghost use Rattle.std.specs.Prelude.{◌≡◌, ◌≤◌, Some, None, IfSome, [], length, vec_len};
 ghost use Rattle.json.specs.Json.{Json, Members, no_members, object, members, value};
 ghost use Rattle.json.specs.Lex.{tokens};
 ghost use Rattle.serde_json.specs.Read.{max_depth};
 ghost use Rattle.net_json.specs.Gathered.{IsMore, IsThere, IsArrayOf};
 
 use crate::json_text::MOST_DEPTH;
-use json::{Reader, Scratch, Token};
+use plain_json::PlainReader;
 use std::alloc::Global;
 
 /// Gathers the members of an object, one after another. It gives up at anything unusual.
@@ -23,7 +23,7 @@ pub trait Gather<'t> {
         &mut self,
         alloc: Global,
         key: &'t str,
-        reader: &mut Reader<'t>,
+        reader: &mut PlainReader<'t>,
         depth: usize,
     ) -> Option<()>
         ensures more { IfSome result (λ _. IsMore depth key.now reader.old reader.new (Holds self.old) (Holds self.new)) }
@@ -34,15 +34,13 @@ pub trait Gather<'t> {
 pub fn read_object<'t, G: Gather<'t>>(
     alloc: Global,
     gathered: &mut G,
-    reader: &mut Reader<'t>,
+    reader: &mut PlainReader<'t>,
     depth: usize,
 ) -> Option<()>
     ensures read { IfSome result (λ _. (ms : Members) × (value depth reader.old ≡ Some (object ms, reader.new)) × (G.Holds gathered.old no_members → G.Holds gathered.new ms)) }
     ensures kept { G.given gathered.new ≡ G.given gathered.old }
 {
-    let Some(Token::BeginObject) = reader.next() else {
-        return None;
-    };
+    reader.begin_object()?;
     if depth == 0 {
         return None;
     }
@@ -50,20 +48,13 @@ pub fn read_object<'t, G: Gather<'t>>(
 }
 
 /// Reads a text that is one object, and gathers its members.
-pub fn read_text<'t, G: Gather<'t>>(
-    alloc: Global,
-    gathered: &mut G,
-    text: &'t str,
-    scratch: &'t mut Scratch,
-) -> Option<()>
+pub fn read_text<'t, G: Gather<'t>>(alloc: Global, gathered: &mut G, text: &'t str) -> Option<()>
     ensures read { IfSome result (λ _. (ms : Members) × (value max_depth (tokens text.now) ≡ Some (object ms, [])) × (G.Holds gathered.old no_members → G.Holds gathered.new ms)) }
     ensures kept { G.given gathered.new ≡ G.given gathered.old }
 {
-    let Ok(mut reader) = Reader::new(text, scratch) else {
-        return None;
-    };
+    let mut reader = PlainReader::new(text);
     read_object(alloc, gathered, &mut reader, MOST_DEPTH)?;
-    if reader.next().is_some() {
+    if !reader.is_at_end() {
         return None;
     }
     Some(())
@@ -73,15 +64,27 @@ pub fn read_text<'t, G: Gather<'t>>(
 pub fn read_members<'t, G: Gather<'t>>(
     alloc: Global,
     gathered: &mut G,
-    reader: &mut Reader<'t>,
+    reader: &mut PlainReader<'t>,
     depth: usize,
 ) -> Option<()>
     ensures read { IfSome result (λ _. (ms : Members) × (members (value depth) (length reader.old) reader.old ≡ Some (ms, reader.new)) × (G.Holds gathered.old no_members → G.Holds gathered.new ms)) }
     ensures kept { G.given gathered.new ≡ G.given gathered.old }
 {
-    'members: while let Some(key) = reader.next_key().ok()? {
+    'members: while let Some(key) = reader.next_key()? {
         gathered.take(alloc, key, reader, depth)?;
     }
+    Some(())
+}
+
+/// Puts a value where none stands yet.
+#[inline(always)]
+pub fn set_once<T: Drop>(slot: &mut Option<T>, value: T) -> Option<()>
+    ensures { IfSome result (λ _. (slot.old ≡ None) × (slot.new ≡ Some value)) }
+{
+    if slot.is_some() {
+        return None;
+    }
+    *slot = Some(value);
     Some(())
 }
 
@@ -91,7 +94,12 @@ pub trait NextItem<'t> {
 
     ghost IsOf: { Self → Json → Self.Item → Type 0 };
 
-    fn next_item(&self, alloc: Global, reader: &mut Reader<'t>, depth: usize) -> Option<Self::Item>
+    fn next_item(
+        &self,
+        alloc: Global,
+        reader: &mut PlainReader<'t>,
+        depth: usize,
+    ) -> Option<Self::Item>
         ensures { IfSome result (λ x. IsThere depth reader.old reader.new (λ j. IsOf self.now j x)) };
 }
 
@@ -99,7 +107,7 @@ pub trait NextItem<'t> {
 pub fn next_list<'t, N: NextItem<'t>>(
     alloc: Global,
     each: &N,
-    reader: &mut Reader<'t>,
+    reader: &mut PlainReader<'t>,
     depth: usize,
     most: usize,
 ) -> Option<Vec<N::Item>>
@@ -108,9 +116,7 @@ where
     ensures read { IfSome result (λ v. IsThere depth reader.old reader.new (λ j. IsArrayOf (N.IsOf each.now) j v.items)) }
     ensures within { IfSome result (λ v. vec_len v ≤ most) }
 {
-    let Some(Token::BeginArray) = reader.next() else {
-        return None;
-    };
+    reader.begin_array()?;
     if depth == 0 {
         return None;
     }

@@ -32,16 +32,6 @@ pub fn whole(text: &str) -> Option<u64>
     }
 }
 
-/// A number of JSON of at most three digits. Of any other text it says nothing.
-#[tactic(auto, using(crate::proofs::JsonNumbers::numeral_u64))]
-#[inline(always)]
-pub fn short_whole(text: &str) -> Option<u64>
-    ensures { IfSome result (λ n. as_u64 (num_of text.now) ≡ Some n) }
-{
-    let number = three_digits(text.as_bytes())?;
-    Some(number)
-}
-
 /// The number that digits write, where it is below 10,000,000,010. Of any other bytes it says nothing.
 #[inline(always)]
 fn few_digits(bytes: &[u8]) -> Option<u64>

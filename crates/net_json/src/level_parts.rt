@@ -1,17 +1,17 @@
 //! Levels straight from a text.
-ghost use Rattle.std.specs.Prelude.{codes, IfSome, ⊤};
+ghost use Rattle.std.specs.Prelude.{IfSome, ⊤};
 ghost use Rattle.json.specs.Json.{Members, no_members, object};
 ghost use Rattle.net_plan.specs.CertificateValues.{level_value};
-ghost use Rattle.net_json.specs.Gathered.{IsOneMore, IsPlain};
-ghost use Rattle.net_json.specs.LevelParts.{AreLevelParts, IsLevelBy};
+ghost use Rattle.net_json.specs.Gathered.{AreParts, IsPlain};
+ghost use Rattle.net_json.specs.LevelParts.{level_slots, IsLevelBy};
 ghost use Rattle.net_json.specs.NameIndexes.{noted};
 ghost use Rattle.net_json.specs.Trees.{data_of};
 
-use crate::gather::{Gather, NextItem, read_object};
+use crate::gather::{Gather, NextItem, read_object, set_once};
 use crate::name_index::NameIndex;
 use crate::next_value::{next_name, next_number_within};
-use json::Reader;
 use net_plan::NodeLevel;
+use plain_json::PlainReader;
 use std::alloc::Global;
 
 /// What is known so far of a level.
@@ -23,7 +23,7 @@ pub struct LevelParts<'t> {
 
 impl<'t> LevelParts<'t> {
     fn none() -> LevelParts<'t>
-        ensures { AreLevelParts result no_members }
+        ensures { AreParts (level_slots result) no_members }
     {
         LevelParts {
             level: None,
@@ -31,28 +31,8 @@ impl<'t> LevelParts<'t> {
         }
     }
 
-    fn take_level(&mut self, reader: &mut Reader<'_>) -> Option<()>
-        ensures { IfSome result (λ _. IsOneMore (codes "level") reader.old reader.new (AreLevelParts self.old) (AreLevelParts self.new)) }
-    {
-        if self.level.is_some() {
-            return None;
-        }
-        self.level = Some(next_number_within(reader, 1, 63)? as u8);
-        Some(())
-    }
-
-    fn take_node(&mut self, reader: &mut Reader<'t>) -> Option<()>
-        ensures { IfSome result (λ _. IsOneMore (codes "node") reader.old reader.new (AreLevelParts self.old) (AreLevelParts self.new)) }
-    {
-        if self.node.is_some() {
-            return None;
-        }
-        self.node = Some(next_name(reader)?);
-        Some(())
-    }
-
     fn level(&self, nodes: &NameIndex) -> Option<NodeLevel>
-        ensures { IfSome result (λ l. (ms : Members) → AreLevelParts self.now ms → IsLevelBy (noted nodes.now) (data_of (object ms)) (level_value l) × IsPlain (object ms)) }
+        ensures { IfSome result (λ l. (ms : Members) → AreParts (level_slots self.now) ms → IsLevelBy (noted nodes.now) (data_of (object ms)) (level_value l) × IsPlain (object ms)) }
     {
         let level = self.level?;
         let node = self.node?;
@@ -65,7 +45,7 @@ impl<'t> LevelParts<'t> {
 }
 
 impl<'t> Gather<'t> for LevelParts<'t> {
-    ghost Holds = { AreLevelParts };
+    ghost Holds = { λ p. AreParts (level_slots p) };
 
     ghost Given = { ⊤ };
 
@@ -75,12 +55,12 @@ impl<'t> Gather<'t> for LevelParts<'t> {
         &mut self,
         _alloc: Global,
         key: &'t str,
-        reader: &mut Reader<'t>,
+        reader: &mut PlainReader<'t>,
         _depth: usize,
     ) -> Option<()> {
         match key {
-            "level" => self.take_level(reader),
-            "node" => self.take_node(reader),
+            "level" => set_once(&mut self.level, next_number_within(reader, 1, 63)? as u8),
+            "node" => set_once(&mut self.node, next_name(reader)?),
             _ => None,
         }
     }
@@ -97,7 +77,12 @@ impl<'p, 'n, 't> NextItem<'t> for NextLevel<'p, 'n> {
 
     ghost IsOf = { λ s j l. IsLevelBy (noted s.nodes.now) (data_of j) (level_value l) × IsPlain j };
 
-    fn next_item(&self, alloc: Global, reader: &mut Reader<'t>, depth: usize) -> Option<NodeLevel> {
+    fn next_item(
+        &self,
+        alloc: Global,
+        reader: &mut PlainReader<'t>,
+        depth: usize,
+    ) -> Option<NodeLevel> {
         let mut parts = LevelParts::none();
         read_object(alloc, &mut parts, reader, depth)?;
         parts.level(self.nodes)

@@ -45,11 +45,12 @@ pub use event_format::events_format;
 pub use find::{find_fault, own_fault};
 pub use found::{Found, PointerStep};
 pub use json_value::{at, read_number, text_at};
-pub use plain_values::{byte_at, range_end};
+pub use plain_values::{byte_at, names_of, range_end};
 pub use plan_format::{PlanFormat, format_of};
 pub use reading::{
-    TEXT_LIMIT, certificate_of_text, events_of_text, json_of, plan_of_text, read_certificate,
-    read_events, read_plan,
+    TEXT_LIMIT, certificate_at_once, certificate_of_text, certificate_of_value, events_at_once,
+    events_of_text, events_of_value, json_of, plan_at_once, plan_of_text, plan_of_value,
+    read_certificate, read_events, read_plan,
 };
 pub use shape::{Field, KnownNames, Named, Rule, Shape, Word, fields_of};
 pub use stream::{Counted, Failed, Sink, Source, TextFault, read_within, write_whole};

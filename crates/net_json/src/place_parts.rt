@@ -1,18 +1,18 @@
 //! The places of records straight from a text.
-ghost use Rattle.std.specs.Prelude.{codes, IfSome, ⊤};
+ghost use Rattle.std.specs.Prelude.{IfSome, ⊤};
 ghost use Rattle.json.specs.Json.{Members, no_members, object};
 ghost use Rattle.net_plan.specs.CertificateValues.{places_value};
-ghost use Rattle.net_json.specs.Gathered.{IsMore, IsOneMore, IsPlain};
+ghost use Rattle.net_json.specs.Gathered.{AreParts, IsPlain};
 ghost use Rattle.net_json.specs.JsonWords.{IsNumberWithin};
-ghost use Rattle.net_json.specs.PlaceParts.{ArePlacesParts, ArePlacesBy};
+ghost use Rattle.net_json.specs.PlaceParts.{places_slots, ArePlacesBy};
 ghost use Rattle.net_json.specs.NameIndexes.{noted};
 ghost use Rattle.net_json.specs.Trees.{data_of};
 
-use crate::gather::{Gather, NextItem, next_list, read_object};
+use crate::gather::{Gather, NextItem, next_list, read_object, set_once};
 use crate::name_index::NameIndex;
 use crate::next_value::{next_name, next_number_within};
-use json::Reader;
 use net_plan::{NodePlaces, RecordPlace};
+use plain_json::PlainReader;
 use std::alloc::Global;
 
 /// Reads places of records.
@@ -27,7 +27,7 @@ impl<'t> NextItem<'t> for NextPlace {
     fn next_item(
         &self,
         _alloc: Global,
-        reader: &mut Reader<'t>,
+        reader: &mut PlainReader<'t>,
         _depth: usize,
     ) -> Option<RecordPlace> {
         let value = next_number_within(reader, 0, 4095)? as u16;
@@ -44,7 +44,7 @@ pub struct PlacesParts<'t> {
 
 impl<'t> PlacesParts<'t> {
     fn none() -> PlacesParts<'t>
-        ensures { ArePlacesParts result no_members }
+        ensures { AreParts (places_slots result) no_members }
     {
         PlacesParts {
             node: None,
@@ -52,28 +52,8 @@ impl<'t> PlacesParts<'t> {
         }
     }
 
-    fn take_node(&mut self, reader: &mut Reader<'t>) -> Option<()>
-        ensures { IfSome result (λ _. IsOneMore (codes "node") reader.old reader.new (ArePlacesParts self.old) (ArePlacesParts self.new)) }
-    {
-        if self.node.is_some() {
-            return None;
-        }
-        self.node = Some(next_name(reader)?);
-        Some(())
-    }
-
-    fn take_places(&mut self, alloc: Global, reader: &mut Reader<'_>, depth: usize) -> Option<()>
-        ensures { IfSome result (λ _. IsMore depth (codes "places") reader.old reader.new (ArePlacesParts self.old) (ArePlacesParts self.new)) }
-    {
-        if self.places.is_some() {
-            return None;
-        }
-        self.places = Some(next_list(alloc, &NextPlace, reader, depth, usize::MAX)?);
-        Some(())
-    }
-
     fn places(self, nodes: &NameIndex) -> Option<NodePlaces>
-        ensures { IfSome result (λ p. (ms : Members) → ArePlacesParts self.entry ms → ArePlacesBy (noted nodes.now) (data_of (object ms)) (places_value p) × IsPlain (object ms)) }
+        ensures { IfSome result (λ p. (ms : Members) → AreParts (places_slots self.entry) ms → ArePlacesBy (noted nodes.now) (data_of (object ms)) (places_value p) × IsPlain (object ms)) }
     {
         let node = self.node?;
         let places = self.places?;
@@ -86,7 +66,7 @@ impl<'t> PlacesParts<'t> {
 }
 
 impl<'t> Gather<'t> for PlacesParts<'t> {
-    ghost Holds = { ArePlacesParts };
+    ghost Holds = { λ p. AreParts (places_slots p) };
 
     ghost Given = { ⊤ };
 
@@ -96,12 +76,15 @@ impl<'t> Gather<'t> for PlacesParts<'t> {
         &mut self,
         alloc: Global,
         key: &'t str,
-        reader: &mut Reader<'t>,
+        reader: &mut PlainReader<'t>,
         depth: usize,
     ) -> Option<()> {
         match key {
-            "node" => self.take_node(reader),
-            "places" => self.take_places(alloc, reader, depth),
+            "node" => set_once(&mut self.node, next_name(reader)?),
+            "places" => set_once(
+                &mut self.places,
+                next_list(alloc, &NextPlace, reader, depth, usize::MAX)?,
+            ),
             _ => None,
         }
     }
@@ -121,7 +104,7 @@ impl<'p, 'n, 't> NextItem<'t> for NextPlaces<'p, 'n> {
     fn next_item(
         &self,
         alloc: Global,
-        reader: &mut Reader<'t>,
+        reader: &mut PlainReader<'t>,
         depth: usize,
     ) -> Option<NodePlaces> {
         let mut parts = PlacesParts::none();

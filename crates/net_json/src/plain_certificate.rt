@@ -1,16 +1,16 @@
 //! The certificate of a text in which nothing is unusual.
-ghost use Rattle.std.specs.Prelude.{◌≡◌, codes, IfSome};
+ghost use Rattle.std.specs.Prelude.{◌≡◌, IfSome};
 ghost use Rattle.json.specs.Json.{Members, no_members, object};
 ghost use Rattle.net_json.specs.CertificateText.{IsCertificateOf};
 ghost use Rattle.net_plan.specs.CertificateValues.{certificate_value};
-ghost use Rattle.net_json.specs.Gathered.{IsMore, IsPlain, IsPlainText};
-ghost use Rattle.net_json.specs.PlainCertificate.{AreCertificateParts, IsCertificateBy};
+ghost use Rattle.net_json.specs.Gathered.{AreParts, IsPlain, IsPlainText};
+ghost use Rattle.net_json.specs.PlainCertificate.{certificate_slots, IsCertificateBy};
 ghost use Rattle.net_json.specs.NameIndexes.{noted};
 ghost use Rattle.net_plan.specs.PlanValues.{plan_value};
 ghost use Rattle.net_json.specs.Trees.{data_of};
 ghost use Rattle.net_json.specs.declared.name_index.NameIndex.{NameIndex};
 
-use crate::gather::{Gather, next_list, read_text};
+use crate::gather::{Gather, next_list, read_text, set_once};
 use crate::level_parts::NextLevel;
 use crate::name_index::NameIndex;
 use crate::naming::NodeName;
@@ -18,8 +18,8 @@ use crate::next_value::next_number_within;
 use crate::one_each::nodes_differ;
 use crate::place_parts::NextPlaces;
 use crate::rank_parts::NextRanks;
-use json::{Reader, Scratch};
 use net_plan::{Certificate, NodeLevel, NodePlaces, NodeRanks, Plan};
+use plain_json::PlainReader;
 use std::alloc::Global;
 
 /// What is known so far of a certificate of nodes that this index finds.
@@ -34,7 +34,7 @@ pub struct CertificateParts<'p, 'n> {
 
 impl<'p, 'n> CertificateParts<'p, 'n> {
     fn none(nodes: &'p NameIndex<'n>) -> CertificateParts<'p, 'n>
-        ensures none { AreCertificateParts result no_members }
+        ensures none { AreParts (certificate_slots result) no_members }
         ensures nodes { result.nodes.now ≡ nodes.now }
     {
         CertificateParts {
@@ -46,55 +46,8 @@ impl<'p, 'n> CertificateParts<'p, 'n> {
         }
     }
 
-    fn take_format(&mut self, reader: &mut Reader<'_>, depth: usize) -> Option<()>
-        ensures more { IfSome result (λ _. IsMore depth (codes "format") reader.old reader.new (AreCertificateParts self.old) (AreCertificateParts self.new)) }
-        ensures kept { self.new.nodes.now ≡ self.old.nodes.now }
-    {
-        if self.format.is_some() {
-            return None;
-        }
-        self.format = Some(next_number_within(reader, 1, 1)?);
-        Some(())
-    }
-
-    fn take_levels(&mut self, alloc: Global, reader: &mut Reader<'_>, depth: usize) -> Option<()>
-        ensures more { IfSome result (λ _. IsMore depth (codes "levels") reader.old reader.new (AreCertificateParts self.old) (AreCertificateParts self.new)) }
-        ensures kept { self.new.nodes.now ≡ self.old.nodes.now }
-    {
-        if self.levels.is_some() {
-            return None;
-        }
-        let next = NextLevel { nodes: self.nodes };
-        self.levels = Some(next_list(alloc, &next, reader, depth, usize::MAX)?);
-        Some(())
-    }
-
-    fn take_places(&mut self, alloc: Global, reader: &mut Reader<'_>, depth: usize) -> Option<()>
-        ensures more { IfSome result (λ _. IsMore depth (codes "places") reader.old reader.new (AreCertificateParts self.old) (AreCertificateParts self.new)) }
-        ensures kept { self.new.nodes.now ≡ self.old.nodes.now }
-    {
-        if self.places.is_some() {
-            return None;
-        }
-        let next = NextPlaces { nodes: self.nodes };
-        self.places = Some(next_list(alloc, &next, reader, depth, usize::MAX)?);
-        Some(())
-    }
-
-    fn take_ranks(&mut self, alloc: Global, reader: &mut Reader<'_>, depth: usize) -> Option<()>
-        ensures more { IfSome result (λ _. IsMore depth (codes "ranks") reader.old reader.new (AreCertificateParts self.old) (AreCertificateParts self.new)) }
-        ensures kept { self.new.nodes.now ≡ self.old.nodes.now }
-    {
-        if self.ranks.is_some() {
-            return None;
-        }
-        let next = NextRanks { nodes: self.nodes };
-        self.ranks = Some(next_list(alloc, &next, reader, depth, usize::MAX)?);
-        Some(())
-    }
-
     fn certificate(self) -> Option<Certificate>
-        ensures { IfSome result (λ c. (ms : Members) → AreCertificateParts self.entry ms → IsCertificateBy (noted self.entry.nodes.now) (data_of (object ms)) (certificate_value c) × IsPlain (object ms)) }
+        ensures { IfSome result (λ c. (ms : Members) → AreParts (certificate_slots self.entry) ms → IsCertificateBy (noted self.entry.nodes.now) (data_of (object ms)) (certificate_value c) × IsPlain (object ms)) }
     {
         let _format = self.format?;
         let levels = self.levels?;
@@ -118,7 +71,7 @@ impl<'p, 'n> CertificateParts<'p, 'n> {
 }
 
 impl<'p, 'n, 't> Gather<'t> for CertificateParts<'p, 'n> {
-    ghost Holds = { AreCertificateParts };
+    ghost Holds = { λ p. AreParts (certificate_slots p) };
 
     ghost Given = { NameIndex };
 
@@ -128,14 +81,24 @@ impl<'p, 'n, 't> Gather<'t> for CertificateParts<'p, 'n> {
         &mut self,
         alloc: Global,
         key: &'t str,
-        reader: &mut Reader<'t>,
+        reader: &mut PlainReader<'t>,
         depth: usize,
     ) -> Option<()> {
+        let nodes = self.nodes;
         match key {
-            "format" => self.take_format(reader, depth),
-            "levels" => self.take_levels(alloc, reader, depth),
-            "places" => self.take_places(alloc, reader, depth),
-            "ranks" => self.take_ranks(alloc, reader, depth),
+            "format" => set_once(&mut self.format, next_number_within(reader, 1, 1)?),
+            "levels" => set_once(
+                &mut self.levels,
+                next_list(alloc, &NextLevel { nodes }, reader, depth, usize::MAX)?,
+            ),
+            "places" => set_once(
+                &mut self.places,
+                next_list(alloc, &NextPlaces { nodes }, reader, depth, usize::MAX)?,
+            ),
+            "ranks" => set_once(
+                &mut self.ranks,
+                next_list(alloc, &NextRanks { nodes }, reader, depth, usize::MAX)?,
+            ),
             _ => None,
         }
     }
@@ -148,8 +111,7 @@ pub fn plain_certificate(alloc: Global, plan: &Plan, text: &str) -> Option<Certi
     let Ok(index) = NameIndex::of(alloc, &NodeName, plan.nodes.as_slice()) else {
         return None;
     };
-    let mut scratch = Scratch::new(alloc);
     let mut parts = CertificateParts::none(&index);
-    read_text(alloc, &mut parts, text, &mut scratch)?;
+    read_text(alloc, &mut parts, text)?;
     parts.certificate()
 }

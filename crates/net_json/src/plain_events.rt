@@ -1,12 +1,12 @@
 //! The events of a text in which nothing is unusual.
-ghost use Rattle.std.specs.Prelude.{◌≡◌, codes, map, IfSome};
+ghost use Rattle.std.specs.Prelude.{◌≡◌, map, IfSome};
 ghost use Rattle.std.specs.List.{list_all};
 ghost use Rattle.json.specs.Json.{Members, no_members, object};
 ghost use Rattle.net_json.specs.EventParts.{IsEventBy};
 ghost use Rattle.net_json.specs.EventText.{IsFormat, AreEventsOf};
 ghost use Rattle.net_plan.specs.EventValues.{event_entry};
-ghost use Rattle.net_json.specs.Gathered.{IsMore, IsNext, IsPlain, IsPlainText};
-ghost use Rattle.net_json.specs.PlainEvents.{AreEventsParts, AreEventsBy, is_event_in};
+ghost use Rattle.net_json.specs.Gathered.{AreParts, IsNext, IsPlain, IsPlainText};
+ghost use Rattle.net_json.specs.PlainEvents.{events_slots, AreEventsBy, is_event_in};
 ghost use Rattle.net_json.specs.NameIndexes.{noted};
 ghost use Rattle.net_plan.specs.PlanValues.{plan_value};
 ghost use Rattle.net_json.specs.Trees.{data_of};
@@ -15,12 +15,12 @@ ghost use Rattle.net_json.specs.declared.name_index.NameIndex.{NameIndex};
 use crate::event_format::{Format, format_of};
 use crate::event_parts::NextEvent;
 use crate::event_text::MOST_EVENTS;
-use crate::gather::{Gather, next_list, read_text};
+use crate::gather::{Gather, next_list, read_text, set_once};
 use crate::name_index::NameIndex;
 use crate::naming::NodeName;
 use crate::next_value::next_number_within;
-use json::{Reader, Scratch};
 use net_plan::{Event, Plan};
+use plain_json::PlainReader;
 use std::alloc::Global;
 
 /// What is known so far of a list of events at nodes that this index finds.
@@ -33,7 +33,7 @@ pub struct EventsParts<'p, 'n> {
 
 impl<'p, 'n> EventsParts<'p, 'n> {
     fn none(nodes: &'p NameIndex<'n>) -> EventsParts<'p, 'n>
-        ensures none { AreEventsParts result no_members }
+        ensures none { AreParts (events_slots result) no_members }
         ensures nodes { result.nodes.now ≡ nodes.now }
     {
         EventsParts {
@@ -43,31 +43,8 @@ impl<'p, 'n> EventsParts<'p, 'n> {
         }
     }
 
-    fn take_format(&mut self, reader: &mut Reader<'_>, depth: usize) -> Option<()>
-        ensures more { IfSome result (λ _. IsMore depth (codes "format") reader.old reader.new (AreEventsParts self.old) (AreEventsParts self.new)) }
-        ensures kept { self.new.nodes.now ≡ self.old.nodes.now }
-    {
-        if self.format.is_some() {
-            return None;
-        }
-        self.format = Some(next_format(reader)?);
-        Some(())
-    }
-
-    fn take_events(&mut self, alloc: Global, reader: &mut Reader<'_>, depth: usize) -> Option<()>
-        ensures more { IfSome result (λ _. IsMore depth (codes "events") reader.old reader.new (AreEventsParts self.old) (AreEventsParts self.new)) }
-        ensures kept { self.new.nodes.now ≡ self.old.nodes.now }
-    {
-        if self.events.is_some() {
-            return None;
-        }
-        let next = NextEvent { nodes: self.nodes };
-        self.events = Some(next_list(alloc, &next, reader, depth, MOST_EVENTS)?);
-        Some(())
-    }
-
     fn events(self) -> Option<Vec<Event>>
-        ensures { IfSome result (λ v. (ms : Members) → AreEventsParts self.entry ms → AreEventsBy (noted self.entry.nodes.now) (data_of (object ms)) (map event_entry v.items) × IsPlain (object ms)) }
+        ensures { IfSome result (λ v. (ms : Members) → AreParts (events_slots self.entry) ms → AreEventsBy (noted self.entry.nodes.now) (data_of (object ms)) (map event_entry v.items) × IsPlain (object ms)) }
     {
         let format = self.format?;
         let events = self.events?;
@@ -79,7 +56,7 @@ impl<'p, 'n> EventsParts<'p, 'n> {
 }
 
 impl<'p, 'n, 't> Gather<'t> for EventsParts<'p, 'n> {
-    ghost Holds = { AreEventsParts };
+    ghost Holds = { λ p. AreParts (events_slots p) };
 
     ghost Given = { NameIndex };
 
@@ -89,19 +66,23 @@ impl<'p, 'n, 't> Gather<'t> for EventsParts<'p, 'n> {
         &mut self,
         alloc: Global,
         key: &'t str,
-        reader: &mut Reader<'t>,
+        reader: &mut PlainReader<'t>,
         depth: usize,
     ) -> Option<()> {
+        let nodes = self.nodes;
         match key {
-            "format" => self.take_format(reader, depth),
-            "events" => self.take_events(alloc, reader, depth),
+            "format" => set_once(&mut self.format, next_format(reader)?),
+            "events" => set_once(
+                &mut self.events,
+                next_list(alloc, &NextEvent { nodes }, reader, depth, MOST_EVENTS)?,
+            ),
             _ => None,
         }
     }
 }
 
 /// The format of a list of events.
-fn next_format(reader: &mut Reader<'_>) -> Option<Format>
+fn next_format(reader: &mut PlainReader<'_>) -> Option<Format>
     ensures { IfSome result (λ f. IsNext reader.old reader.new (λ j. IsFormat (data_of j) f × IsPlain j)) }
 {
     Some(format_of(next_number_within(reader, 1, 3)?))
@@ -136,8 +117,7 @@ pub fn plain_events(alloc: Global, plan: &Plan, text: &str) -> Option<Vec<Event>
     let Ok(index) = NameIndex::of(alloc, &NodeName, plan.nodes.as_slice()) else {
         return None;
     };
-    let mut scratch = Scratch::new(alloc);
     let mut parts = EventsParts::none(&index);
-    read_text(alloc, &mut parts, text, &mut scratch)?;
+    read_text(alloc, &mut parts, text)?;
     parts.events()
 }

@@ -52,7 +52,7 @@ fn check_named(
 }
 
 /// Those of the names that are known.
-fn names_of<'k, 't>(known: &'k KnownNames<'t>, named: Named) -> &'k [&'t str]
+pub fn names_of<'k, 't>(known: &'k KnownNames<'t>, named: Named) -> &'k [&'t str]
     ensures { map (λ name. name.now) result.now ≡ names_of named (known_view known.now) }
 {
     match named {

@@ -1,20 +1,21 @@
 //! Ranks straight from a text.
-ghost use Rattle.std.specs.Prelude.{codes, IfSome, ⊤};
+ghost use Rattle.std.specs.Prelude.{map, IfSome, ⊤};
 ghost use Rattle.json.specs.Json.{Members, no_members, object};
 ghost use Rattle.net_json.specs.CertificateText.{IsRangeOf};
 ghost use Rattle.net_plan.specs.CertificateValues.{range_value, node_ranks_value};
-ghost use Rattle.net_json.specs.Gathered.{IsMore, IsOneMore, IsPlain};
+ghost use Rattle.net_json.specs.Gathered.{AreParts, IsThere, IsPlain};
+ghost use Rattle.net_json.specs.JsonWords.{IsListOf};
 ghost use Rattle.net_json.specs.NameIndexes.{noted};
-ghost use Rattle.net_json.specs.RankParts.{AreRangeParts, AreRanksParts, AreRanksBy};
+ghost use Rattle.net_json.specs.RankParts.{range_slots, ranks_slots, AreRanksBy};
 ghost use Rattle.net_json.specs.Trees.{data_of};
 
 use crate::certificate_text::ascends;
-use crate::gather::{Gather, NextItem, next_list, read_object};
+use crate::gather::{Gather, NextItem, next_list, read_object, set_once};
 use crate::name_index::NameIndex;
-use crate::next_value::{next_byte, next_name, next_short_within};
-use json::Reader;
+use crate::next_value::{next_byte, next_name, next_number_within};
 use mctp_transport::Eid;
 use net_plan::{NodeRanks, RankRange};
+use plain_json::PlainReader;
 use std::alloc::Global;
 
 /// What is known so far of a range.
@@ -27,7 +28,7 @@ pub struct RangeParts {
 
 impl RangeParts {
     fn none() -> RangeParts
-        ensures { AreRangeParts result no_members }
+        ensures { AreParts (range_slots result) no_members }
     {
         RangeParts {
             first: None,
@@ -36,38 +37,8 @@ impl RangeParts {
         }
     }
 
-    fn take_first(&mut self, reader: &mut Reader<'_>) -> Option<()>
-        ensures { IfSome result (λ _. IsOneMore (codes "first") reader.old reader.new (AreRangeParts self.old) (AreRangeParts self.new)) }
-    {
-        if self.first.is_some() {
-            return None;
-        }
-        self.first = Some(next_byte(reader)?);
-        Some(())
-    }
-
-    fn take_rank(&mut self, reader: &mut Reader<'_>) -> Option<()>
-        ensures { IfSome result (λ _. IsOneMore (codes "rank") reader.old reader.new (AreRangeParts self.old) (AreRangeParts self.new)) }
-    {
-        if self.rank.is_some() {
-            return None;
-        }
-        self.rank = Some(next_short_within(reader, 1, 255)? as u8);
-        Some(())
-    }
-
-    fn take_size(&mut self, reader: &mut Reader<'_>) -> Option<()>
-        ensures { IfSome result (λ _. IsOneMore (codes "size") reader.old reader.new (AreRangeParts self.old) (AreRangeParts self.new)) }
-    {
-        if self.size.is_some() {
-            return None;
-        }
-        self.size = Some(next_short_within(reader, 1, 255)? as u8);
-        Some(())
-    }
-
     fn range(&self) -> Option<RankRange>
-        ensures { IfSome result (λ r. (ms : Members) → AreRangeParts self.now ms → IsRangeOf (data_of (object ms)) (range_value r) × IsPlain (object ms)) }
+        ensures { IfSome result (λ r. (ms : Members) → AreParts (range_slots self.now) ms → IsRangeOf (data_of (object ms)) (range_value r) × IsPlain (object ms)) }
     {
         let first = self.first?;
         let rank = self.rank?;
@@ -84,7 +55,7 @@ impl RangeParts {
 }
 
 impl<'t> Gather<'t> for RangeParts {
-    ghost Holds = { AreRangeParts };
+    ghost Holds = { λ p. AreParts (range_slots p) };
 
     ghost Given = { ⊤ };
 
@@ -95,13 +66,13 @@ impl<'t> Gather<'t> for RangeParts {
         &mut self,
         _alloc: Global,
         key: &'t str,
-        reader: &mut Reader<'t>,
+        reader: &mut PlainReader<'t>,
         _depth: usize,
     ) -> Option<()> {
         match key {
-            "first" => self.take_first(reader),
-            "rank" => self.take_rank(reader),
-            "size" => self.take_size(reader),
+            "first" => set_once(&mut self.first, next_byte(reader)?),
+            "rank" => set_once(&mut self.rank, next_number_within(reader, 1, 255)? as u8),
+            "size" => set_once(&mut self.size, next_number_within(reader, 1, 255)? as u8),
             _ => None,
         }
     }
@@ -116,11 +87,25 @@ impl<'t> NextItem<'t> for NextRange {
 
     ghost IsOf = { λ _ j r. IsRangeOf (data_of j) (range_value r) × IsPlain j };
 
-    fn next_item(&self, alloc: Global, reader: &mut Reader<'t>, depth: usize) -> Option<RankRange> {
+    fn next_item(
+        &self,
+        alloc: Global,
+        reader: &mut PlainReader<'t>,
+        depth: usize,
+    ) -> Option<RankRange> {
         let mut parts = RangeParts::none();
         read_object(alloc, &mut parts, reader, depth)?;
         parts.range()
     }
+}
+
+/// The next value, where it is a list of ranges.
+#[inline(never)]
+fn next_ranges(alloc: Global, reader: &mut PlainReader<'_>, depth: usize) -> Option<Vec<RankRange>>
+    ensures { IfSome result (λ v. IsThere depth reader.old reader.new (λ j. IsListOf IsRangeOf (data_of j) (map range_value v.items) × IsPlain j)) }
+{
+    let ranges = next_list(alloc, &NextRange, reader, depth, usize::MAX)?;
+    Some(ranges)
 }
 
 /// What is known so far of a node's ranks.
@@ -132,7 +117,7 @@ pub struct RanksParts<'t> {
 
 impl<'t> RanksParts<'t> {
     fn none() -> RanksParts<'t>
-        ensures { AreRanksParts result no_members }
+        ensures { AreParts (ranks_slots result) no_members }
     {
         RanksParts {
             node: None,
@@ -140,29 +125,8 @@ impl<'t> RanksParts<'t> {
         }
     }
 
-    fn take_node(&mut self, reader: &mut Reader<'t>) -> Option<()>
-        ensures { IfSome result (λ _. IsOneMore (codes "node") reader.old reader.new (AreRanksParts self.old) (AreRanksParts self.new)) }
-    {
-        if self.node.is_some() {
-            return None;
-        }
-        self.node = Some(next_name(reader)?);
-        Some(())
-    }
-
-    #[inline(never)]
-    fn take_ranges(&mut self, alloc: Global, reader: &mut Reader<'_>, depth: usize) -> Option<()>
-        ensures { IfSome result (λ _. IsMore depth (codes "ranges") reader.old reader.new (AreRanksParts self.old) (AreRanksParts self.new)) }
-    {
-        if self.ranges.is_some() {
-            return None;
-        }
-        self.ranges = Some(next_list(alloc, &NextRange, reader, depth, usize::MAX)?);
-        Some(())
-    }
-
     fn ranks(self, nodes: &NameIndex) -> Option<NodeRanks>
-        ensures { IfSome result (λ r. (ms : Members) → AreRanksParts self.entry ms → AreRanksBy (noted nodes.now) (data_of (object ms)) (node_ranks_value r) × IsPlain (object ms)) }
+        ensures { IfSome result (λ r. (ms : Members) → AreParts (ranks_slots self.entry) ms → AreRanksBy (noted nodes.now) (data_of (object ms)) (node_ranks_value r) × IsPlain (object ms)) }
     {
         let node = self.node?;
         let ranges = self.ranges?;
@@ -178,7 +142,7 @@ impl<'t> RanksParts<'t> {
 }
 
 impl<'t> Gather<'t> for RanksParts<'t> {
-    ghost Holds = { AreRanksParts };
+    ghost Holds = { λ p. AreParts (ranks_slots p) };
 
     ghost Given = { ⊤ };
 
@@ -188,12 +152,12 @@ impl<'t> Gather<'t> for RanksParts<'t> {
         &mut self,
         alloc: Global,
         key: &'t str,
-        reader: &mut Reader<'t>,
+        reader: &mut PlainReader<'t>,
         depth: usize,
     ) -> Option<()> {
         match key {
-            "node" => self.take_node(reader),
-            "ranges" => self.take_ranges(alloc, reader, depth),
+            "node" => set_once(&mut self.node, next_name(reader)?),
+            "ranges" => set_once(&mut self.ranges, next_ranges(alloc, reader, depth)?),
             _ => None,
         }
     }
@@ -210,7 +174,12 @@ impl<'p, 'n, 't> NextItem<'t> for NextRanks<'p, 'n> {
 
     ghost IsOf = { λ s j r. AreRanksBy (noted s.nodes.now) (data_of j) (node_ranks_value r) × IsPlain j };
 
-    fn next_item(&self, alloc: Global, reader: &mut Reader<'t>, depth: usize) -> Option<NodeRanks> {
+    fn next_item(
+        &self,
+        alloc: Global,
+        reader: &mut PlainReader<'t>,
+        depth: usize,
+    ) -> Option<NodeRanks> {
         let mut parts = RanksParts::none();
         read_object(alloc, &mut parts, reader, depth)?;
         parts.ranks(self.nodes)

@@ -6,7 +6,7 @@ ghost use Rattle.json.specs.Strict.{HasUniqueKeys};
 ghost use Rattle.json.specs.Value.{value_view};
 ghost use Rattle.net_json.specs.Trees.{view};
 ghost use Rattle.net_json.specs.SingleKeys.{single, unless_doubled};
-ghost use Rattle.net_json.specs.Texts.{IsJson, IsTree, StandsFor, Gave};
+ghost use Rattle.net_json.specs.Texts.{IsJson, IsTree, IsJsonTextOf, Gave};
 ghost use Rattle.net_json.specs.Refusals.{IsNoValue, IsNoneFor, IsRefused, GaveNoValue};
 ghost use Rattle.net_json.specs.Unread.{GaveNoPlan, GaveNoCertificate, GaveNoEvents};
 ghost use Rattle.net_json.specs.EventReading.{events};
@@ -44,7 +44,7 @@ pub const TEXT_LIMIT: usize = 16_777_216;
 ///
 /// The error is the text's first fault in the order of tests, or `OutOfMemory`.
 pub fn plan_of_text(alloc: Global, text: &[u8]) -> Result<Plan, PlanError>
-    ensures ok { IfOk result (λ plan. StandsFor IsPlanOf text.now (plan_value plan)) }
+    ensures ok { IfOk result (λ plan. IsJsonTextOf IsPlanOf text.now (plan_value plan)) }
     ensures refused { IfErr result (λ e. IsRefused plan IsPlanOf text.now e) }
     ensures too_long { 16777216 < length text.now → result ≡ Err PlanError.OverLimit }
 {
@@ -64,7 +64,7 @@ pub fn certificate_of_text(
     plan: &Plan,
     text: &[u8],
 ) -> Result<Certificate, PlanError>
-    ensures ok { IfOk result (λ certificate. StandsFor (IsCertificateOf (plan_value plan.now)) text.now (certificate_value certificate)) }
+    ensures ok { IfOk result (λ certificate. IsJsonTextOf (IsCertificateOf (plan_value plan.now)) text.now (certificate_value certificate)) }
     ensures known { IfOk result (λ certificate. IsTrue (are_known (length plan.now.nodes.items) (certificate_value certificate))) }
     ensures refused { IfErr result (λ e. IsRefused (certificate (node_names (plan_value plan.now).nodes)) (IsCertificateOf (plan_value plan.now)) text.now e) }
     ensures too_long { 16777216 < length text.now → result ≡ Err PlanError.OverLimit }
@@ -81,7 +81,7 @@ pub fn certificate_of_text(
 ///
 /// The error is the text's first fault in the order of tests, or `OutOfMemory`.
 pub fn events_of_text(alloc: Global, plan: &Plan, text: &[u8]) -> Result<Vec<Event>, PlanError>
-    ensures ok { IfOk result (λ events. StandsFor (AreEventsOf (plan_value plan.now)) text.now (map event_entry events.items)) }
+    ensures ok { IfOk result (λ events. IsJsonTextOf (AreEventsOf (plan_value plan.now)) text.now (map event_entry events.items)) }
     ensures known { IfOk result (λ events. IsTrue (list_all (is_known_event (length plan.now.nodes.items)) (map event_entry events.items))) }
     ensures within { IfOk result (λ events. vec_len events ≤ 100000) }
     ensures refused { IfErr result (λ e. IsRefused (events (node_names (plan_value plan.now).nodes)) (AreEventsOf (plan_value plan.now)) text.now e) }
@@ -100,7 +100,7 @@ pub fn events_of_text(alloc: Global, plan: &Plan, text: &[u8]) -> Result<Vec<Eve
 /// The errors are those of `plan_of_text`, and `Device` where the source failed.
 pub fn read_plan<S: Source>(alloc: Global, source: &mut S) -> Result<Plan, PlanError>
     requires { HasRoom (S.account source.old) }
-    ensures ok { IfOk result (λ plan. Gave 16777216 (S.account source.old).bytes (S.account source.new).bytes (λ text. StandsFor IsPlanOf text (plan_value plan))) }
+    ensures ok { IfOk result (λ plan. Gave 16777216 (S.account source.old).bytes (S.account source.new).bytes (λ text. IsJsonTextOf IsPlanOf text (plan_value plan))) }
     ensures refused { IfErr result (λ e. GaveNoPlan (S.account source.old).bytes (S.account source.new).bytes e) }
     ensures stands { IfErr result (λ e. StandsBehindPulls (S.account source.old).bytes (S.account source.new).bytes e) }
     ensures counts { HasFailed (S.account source.old) (S.account source.new) (failed_count result) }
@@ -120,7 +120,7 @@ pub fn read_certificate<S: Source>(
 ) -> Result<Certificate, PlanError>
     requires { HasRoom (S.account source.old) }
     ensures ok { IfOk result (λ certificate. Gave 16777216 (S.account source.old).bytes (S.account source.new).bytes
-        (λ text. StandsFor (IsCertificateOf (plan_value plan.now)) text (certificate_value certificate))) }
+        (λ text. IsJsonTextOf (IsCertificateOf (plan_value plan.now)) text (certificate_value certificate))) }
     ensures known { IfOk result (λ certificate. IsTrue (are_known (length plan.now.nodes.items) (certificate_value certificate))) }
     ensures refused { IfErr result (λ e. GaveNoCertificate (plan_value plan.now) (S.account source.old).bytes (S.account source.new).bytes e) }
     ensures stands { IfErr result (λ e. StandsBehindPulls (S.account source.old).bytes (S.account source.new).bytes e) }
@@ -140,7 +140,7 @@ pub fn read_events<S: Source>(
 ) -> Result<Vec<Event>, PlanError>
     requires { HasRoom (S.account source.old) }
     ensures ok { IfOk result (λ events. Gave 16777216 (S.account source.old).bytes (S.account source.new).bytes
-        (λ text. StandsFor (AreEventsOf (plan_value plan.now)) text (map event_entry events.items))) }
+        (λ text. IsJsonTextOf (AreEventsOf (plan_value plan.now)) text (map event_entry events.items))) }
     ensures known { IfOk result (λ events. IsTrue (list_all (is_known_event (length plan.now.nodes.items)) (map event_entry events.items))) }
     ensures within { IfOk result (λ events. vec_len events ≤ 100000) }
     ensures refused { IfErr result (λ e. GaveNoEvents (plan_value plan.now) (S.account source.old).bytes (S.account source.new).bytes e) }
@@ -152,16 +152,16 @@ pub fn read_events<S: Source>(
 }
 
 /// The plan that a text stands for, where nothing in the text is unusual. Of any other text it says nothing.
-fn plan_at_once(alloc: Global, text: &[u8]) -> Option<Plan>
-    ensures told { IfSome result (λ plan. StandsFor IsPlanOf text.now (plan_value plan)) }
+pub fn plan_at_once(alloc: Global, text: &[u8]) -> Option<Plan>
+    ensures told { IfSome result (λ plan. IsJsonTextOf IsPlanOf text.now (plan_value plan)) }
     ensures within { IfSome result (λ _. length text.now ≤ 16777216) }
 {
     plain_plan(alloc, short_text(text)?)
 }
 
 /// The certificate that a text stands for, where nothing in the text is unusual. Of any other text it says nothing.
-fn certificate_at_once(alloc: Global, plan: &Plan, text: &[u8]) -> Option<Certificate>
-    ensures told { IfSome result (λ c. StandsFor (IsCertificateOf (plan_value plan.now)) text.now (certificate_value c)) }
+pub fn certificate_at_once(alloc: Global, plan: &Plan, text: &[u8]) -> Option<Certificate>
+    ensures told { IfSome result (λ c. IsJsonTextOf (IsCertificateOf (plan_value plan.now)) text.now (certificate_value c)) }
     ensures known { IfSome result (λ c. IsTrue (are_known (length plan.now.nodes.items) (certificate_value c))) }
     ensures within { IfSome result (λ _. length text.now ≤ 16777216) }
 {
@@ -169,8 +169,8 @@ fn certificate_at_once(alloc: Global, plan: &Plan, text: &[u8]) -> Option<Certif
 }
 
 /// The events that a text stands for, where nothing in the text is unusual. Of any other text it says nothing.
-fn events_at_once(alloc: Global, plan: &Plan, text: &[u8]) -> Option<Vec<Event>>
-    ensures told { IfSome result (λ events. StandsFor (AreEventsOf (plan_value plan.now)) text.now (map event_entry events.items)) }
+pub fn events_at_once(alloc: Global, plan: &Plan, text: &[u8]) -> Option<Vec<Event>>
+    ensures told { IfSome result (λ events. IsJsonTextOf (AreEventsOf (plan_value plan.now)) text.now (map event_entry events.items)) }
     ensures known { IfSome result (λ events. IsTrue (list_all (is_known_event (length plan.now.nodes.items)) (map event_entry events.items))) }
     ensures within { IfSome result (λ events. vec_len events ≤ 100000) }
     ensures short { IfSome result (λ _. length text.now ≤ 16777216) }
@@ -193,7 +193,7 @@ fn short_text(text: &[u8]) -> Option<&str>
 }
 
 /// The plan that the JSON value of a text is.
-fn plan_of_value(alloc: Global, value: &Value) -> Result<Plan, PlanError>
+pub fn plan_of_value(alloc: Global, value: &Value) -> Result<Plan, PlanError>
     ensures ok { IfOk result (λ plan. IsPlanOf (view value.now) (plan_value plan)) }
     ensures single { OnOk result (HasUniqueKeys (value_view value.now)) }
     ensures refused { IfErr result (λ e. IsNoneFor plan IsPlanOf (value_view value.now) e) }
@@ -202,7 +202,11 @@ fn plan_of_value(alloc: Global, value: &Value) -> Result<Plan, PlanError>
 }
 
 /// The certificate of a plan that the JSON value of a text is.
-fn certificate_of_value(alloc: Global, plan: &Plan, value: &Value) -> Result<Certificate, PlanError>
+pub fn certificate_of_value(
+    alloc: Global,
+    plan: &Plan,
+    value: &Value,
+) -> Result<Certificate, PlanError>
     ensures ok { IfOk result (λ certificate. IsCertificateOf (plan_value plan.now) (view value.now) (certificate_value certificate)) }
     ensures known { IfOk result (λ certificate. IsTrue (are_known (length plan.now.nodes.items) (certificate_value certificate))) }
     ensures single { OnOk result (HasUniqueKeys (value_view value.now)) }
@@ -212,7 +216,7 @@ fn certificate_of_value(alloc: Global, plan: &Plan, value: &Value) -> Result<Cer
 }
 
 /// The events at a plan's nodes that the JSON value of a text is.
-fn events_of_value(alloc: Global, plan: &Plan, value: &Value) -> Result<Vec<Event>, PlanError>
+pub fn events_of_value(alloc: Global, plan: &Plan, value: &Value) -> Result<Vec<Event>, PlanError>
     ensures ok { IfOk result (λ events. AreEventsOf (plan_value plan.now) (view value.now) (map event_entry events.items)) }
     ensures known { IfOk result (λ events. IsTrue (list_all (is_known_event (length plan.now.nodes.items)) (map event_entry events.items))) }
     ensures within { IfOk result (λ events. vec_len events ≤ 100000) }

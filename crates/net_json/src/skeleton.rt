@@ -19,9 +19,10 @@ use crate::naming::NodeName;
 use crate::plan_text::read_plan_value;
 use crate::row_parts::{NamedRow, NextRow};
 use crate::terminus_parts::next_terminus;
-use json::{Reader, Scratch, Value};
+use json::Value;
 use mctp_transport::Eid;
 use net_plan::{Node, Plan, PlannedTerminus, Row};
+use plain_json::{PlainReader, read_value};
 use std::alloc::Global;
 
 /// The rows of a node, whose next nodes are still names, and its terminus.
@@ -73,7 +74,7 @@ impl<'t> NodeParts<'t> {
     }
 
     #[inline(never)]
-    fn take_rows(&mut self, alloc: Global, reader: &mut Reader<'t>, depth: usize) -> Option<()>
+    fn take_rows(&mut self, alloc: Global, reader: &mut PlainReader<'t>, depth: usize) -> Option<()>
         ensures { IfSome result (λ _. IsMore depth (codes "rows") reader.old reader.new (AreNodeParts self.old) (AreNodeParts self.new)) }
     {
         if self.rows.is_some() {
@@ -86,7 +87,12 @@ impl<'t> NodeParts<'t> {
         Some(())
     }
 
-    fn take_terminus(&mut self, alloc: Global, reader: &mut Reader<'t>, depth: usize) -> Option<()>
+    fn take_terminus(
+        &mut self,
+        alloc: Global,
+        reader: &mut PlainReader<'t>,
+        depth: usize,
+    ) -> Option<()>
         ensures { IfSome result (λ _. IsMore depth (codes "terminus") reader.old reader.new (AreNodeParts self.old) (AreNodeParts self.new)) }
     {
         if self.terminus.is_some() {
@@ -102,16 +108,14 @@ impl<'t> NodeParts<'t> {
         &mut self,
         alloc: Global,
         key: &'t str,
-        reader: &mut Reader<'t>,
+        reader: &mut PlainReader<'t>,
         depth: usize,
     ) -> Option<()>
         requires terminus { bytes_eq key.now (codes "terminus") ≡ false }
         requires rows { bytes_eq key.now (codes "rows") ≡ false }
         ensures { IfSome result (λ _. IsMore depth key.now reader.old reader.new (AreNodeParts self.old) (AreNodeParts self.new)) }
     {
-        let Ok(value) = Value::read(alloc, reader, depth) else {
-            return None;
-        };
+        let value = read_value(alloc, reader, depth)?;
         note(&mut self.found, key, value)
     }
 }
@@ -127,7 +131,7 @@ impl<'t> Gather<'t> for NodeParts<'t> {
         &mut self,
         alloc: Global,
         key: &'t str,
-        reader: &mut Reader<'t>,
+        reader: &mut PlainReader<'t>,
         depth: usize,
     ) -> Option<()> {
         if key == "terminus" {
@@ -152,7 +156,7 @@ impl<'t> NextItem<'t> for NextNode {
     fn next_item(
         &self,
         alloc: Global,
-        reader: &mut Reader<'t>,
+        reader: &mut PlainReader<'t>,
         depth: usize,
     ) -> Option<NodeSkeleton<'t>> {
         next_node(alloc, reader, depth)
@@ -160,7 +164,11 @@ impl<'t> NextItem<'t> for NextNode {
 }
 
 /// The next value, where it is an object, as that of a node.
-fn next_node<'t>(alloc: Global, reader: &mut Reader<'t>, depth: usize) -> Option<NodeSkeleton<'t>>
+fn next_node<'t>(
+    alloc: Global,
+    reader: &mut PlainReader<'t>,
+    depth: usize,
+) -> Option<NodeSkeleton<'t>>
     ensures { IfSome result (λ s. IsThere depth reader.old reader.new (λ j. IsNodeSkeleton j s)) }
 {
     let mut parts = NodeParts::none(alloc);
@@ -217,7 +225,12 @@ impl<'t> PlanParts<'t> {
         }
     }
 
-    fn take_nodes(&mut self, alloc: Global, reader: &mut Reader<'t>, depth: usize) -> Option<()>
+    fn take_nodes(
+        &mut self,
+        alloc: Global,
+        reader: &mut PlainReader<'t>,
+        depth: usize,
+    ) -> Option<()>
         ensures { IfSome result (λ _. IsMore depth (codes "nodes") reader.old reader.new (ArePlanParts self.old) (ArePlanParts self.new)) }
     {
         if self.parts.is_some() {
@@ -234,15 +247,13 @@ impl<'t> PlanParts<'t> {
         &mut self,
         alloc: Global,
         key: &'t str,
-        reader: &mut Reader<'t>,
+        reader: &mut PlainReader<'t>,
         depth: usize,
     ) -> Option<()>
         requires { bytes_eq key.now (codes "nodes") ≡ false }
         ensures { IfSome result (λ _. IsMore depth key.now reader.old reader.new (ArePlanParts self.old) (ArePlanParts self.new)) }
     {
-        let Ok(value) = Value::read(alloc, reader, depth) else {
-            return None;
-        };
+        let value = read_value(alloc, reader, depth)?;
         note(&mut self.found, key, value)
     }
 }
@@ -258,7 +269,7 @@ impl<'t> Gather<'t> for PlanParts<'t> {
         &mut self,
         alloc: Global,
         key: &'t str,
-        reader: &mut Reader<'t>,
+        reader: &mut PlainReader<'t>,
         depth: usize,
     ) -> Option<()> {
         if key == "nodes" {
@@ -277,15 +288,11 @@ struct PlanSkeleton<'t> {
 }
 
 /// The skeleton of the plan that a text is.
-fn skeleton_of<'t>(
-    alloc: Global,
-    text: &'t str,
-    scratch: &'t mut Scratch,
-) -> Option<PlanSkeleton<'t>>
+fn skeleton_of<'t>(alloc: Global, text: &'t str) -> Option<PlanSkeleton<'t>>
     ensures { IfSome result (λ s. IsPlanSkeleton text.now s) }
 {
     let mut parts = PlanParts::none(alloc);
-    read_text(alloc, &mut parts, text, scratch)?;
+    read_text(alloc, &mut parts, text)?;
     let PlanParts { found, parts } = parts;
     let parts = parts?;
     let value = Value::Object(found);
@@ -299,8 +306,7 @@ fn skeleton_of<'t>(
 pub fn plain_plan(alloc: Global, text: &str) -> Option<Plan>
     ensures { IfSome result (λ plan. IsPlainText IsPlanOf text.now (plan_value plan)) }
 {
-    let mut scratch = Scratch::new(alloc);
-    let skeleton = skeleton_of(alloc, text, &mut scratch)?;
+    let skeleton = skeleton_of(alloc, text)?;
     let PlanSkeleton { value, parts } = skeleton;
     let Ok(plan) = read_plan_value(alloc, &value) else {
         return None;
@@ -405,31 +411,14 @@ fn with_parts(alloc: Global, nodes: Vec<Node>, parts: Vec<PlacedParts>) -> Optio
 }
 
 /// A node with these rows and this terminus.
-fn with_part(node: Node, part: PlacedParts) -> Option<Node>
+fn with_part(mut node: Node, part: PlacedParts) -> Option<Node>
     ensures { IfSome result (λ n. node_value n ≡ with_part (node_value node) (placed_value part)) }
 {
     let PlacedParts { rows, terminus } = part;
     if rows.len() > 256 {
         return None;
     }
-    let Node {
-        name,
-        kind,
-        eid,
-        owner,
-        pool,
-        ports,
-        rows: _,
-        terminus: _,
-    } = node;
-    Some(Node {
-        name,
-        kind,
-        eid,
-        owner,
-        pool,
-        ports,
-        rows,
-        terminus,
-    })
+    node.rows = rows;
+    node.terminus = terminus;
+    Some(node)
 }

@@ -7,7 +7,7 @@ ghost use Rattle.serde_json.specs.Written.{compact_text};
 ghost use Rattle.net_plan.specs.CertificateValues.{certificate_value};
 ghost use Rattle.net_plan.specs.PlanValues.{node_names, plan_value};
 ghost use Rattle.net_json.specs.CertificateText.{IsCertificateOf};
-ghost use Rattle.net_json.specs.Texts.{StandsFor, HasSingleKeys};
+ghost use Rattle.net_json.specs.Texts.{IsJsonTextOf, HasSingleKeys};
 ghost use Rattle.net_plan.specs.ShortText.{HasFewPlaces};
 ghost use Rattle.net_plan.specs.WellFormed.{IsWellFormed};
 ghost use Rattle.net_json.specs.Stream.{HasRoom, HasFailed, AppendsBeginning};
@@ -30,7 +30,7 @@ pub fn text_of_certificate(
 ) -> Result<String, AllocError>
     ensures text { IfOk result (λ text. string_bytes text ≡ certificate_text (node_names (plan_value plan.now).nodes) (certificate_value certificate.now)) }
     ensures reads_back { IfOk result (λ text. IsWellFormed (plan_value plan.now) (certificate_value certificate.now)
-        → StandsFor (IsCertificateOf (plan_value plan.now)) (string_bytes text) (certificate_value certificate.now)) }
+        → IsJsonTextOf (IsCertificateOf (plan_value plan.now)) (string_bytes text) (certificate_value certificate.now)) }
     ensures short { IfOk result (λ text. IsWellFormed (plan_value plan.now) (certificate_value certificate.now)
         → HasFewPlaces (certificate_value certificate.now) → length (string_bytes text) ≤ 2097152) }
 {
@@ -63,7 +63,7 @@ pub fn write_certificate<S: Sink>(
     ensures written { OnOk result (Appends (S.account sink.old).bytes (S.account sink.new).bytes
         (certificate_text (node_names (plan_value plan.now).nodes) (certificate_value certificate.now))) }
     ensures reads_back { OnOk result (IsWellFormed (plan_value plan.now) (certificate_value certificate.now)
-        → StandsFor (IsCertificateOf (plan_value plan.now)) (certificate_text (node_names (plan_value plan.now).nodes) (certificate_value certificate.now))
+        → IsJsonTextOf (IsCertificateOf (plan_value plan.now)) (certificate_text (node_names (plan_value plan.now).nodes) (certificate_value certificate.now))
         (certificate_value certificate.now)) }
     ensures no_memory { IfErr result (λ e. (e ≡ PlanError.Device) ⊎ ((e ≡ PlanError.OutOfMemory) × (sink.new ≡ sink.old))) }
     ensures beginning { IfErr result (λ e. e ≡ PlanError.Device → AppendsBeginning (S.account sink.old).bytes (S.account sink.new).bytes

@@ -1,7 +1,6 @@
 -- Two lists of which each item has the same value.
 use Rattle.std.proofs.Common.{◌≡◌, ℕ, suc, ◌<◌, ◌≤◌, List, [], ◌∷◌, length, get_or, Some, refl, sym, ◌∙◌, ap, arith}
 use Rattle.std.specs.Prelude.{map, slice_get, option_map}
-use Rattle.std.proofs.lemmas.List.{length-map}
 use Rattle.std.proofs.lemmas.Option.{same_Some, slice_get_read, slice_get_past, slice_get-map}
 
 -- the items at one place have the same value
@@ -35,6 +34,3 @@ others_here f xs ys k x y within others at there not same =
     let one : slice_get (map f xs) k ≡ Some (f x) = slice_get-map f xs k ∙ ap (option_map f) (slice_get_read xs (length xs) k x refl within at) in
     let other : slice_get (map f ys) k ≡ Some (f y) = slice_get-map f ys k ∙ ap (option_map f) (slice_get_read ys (length ys) k y refl others there) in
     not (same_Some (f x) (f y) (sym one ∙ ap (λ zs. slice_get zs k) same ∙ other))
-
-pub other_lengths : {A B : Type 0} (f : A → B) (xs ys : List A) → ¬ (length xs ≡ length ys) → ¬ (map f xs ≡ map f ys)
-other_lengths f xs ys not same = not (sym (length-map xs f) ∙ ap length same ∙ length-map ys f)

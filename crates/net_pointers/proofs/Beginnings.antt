@@ -1,7 +1,7 @@
 -- What is found where so many tokens are left.
-use Rattle.std.proofs.Common.{◌≡◌, ◌≢◌, ◌<◌, ◌∷◌, ℕ, List, [], Option, Some, None, option_and_then, length, refl, sym, ap, ◌∙◌, subst}
-use Rattle.std.specs.Prelude.{Result, Ok, Err, IfOk, IfSome, IsSome, IsSomeAnd, ⊤}
-use Rattle.json.specs.Json.{Json, Members, object, value, if_last}
+use Rattle.std.proofs.Common.{◌≡◌, ◌≢◌, ◌<◌, ◌∷◌, ℕ, List, [], Option, Some, None, option_and_then, length, refl, sym, ap, ◌∙◌}
+use Rattle.std.specs.Prelude.{Result, Ok, Err, IfOk, IfSome, IsSome, IsSomeAnd}
+use Rattle.json.specs.Json.{Json, Members, object, if_last}
 use Rattle.json.specs.Lex.{tokens}
 use Rattle.json.specs.Strict.{keys}
 use Rattle.json.specs.Token.{Token}

@@ -1,10 +1,10 @@
 -- What is left of the tokens once some were passed is their end.
-use Rattle.std.proofs.Common.{◌≡◌, ◌≤◌, ◌-◌, ◌+◌, ℕ, zero, suc, List, [], ◌∷◌, ◌++◌, length, drop, Option, Some, None, option_map, option_and_then, refl, sym, ap, ◌∙◌, subst, arith}
+use Rattle.std.proofs.Common.{◌≡◌, ◌≤◌, ◌-◌, ◌+◌, ℕ, zero, suc, List, [], ◌∷◌, ◌++◌, length, drop, Option, Some, None, option_and_then, refl, sym, ap, ◌∙◌, arith}
 use Rattle.std.proofs.lemmas.List.{append_assoc, length-append}
 use Rattle.std.proofs.Math.Seq.{drop-append_seam}
 use Rattle.json.specs.Token.{Token}
 use Rattle.json.specs.Json.{Json, array, object, Items, item, Members, member, Parse, parse_map, after_end_array, read_key, items_step, members_step, items, members, value_with, value, skip_value}
-use Rattle.json.proofs.Grammar.{left, left-parse_map, closed_array, read_key_is, key_token}
+use Rattle.json.proofs.Grammar.{left, left-parse_map, closed_array, read_key_is}
 use Rattle.json.proofs.Found.{Some_inj, not_found}
 use Rattle.net_pointers.specs.Scans.{Ends}
 use Rattle.net_pointers.specs.PartTokens.{past_items, past_key, past_members, from_key, from_part, from_path}

@@ -1,5 +1,5 @@
 -- What is wrong with a certificate in which no value is.
-use Rattle.std.proofs.Common.{◌≡◌, ◌≢◌, ◌+◌, ℕ, List, [], length, Bool, true, false, ◌&&◌, nat_le, codes, Some, None, Result, Ok, Err, refl, sym, ap, ◌∙◌}
+use Rattle.std.proofs.Common.{◌≡◌, ◌+◌, inl, inr, ℕ, List, [], ◌∷◌, length, Bool, true, false, ◌&&◌, nat_le, codes, Some, None, Result, Ok, Err, refl, sym, ap, ◌∙◌}
 use Rattle.std.specs.Bool.{⊤}
 use Rattle.std.specs.List.{list_all}
 use Rattle.std.proofs.lemmas.Option.{none-some}
@@ -9,8 +9,8 @@ use Rattle.net_json.specs.CertificateReading.{nodes_differ, ascends, entries_dif
 use Rattle.net_plan.specs.CertificateValues.{are_known, CertificateValue, NodeRanksValue}
 use Rattle.net_json.specs.Finding.{Located, first_fault, refused}
 use Rattle.net_json.specs.Fitting.{EachIs, HasAt, Fits}
-use Rattle.net_json.specs.Json.{demand, found, at_key, whole_number}
-use Rattle.net_json.specs.Made.{number_at, each_made, each_in, found_or, range_made, ranks_made, certificate_made}
+use Rattle.net_json.specs.Json.{demand, found, at_key}
+use Rattle.net_json.specs.Made.{each_made, each_in, found_or, range_made, ranks_made, certificate_made}
 use Rattle.net_json.specs.Names.{index_among, names_differ}
 use Rattle.net_json.specs.Reading.{then_with}
 use Rattle.net_json.specs.Refusals.{IsWellButForNames}
@@ -20,17 +20,13 @@ use Rattle.net_json.specs.declared.error.ValueFault.TheVariants.{UnknownName, Do
 use Rattle.net_json.proofs.CertificateLaw.{ends, range_makes, entries_makes}
 use Rattle.net_json.proofs.Fitting.{none_fits, fits_none}
 use Rattle.net_json.proofs.WordsLaw.{number_at as number_told}
-use Rattle.net_pointers.specs.Ascending.{ranges_ascend, list_ascends, entries_ascend, ranks_ascend}
-use Rattle.net_pointers.specs.CertificateTroubles.{known_nodes, nodes_in, nodes_at, list_key, number_or_zero, first_in, end_in, IsFaultOfCertificate}
-use Rattle.net_pointers.specs.declared.certificates.CertificateList.{CertificateList}
-use Rattle.net_pointers.specs.declared.certificates.CertificateList.TheVariants.{Levels, Places, Ranks}
-use Rattle.net_pointers.proofs.Leads.{leads}
-use Rattle.net_pointers.proofs.Unknown.{unknown_left}
-
--- the value that is found has the fault for which the certificate is refused
-pub found_in_certificate : (nodes : List (List ℕ)) (d : Data) (l : Located) → first_fault None a_certificate d ≡ Some l → IsFaultOfCertificate nodes d l
-found_in_certificate nodes d l e =
-    (ap (λ o. then_with (refused o) (λ _. then_with (entries_differ d) (λ _. tested (length nodes) (certificate_made (index_among nodes) d)))) e, leads None a_certificate d l e, e)
+use Rattle.net_pointers.specs.Ascending.{ranges_ascend, list_ascends, entries_ascend, ranks_ascend, number_or_zero, first_in, end_in}
+use Rattle.net_pointers.specs.Asks.{DoDiffer, IsDoubledIn, asks_of, certificate_text, known_nodes, list_names, texts_in}
+use Rattle.net_pointers.specs.declared.doubled.TwoIndices.{TwoIndices}
+use Rattle.net_pointers.specs.declared.order.NameList.{NameList}
+use Rattle.net_pointers.specs.declared.order.NameList.TheVariants.{Levels, Places, Ranks}
+use Rattle.net_pointers.proofs.Doubling.{first_differs}
+use Rattle.net_pointers.proofs.Told.{Says}
 
 -- ---- what the tests of the whole say
 
@@ -65,28 +61,21 @@ module _ (nodes : List (List ℕ)) where
       ap (λ o. list_all (λ (r : NodeRanksValue). ascends 0 r.ranges) (found_or [] (each_in (ranks_made find)) o)) stands ∙ sym (entries_made at.2.0 at.2.3) ∙ ap ranks_ascend (sym stands)
 
 -- what a test of names says of a list that is there
-differ_at : (k : List ℕ) (d : Data) (P : Data → Type 0) → HasAt k P d → at_key k nodes_differ d ≡ demand Doubled (names_differ (nodes_at k d))
-differ_at k d P h = ap (λ o. then_with (found o) nodes_differ) h.1 ∙ ap (λ o. demand Doubled (names_differ (nodes_in o))) (sym h.1)
+differ_at : (k : List ℕ) (d : Data) (P : Data → Type 0) → HasAt k P d → at_key k nodes_differ d ≡ demand Doubled (names_differ (texts_in (codes "node") (get k d)))
+differ_at k d P h = ap (λ o. then_with (found o) nodes_differ) h.1 ∙ ap (λ o. demand Doubled (names_differ (texts_in (codes "node") o))) (sym h.1)
 
 -- ---- what is told then
 
 abbrev three : (a b c : Bool) → Result ⊤ ValueFault
 three a b c = then_with (demand Doubled a) (λ _. then_with (demand Doubled b) (λ _. demand Doubled c))
 
-second_doubled : (a b c : Bool) → b ≡ false → three a b c ≡ Err Doubled
-second_doubled false b c e = refl
-second_doubled true b c e = ap (λ b. then_with (demand Doubled b) (λ _. demand Doubled c)) e
-
-third_doubled : (a b c : Bool) → c ≡ false → three a b c ≡ Err Doubled
-third_doubled false b c e = refl
-third_doubled true false c e = refl
-third_doubled true true c e = ap (demand Doubled) e
-
-entries_doubled : (d : Data) (list : CertificateList) → names_differ (nodes_at (list_key list) d) ≡ false
-    → three (names_differ (nodes_at (codes "levels") d)) (names_differ (nodes_at (codes "places") d)) (names_differ (nodes_at (codes "ranks") d)) ≡ Err Doubled
-entries_doubled d Levels e = ap (λ a. three a (names_differ (nodes_at (codes "places") d)) (names_differ (nodes_at (codes "ranks") d))) e
-entries_doubled d Places e = second_doubled (names_differ (nodes_at (codes "levels") d)) (names_differ (nodes_at (codes "places") d)) (names_differ (nodes_at (codes "ranks") d)) e
-entries_doubled d Ranks e = third_doubled (names_differ (nodes_at (codes "levels") d)) (names_differ (nodes_at (codes "places") d)) (names_differ (nodes_at (codes "ranks") d)) e
+-- one of the lists names a node twice
+entries_doubled : (d : Data) (list : NameList) (indices : TwoIndices) → IsDoubledIn (Levels ∷ Places ∷ Ranks ∷ []) list indices d
+    → three (names_differ (list_names Levels d)) (names_differ (list_names Places d)) (names_differ (list_names Ranks d)) ≡ Err Doubled
+entries_doubled d list indices (inl h) = rw (first_differs (list_names Levels d) indices h.1) refl
+entries_doubled d list indices (inr (one, inl h)) = rw (one, first_differs (list_names Places d) indices h.1) refl
+entries_doubled d list indices (inr (one, inr (other, inl h))) = rw (one, other, first_differs (list_names Ranks d) indices h.1) refl
+entries_doubled d list indices (inr (one, inr (other, inr h))) = absurd h.1
 
 module _ (nodes : List (List ℕ)) (d : Data) (none : first_fault None a_certificate d ≡ None) where
   loose : Fits None a_certificate d
@@ -104,39 +93,49 @@ module _ (nodes : List (List ℕ)) (d : Data) (none : first_fault None a_certifi
       ap (λ o. then_with (refused o) (λ _. then_with (entries_differ d) (λ _. tested (length nodes) made))) none ∙ ap (λ r. tests r (list_all (λ r. ascends 0 r.ranges) made.ranks)) e
       ∙ ap (tests r) (ranks_apart nodes d loose)
 
-  are_tested : entries_differ d ≡ three (names_differ (nodes_at (codes "levels") d)) (names_differ (nodes_at (codes "places") d)) (names_differ (nodes_at (codes "ranks") d))
+  are_tested : entries_differ d ≡ three (names_differ (list_names Levels d)) (names_differ (list_names Places d)) (names_differ (list_names Ranks d))
   unfolding entries_differ
   are_tested = rw (differ_at (codes "levels") d _ loose.1.1.0, differ_at (codes "places") d _ loose.1.1.1.0, differ_at (codes "ranks") d _ loose.1.1.1.1.0) refl
 
-  pub node_doubled : (list : CertificateList) → names_differ (nodes_at (list_key list) d) ≡ false → certificate nodes d ≡ Err Doubled
-  node_doubled list e = decided (Err Doubled) (are_tested ∙ entries_doubled d list e)
+  node_doubled : (list : NameList) (indices : TwoIndices) → IsDoubledIn (Levels ∷ Places ∷ Ranks ∷ []) list indices d → certificate nodes d ≡ Err Doubled
+  node_doubled list indices h = decided (Err Doubled) (are_tested ∙ entries_doubled d list indices h)
 
   -- no list has two entries of one node
-  abbrev pub AreSingle : Type 0
-  AreSingle = (names_differ (nodes_at (codes "levels") d) ≡ true) × (names_differ (nodes_at (codes "places") d) ≡ true) × (names_differ (nodes_at (codes "ranks") d) ≡ true)
+  abbrev AreSingle : Type 0
+  AreSingle = DoDiffer (Levels ∷ Places ∷ Ranks ∷ []) d
 
   single_read : AreSingle → entries_differ d ≡ Ok tt
-  single_read h = are_tested ∙ rw (h.0, h.1, h.2) refl
+  single_read h = are_tested ∙ rw (h.0, h.1.0, h.1.1.0) refl
 
-  pub overlapping : AreSingle → ranks_ascend (get (codes "ranks") d) ≡ false → certificate nodes d ≡ Err Doubled
+  overlapping : AreSingle → ranks_ascend (get (codes "ranks") d) ≡ false → certificate nodes d ≡ Err Doubled
   overlapping h e = decided (Ok tt) (single_read h) ∙ ap (tests (Ok tt)) e
 
   apart : AreSingle → ranks_ascend (get (codes "ranks") d) ≡ true → certificate nodes d ≡ then_with (demand UnknownName (are_known (length nodes) made)) (λ _. Ok made)
   apart h e = decided (Ok tt) (single_read h) ∙ ap (tests (Ok tt)) e
 
-  pub well_but_names : AreSingle → ranks_ascend (get (codes "ranks") d) ≡ true → IsWellButForNames (certificate nodes) d
+  well_but_names : AreSingle → ranks_ascend (get (codes "ranks") d) ≡ true → IsWellButForNames (certificate nodes) d
   well_but_names h e = λ f refused. by (are_known (length nodes) made) made f (sym (apart h e) ∙ refused)
     where
       by : (b : Bool) (c : CertificateValue) (f : ValueFault) → then_with (demand UnknownName b) (λ _. Ok c) ≡ Err f → f ≡ UnknownName
       by true c f e = cc
       by false c f e = cc
 
-  pub unknown_node : AreSingle → ranks_ascend (get (codes "ranks") d) ≡ true → (l : Located) → first_fault (Some (known_nodes nodes)) a_certificate d ≡ Some l → (certificate nodes d ≡ Err UnknownName) × (l.fault ≡ UnknownName)
-  unknown_node h e l found = (apart h e ∙ by (are_known (length nodes) made) refl, unknown_left (known_nodes nodes) a_certificate d loose l found)
+  unknown_node : AreSingle → ranks_ascend (get (codes "ranks") d) ≡ true → (l : Located) → first_fault (Some (known_nodes nodes)) a_certificate d ≡ Some l → certificate nodes d ≡ Err UnknownName
+  unknown_node h e l found = apart h e ∙ by (are_known (length nodes) made) refl
     where
       by : (b : Bool) → are_known (length nodes) made ≡ b → then_with (demand UnknownName b) (λ _. Ok made) ≡ Err UnknownName
       by true all = absurd (none-some l (sym (fits_none (Some (known_nodes nodes)) a_certificate d ((entries_makes nodes).known d loose all)) ∙ found))
       by false all = refl
 
-  pub is_read : AreSingle → ranks_ascend (get (codes "ranks") d) ≡ true → first_fault (Some (known_nodes nodes)) a_certificate d ≡ None → (c : CertificateValue) × (certificate nodes d ≡ Ok c)
+  is_read : AreSingle → ranks_ascend (get (codes "ranks") d) ≡ true → first_fault (Some (known_nodes nodes)) a_certificate d ≡ None → (c : CertificateValue) × (certificate nodes d ≡ Ok c)
   is_read h e found = (made, apart h e ∙ ap (λ b. then_with (demand UnknownName b) (λ _. Ok made)) ((entries_makes nodes).passes d (none_fits (Some (known_nodes nodes)) a_certificate d found)))
+
+pub certificate_says : (nodes : List (List ℕ)) (d : Data) → Says (certificate nodes) (asks_of (certificate_text nodes) d) d
+certificate_says nodes d = record {
+  value = λ l e. ap (λ o. then_with (refused o) (λ _. then_with (entries_differ d) (λ _. tested (length nodes) (certificate_made (index_among nodes) d)))) e;
+  doubled = λ right list indices h. node_doubled nodes d right list indices h;
+  overlapping = λ once e apart. overlapping nodes d once.0 once.1 apart;
+  well = λ h. well_but_names nodes d h.0.0 h.0.1 (h.1 refl);
+  unknown = λ h l told. unknown_node nodes d h.0.0 h.0.1 (h.1 refl) l told;
+  read = λ h told. is_read nodes d h.0.0 h.0.1 (h.1 refl) told;
+}

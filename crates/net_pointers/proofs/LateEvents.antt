@@ -1,5 +1,5 @@
 -- What is wrong with events of which no value is.
-use Rattle.std.proofs.Common.{◌≡◌, ℕ, List, length, Bool, true, false, Some, None, Ok, Err, refl, sym, ap, ◌∙◌}
+use Rattle.std.proofs.Common.{◌≡◌, ℕ, List, length, Bool, true, false, Some, None, Ok, Err, refl, sym, ap, ◌∙◌, true≢false}
 use Rattle.std.proofs.lemmas.Option.{none-some}
 use Rattle.std.specs.List.{list_all}
 use Rattle.serde_json.specs.Data.{Data}
@@ -17,15 +17,8 @@ use Rattle.net_json.specs.declared.error.ValueFault.TheVariants.{UnknownName}
 use Rattle.net_json.proofs.EventLaw.{strictly, pass}
 use Rattle.net_json.proofs.Fitting.{none_fits, fits_none}
 use Rattle.net_plan.specs.EventValues.{EventEntry, is_known_event}
-use Rattle.net_pointers.specs.CertificateTroubles.{known_nodes}
-use Rattle.net_pointers.specs.EventTroubles.{IsFaultOfEvents}
-use Rattle.net_pointers.proofs.Leads.{leads}
-use Rattle.net_pointers.proofs.Unknown.{unknown_left}
-
--- the value that is found has the fault for which the events are refused
-pub found_in_events : (nodes : List (List ℕ)) (d : Data) (l : Located) → first_fault None (events_in (events_format d)) d ≡ Some l → IsFaultOfEvents nodes d l
-found_in_events nodes d l e =
-    (ap (λ o. then_with (refused o) (λ _. events_tested (length nodes) (events_made (index_among nodes) d))) e, leads None (events_in (events_format d)) d l e, e)
+use Rattle.net_pointers.specs.Asks.{asks_of, events_text, known_nodes}
+use Rattle.net_pointers.proofs.Told.{Says}
 
 only_names : (b : Bool) (es : List EventEntry) (f : ValueFault) → then_with (demand UnknownName b) (λ _. Ok es) ≡ Err f → f ≡ UnknownName
 only_names true es f e = cc
@@ -45,15 +38,25 @@ module _ (nodes : List (List ℕ)) (d : Data) (none : first_fault None (events_i
   decided : events nodes d ≡ then_with (demand UnknownName all_known) (λ _. Ok made)
   decided = ap (λ o. then_with (refused o) (λ _. events_tested (length nodes) made)) none
 
-  pub late_well : IsWellButForNames (events nodes) d
+  late_well : IsWellButForNames (events nodes) d
   late_well = λ f e. only_names all_known made f (sym decided ∙ e)
 
-  pub late_unknown : (l : Located) → first_fault (Some (known_nodes nodes)) (events_in (events_format d)) d ≡ Some l → (events nodes d ≡ Err UnknownName) × (l.fault ≡ UnknownName)
-  late_unknown l told = (decided ∙ by all_known refl, unknown_left (known_nodes nodes) (events_in (events_format d)) d loose l told)
+  late_unknown : (l : Located) → first_fault (Some (known_nodes nodes)) (events_in (events_format d)) d ≡ Some l → events nodes d ≡ Err UnknownName
+  late_unknown l told = decided ∙ by all_known refl
     where
       by : (b : Bool) → all_known ≡ b → then_with (demand UnknownName b) (λ _. Ok made) ≡ Err UnknownName
       by true all = absurd (none-some l (sym (fits_none (Some (known_nodes nodes)) (events_in (events_format d)) d (strictly nodes d loose all)) ∙ told))
       by false all = refl
 
-  pub late_read : first_fault (Some (known_nodes nodes)) (events_in (events_format d)) d ≡ None → (es : List EventEntry) × (events nodes d ≡ Ok es)
+  late_read : first_fault (Some (known_nodes nodes)) (events_in (events_format d)) d ≡ None → (es : List EventEntry) × (events nodes d ≡ Ok es)
   late_read told = (made, decided ∙ ap (λ b. then_with (demand UnknownName b) (λ _. Ok made)) (pass nodes d (none_fits (Some (known_nodes nodes)) (events_in (events_format d)) d told)))
+
+pub events_say : (nodes : List (List ℕ)) (d : Data) → Says (events nodes) (asks_of (events_text nodes) d) d
+events_say nodes d = record {
+  value = λ l e. ap (λ o. then_with (refused o) (λ _. events_tested (length nodes) (events_made (index_among nodes) d))) e;
+  doubled = λ right list indices h. absurd h;
+  overlapping = λ once e apart. absurd (true≢false (sym e));
+  well = λ h. late_well nodes d h.0.0;
+  unknown = λ h l told. late_unknown nodes d h.0.0 l told;
+  read = λ h told. late_read nodes d h.0.0 told;
+}

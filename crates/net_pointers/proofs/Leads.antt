@@ -114,19 +114,19 @@ mutual
       outward known (an_object rule fs) led.1 (key led.0) d led.2 led.3 l led.4 led.5 led.6 led.7
   below known (a_choice k g cs) d l e = by (λ v m. either known g v m (below known g v m)) (λ word. choices_lead known cs word d l) (get k d) refl e
     where
-      Here : Type 0
-      Here = (v : Data) (m : Located) → first_fault known g v ≡ Some m → HasFaultAt known g v m
+      Deliver : Type 0
+      Deliver = (v : Data) (m : Located) → first_fault known g v ≡ Some m → HasFaultAt known g v m
 
       Later : Type 0
       Later = (word : List ℕ) → in_choices known cs word d ≡ Some l → ChoiceLed known cs d l
 
-      at_it : Here → Later → (v : Data) → get k d ≡ Some v → (o : Option Located) → first_fault known g v ≡ o → option_or (under (key k) o) (in_choices known cs (text_of v) d) ≡ Some l → HasFaultIn known (a_choice k g cs) d l
+      at_it : Deliver → Later → (v : Data) → get k d ≡ Some v → (o : Option Located) → first_fault known g v ≡ o → option_or (under (key k) o) (in_choices known cs (text_of v) d) ≡ Some l → HasFaultIn known (a_choice k g cs) d l
       at_it h later v there (Some m) found e = outward known (a_choice k g cs) g (key k) d v m l there (inl (refl, refl)) (h v m found) (sym (same_Some _ _ e))
       at_it h later v there None found e =
           let led = later (text_of v) e in
           record { stands = led.3.stands; leads = led.3.leads; expected = word_in k g cs led.0 led.1 l.pointer l.grammar led.2 led.3.expected; faulty = led.3.faulty }
 
-      by : Here → Later → (o : Option Data) → get k d ≡ o → option_and_then (λ v. option_or (under (key k) (first_fault known g v)) (in_choices known cs (text_of v) d)) o ≡ Some l → HasFaultIn known (a_choice k g cs) d l
+      by : Deliver → Later → (o : Option Data) → get k d ≡ o → option_and_then (λ v. option_or (under (key k) (first_fault known g v)) (in_choices known cs (text_of v) d)) o ≡ Some l → HasFaultIn known (a_choice k g cs) d l
       by h later None there e = absurd (none-some l e)
       by h later (Some v) there e = at_it h later v there (first_fault known g v) refl e
 
@@ -146,19 +146,19 @@ mutual
       Later : Type 0
       Later = in_fields known fs d ≡ Some l → FieldLed known fs d l
 
-      Here : Type 0
-      Here = (v : Data) (m : Located) → first_fault known g v ≡ Some m → HasFaultAt known g v m
+      Deliver : Type 0
+      Deliver = (v : Data) (m : Located) → first_fault known g v ≡ Some m → HasFaultAt known g v m
 
       after : Later → in_fields known fs d ≡ Some l → FieldLed known (field k g fs) d l
       after later e =
           let led = later e in
           (led.0, led.1, led.2, led.3, led.4, inr led.5, led.6, led.7)
 
-      at_it : Later → Here → (v : Data) → get k d ≡ Some v → (o : Option Located) → first_fault known g v ≡ o → option_or (under (key k) o) (in_fields known fs d) ≡ Some l → FieldLed known (field k g fs) d l
+      at_it : Later → Deliver → (v : Data) → get k d ≡ Some v → (o : Option Located) → first_fault known g v ≡ o → option_or (under (key k) o) (in_fields known fs d) ≡ Some l → FieldLed known (field k g fs) d l
       at_it later h v there (Some m) found e = (k, g, v, m, there, inl (refl, refl), h v m found, sym (same_Some _ _ e))
       at_it later h v there None found e = after later e
 
-      by : Later → Here → (o : Option Data) → get k d ≡ o → option_or (under (key k) (option_and_then (first_fault known g) o)) (in_fields known fs d) ≡ Some l → FieldLed known (field k g fs) d l
+      by : Later → Deliver → (o : Option Data) → get k d ≡ o → option_or (under (key k) (option_and_then (first_fault known g) o)) (in_fields known fs d) ≡ Some l → FieldLed known (field k g fs) d l
       by later h None there e = after later e
       by later h (Some v) there e = at_it later h v there (first_fault known g v) refl e
 

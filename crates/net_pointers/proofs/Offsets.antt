@@ -15,7 +15,7 @@ use Rattle.net_pointers.specs.Paths.{path_of}
 use Rattle.net_pointers.specs.Doubles.{part_at}
 use Rattle.net_json.specs.Finding.{Step}
 use Rattle.net_pointers.specs.Pointers.{value_at}
-use Rattle.net_pointers.proofs.Paths.{Leads, path_leads}
+use Rattle.net_pointers.proofs.Paths.{path_leads}
 use Rattle.net_pointers.proofs.Readings.{path_read, path_key_read}
 
 last : (o : Option (Json × List Token)) (j : Json) → option_and_then (λ p. if_last p.0 p.1) o ≡ Some j → o ≡ Some (j, [])

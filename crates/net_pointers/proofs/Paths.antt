@@ -23,16 +23,6 @@ added : (front : List ℕ) (i : ℕ) (o : Option (List ℕ)) → option_map (λ 
 added front i None = refl
 added front i (Some is) = ap Some (append_assoc front (i ∷ []) is)
 
-added_at : (front : List ℕ) (i : ℕ) (ss : List Step) (o : Option Json)
-    → option_and_then (λ e. option_map (λ is. (front ++ i ∷ []) ++ is) (path_of ss e)) o ≡ option_map (λ is. front ++ is) (option_and_then (λ e. option_map (λ is. i ∷ is) (path_of ss e)) o)
-added_at front i ss None = refl
-added_at front i ss (Some e) = added front i (path_of ss e)
-
-pub one_step : (front : List ℕ) (i : ℕ) (s : Step) (ss : List Step) (j : Json) → index_after s j ≡ Some i
-    → option_and_then (λ e. option_map (λ is. (front ++ i ∷ []) ++ is) (path_of ss e)) (part_after i j) ≡ option_map (λ is. front ++ is) (path_of (s ∷ ss) j)
-one_step front i s ss j e =
-    added_at front i ss (part_after i j) ∙ ap (λ o. option_map (λ is. front ++ is) (option_and_then (λ k. option_and_then (λ x. option_map (λ is. k ∷ is) (path_of ss x)) (part_after k j)) o)) (sym e)
-
 -- ---- parts by index
 
 pub item_there : (vs : List Tree) (i : ℕ) (v : Tree) → i < length vs → v ≡ get_or vs i v → Some (value_view v) ≡ item_at i (items_view vs)

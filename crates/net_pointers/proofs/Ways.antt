@@ -1,17 +1,24 @@
 -- A path that leads to a part of a value leads through its tokens.
 use Rattle.std.proofs.Common.{◌≡◌, ◌≢◌, ◌<◌, ℕ, zero, suc, List, [], ◌∷◌, length, Option, Some, None, option_map, option_and_then, refl, sym, ap, ◌∙◌, subst, arith}
-use Rattle.json.specs.Json.{Json, null, boolean, number, string, array, object, Items, no_items, item, Members, no_members, member, Parse, parse_map, after_end_array, read_key, items_step, members_step, items, members, value_with, value, skip_value}
+use Rattle.json.specs.Json.{Json, null, boolean, number, string, array, object, Items, item, Members, member, Parse, parse_map, after_end_array, read_key, items_step, members_step, items, members, value_with, value, skip_value}
 use Rattle.json.specs.Token.{Token}
 use Rattle.std.specs.Prelude.{⊤}
 use Rattle.json.proofs.Grammar.{read_key_is, value_is}
 use Rattle.json.proofs.Found.{Some_inj, not_found}
-use Rattle.net_pointers.proofs.Deeper.{read_deeper}
+use Rattle.json.proofs.Nesting.{value-depth}
+use Rattle.json.proofs.Printed.Trees.{value-json_tokens}
+use Rattle.json.proofs.Unique.Spelling.{value-json_tokens_back}
 use Rattle.net_pointers.specs.Doubles.{item_at, member_at, part_after, part_at}
 use Rattle.net_pointers.specs.PartTokens.{past_items, past_key, past_members, from_key, from_part, from_path}
 
 -- a value that begins here, nested no deeper than where it can be passed
 abbrev pub Begins : List Token → Json → Type 0
 Begins ts j = (rest : List Token) × (value 127 ts ≡ Some (j, rest))
+
+-- a value that is read may nest deeper
+read_deeper : (d : ℕ) (ts : List Token) (x : Json × List Token) → value d ts ≡ Some x → value (suc d) ts ≡ Some x
+read_deeper d ts x read =
+    ap (value (suc d)) (value-json_tokens_back d ts x.1 x.0 read) ∙ value-json_tokens x.0 (suc d) x.1 (let less = value-depth d ts x.1 x.0 read in omega arith)
 
 split : {B : Type 0} (f : Json → B → B) (more : Parse B) (o : Option (Json × List Token)) (b : B) (r : List Token) → option_and_then (λ q. parse_map (f q.0) (more q.1)) o ≡ Some (b, r)
     → (x : Json × List Token) × (o ≡ Some x) × (c : B) × (b ≡ f x.0 c) × (more x.1 ≡ Some (c, r))

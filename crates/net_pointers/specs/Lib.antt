@@ -1,12 +1,9 @@
 -- where the first fault of a text stands
 pub mod Pointers
-pub mod KnownNames
-pub mod Plans
 pub mod Doubles
-pub mod PlanTroubles
-pub mod CertificateTroubles
-pub mod EventTroubles
 pub mod Ascending
+pub mod Asks
+pub mod OrderOfTests
 pub mod Positions
 pub mod PartTokens
 pub mod Paths

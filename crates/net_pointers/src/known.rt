@@ -1,11 +1,11 @@
 //! The names that are known where a text is searched.
 ghost use Rattle.std.specs.Prelude.{◌≡◌, map, IfOk};
+ghost use Rattle.serde_json.specs.Find.{get};
 ghost use Rattle.net_json.specs.Names.{names_at, text_at, texts_at};
 ghost use Rattle.net_plan.specs.PlanValues.{name_bytes, node_value, node_names};
 ghost use Rattle.net_json.specs.Trees.{view};
 ghost use Rattle.net_json.specs.Grammar.{known_view};
-ghost use Rattle.net_pointers.specs.CertificateTroubles.{known_nodes};
-ghost use Rattle.net_pointers.specs.KnownNames.{known_in};
+ghost use Rattle.net_pointers.specs.Asks.{known_in, known_nodes, texts_in};
 
 use json::Value;
 use net_json::{KnownNames, at, text_at};
@@ -23,25 +23,30 @@ pub fn known_names<'v>(alloc: Global, plan: &'v Value<'_>) -> Result<KnownNames<
 }
 
 /// The names in the list at a key.
-pub fn names_at<'v>(
-    alloc: Global,
-    value: &'v Value<'_>,
-    key: &str,
-) -> Result<Vec<&'v str>, AllocError>
+#[tactic(auto, using(crate::proofs::NamesTold::texts_are_names))]
+fn names_at<'v>(alloc: Global, value: &'v Value<'_>, key: &str) -> Result<Vec<&'v str>, AllocError>
     ensures { IfOk result (λ names. map (λ name. name.now) names.items ≡ names_at key.now (view value.now)) }
 {
-    match at(value, key) {
-        Some(list) => texts_in(alloc, list, "name"),
+    texts_at(alloc, value, key, "name")
+}
+
+/// The texts at a key of each entry of the list at another.
+pub fn texts_at<'v>(
+    alloc: Global,
+    value: &'v Value<'_>,
+    list: &str,
+    key: &str,
+) -> Result<Vec<&'v str>, AllocError>
+    ensures { IfOk result (λ texts. map (λ text. text.now) texts.items ≡ texts_in key.now (get list.now (view value.now))) }
+{
+    match at(value, list) {
+        Some(list) => texts_in(alloc, list, key),
         None => Ok(Vec::new(alloc)),
     }
 }
 
 /// The texts at the keys of a list's objects.
-pub fn texts_in<'v>(
-    alloc: Global,
-    list: &'v Value<'_>,
-    key: &str,
-) -> Result<Vec<&'v str>, AllocError>
+fn texts_in<'v>(alloc: Global, list: &'v Value<'_>, key: &str) -> Result<Vec<&'v str>, AllocError>
     ensures { IfOk result (λ texts. map (λ text. text.now) texts.items ≡ texts_at key.now (view list.now)) }
 {
     match list {

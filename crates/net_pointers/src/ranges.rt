@@ -3,8 +3,7 @@ ghost use Rattle.std.specs.Prelude.{◌≡◌, codes, not, is_some, Some, IfSome
 ghost use Rattle.net_json.specs.Trees.{view, items_view};
 ghost use Rattle.serde_json.specs.Data.{array, Items};
 ghost use Rattle.serde_json.specs.Find.{get};
-ghost use Rattle.net_pointers.specs.Ascending.{ranges_ascend, list_ascends, entries_ascend, ranks_ascend, OverlapIn, OverlapOf, OverlapAmong};
-ghost use Rattle.net_pointers.specs.CertificateTroubles.{first_in, end_in, DoOverlap};
+ghost use Rattle.net_pointers.specs.Ascending.{ranges_ascend, list_ascends, entries_ascend, ranks_ascend, AreFirst, IsFirst, OverlapIn, OverlapOf, OverlapAmong, first_in, end_in, DoOverlap};
 
 use json::Value;
 use net_json::{at, byte_at, range_end};
@@ -19,7 +18,7 @@ pub struct Overlap {
 /// The first ranges of a certificate that don't ascend apart.
 pub fn first_overlap(certificate: &Value<'_>) -> Option<Overlap>
     ensures told { is_some result ≡ not (ranks_ascend (get (codes "ranks") (view certificate.now))) }
-    ensures found { IfSome result (λ overlap. DoOverlap (view certificate.now) overlap) }
+    ensures found { IfSome result (AreFirst (DoOverlap (view certificate.now))) }
 {
     match at(certificate, "ranks") {
         Some(list) => overlap_of_ranks(list),
@@ -30,7 +29,7 @@ pub fn first_overlap(certificate: &Value<'_>) -> Option<Overlap>
 /// The same of the list of its ranks.
 fn overlap_of_ranks(list: &Value<'_>) -> Option<Overlap>
     ensures told { is_some result ≡ not (ranks_ascend (Some (view list.now))) }
-    ensures found { IfSome result (λ overlap. (ds : Items) × (view list.now ≡ array ds) × OverlapAmong ds overlap.entry overlap.range) }
+    ensures found { IfSome result (λ overlap. (ds : Items) × (view list.now ≡ array ds) × AreFirst (OverlapAmong ds) overlap) }
 {
     match list {
         Value::Array(entries) => overlap_among(entries.as_slice()),
@@ -41,7 +40,7 @@ fn overlap_of_ranks(list: &Value<'_>) -> Option<Overlap>
 /// The same of its entries.
 fn overlap_among(entries: &[Value<'_>]) -> Option<Overlap>
     ensures told { is_some result ≡ not (entries_ascend (items_view entries.now)) }
-    ensures found { IfSome result (λ overlap. OverlapAmong (items_view entries.now) overlap.entry overlap.range) }
+    ensures found { IfSome result (AreFirst (OverlapAmong (items_view entries.now))) }
 {
     for (entry, ranks) in entries.iter().enumerate() {
         if let Some(range) = overlap_of(ranks) {
@@ -54,7 +53,7 @@ fn overlap_among(entries: &[Value<'_>]) -> Option<Overlap>
 /// The first range of an entry that ends after the next one begins.
 fn overlap_of(ranks: &Value<'_>) -> Option<usize>
     ensures told { is_some result ≡ not (list_ascends (get (codes "ranges") (view ranks.now))) }
-    ensures found { IfSome result (λ range. OverlapOf (view ranks.now) range) }
+    ensures found { IfSome result (IsFirst (OverlapOf (view ranks.now))) }
 {
     match at(ranks, "ranges") {
         Some(list) => overlap_in(list),
@@ -65,7 +64,7 @@ fn overlap_of(ranks: &Value<'_>) -> Option<usize>
 /// The same of a list of ranges.
 fn overlap_in(list: &Value<'_>) -> Option<usize>
     ensures told { is_some result ≡ not (list_ascends (Some (view list.now))) }
-    ensures found { IfSome result (λ range. OverlapIn (view list.now) range) }
+    ensures found { IfSome result (IsFirst (OverlapIn (view list.now))) }
 {
     match list {
         Value::Array(ranges) => overlap_within(ranges.as_slice()),
@@ -76,7 +75,7 @@ fn overlap_in(list: &Value<'_>) -> Option<usize>
 /// The same of ranges.
 fn overlap_within(ranges: &[Value<'_>]) -> Option<usize>
     ensures told { is_some result ≡ not (ranges_ascend 0 (items_view ranges.now)) }
-    ensures found { IfSome result (λ range. OverlapIn (array (items_view ranges.now)) range) }
+    ensures found { IfSome result (IsFirst (OverlapIn (array (items_view ranges.now)))) }
 {
     let mut end = 0;
     for (index, range) in ranges.iter().enumerate() {

@@ -1,16 +1,11 @@
 //! What is wrong with a text.
-ghost use Rattle.std.specs.Prelude.{◌≡◌, IfOk, Some, map};
-ghost use Rattle.net_plan.specs.PlanValues.{node_value, node_names};
+ghost use Rattle.std.specs.Prelude.{◌≡◌, IfOk};
 ghost use Rattle.net_json.specs.Refusals.{IsNoValue};
-ghost use Rattle.net_pointers.specs.TextTroubles.{IsToldOfNoValue, IsToldOfPlanText, IsToldOfCertificateText, IsToldOfEventsText};
+ghost use Rattle.net_pointers.specs.TextTroubles.{IsToldOfNoValue, cause_of};
 
-use crate::certificates::{CertificateTrouble, certificate_trouble};
-use crate::events::{EventsTrouble, events_trouble};
-use crate::plans::{PlanTrouble, plan_trouble};
+use crate::order::Trouble;
 use crate::syntax::{JsonFault, json_fault};
-use json::Scratch;
-use net_json::{PlanError, json_of};
-use net_plan::Plan;
+use net_json::{PlanError, TEXT_LIMIT};
 use std::alloc::{AllocError, Global};
 
 /// What is wrong with a text.
@@ -20,73 +15,32 @@ pub enum TextTrouble {
     TooLong(usize),
     /// It is no JSON.
     NotJson(JsonFault),
-    /// It is JSON, and no plan.
-    Plan(PlanTrouble),
-    /// It is JSON, and no certificate.
-    Certificate(CertificateTrouble),
-    /// It is JSON, and no list of events.
-    Events(EventsTrouble),
+    /// It is JSON, and this is wrong with its value.
+    Wrong(Trouble),
 }
 
-/// What is wrong with the text of a plan, by its first fault in the order of tests. `None` where the plan is read.
-pub fn plan_text_trouble(alloc: Global, text: &[u8]) -> Result<Option<TextTrouble>, AllocError>
-    ensures { IfOk result (λ trouble. IsToldOfPlanText text.now trouble) }
-{
-    let mut scratch = Scratch::new(alloc);
-    match json_of(alloc, text, &mut scratch) {
-        Ok(value) => match plan_trouble(alloc, &value)? {
-            Some(trouble) => Ok(Some(TextTrouble::Plan(trouble))),
-            None => Ok(None),
-        },
-        Err(error) => Ok(Some(no_value(alloc, text, error)?)),
+impl TextTrouble {
+    /// Why the reader refuses the text.
+    pub fn cause(&self) -> PlanError
+        ensures { result ≡ cause_of self.now }
+    {
+        match self {
+            TextTrouble::TooLong(_) => PlanError::OverLimit,
+            TextTrouble::NotJson(_) => PlanError::NotJson,
+            TextTrouble::Wrong(trouble) => PlanError::from(trouble.fault()),
+        }
     }
 }
 
-/// What is wrong with the text of a certificate of a plan, by its first fault in the order of tests. `None` where the
-/// certificate is read.
-pub fn certificate_text_trouble(
-    alloc: Global,
-    plan: &Plan,
-    text: &[u8],
-) -> Result<Option<TextTrouble>, AllocError>
-    ensures { IfOk result (λ trouble. IsToldOfCertificateText (node_names (map node_value plan.now.nodes.items)) text.now trouble) }
-{
-    let mut scratch = Scratch::new(alloc);
-    match json_of(alloc, text, &mut scratch) {
-        Ok(value) => match certificate_trouble(alloc, plan, &value)? {
-            Some(trouble) => Ok(Some(TextTrouble::Certificate(trouble))),
-            None => Ok(None),
-        },
-        Err(error) => Ok(Some(no_value(alloc, text, error)?)),
-    }
-}
-
-/// What is wrong with the text of events at a plan's nodes, by its first fault in the order of tests. `None` where the
-/// events are read.
-pub fn events_text_trouble(
-    alloc: Global,
-    plan: &Plan,
-    text: &[u8],
-) -> Result<Option<TextTrouble>, AllocError>
-    ensures { IfOk result (λ trouble. IsToldOfEventsText (node_names (map node_value plan.now.nodes.items)) text.now trouble) }
-{
-    let mut scratch = Scratch::new(alloc);
-    match json_of(alloc, text, &mut scratch) {
-        Ok(value) => match events_trouble(alloc, plan, &value)? {
-            Some(trouble) => Ok(Some(TextTrouble::Events(trouble))),
-            None => Ok(None),
-        },
-        Err(error) => Ok(Some(no_value(alloc, text, error)?)),
-    }
-}
-
-/// What is wrong with a text that is no value of JSON.
-fn no_value(alloc: Global, text: &[u8], error: PlanError) -> Result<TextTrouble, AllocError>
+/// What is wrong with a text that is no value of JSON. The error of its reader says why.
+pub fn no_value(alloc: Global, text: &[u8], error: PlanError) -> Result<TextTrouble, AllocError>
     requires { IsNoValue text.now error }
     ensures { IfOk result (λ trouble. IsToldOfNoValue text.now trouble) }
 {
+    if TEXT_LIMIT < text.len() {
+        return Ok(TextTrouble::TooLong(text.len()));
+    }
     match error {
-        PlanError::OverLimit => Ok(TextTrouble::TooLong(text.len())),
         PlanError::NotJson => Ok(TextTrouble::NotJson(json_fault(alloc, text)?)),
         _ => Err(AllocError),
     }

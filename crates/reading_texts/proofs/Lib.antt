@@ -1,2 +1,3 @@
 mod ToldTexts
+mod TextErrors
 mod DoubledTold

@@ -1,8 +1,9 @@
 -- What stands at an offset of a text, as far as it is shown.
-use Rattle.std.specs.Prelude.{◌≡◌, ◌≤◌, ◌<◌, ◌-◌, ◌⊎◌, ◌&&◌, ◌||◌, ◌==◌, nat_lt, nat_le, ℕ, zero, suc}
-use Rattle.std.specs.Prelude.{Bool, true, false, not}
+use Rattle.std.specs.Prelude.{◌≡◌, ◌≤◌, ◌<◌, ◌-◌, ◌⊎◌, ◌&&◌, ◌||◌, ◌==◌, nat_lt, nat_le, ℕ}
+use Rattle.std.specs.Prelude.{Bool, true, false}
 use Rattle.std.specs.Prelude.{List, [], ◌++◌, length, take, map, get_or, codes, encode_utf8_all, if◌then◌else◌}
 use Rattle.std.specs.Str.{chars}
+use Rattle.net_pointers.specs.Syntax.{closes}
 
 -- the first characters of a text, one more than are shown
 abbrev pub first_characters : List ℕ → List ℕ
@@ -16,14 +17,9 @@ is_within c least most = nat_le least c && nat_le c most
 abbrev pub ends_word : ℕ → Bool
 ends_word c = c == 44 || (c == 93 || (c == 125 || (c == 32 || (c == 9 || (c == 10 || c == 13)))))
 
--- the character at an index is the second of an escape: a backslash stands before it that is not itself one
-abbrev pub is_escaped : List ℕ → ℕ → Bool
-is_escaped cs zero = false
-is_escaped cs (suc i) = get_or cs i 0 == 92 && not (is_escaped cs i)
-
 -- the first k characters end with a quote that is not their first one, and not escaped
 abbrev pub ends_quoted : List ℕ → ℕ → Bool
-ends_quoted cs k = nat_lt 1 k && (get_or cs (k - 1) 0 == 34 && not (is_escaped cs (k - 1)))
+ends_quoted cs k = nat_lt 1 k && closes cs (k - 1)
 
 -- the first k characters end with a closing bracket, or a line ends behind them
 abbrev pub ends_bracketed : List ℕ → ℕ → Bool

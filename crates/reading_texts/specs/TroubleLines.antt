@@ -1,5 +1,5 @@
 -- The lines that tell what is wrong with a text, and where.
-use Rattle.std.specs.Prelude.{◌≡◌, ◌<◌, ◌≤◌, ◌+◌, ◌-◌, ⊤, ℕ, zero, suc, not, codes, is_some, get_or, true}
+use Rattle.std.specs.Prelude.{◌≡◌, ◌+◌, ◌-◌, ℕ, zero, suc, not, codes, is_some, get_or, true}
 use Rattle.std.specs.Prelude.{if◌then◌else◌}
 use Rattle.std.specs.Prelude.{List, [], ◌∷◌, ◌++◌, length, drop}
 use Rattle.std.specs.Prelude.{Option, Some, None, MatchOption, option_and_then}
@@ -8,10 +8,7 @@ use Rattle.std.specs.List.{find, slice_get}
 use Rattle.std.specs.Str.{bytes_eq}
 use Rattle.json.specs.Json.{Json, object, Members, no_members, member}
 use Rattle.json.specs.Find as written
-use Rattle.json.specs.Lex.{tokens}
 use Rattle.json.specs.Strict.{keys}
-use Rattle.json.specs.Token.{Token}
-use Rattle.json.specs.Token as token
 use Rattle.serde_json.specs.Data.{Data}
 use Rattle.serde_json.specs.Data as tree
 use Rattle.serde_json.specs.Find.{get}
@@ -25,28 +22,27 @@ use Rattle.net_json.specs.declared.error.ValueFault.TheVariants as fault
 use Rattle.net_json.specs.declared.shape.Named.{Named}
 use Rattle.net_json.specs.declared.shape.Named.TheVariants.{Buses, Nodes}
 use Rattle.net_json.specs.declared.shape.Word.TheVariants as word
-use Rattle.net_pointers.specs.CertificateTroubles.{list_key, known_nodes, first_in, end_in}
+use Rattle.net_pointers.specs.Ascending.{first_in, end_in}
+use Rattle.net_pointers.specs.Asks.{Sort, plan_text, certificate_text, events_text, asks_of, list_key, name_key}
 use Rattle.net_pointers.specs.Doubles.{part_at, part_after, IsFirstDoubled}
-use Rattle.net_pointers.specs.KnownNames.{known_in}
 use Rattle.net_pointers.specs.Nearest.{IsNearest}
 use Rattle.net_pointers.specs.Offsets.{LeadsTo, LeadsToKey}
 use Rattle.net_pointers.specs.Pointers.{value_at}
-use Rattle.net_pointers.specs.TextTroubles.{IsJsonOf, IsToldOfPlanText, IsToldOfCertificateText, IsToldOfEventsText}
-use Rattle.net_pointers.specs.declared.certificates.CertificateTrouble.{CertificateTrouble}
-use Rattle.net_pointers.specs.declared.certificates.CertificateTrouble.TheVariants as of_certificate
+use Rattle.net_pointers.specs.TextTroubles.{IsJsonOf, IsToldOfText}
 use Rattle.net_pointers.specs.declared.doubled.DoubledKey.{DoubledKey}
 use Rattle.net_pointers.specs.declared.doubled.TwoIndices.{TwoIndices}
-use Rattle.net_pointers.specs.declared.events.EventsTrouble.{EventsTrouble}
-use Rattle.net_pointers.specs.declared.events.EventsTrouble.TheVariants as of_events
-use Rattle.net_pointers.specs.declared.plans.PlanTrouble.{PlanTrouble}
-use Rattle.net_pointers.specs.declared.plans.PlanTrouble.TheVariants as of_plan
+use Rattle.net_pointers.specs.declared.order.NameList.{NameList}
+use Rattle.net_pointers.specs.declared.order.NameList.TheVariants as list_of
+use Rattle.net_pointers.specs.declared.order.Trouble.{Trouble}
+use Rattle.net_pointers.specs.declared.order.Trouble.TheVariants.{Value, DoubledName, UnknownName}
+use Rattle.net_pointers.specs.declared.order.Trouble.TheVariants.{Overlap as OverlapOf, DoubledKey as DoubledKeyOf}
 use Rattle.net_pointers.specs.declared.ranges.Overlap.{Overlap}
 use Rattle.net_pointers.specs.declared.syntax.JsonFault.{JsonFault}
 use Rattle.net_pointers.specs.declared.syntax.JsonFault.TheVariants.{NotUtf8, Unreadable}
 use Rattle.net_pointers.specs.declared.syntax.Wanted.{Wanted}
 use Rattle.net_pointers.specs.declared.syntax.Wanted.TheVariants as wanted
 use Rattle.net_pointers.specs.declared.texts.TextTrouble.{TextTrouble}
-use Rattle.net_pointers.specs.declared.texts.TextTrouble.TheVariants.{TooLong, NotJson, Plan, Certificate, Events}
+use Rattle.net_pointers.specs.declared.texts.TextTrouble.TheVariants.{TooLong, NotJson, Wrong}
 use Rattle.reading_texts.specs.ReadingLines.{position_text, pointer_text, joined, number_noun, shape_words}
 use Rattle.reading_texts.specs.Standing.{IsShown, shown_key}
 use Rattle.reading_texts.specs.SyntaxCauses.{cause_line, encoding_line}
@@ -252,11 +248,12 @@ IsDoubledNameTold text d list k why indices lines = let name = doubled_name d li
     × (lines ≡ two_lines text first second (name_line (entry_pointer list indices.first k) name)
     (again_line (entry_pointer list indices.second k) name why))
 
-abbrev pub one_bus : List ℕ
-one_bus = codes "No two buses have one name"
-
-abbrev pub one_entry : List ℕ
-one_entry = codes "A list names a node once"
+-- why a list has a name once
+abbrev pub why_once : NameList → List ℕ
+why_once list_of.Buses = codes "No two buses have one name"
+why_once list_of.Levels = codes "A list names a node once"
+why_once list_of.Places = codes "A list names a node once"
+why_once list_of.Ranks = codes "A list names a node once"
 
 -- the key of the member at an index
 abbrev pub key_at : ℕ → Members → List ℕ
@@ -342,54 +339,29 @@ IsOverlapTold text d o lines = (told : List ℕ) × AreRangesTold text o told ×
 
 -- ---- a text
 
--- the lines tell of what is wrong with the plan that a tree is
-abbrev pub ArePlanLines : List ℕ → Json → PlanTrouble → List ℕ → Type 0
-ArePlanLines text j (of_plan.Value found) lines =
-    IsValueTold text j (located found) (also_words (located found).pointer) lines
-ArePlanLines text j (of_plan.DoubledBus indices) lines =
-    IsDoubledNameTold text (data_of j) (codes "buses") (codes "name") one_bus indices lines
-ArePlanLines text j (of_plan.DoubledKey doubled) lines = IsDoubledKeyTold text j doubled lines
-ArePlanLines text j (of_plan.UnknownName found) lines =
-    IsUnknownNameTold text (data_of j) (known_in (data_of j)) (located found) lines
+-- what else may stand where a pointer leads in a text
+abbrev pub also_in : Sort → List Step → List ℕ
+also_in plan_text pointer = also_words pointer
+also_in (certificate_text nodes) pointer = []
+also_in (events_text nodes) pointer = []
 
--- the lines tell of what is wrong with the certificate that a tree is, among nodes of these names
-abbrev pub AreCertificateLines : List (List ℕ) → List ℕ → Json → CertificateTrouble → List ℕ → Type 0
-AreCertificateLines nodes text j (of_certificate.Value found) lines =
-    IsValueTold text j (located found) [] lines
-AreCertificateLines nodes text j (of_certificate.DoubledNode list indices) lines =
-    IsDoubledNameTold text (data_of j) (list_key list) (codes "node") one_entry indices lines
-AreCertificateLines nodes text j (of_certificate.Overlap overlap) lines = IsOverlapTold text (data_of j) overlap lines
-AreCertificateLines nodes text j (of_certificate.DoubledKey doubled) lines = IsDoubledKeyTold text j doubled lines
-AreCertificateLines nodes text j (of_certificate.UnknownName found) lines =
-    IsUnknownNameTold text (data_of j) (known_nodes nodes) (located found) lines
-
--- the lines tell of what is wrong with the events that a tree is, at nodes of these names
-abbrev pub AreEventsLines : List (List ℕ) → List ℕ → Json → EventsTrouble → List ℕ → Type 0
-AreEventsLines nodes text j (of_events.Value found) lines = IsValueTold text j (located found) [] lines
-AreEventsLines nodes text j (of_events.DoubledKey doubled) lines = IsDoubledKeyTold text j doubled lines
-AreEventsLines nodes text j (of_events.UnknownName found) lines =
-    IsUnknownNameTold text (data_of j) (known_nodes nodes) (located found) lines
+-- the lines tell of what is wrong with the value that a tree is
+abbrev pub AreLines : Sort → List ℕ → Json → Trouble → List ℕ → Type 0
+AreLines s text j (Value found) lines =
+    IsValueTold text j (located found) (also_in s (located found).pointer) lines
+AreLines s text j (DoubledName list indices) lines =
+    IsDoubledNameTold text (data_of j) (list_key list) (name_key list) (why_once list) indices lines
+AreLines s text j (OverlapOf overlap) lines = IsOverlapTold text (data_of j) overlap lines
+AreLines s text j (DoubledKeyOf doubled) lines = IsDoubledKeyTold text j doubled lines
+AreLines s text j (UnknownName found) lines =
+    IsUnknownNameTold text (data_of j) (asks_of s (data_of j)).known (located found) lines
 
 -- the lines tell of what is wrong with a text
-abbrev pub AreTroubleLines : List (List ℕ) → List ℕ → TextTrouble → List ℕ → Type 0
-AreTroubleLines nodes text (TooLong count) lines = lines ≡ long_line count
-AreTroubleLines nodes text (NotJson fault) lines = lines ≡ json_line text fault
-AreTroubleLines nodes text (Plan trouble) lines = IsJsonOf text (λ j. ArePlanLines text j trouble lines)
-AreTroubleLines nodes text (Certificate trouble) lines =
-    IsJsonOf text (λ j. AreCertificateLines nodes text j trouble lines)
-AreTroubleLines nodes text (Events trouble) lines = IsJsonOf text (λ j. AreEventsLines nodes text j trouble lines)
+abbrev pub AreTroubleLines : Sort → List ℕ → TextTrouble → List ℕ → Type 0
+AreTroubleLines s text (TooLong count) lines = lines ≡ long_line count
+AreTroubleLines s text (NotJson fault) lines = lines ≡ json_line text fault
+AreTroubleLines s text (Wrong trouble) lines = IsJsonOf text (λ j. AreLines s text j trouble lines)
 
--- the lines tell of what is wrong with the text of a plan
-abbrev pub IsPlanTextTold : List ℕ → List ℕ → Type 0
-IsPlanTextTold text lines = (trouble : TextTrouble) × IsToldOfPlanText text (Some trouble)
-    × AreTroubleLines [] text trouble lines
-
--- the lines tell of what is wrong with the text of a certificate among nodes of these names
-abbrev pub IsCertificateTextTold : List (List ℕ) → List ℕ → List ℕ → Type 0
-IsCertificateTextTold nodes text lines = (trouble : TextTrouble) × IsToldOfCertificateText nodes text (Some trouble)
-    × AreTroubleLines nodes text trouble lines
-
--- the lines tell of what is wrong with the text of events at nodes of these names
-abbrev pub IsEventsTextTold : List (List ℕ) → List ℕ → List ℕ → Type 0
-IsEventsTextTold nodes text lines = (trouble : TextTrouble) × IsToldOfEventsText nodes text (Some trouble)
-    × AreTroubleLines nodes text trouble lines
+-- the lines tell of what is wrong with a text of a sort
+abbrev pub IsTextTold : Sort → List ℕ → List ℕ → Type 0
+IsTextTold s text lines = (trouble : TextTrouble) × IsToldOfText s text trouble × AreTroubleLines s text trouble lines

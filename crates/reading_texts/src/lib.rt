@@ -1,22 +1,30 @@
 //! The lines that tell why a text doesn't read, and where.
 #![tactic(auto)]
 
-ghost use Rattle.std.specs.Prelude.{◌≡◌, List, [], Some, IfOk, string_bytes};
+ghost use Rattle.std.specs.Prelude.{◌≡◌, ◌<◌, ◌≤◌, None, Some, IfOk, IfErr, IsTrue, MatchOption, OnOk, length, map, string_bytes, vec_len};
+ghost use Rattle.std.specs.List.{list_all};
 ghost use Rattle.json.specs.Value.{value_view};
+ghost use Rattle.net_json.specs.CertificateReading.{certificate};
 ghost use Rattle.net_json.specs.CertificateText.{IsCertificateOf};
-ghost use Rattle.net_plan.specs.CertificateValues.{CertificateValue};
+ghost use Rattle.net_json.specs.EventReading.{events};
 ghost use Rattle.net_json.specs.EventText.{AreEventsOf};
+ghost use Rattle.net_json.specs.Finding.{step_value};
+ghost use Rattle.net_json.specs.PlanReading.{plan};
 ghost use Rattle.net_json.specs.PlanText.{IsPlanOf};
-ghost use Rattle.net_plan.specs.EventValues.{EventEntry};
-ghost use Rattle.net_plan.specs.PlanValues.{PlanValue, plan_value, node_names};
-ghost use Rattle.net_json.specs.Texts.{StandsFor};
-ghost use Rattle.net_pointers.specs.CertificateTroubles.{IsToldOfCertificate};
-ghost use Rattle.net_pointers.specs.EventTroubles.{IsToldOfEvents};
+ghost use Rattle.net_json.specs.Refusals.{IsNoValue};
+ghost use Rattle.net_json.specs.Texts.{IsJson, IsTree, IsJsonTextOf};
+ghost use Rattle.net_json.specs.Trees.{view};
+ghost use Rattle.net_plan.specs.CertificateValues.{are_known, certificate_value};
+ghost use Rattle.net_plan.specs.EventValues.{event_entry, is_known_event};
+ghost use Rattle.net_plan.specs.PlanValues.{node_names, plan_value};
+ghost use Rattle.net_pointers.specs.Asks.{asks, asks_of, certificate_text, events_text, plan_text, sort_of};
 ghost use Rattle.net_pointers.specs.Offsets.{IsTextOf};
-ghost use Rattle.net_pointers.specs.PlanTroubles.{IsToldOfPlan};
-ghost use Rattle.net_pointers.specs.TextTroubles.{IsJsonOf, IsToldOfPlanText, IsToldOfCertificateText, IsToldOfEventsText};
+ghost use Rattle.net_pointers.specs.OrderOfTests.{IsTold};
+ghost use Rattle.net_pointers.specs.TextTroubles.{IsToldOfNoValue};
 ghost use Rattle.reading_texts.specs.ReadingLines.{unread_code, unread_line};
-ghost use Rattle.reading_texts.specs.TroubleLines.{long_line, ArePlanLines, AreCertificateLines, AreEventsLines, AreTroubleLines, IsPlanTextTold, IsCertificateTextTold, IsEventsTextTold};
+ghost use Rattle.reading_texts.specs.TextErrors.{IsFaultOfValue, IsNoValueTold, IsToldAs, IsToldOf, IsToldTooLong};
+ghost use Rattle.reading_texts.specs.declared.text_error.TextError.TheVariants.{Faulty};
+ghost use Rattle.reading_texts.specs.TroubleLines.{AreLines, AreTroubleLines, also_in, long_line};
 
 mod joined;
 mod names;
@@ -25,32 +33,28 @@ mod shapes;
 mod shown;
 mod syntax;
 mod syntax_causes;
+mod text_error;
 mod twice;
 mod values;
 
 use json::{Scratch, Value};
 use names::unknown_name_lines;
-use net_json::{PlanError, json_of};
-use net_plan::Plan;
-use net_pointers::{
-    CertificateTrouble, EventsTrouble, PlanTrouble, TextTrouble, certificate_text_trouble,
-    events_text_trouble, known_names, list_key, names_of_nodes, plan_text_trouble,
+use net_json::{
+    PlanError, PointerStep, certificate_at_once, certificate_of_value, events_at_once,
+    events_of_value, json_of, plan_at_once, plan_of_value,
 };
+use net_plan::{Certificate, Event, Plan};
+use net_pointers::{Asked, TextSort, TextTrouble, Trouble, asked_of, no_value, trouble_of};
 pub use positions::pointer_text;
 use shapes::also_words;
 use std::alloc::{AllocError, Global};
 use syntax::json_line;
+pub use text_error::{TextError, TextFault};
 use twice::{doubled_key_lines, doubled_name_lines, overlap_lines};
 use values::value_line;
 
-/// Why no two buses have one name.
-const ONE_BUS: &str = "No two buses have one name";
-
-/// Why no two entries of a certificate's list are of one node.
-const ONE_ENTRY: &str = "A list names a node once";
-
 /// The code of why a text gave nothing; `file` where the source failed.
-fn unread_code(cause: PlanError) -> &'static str
+pub fn unread_code(cause: PlanError) -> &'static str
     ensures { result.now ≡ unread_code cause }
 {
     match cause {
@@ -76,218 +80,193 @@ pub fn unread_line(alloc: Global, role: &str, cause: PlanError) -> Result<String
     format!(in alloc; "unreadable {role}: {code}\n")
 }
 
-/// Tells what is wrong with a text that is no plan: its first fault in the order of tests, where that stands, and what may
-/// stand there.
-pub fn plan_reading_lines(alloc: Global, text: &[u8]) -> Result<String, AllocError>
-    requires { (p : PlanValue) → ¬ StandsFor IsPlanOf text.now p }
-    ensures { IfOk result (λ lines. IsPlanTextTold text.now (string_bytes lines)) }
+/// The plan that a text stands for. The error tells the text's first fault in the order of tests: where that stands, and
+/// what may stand there.
+pub fn plan_or_fault(alloc: Global, text: &[u8]) -> Result<Plan, TextError>
+    ensures ok { IfOk result (λ plan. IsJsonTextOf IsPlanOf text.now (plan_value plan)) }
+    ensures refused { IfErr result (IsToldAs plan_text plan IsPlanOf text.now) }
+    ensures too_long { 16777216 < length text.now → IsToldTooLong text.now result }
 {
-    match plan_text_trouble(alloc, text)? {
-        Some(trouble) => plan_text_lines(alloc, text, &trouble),
-        None => unreachable!(),
+    if let Some(plan) = plan_at_once(alloc, text) {
+        return Ok(plan);
+    }
+    let mut scratch = Scratch::new(alloc);
+    let value = sound_value(alloc, TextSort::Plan, text, &mut scratch)?;
+    match plan_of_value(alloc, &value) {
+        Ok(plan) => Ok(plan),
+        Err(error) => Err(no_memory(error)),
     }
 }
 
-fn plan_text_lines(alloc: Global, text: &[u8], trouble: &TextTrouble) -> Result<String, AllocError>
-    requires { IsToldOfPlanText text.now (Some trouble.now) }
-    ensures { IfOk result (λ lines. AreTroubleLines [] text.now trouble.now (string_bytes lines)) }
+/// The certificate that a text stands for, whose entries name nodes of this plan. The error is as of a plan's text.
+pub fn certificate_or_fault(
+    alloc: Global,
+    plan: &Plan,
+    text: &[u8],
+) -> Result<Certificate, TextError>
+    ensures ok { IfOk result (λ certificate. IsJsonTextOf (IsCertificateOf (plan_value plan.now)) text.now (certificate_value certificate)) }
+    ensures known { IfOk result (λ certificate. IsTrue (are_known (length plan.now.nodes.items) (certificate_value certificate))) }
+    ensures refused { let nodes = node_names (plan_value plan.now).nodes in
+        IfErr result (IsToldAs (certificate_text nodes) (certificate nodes) (IsCertificateOf (plan_value plan.now)) text.now) }
+    ensures too_long { 16777216 < length text.now → IsToldTooLong text.now result }
+{
+    if let Some(certificate) = certificate_at_once(alloc, plan, text) {
+        return Ok(certificate);
+    }
+    let mut scratch = Scratch::new(alloc);
+    let value = sound_value(alloc, TextSort::Certificate(plan), text, &mut scratch)?;
+    match certificate_of_value(alloc, plan, &value) {
+        Ok(certificate) => Ok(certificate),
+        Err(error) => Err(no_memory(error)),
+    }
+}
+
+/// The events that a text stands for, at nodes of this plan. The error is as of a plan's text.
+pub fn events_or_fault(alloc: Global, plan: &Plan, text: &[u8]) -> Result<Vec<Event>, TextError>
+    ensures ok { IfOk result (λ events. IsJsonTextOf (AreEventsOf (plan_value plan.now)) text.now (map event_entry events.items)) }
+    ensures known { IfOk result (λ events. IsTrue (list_all (is_known_event (length plan.now.nodes.items)) (map event_entry events.items))) }
+    ensures within { IfOk result (λ events. vec_len events ≤ 100000) }
+    ensures refused { let nodes = node_names (plan_value plan.now).nodes in
+        IfErr result (IsToldAs (events_text nodes) (events nodes) (AreEventsOf (plan_value plan.now)) text.now) }
+    ensures too_long { 16777216 < length text.now → IsToldTooLong text.now result }
+{
+    if let Some(events) = events_at_once(alloc, plan, text) {
+        return Ok(events);
+    }
+    let mut scratch = Scratch::new(alloc);
+    let value = sound_value(alloc, TextSort::Events(plan), text, &mut scratch)?;
+    match events_of_value(alloc, plan, &value) {
+        Ok(events) => Ok(events),
+        Err(error) => Err(no_memory(error)),
+    }
+}
+
+/// What alone is left where nothing is wrong with a value.
+fn no_memory(_error: PlanError) -> TextError
+    requires { _error ≡ PlanError.OutOfMemory }
+    ensures { result ≡ TextError.OutOfMemory }
+{
+    TextError::OutOfMemory
+}
+
+/// The JSON value of a text of a sort, with which nothing is wrong.
+fn sound_value<'t>(
+    alloc: Global,
+    sort: TextSort<'_>,
+    text: &'t [u8],
+    scratch: &'t mut Scratch,
+) -> Result<Value<'t>, TextError>
+    ensures json { IfOk result (λ value. IsJson text.now (view value) × IsTree text.now (value_view value)) }
+    ensures sound { IfOk result (λ value. IsTold (sort_of sort.entry) (value_view value) None) }
+    ensures within { OnOk result (length text.now ≤ 16777216) }
+    ensures refused { IfErr result (IsToldOf (sort_of sort.entry) text.now) }
+{
+    let value = match json_of(alloc, text, scratch) {
+        Ok(value) => value,
+        Err(error) => return Err(no_value_error(alloc, text, error)),
+    };
+    match value_fault(alloc, sort, text, &value) {
+        Ok(None) => Ok(value),
+        Ok(Some(fault)) => Err(TextError::Faulty(fault)),
+        Err(_) => Err(TextError::OutOfMemory),
+    }
+}
+
+/// Why a text that is no value of JSON doesn't read.
+fn no_value_error(alloc: Global, text: &[u8], error: PlanError) -> TextError
+    requires { IsNoValue text.now error }
+    ensures { IsNoValueTold text.now result }
+{
+    match no_value_fault(alloc, text, error) {
+        Ok(fault) => TextError::Faulty(fault),
+        Err(_) => TextError::OutOfMemory,
+    }
+}
+
+fn no_value_fault(alloc: Global, text: &[u8], error: PlanError) -> Result<TextFault, AllocError>
+    requires { IsNoValue text.now error }
+    ensures { IfOk result (λ fault. IsNoValueTold text.now (Faulty fault)) }
+{
+    let trouble = no_value(alloc, text, error)?;
+    let lines = no_value_lines(alloc, text, &trouble)?;
+    Ok(TextFault { trouble, lines })
+}
+
+/// The lines of a text that is no value of JSON.
+fn no_value_lines(alloc: Global, text: &[u8], trouble: &TextTrouble) -> Result<String, AllocError>
+    requires { IsToldOfNoValue text.now trouble.now }
+    ensures { IfOk result (λ lines. AreTroubleLines plan_text text.now trouble.now (string_bytes lines)) }
 {
     match trouble {
         TextTrouble::TooLong(count) => long_line(alloc, *count),
         TextTrouble::NotJson(fault) => json_line(alloc, text, *fault),
-        TextTrouble::Plan(trouble) => plan_lines(alloc, text, trouble),
-        TextTrouble::Certificate(_) | TextTrouble::Events(_) => unreachable!(),
+        TextTrouble::Wrong(_) => unreachable!(),
     }
 }
 
-/// The lines of what is wrong with a text that is JSON and no plan. Its tree is read once more.
-fn plan_lines(alloc: Global, text: &[u8], trouble: &PlanTrouble) -> Result<String, AllocError>
-    requires { IsJsonOf text.now (λ j. IsToldOfPlan j (Some trouble.now)) }
-    ensures { IfOk result (λ lines. IsJsonOf text.now (λ j. ArePlanLines text.now j trouble.now (string_bytes lines))) }
-{
-    let mut scratch = Scratch::new(alloc);
-    match json_of(alloc, text, &mut scratch) {
-        Ok(value) => plan_value_lines(alloc, text, &value, trouble),
-        Err(_) => Err(AllocError),
-    }
-}
-
-fn plan_value_lines(
+/// What is wrong with the value of a text, if anything is.
+fn value_fault(
     alloc: Global,
+    sort: TextSort<'_>,
     text: &[u8],
     value: &Value<'_>,
-    trouble: &PlanTrouble,
+) -> Result<Option<TextFault>, AllocError>
+    requires { IsJson text.now (view value.now) × IsTree text.now (value_view value.now) }
+    ensures { IfOk result (λ fault. MatchOption fault (IsTold (sort_of sort.entry) (value_view value.now) None) (IsFaultOfValue (sort_of sort.entry) text.now (value_view value.now))) }
+{
+    let asked = asked_of(alloc, sort, value)?;
+    match trouble_of(alloc, sort, &asked, value)? {
+        Some(trouble) => {
+            let lines = trouble_lines(alloc, sort, &asked, text, value, &trouble)?;
+            let trouble = TextTrouble::Wrong(trouble);
+            Ok(Some(TextFault { trouble, lines }))
+        }
+        None => Ok(None),
+    }
+}
+
+/// Tells what is wrong with the value of a text.
+fn trouble_lines(
+    alloc: Global,
+    sort: TextSort<'_>,
+    asked: &Asked<'_>,
+    text: &[u8],
+    value: &Value<'_>,
+    trouble: &Trouble,
 ) -> Result<String, AllocError>
+    requires asked { asks asked.now ≡ asks_of (sort_of sort) (view value.now) }
     requires text { IsTextOf text.now (value_view value.now) }
-    requires told { IsToldOfPlan (value_view value.now) (Some trouble.now) }
-    ensures { IfOk result (λ lines. ArePlanLines text.now (value_view value.now) trouble.now (string_bytes lines)) }
+    requires told { IsTold (sort_of sort) (value_view value.now) (Some trouble.now) }
+    ensures { IfOk result (λ lines. AreLines (sort_of sort.entry) text.now (value_view value.now) trouble.now (string_bytes lines)) }
 {
     match trouble {
-        PlanTrouble::Value(found) => {
+        Trouble::Value(found) => {
             value_line(
                 alloc,
                 text,
                 value,
                 found,
-                also_words(found.pointer.as_slice()),
+                also_in(sort, found.pointer.as_slice()),
             )
         }
-        PlanTrouble::DoubledBus(indices) => {
-            doubled_name_lines(alloc, text, value, "buses", "name", ONE_BUS, *indices)
+        Trouble::DoubledName(list, indices) => {
+            doubled_name_lines(alloc, text, value, *list, *indices)
         }
-        PlanTrouble::DoubledKey(doubled) => doubled_key_lines(alloc, text, value, doubled),
-        PlanTrouble::UnknownName(found) => {
-            let known = known_names(alloc, value)?;
-            unknown_name_lines(alloc, text, value, &known, found)
-        }
-    }
-}
-
-/// Tells what is wrong with a text that is no certificate of a plan, as of a plan's text.
-pub fn certificate_reading_lines(
-    alloc: Global,
-    plan: &Plan,
-    text: &[u8],
-) -> Result<String, AllocError>
-    requires { (c : CertificateValue) → ¬ StandsFor (IsCertificateOf (plan_value plan.now)) text.now c }
-    ensures { IfOk result (λ lines. IsCertificateTextTold (node_names (plan_value plan.now).nodes) text.now (string_bytes lines)) }
-{
-    match certificate_text_trouble(alloc, plan, text)? {
-        Some(trouble) => certificate_text_lines(alloc, plan, text, &trouble),
-        None => unreachable!(),
-    }
-}
-
-fn certificate_text_lines(
-    alloc: Global,
-    plan: &Plan,
-    text: &[u8],
-    trouble: &TextTrouble,
-) -> Result<String, AllocError>
-    requires { IsToldOfCertificateText (node_names (plan_value plan.now).nodes) text.now (Some trouble.now) }
-    ensures { IfOk result (λ lines. AreTroubleLines (node_names (plan_value plan.now).nodes) text.now trouble.now (string_bytes lines)) }
-{
-    match trouble {
-        TextTrouble::TooLong(count) => long_line(alloc, *count),
-        TextTrouble::NotJson(fault) => json_line(alloc, text, *fault),
-        TextTrouble::Certificate(trouble) => certificate_lines(alloc, plan, text, trouble),
-        TextTrouble::Plan(_) | TextTrouble::Events(_) => unreachable!(),
-    }
-}
-
-fn certificate_lines(
-    alloc: Global,
-    plan: &Plan,
-    text: &[u8],
-    trouble: &CertificateTrouble,
-) -> Result<String, AllocError>
-    requires { let nodes = node_names (plan_value plan.now).nodes in IsJsonOf text.now (λ j. IsToldOfCertificate nodes j (Some trouble.now)) }
-    ensures { let nodes = node_names (plan_value plan.now).nodes in
-        IfOk result (λ lines. IsJsonOf text.now (λ j. AreCertificateLines nodes text.now j trouble.now (string_bytes lines))) }
-{
-    let mut scratch = Scratch::new(alloc);
-    match json_of(alloc, text, &mut scratch) {
-        Ok(value) => certificate_value_lines(alloc, plan, text, &value, trouble),
-        Err(_) => Err(AllocError),
-    }
-}
-
-fn certificate_value_lines(
-    alloc: Global,
-    plan: &Plan,
-    text: &[u8],
-    value: &Value<'_>,
-    trouble: &CertificateTrouble,
-) -> Result<String, AllocError>
-    requires text { IsTextOf text.now (value_view value.now) }
-    requires told { IsToldOfCertificate (node_names (plan_value plan.now).nodes) (value_view value.now) (Some trouble.now) }
-    ensures { IfOk result (λ lines. AreCertificateLines (node_names (plan_value plan.now).nodes) text.now (value_view value.now) trouble.now (string_bytes lines)) }
-{
-    match trouble {
-        CertificateTrouble::Value(found) => value_line(alloc, text, value, found, ""),
-        CertificateTrouble::DoubledNode(list, indices) => {
-            doubled_name_lines(
-                alloc,
-                text,
-                value,
-                list_key(*list),
-                "node",
-                ONE_ENTRY,
-                *indices,
-            )
-        }
-        CertificateTrouble::Overlap(overlap) => overlap_lines(alloc, text, value, *overlap),
-        CertificateTrouble::DoubledKey(doubled) => doubled_key_lines(alloc, text, value, doubled),
-        CertificateTrouble::UnknownName(found) => {
-            let known = names_of_nodes(alloc, plan.nodes.as_slice())?;
-            unknown_name_lines(alloc, text, value, &known, found)
+        Trouble::Overlap(overlap) => overlap_lines(alloc, text, value, *overlap),
+        Trouble::DoubledKey(doubled) => doubled_key_lines(alloc, text, value, doubled),
+        Trouble::UnknownName(found) => {
+            unknown_name_lines(alloc, text, value, &asked.known, found)
         }
     }
 }
 
-/// Tells what is wrong with a text that is no list of events at a plan's nodes, as of a plan's text.
-pub fn events_reading_lines(alloc: Global, plan: &Plan, text: &[u8]) -> Result<String, AllocError>
-    requires { (es : List EventEntry) → ¬ StandsFor (AreEventsOf (plan_value plan.now)) text.now es }
-    ensures { IfOk result (λ lines. IsEventsTextTold (node_names (plan_value plan.now).nodes) text.now (string_bytes lines)) }
+/// What else may stand where a pointer leads: of a plan the other format, and the endpoint IDs that a node has.
+fn also_in(sort: TextSort<'_>, pointer: &[PointerStep]) -> &'static str
+    ensures { result.now ≡ also_in (sort_of sort.entry) (map step_value pointer.now) }
 {
-    match events_text_trouble(alloc, plan, text)? {
-        Some(trouble) => events_text_lines(alloc, plan, text, &trouble),
-        None => unreachable!(),
-    }
-}
-
-fn events_text_lines(
-    alloc: Global,
-    plan: &Plan,
-    text: &[u8],
-    trouble: &TextTrouble,
-) -> Result<String, AllocError>
-    requires { IsToldOfEventsText (node_names (plan_value plan.now).nodes) text.now (Some trouble.now) }
-    ensures { IfOk result (λ lines. AreTroubleLines (node_names (plan_value plan.now).nodes) text.now trouble.now (string_bytes lines)) }
-{
-    match trouble {
-        TextTrouble::TooLong(count) => long_line(alloc, *count),
-        TextTrouble::NotJson(fault) => json_line(alloc, text, *fault),
-        TextTrouble::Events(trouble) => events_lines(alloc, plan, text, trouble),
-        TextTrouble::Plan(_) | TextTrouble::Certificate(_) => unreachable!(),
-    }
-}
-
-fn events_lines(
-    alloc: Global,
-    plan: &Plan,
-    text: &[u8],
-    trouble: &EventsTrouble,
-) -> Result<String, AllocError>
-    requires { let nodes = node_names (plan_value plan.now).nodes in IsJsonOf text.now (λ j. IsToldOfEvents nodes j (Some trouble.now)) }
-    ensures { let nodes = node_names (plan_value plan.now).nodes in
-        IfOk result (λ lines. IsJsonOf text.now (λ j. AreEventsLines nodes text.now j trouble.now (string_bytes lines))) }
-{
-    let mut scratch = Scratch::new(alloc);
-    match json_of(alloc, text, &mut scratch) {
-        Ok(value) => events_value_lines(alloc, plan, text, &value, trouble),
-        Err(_) => Err(AllocError),
-    }
-}
-
-fn events_value_lines(
-    alloc: Global,
-    plan: &Plan,
-    text: &[u8],
-    value: &Value<'_>,
-    trouble: &EventsTrouble,
-) -> Result<String, AllocError>
-    requires text { IsTextOf text.now (value_view value.now) }
-    requires told { IsToldOfEvents (node_names (plan_value plan.now).nodes) (value_view value.now) (Some trouble.now) }
-    ensures { IfOk result (λ lines. AreEventsLines (node_names (plan_value plan.now).nodes) text.now (value_view value.now) trouble.now (string_bytes lines)) }
-{
-    match trouble {
-        EventsTrouble::Value(found) => value_line(alloc, text, value, found, ""),
-        EventsTrouble::DoubledKey(doubled) => doubled_key_lines(alloc, text, value, doubled),
-        EventsTrouble::UnknownName(found) => {
-            let known = names_of_nodes(alloc, plan.nodes.as_slice())?;
-            unknown_name_lines(alloc, text, value, &known, found)
-        }
+    match sort {
+        TextSort::Plan => also_words(pointer),
+        TextSort::Certificate(_) | TextSort::Events(_) => "",
     }
 }
 

@@ -12,7 +12,7 @@ use crate::joined::joined;
 use crate::positions::{pointer_text, position_text};
 use crate::values::{offset_there, text_of, value_at};
 use json::Value;
-use net_json::{Found, KnownNames, Named, PointerStep, Shape, Word};
+use net_json::{Found, KnownNames, Named, PointerStep, Shape, Word, names_of};
 use net_pointers::{TwoIndices, first_doubled, nearest_name};
 use std::alloc::{AllocError, Global};
 
@@ -128,16 +128,6 @@ fn named_there(shape: &Shape) -> Named
     match shape {
         Shape::Plain(Word::Named(names)) => *names,
         _ => Named::Nodes,
-    }
-}
-
-/// The names among which one is looked for.
-fn names_of<'k, 't>(known: &'k KnownNames<'t>, named: Named) -> &'k [&'t str]
-    ensures { map (λ name. name.now) result.now ≡ names_of named (known_view known.now) }
-{
-    match named {
-        Named::Buses => known.buses.as_slice(),
-        Named::Nodes => known.nodes.as_slice(),
     }
 }
 

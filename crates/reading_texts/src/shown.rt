@@ -1,6 +1,7 @@
 //! What stands at an offset of a text, as far as it is shown.
 ghost use Rattle.std.specs.Prelude.{◌≡◌, ◌≤◌, length, drop, get_or, IfOk, IfSome, string_bytes, IsUtf8};
-ghost use Rattle.reading_texts.specs.Standing.{first_characters, ends_word, is_escaped, ends_quoted, ends_bracketed, ends_at, IsShownLength, IsShownOf, IsShown, dots_after, is_unprintable, printable, printed, key_beginning, key_dots, shown_key};
+ghost use Rattle.net_pointers.specs.Syntax.{is_escaped};
+ghost use Rattle.reading_texts.specs.Standing.{first_characters, ends_word, ends_quoted, ends_bracketed, ends_at, IsShownLength, IsShownOf, IsShown, dots_after, is_unprintable, printable, printed, key_beginning, key_dots, shown_key};
 
 use std::alloc::{AllocError, Global};
 

@@ -4,23 +4,49 @@ ghost use Rattle.json.specs.Strict.{keys};
 ghost use Rattle.json.specs.Value.{value_view, members_view};
 ghost use Rattle.net_json.specs.Finding.{step_value};
 ghost use Rattle.net_json.specs.Trees.{view};
-ghost use Rattle.net_pointers.specs.CertificateTroubles.{DoOverlap};
+ghost use Rattle.net_pointers.specs.Ascending.{DoOverlap};
+ghost use Rattle.net_pointers.specs.Asks.{list_key, name_key};
 ghost use Rattle.net_pointers.specs.Doubles.{HasDoubledKey, part_at};
 ghost use Rattle.net_pointers.specs.Offsets.{IsTextOf, LeadsToKey};
-ghost use Rattle.reading_texts.specs.TroubleLines.{two_lines, entry_pointer, IsDoubledNameTold, name_line, again_line, IsDoubledKeyTold, key_at, part_step, path_text, object_text, keys_in, key_line, key_again_line, AreRangesTold, IsOverlapTold, overlap_line, overlap_of, range_pointer, range_line, range_words, next_range_line};
+ghost use Rattle.reading_texts.specs.TroubleLines.{two_lines, entry_pointer, IsDoubledNameTold, name_line, again_line, IsDoubledKeyTold, key_at, part_step, path_text, object_text, keys_in, key_line, key_again_line, AreRangesTold, IsOverlapTold, overlap_line, overlap_of, range_pointer, range_line, range_words, next_range_line, why_once};
 
 use crate::positions::{pointer_text, position_text};
 use crate::values::{offset_there, text_of, value_at};
 use json::Value;
 use net_json::PointerStep;
 use net_pointers::{
-    DoubledKey, Overlap, TwoIndices, end_of_range, first_in_range, offset_of_key,
-    offset_of_pointer, part_after,
+    DoubledKey, NameList, Overlap, TwoIndices, end_of_range, first_in_range, list_key, name_key,
+    offset_of_key, offset_of_pointer, part_after,
 };
 use std::alloc::{AllocError, Global};
 
-/// The lines of a name that stands at two items of a list. `why` says why it may not.
+/// The lines of a name that stands at two items of a list.
 pub fn doubled_name_lines(
+    alloc: Global,
+    text: &[u8],
+    value: &Value<'_>,
+    list: NameList,
+    indices: TwoIndices,
+) -> Result<String, AllocError>
+    requires { IsTextOf text.now (value_view value.now) }
+    ensures { IfOk result (λ lines. IsDoubledNameTold text.now (view value.now) (list_key list) (name_key list) (why_once list) indices (string_bytes lines)) }
+{
+    let (why, key) = (why_once(list), name_key(list));
+    name_lines(alloc, text, value, list_key(list), key, why, indices)
+}
+
+/// Why a list has a name once.
+fn why_once(list: NameList) -> &'static str
+    ensures { result.now ≡ why_once list }
+{
+    match list {
+        NameList::Buses => "No two buses have one name",
+        NameList::Levels | NameList::Places | NameList::Ranks => "A list names a node once",
+    }
+}
+
+/// The lines of a name at a key of two items of the list at another. `why` says why it may not stand twice.
+fn name_lines(
     alloc: Global,
     text: &[u8],
     value: &Value<'_>,

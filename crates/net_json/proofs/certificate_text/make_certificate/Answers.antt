@@ -1,7 +1,6 @@
 use Rattle.std.proofs.Common.{◌≡◌, IfOk, ap, ◌∙◌, subst}
 use Rattle.net_json.specs.Trees.{view}
 use Rattle.net_plan.specs.CertificateValues.{certificate_value}
-use Rattle.net_json.specs.Made.{certificate_made}
 use Rattle.net_json.specs.Names.{index_among}
 use Rattle.net_json.specs.NameIndexes.{find_in}
 use Rattle.net_json.proofs.BusNames.{node_names_of, certificate_found}

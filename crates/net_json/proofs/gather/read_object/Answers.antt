@@ -1,5 +1,4 @@
-use Rattle.std.proofs.Common.{◌≡◌, ◌∷◌, ap, ◌∙◌, arith}
-use Rattle.json.specs.Token.{Token}
+use Rattle.std.proofs.Common.{ap, ◌∙◌, arith}
 use Rattle.json.specs.Json.{object, value, parse_map}
 use Rattle.json.proofs.Grammar.{value-begin_object}
 use Rattle.net_json.proofs.Gathered.{if_some}
@@ -7,6 +6,5 @@ use Rattle.net_json.proofs.gather.read_object.Goals as goal
 
 pub returns-clause-read : goal.returns-clause-read
 returns-clause-read g c =
-    let first : c.args.reader.now ≡ Token.begin_object ∷ c.next.new.self = grind arith in
-    let opened = ap (value c.args.depth) first ∙ value-begin_object c.args.depth c.next.new.self (omega arith) in
+    let opened = ap (value c.args.depth) c.in_ok-begin_object.ensures ∙ value-begin_object c.args.depth c.begin_object.new.self (omega arith) in
     if_some c.read_members.result (λ u read. (read.0, opened ∙ ap (parse_map object) read.1, read.2)) c.read_members.ensures.read

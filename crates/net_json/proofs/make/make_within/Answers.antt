@@ -1,8 +1,7 @@
-use Rattle.std.proofs.Common.{rules, ◌≡◌, [], length, nat_le, true, false, map, sym, ap, ◌∙◌, subst, IfOk}
+use Rattle.std.proofs.Common.{rules, ◌≡◌, length, nat_le, true, false, map, sym, ap, ◌∙◌, subst, IfOk}
 use Rattle.serde_json.specs.Data.{array}
 use Rattle.net_json.specs.Trees.{view, items_view}
 use Rattle.net_json.proofs.Trees.{view-Array}
-use Rattle.net_json.specs.Made.{within_in}
 use Rattle.net_json.proofs.Items.{few_made, many_made}
 use Rattle.net_json.proofs.make.make_within.Goals as goal
 

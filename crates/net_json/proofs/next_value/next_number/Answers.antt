@@ -1,9 +1,7 @@
-use Rattle.std.proofs.Common.{◌≡◌, ◌∷◌, arith}
-use Rattle.json.specs.Token.{Token}
-use Rattle.net_json.proofs.Gathered.{number_next}
+use Rattle.std.proofs.Common.{arith}
+use Rattle.net_json.proofs.Gathered.{numeral_next}
 use Rattle.net_json.proofs.next_value.next_number.Goals as goal
 
 pub returns : goal.returns
 returns c =
-    let first : c.args.reader.now ≡ Token.number c.in-Some-Number.text.now ∷ c.next.new.self = grind arith in
-    number_next c.args.reader.now c.next.new.self c.in-Some-Number.text.now c.whole.result first c.whole.ensures
+    numeral_next c.args.reader.now c.next_number.new.self c.in_ok-number.number c.in_ok-number.ensures (omega arith)

@@ -1,4 +1,4 @@
-use Rattle.std.proofs.Common.{rules, ◌≡◌, [], length, nat_le, true, false, map, codes, sym, ap, ◌∙◌, subst, IfOk}
+use Rattle.std.proofs.Common.{rules, ◌≡◌, length, nat_le, true, false, map, codes, sym, ap, ◌∙◌, subst, IfOk}
 use Rattle.serde_json.specs.Data.{array}
 use Rattle.net_json.specs.Trees.{view, items_view}
 use Rattle.net_json.proofs.Trees.{view-Array}

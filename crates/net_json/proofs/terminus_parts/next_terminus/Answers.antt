@@ -1,21 +1,15 @@
-use Rattle.std.proofs.Common.{◌≡◌, ◌∷◌, refl, ap, ◌∙◌, arith}
+use Rattle.std.proofs.Common.{◌∷◌, ap, ◌∙◌, refl}
 use Rattle.json.specs.Token.{Token}
-use Rattle.json.specs.Reads.{token_of}
-use Rattle.json.specs.Json.{null, object, value, parse_map}
-use Rattle.json.proofs.Grammar.{value_is, value-begin_object}
+use Rattle.json.specs.Json.{null, object, value}
+use Rattle.json.proofs.Grammar.{value_is}
 use Rattle.net_json.proofs.terminus_parts.next_terminus.Goals as goal
 
-pub returns-in-Null : goal.returns-in-Null
-returns-in-Null c =
-    let first : c.args.reader.now ≡ token_of c.in_ok-next.field-0 ∷ c.next.new.self = grind arith in
-    let is : c.args.reader.now ≡ Token.null ∷ c.next.new.self = grind (arith, first) in
-    (null, ap (value c.args.depth) is ∙ value_is c.args.depth (Token.null ∷ c.next.new.self), (refl, (refl, refl)))
+pub returns-in_ok-next_null-in-110 : goal.returns-in_ok-next_null-in-110
+returns-in_ok-next_null-in-110 c =
+    (null, ap (value c.args.depth) c.in_ok-next_null-in-110.ensures ∙ value_is c.args.depth (Token.null ∷ c.next_null.new.self), (refl, (refl, refl)))
 
-pub returns-in_ok-terminus-in-BeginObject : goal.returns-in_ok-terminus-in-BeginObject
-returns-in_ok-terminus-in-BeginObject c =
-    let first : c.args.reader.now ≡ token_of c.in_ok-next.field-0 ∷ c.next.new.self = grind arith in
-    let is : c.args.reader.now ≡ Token.begin_object ∷ c.next.new.self = grind (arith, first) in
-    let opened = ap (value c.args.depth) is ∙ value-begin_object c.args.depth c.next.new.self (omega arith) in
-    let read = c.in_ok-read_members-in-BeginObject.ensures.read in
-    let told = c.in_ok-terminus-in-BeginObject.ensures read.0 (read.2 c.none-parts.ensures) in
-    (object read.0, opened ∙ ap (parse_map object) read.1, (((λ e. cc), told.0), told.1))
+pub returns-in_ok-terminus-in_default : goal.returns-in_ok-terminus-in_default
+returns-in_ok-terminus-in_default c =
+    let read = c.in_ok-read_object-in_default.ensures.read in
+    let told = c.in_ok-terminus-in_default.ensures read.0 (read.2 c.none-parts.ensures) in
+    (object read.0, read.1, (((λ e. cc), told.0), told.1))

@@ -1,7 +1,6 @@
-use Rattle.std.proofs.Common.{rules, ◌≡◌, Option, Some, None, option_and_then}
-use Rattle.std.specs.Prelude.{IfOk, IfSome, IsSome}
+use Rattle.std.proofs.Common.{rules, Some, None, option_and_then}
+use Rattle.std.specs.Prelude.{IfOk}
 use Rattle.json.specs.Lex.{tokens}
-use Rattle.net_pointers.specs.Offsets.{LeadsToKey}
 use Rattle.net_pointers.specs.PartTokens.{from_path, from_key}
 use Rattle.net_pointers.specs.Scans.{AreLeft}
 use Rattle.net_pointers.proofs.Beginnings.{IsBefore, key_found, no_key_within}

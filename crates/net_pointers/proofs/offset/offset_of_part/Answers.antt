@@ -1,4 +1,4 @@
-use Rattle.std.proofs.Common.{rules, ◌≡◌, Option, Some, None}
+use Rattle.std.proofs.Common.{rules, Some, None}
 use Rattle.std.specs.Prelude.{IfOk}
 use Rattle.json.specs.Lex.{tokens}
 use Rattle.net_pointers.specs.PartTokens.{from_path}

@@ -1,4 +1,4 @@
-use Rattle.std.proofs.Common.{rules, ◌≡◌, ◌+◌, ℕ, drop, length, slice_index_or, true, false, ap, subst, ◌∙◌, arith}
+use Rattle.std.proofs.Common.{rules, ◌≡◌, ◌+◌, drop, slice_index_or, true, false, ap, subst, ◌∙◌, arith}
 use Rattle.std.proofs.Math.ListN.{drop_of_length-le}
 use Rattle.json.specs.Lex.{tokens}
 use Rattle.net_pointers.specs.Scans.{begins_token, mode_after, lexed}

@@ -1,5 +1,5 @@
 use Rattle.std.proofs.Common.{◌≡◌}
-use Rattle.reading_texts.specs.Standing.{is_escaped}
+use Rattle.net_pointers.specs.Syntax.{is_escaped}
 use Rattle.reading_texts.proofs.shown.is_escaped.Given as goal
 
 abbrev pub invariant-loop-before : goal.invariant-loop-before

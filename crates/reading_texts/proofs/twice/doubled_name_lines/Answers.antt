@@ -1,22 +1,13 @@
-use Rattle.std.proofs.Common.{◌≡◌, map, string_bytes, sym, ap, ◌∙◌, subst, rules}
+use Rattle.std.proofs.Common.{ℕ, List, string_bytes, subst}
 use Rattle.std.specs.Prelude.{IfOk}
 use Rattle.net_json.specs.Trees.{view}
-use Rattle.net_json.specs.Finding.{step_value}
-use Rattle.reading_texts.specs.TroubleLines.{IsOffsetOf, two_lines, entry_pointer, doubled_name, name_line, again_line}
-use Rattle.reading_texts.proofs.ToldTexts.{name_told_twice}
+use Rattle.net_pointers.specs.Asks.{list_key, name_key}
+use Rattle.reading_texts.specs.TroubleLines.{IsDoubledNameTold}
 use Rattle.reading_texts.proofs.twice.doubled_name_lines.Goals as goal
 
 pub returns : goal.returns
 returns c =
-    let text = c.args.text.now in
-    let d = view c.args.value.now in
-    let list = c.args.list.now in
-    let key = c.args.key.now in
-    let one = entry_pointer list c.args.indices.first key in
-    let other = entry_pointer list c.args.indices.second key in
-    let name = doubled_name d list key c.args.indices in
-    let first : IsOffsetOf text d one c.in_ok-first.first = search rules in
-    let second : IsOffsetOf text d other c.in_ok-second.second = search rules in
-    let named : c.text_of-name.result.now ≡ name = search rules in
-    let written : IfOk c.two_lines.result (λ t. string_bytes t ≡ two_lines text c.in_ok-first.first c.in_ok-second.second (name_line one name) (again_line other name c.args.why.now)) = search rules in
-    name_told_twice string_bytes text d list key c.args.why.now c.args.indices c.in_ok-first.first c.in_ok-second.second c.two_lines.result first second written
+    let Told : List ℕ → List ℕ → List ℕ → Type 0 = λ list key why. IfOk c.name_lines.result (λ lines. IsDoubledNameTold c.args.text.now (view c.args.value.now) list key why c.args.indices (string_bytes lines)) in
+    let list = list_key c.args.list in
+    let key = name_key c.args.list in
+    subst (λ why. Told list key why) c.why_once-why.ensures (subst (λ key. Told list key c.why_once-why.result.now) c.name_key-key.ensures (subst (λ list. Told list c.name_key-key.result.now c.why_once-why.result.now) c.list_key.ensures c.name_lines.ensures))

@@ -14,13 +14,13 @@ returns c =
     let R = IsCutTerminus (option_map (λ t. option_map terminus_value t) old.terminus) in
     let S = IsCutRows (option_map (λ v. map named_row v.items) old.rows) in
     let k = c.args.key.now in
-    let j = value_view c.in-Ok.value in
+    let j = value_view c.in_ok-value.value in
     let ls = members_view old.found.items in
     let one = other_key k (codes "terminus") c.requires.terminus in
     let two = other_key k (codes "rows") c.requires.rows in
     if_some c.note.result (λ u noted. (
       j,
-      c.in-Ok.ensures.ok,
+      c.in_ok-value.ensures,
       λ ms h. (
         with_last h.0 k j,
         stand_ins_last (codes "terminus") R ms h.0 k j j h.1 (inr (one, refl)),

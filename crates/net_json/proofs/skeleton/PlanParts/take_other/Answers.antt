@@ -11,6 +11,6 @@ returns c =
     let cut = codes "nodes" in
     let R = IsCutNodes (option_map (λ v. map cut_value v.items) c.args.self.now.parts) in
     let k = c.args.key.now in
-    let j = value_view c.in-Ok.value in
+    let j = value_view c.in_ok-value.value in
     let ls = members_view c.args.self.now.found.items in
-    if_some c.note.result (λ u noted. (j, c.in-Ok.ensures.ok, λ ms h. subst (AreStandIns cut R (with_last ms k j)) (sym noted) (stand_ins_last cut R ms ls k j j h (inr (other_key k cut c.requires, refl))))) c.note.ensures
+    if_some c.note.result (λ u noted. (j, c.in_ok-value.ensures, λ ms h. subst (AreStandIns cut R (with_last ms k j)) (sym noted) (stand_ins_last cut R ms ls k j j h (inr (other_key k cut c.requires, refl))))) c.note.ensures

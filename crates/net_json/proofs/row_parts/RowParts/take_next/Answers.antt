@@ -1,9 +1,0 @@
-use Rattle.std.proofs.Common.{◌≡◌, false, is_some, rules}
-use Rattle.net_json.proofs.RowParts.{with_next}
-use Rattle.net_json.proofs.row_parts.RowParts.take_next.Goals as goal
-
-pub returns : goal.returns
-returns c =
-    let took = c.in_ok-next_text.ensures in
-    let none : is_some c.args.self.now.next ≡ false = search rules in
-    (took.0, took.1, λ ms h. with_next c.args.self.now ms took.0 took.2.1 h c.in_ok-next_text.field-0 none took.2.0)

@@ -1,0 +1,142 @@
+-- Why a text doesn't read, by what is told of it.
+use Rattle.std.proofs.Common.{◌≡◌, ◌≢◌, ℕ, List, Some, None, Result, Ok, Err, refl, sym, ap, ◌∙◌, inl, inr, []}
+use Rattle.std.proofs.lemmas.Option.{none-some, same_Some}
+use Rattle.json.specs.Json.{Json}
+use Rattle.json.specs.Strict.{HasUniqueKeys}
+use Rattle.serde_json.specs.Data.{Data}
+use Rattle.net_json.specs.CertificateReading.{certificate}
+use Rattle.net_json.specs.CertificateText.{IsCertificateOf}
+use Rattle.net_json.specs.EventReading.{events}
+use Rattle.net_json.specs.EventText.{AreEventsOf}
+use Rattle.net_json.specs.Finding.{fault_of}
+use Rattle.net_json.specs.PlanReading.{plan}
+use Rattle.net_json.specs.PlanText.{IsPlanOf}
+use Rattle.net_json.specs.Reading.{IsReadOf, error_of}
+use Rattle.net_json.specs.Refusals.{IsFaultyValue, IsNoneFor, IsRefused}
+use Rattle.net_json.specs.SingleKeys.{single, unless_doubled}
+use Rattle.net_json.specs.Texts.{IsJson, IsTree}
+use Rattle.net_json.specs.Trees.{data_of}
+use Rattle.net_json.specs.declared.error.PlanError.{PlanError}
+use Rattle.net_json.specs.declared.error.PlanError.TheVariants as error
+use Rattle.net_json.specs.declared.error.ValueFault.{ValueFault}
+use Rattle.net_json.specs.declared.error.ValueFault.TheVariants as fault
+use Rattle.net_json.proofs.CertificateLaw.{certificate_tells}
+use Rattle.net_json.proofs.EventLaw.{events_tells}
+use Rattle.net_json.proofs.PlanLaw.{plan_tells}
+use Rattle.net_json.proofs.Refusing.{fault_none, single_read, value_refused}
+use Rattle.net_json.proofs.Telling.{Tells, any, no_value}
+use Rattle.net_plan.specs.PlanValues.{PlanValue, node_names}
+use Rattle.net_pointers.specs.Asks.{Sort, plan_text, certificate_text, events_text, asks_of}
+use Rattle.net_pointers.specs.OrderOfTests.{IsTold, refusal, fault_in}
+use Rattle.net_pointers.specs.TextTroubles.{IsToldOfText, cause_of}
+use Rattle.net_pointers.specs.declared.order.Trouble.{Trouble}
+use Rattle.net_pointers.specs.declared.order.Trouble.TheVariants.{Value, DoubledName, Overlap, DoubledKey, UnknownName}
+use Rattle.net_pointers.specs.declared.texts.TextTrouble.{TextTrouble}
+use Rattle.net_pointers.specs.declared.texts.TextTrouble.TheVariants.{TooLong, NotJson, Wrong}
+use Rattle.net_pointers.proofs.ValueFaults.{IsOfValue, first_of_value}
+use Rattle.reading_texts.specs.TextErrors.{IsToldAs, IsToldOf}
+use Rattle.reading_texts.specs.declared.text_error.TextError.{TextError}
+use Rattle.reading_texts.specs.declared.text_error.TextError.TheVariants.{Faulty, OutOfMemory}
+
+-- ---- the fault is never want of memory
+
+value_known : (f : ValueFault) → IsOfValue f → error_of f ≢ error.OutOfMemory
+value_known fault.WrongKind h e = cc
+value_known fault.MissingKey h e = cc
+value_known fault.UnknownKey h e = cc
+value_known fault.OutOfRange h e = cc
+value_known fault.UnknownName h e = absurd h
+value_known fault.BadHex h e = cc
+value_known fault.OverLimit h e = cc
+value_known fault.Doubled h e = absurd h
+value_known fault.OutOfMemory h e = absurd h
+
+known : (s : Sort) (j : Json) (t : Trouble) → IsTold s j (Some t) → error_of (fault_in t) ≢ error.OutOfMemory
+known s j (Value found) h e = value_known found.fault (first_of_value (asks_of s (data_of j)).grammar (data_of j) _ h.first.1) e
+known s j (DoubledName list indices) h e = cc
+known s j (Overlap overlap) h e = cc
+known s j (DoubledKey doubled) h e = cc
+known s j (UnknownName found) h e = cc
+
+-- ---- a value
+
+refused_Err : {A : Type 0} (r : Result A ValueFault) (f : ValueFault) → fault_of r ≡ Some f → r ≡ Err f
+refused_Err (Ok x) f e = absurd (none-some f e)
+refused_Err (Err g) f e = ap Err (same_Some _ _ e)
+
+ok_of : {A : Type 0} (r : Result A ValueFault) → fault_of r ≡ None → (x : A) × (r ≡ Ok x)
+ok_of (Ok x) e = (x, refl)
+ok_of (Err f) e = absurd (none-some f (sym e))
+
+as_read : {A : Type 0} (r : Result A ValueFault) → IsReadOf (λ x. x) r r
+as_read (Ok x) = refl
+as_read (Err f) = λ e. refl
+
+module _ {A : Type 0} (s : Sort) (said : Data → Result A ValueFault) (R : Data → A → Type 0) (tells : Tells said any R)
+    (by : (j : Json) → refusal s j ≡ fault_of (unless_doubled (single j) (said (data_of j)))) (text : List ℕ) where
+  refused : (j : Json) (t : Trouble) → IsJson text (data_of j) → IsTree text j → IsTold s j (Some t) → IsRefused said R text (error_of (fault_in t))
+  refused j t json tree h =
+      value_refused said R text j (error_of (fault_in t)) json tree
+      (fault_none (λ x. x) said R tells j (said (data_of j)) (fault_in t) (as_read (said (data_of j))) (refused_Err (unless_doubled (single j) (said (data_of j))) (fault_in t) (sym (by j) ∙ h.refused)))
+
+  by_trouble : (u : TextTrouble) → IsToldOfText s text u → IsRefused said R text (cause_of u) × (cause_of u ≢ error.OutOfMemory)
+  by_trouble (TooLong count) told = (inl told.1, λ e. cc)
+  by_trouble (NotJson fault) told = (told.1, λ e. cc)
+  by_trouble (Wrong trouble) (within, (j, tree, json, told)) = (refused j trouble json tree told, known s j trouble told)
+
+  -- for what is told of it the text is R to nothing
+  pub told_as : (e : TextError) → IsToldOf s text e → IsToldAs s said R text e
+  told_as OutOfMemory told = tt
+  told_as (Faulty f) told = let why = by_trouble f.trouble told.0 in (told, why.0, why.1)
+
+  -- a value with which nothing is wrong is read
+  read : (j : Json) → IsTold s j None → (x : A) × (said (data_of j) ≡ Ok x) × HasUniqueKeys j
+  read j told =
+      let given = ok_of (unless_doubled (single j) (said (data_of j))) (sym (by j) ∙ told.refused) in
+      let is = single_read (λ x. x) said R tells j (said (data_of j)) given.0 (as_read (said (data_of j))) given.1 in
+      (given.0, is.0, is.1)
+
+  -- and is refused for want of memory alone
+  pub memory_alone : (j : Json) (e : PlanError) → IsTold s j None → IsNoneFor said R j e → e ≡ error.OutOfMemory
+  memory_alone j e told none = by_error e none
+    where
+      not : (f : ValueFault) → IsFaultyValue said R f (data_of j) → ⊥
+      not f faulty = no_value (sym faulty.0 ∙ (read j told).1)
+
+      by_error : (e : PlanError) → IsNoneFor said R j e → e ≡ error.OutOfMemory
+      by_error error.NotJson h = absurd h
+      by_error error.WrongKind h = absurd (not fault.WrongKind h)
+      by_error error.MissingKey h = absurd (not fault.MissingKey h)
+      by_error error.UnknownKey h = absurd (not fault.UnknownKey h)
+      by_error error.OutOfRange h = absurd (not fault.OutOfRange h)
+      by_error error.UnknownName h = absurd (not fault.UnknownName h.0)
+      by_error error.BadHex h = absurd (not fault.BadHex h)
+      by_error error.OverLimit h = absurd (not fault.OverLimit h)
+      by_error error.Doubled (inl h) = absurd (not fault.Doubled h)
+      by_error error.Doubled (inr h) = absurd (h.0 (read j told).2)
+      by_error error.Device h = absurd h
+      by_error error.OutOfMemory h = refl
+
+-- ---- by the sort of the text
+
+pub plan_told : (text : List ℕ) (e : TextError) → IsToldOf plan_text text e → IsToldAs plan_text plan IsPlanOf text e
+plan_told text = told_as plan_text plan IsPlanOf plan_tells (λ j. refl) text
+
+pub plan_sound : (j : Json) (e : PlanError) → IsTold plan_text j None → IsNoneFor plan IsPlanOf j e → e ≡ error.OutOfMemory
+plan_sound = memory_alone plan_text plan IsPlanOf plan_tells (λ j. refl) []
+
+module _ (p : PlanValue) (text : List ℕ) where
+  abbrev nodes : List (List ℕ)
+  nodes = node_names p.nodes
+
+  pub certificate_told : (e : TextError) → IsToldOf (certificate_text nodes) text e → IsToldAs (certificate_text nodes) (certificate nodes) (IsCertificateOf p) text e
+  certificate_told = told_as (certificate_text nodes) (certificate nodes) (IsCertificateOf p) (certificate_tells p) (λ j. refl) text
+
+  pub certificate_sound : (j : Json) (e : PlanError) → IsTold (certificate_text nodes) j None → IsNoneFor (certificate nodes) (IsCertificateOf p) j e → e ≡ error.OutOfMemory
+  certificate_sound = memory_alone (certificate_text nodes) (certificate nodes) (IsCertificateOf p) (certificate_tells p) (λ j. refl) text
+
+  pub events_told : (e : TextError) → IsToldOf (events_text nodes) text e → IsToldAs (events_text nodes) (events nodes) (AreEventsOf p) text e
+  events_told = told_as (events_text nodes) (events nodes) (AreEventsOf p) (events_tells p) (λ j. refl) text
+
+  pub events_sound : (j : Json) (e : PlanError) → IsTold (events_text nodes) j None → IsNoneFor (events nodes) (AreEventsOf p) j e → e ≡ error.OutOfMemory
+  events_sound = memory_alone (events_text nodes) (events nodes) (AreEventsOf p) (events_tells p) (λ j. refl) text
